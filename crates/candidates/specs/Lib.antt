@@ -1,4 +1,8 @@
+pub mod Counted
+pub mod Extents
 pub mod Groups
+pub mod inside
 pub mod Numbers
 pub mod RowCounts
+pub mod Tallies
 pub mod Within

@@ -1,12 +1,16 @@
 -- Sets of concepts and of groups, by their numbers, of which only some candidates are asked for.
-use Rattle.std.specs.Prelude.{ℕ, ◌≡◌, ◌&&◌, Bool, true, List, length, slice_get, slice_index}
+use Rattle.std.specs.Prelude.{ℕ, ◌≡◌, ◌&&◌, Bool, true, if◌then◌else◌, List, Option, None, Some, length, slice_get, slice_index}
 use Rattle.rf2_rows.specs.Pairs.{Pair}
 use Rattle.rf2_rows.specs.Release.{Release}
 use Rattle.number_lists.specs.Members.{has}
 use Rattle.number_lists.specs.Rising.{numbers_where}
+use Rattle.idset.specs.declared.concept_set.ConceptSet.{Ghosts}
 use Rattle.postings.specs.Groups.{all_groups}
+use Rattle.postings.specs.Indexed.{Indexed}
+use Rattle.candidates.specs.Extents.{IsExtentOf, IsGroupExtentOf}
 use Rattle.candidates.specs.Groups.{some_group_in}
 use Rattle.candidates.specs.declared.candidates.Candidates.{Candidates}
+use Rattle.candidates.specs.declared.candidates.Extent.{Extent}
 use Rattle.candidates.specs.declared.candidates.Candidates.TheVariants as candidates
 
 -- whether a number is a candidate
@@ -18,6 +22,25 @@ may_be items_of (candidates.Within set extent) number = has (items_of set.now) n
 abbrev pub AreBelow : {S : Type 0} → (S → ℕ) → ℕ → Candidates S → Type 0
 AreBelow bound_of count candidates.All = Unit {0}
 AreBelow bound_of count (candidates.Within set extent) = bound_of set.now ≡ count
+
+-- how much there is of the candidates, as it is said, where not all are; read backwards, with the rows that have one of them as value
+abbrev pub extent_told : {S : Type 0} → Bool → Candidates S → Option Extent
+extent_told back candidates.All = None
+extent_told back (candidates.Within set extent) = Some (if back then record extent { rows = extent.back_rows } else extent)
+
+-- there is no more of the candidates than is said
+abbrev pub HaveExtent : {S : Type 0} → (S → List ℕ) → (List ℕ → Extent → Type 0) → Candidates S → Type 0
+HaveExtent items_of IsExtent candidates.All = Unit {0}
+HaveExtent items_of IsExtent (candidates.Within set extent) = IsExtent (items_of set.now) extent
+
+-- the candidates are concepts of a release, or groups of it, and there is no more of them than is said
+pub record AreConcepts {S : Type 0} (sets : Ghosts S) (release : Release) (indexed : Indexed) (candidates : Candidates S) : Type 0 where
+  pub below : AreBelow sets.bound_of (length release.concepts) candidates
+  pub extent : HaveExtent sets.items_of (IsExtentOf indexed) candidates
+
+pub record AreGroups {S : Type 0} (sets : Ghosts S) (release : Release) (indexed : Indexed) (candidates : Candidates S) : Type 0 where
+  pub below : AreBelow sets.bound_of (length (all_groups release)) candidates
+  pub extent : HaveExtent sets.items_of (IsGroupExtentOf indexed) candidates
 
 -- the numbers of the concepts that are in a set, of those that are candidates
 abbrev pub numbers_within : Release → (ℕ → Bool) → (ℕ → Bool) → List ℕ

@@ -1,8 +1,10 @@
 //! Of which concepts or groups it is asked whether they are in a set.
-ghost use Rattle.std.specs.Prelude.{ℕ, ◌≡◌, ◌<◌, All, Bool, false, true, filter, IfOk, length};
+ghost use Rattle.std.specs.Prelude.{ℕ, ◌≡◌, ◌≤◌, ◌<◌, ◌+◌, All, Bool, false, true, filter, IfOk, List, length, min};
 ghost use Rattle.postings.specs.Groups.{all_groups, groups_in};
-ghost use Rattle.postings.specs.Indexed.{IsIndexOf};
-ghost use Rattle.candidates.specs.Within.{AreBelow, may_be};
+ghost use Rattle.postings.specs.Indexed.{Indexed, IsIndexOf};
+ghost use Rattle.candidates.specs.Counted.{full};
+ghost use Rattle.candidates.specs.Extents.{AreListed, IsExtentOf, IsGroupExtentOf};
+ghost use Rattle.candidates.specs.Within.{AreBelow, AreConcepts, AreGroups, HaveExtent, extent_told, may_be};
 
 use held_release::Snapshot;
 use idset::ConceptSet;
@@ -33,7 +35,8 @@ pub enum Candidates<'a, S> {
     Within(&'a S, Extent),
 }
 
-/// How much there is of some concepts or groups. It tells which way is the shorter, and no answer depends on it.
+/// How much there is of some concepts or groups. It tells which way is the shorter, and how many items are counted that are read of
+/// them; no answer depends on it.
 #[derive(Clone, Copy, Debug)]
 pub struct Extent {
     /// How many they are.
@@ -70,19 +73,10 @@ const UNLISTED: ListExtent = ListExtent {
 };
 
 impl Extent {
-    /// The same of the groups that they have.
-    pub fn of_groups(self) -> Extent {
-        Extent {
-            items: self.groups,
-            rows: self.rows,
-            back_rows: u64::MAX,
-            groups: self.groups,
-            lists: UNLISTED,
-        }
-    }
-
     /// The same, where those are their rows that have one of them as their value.
-    pub fn read_backwards(self) -> Extent {
+    pub fn read_backwards(self) -> Extent
+        ensures { result ≡ record self { rows = self.back_rows } }
+    {
         Extent {
             rows: self.back_rows,
             ..self
@@ -90,7 +84,9 @@ impl Extent {
     }
 
     /// How many items are read of them, each with its rows.
-    pub fn items_and_rows(self) -> u64 {
+    pub fn items_and_rows(self) -> u64
+        ensures { result ≡ full (self.items + self.rows) }
+    {
         self.items.saturating_add(self.rows)
     }
 
@@ -101,14 +97,17 @@ impl Extent {
 
     /// Whether their groups are looked up sooner than so many groups are found without them, which may be no more than
     /// others.
-    pub fn has_few_groups(self, groups: u64, most: u64) -> bool {
-        self.groups < groups && self.items_of_groups(u32::MAX) <= most
+    pub fn has_few_groups(self, groups: u64, most: u64) -> bool
+        ensures { result ≡ true → (found : ℕ) → found ≤ self.groups → full ((self.items + self.groups) + found) ≤ most }
+    {
+        self.groups < groups && self.items_of_groups(self.groups) <= most
     }
 
     /// How many items are read to look up their groups, and of these so many that are found.
-    pub fn items_of_groups(self, found: u32) -> u64 {
-        let own = self.items.saturating_add(self.groups);
-        own.saturating_add(self.groups.min(found as u64))
+    pub fn items_of_groups(self, found: u64) -> u64
+        ensures { result ≡ full ((self.items + self.groups) + found) }
+    {
+        self.items.saturating_add(self.groups).saturating_add(found)
     }
 }
 
@@ -123,7 +122,9 @@ pub fn none_left<S: ConceptSet>(candidates: &Candidates<'_, S>) -> bool
 }
 
 /// How much there is of the candidates, where not all are; read backwards, with the rows that have one of them as their value.
-pub fn extent_for<S>(candidates: &Candidates<'_, S>, back: bool) -> Option<Extent> {
+pub fn extent_for<S>(candidates: &Candidates<'_, S>, back: bool) -> Option<Extent>
+    ensures { result ≡ extent_told back candidates.now }
+{
     match candidates {
         Candidates::All => None,
         Candidates::Within(_, extent) if back => Some(extent.read_backwards()),
@@ -151,7 +152,7 @@ pub fn restricted<S: ConceptSet>(
 }
 
 /// How much there is of the concepts of a set, for what reads so many rows without it. It is looked up only where they are few beside
-/// these, or so few that their lists are counted.
+/// these, or so few that their lists are counted. The items of the set are read once, their lists are not.
 pub fn extent_of<S: ConceptSet>(
     alloc: Global,
     snapshot: &Snapshot,
@@ -161,6 +162,7 @@ pub fn extent_of<S: ConceptSet>(
 ) -> Result<Extent, AllocError>
     requires index { IsIndexOf indexes.now snapshot.now.release }
     requires bound { S.bound_of concepts.now ≡ length snapshot.now.release.concepts }
+    ensures { IfOk result (IsExtentOf indexes.now (S.items_of concepts.now)) }
 {
     let count = concepts.count();
     if are_many_beside(count, rows / WIDE) {
@@ -185,6 +187,7 @@ pub fn group_extent_of<S: ConceptSet>(
 ) -> Result<Extent, AllocError>
     requires index { IsIndexOf indexes.now snapshot.now.release }
     requires bound { S.bound_of groups.now ≡ length (all_groups snapshot.now.release) }
+    ensures { IfOk result (IsGroupExtentOf indexes.now (S.items_of groups.now)) }
 {
     let count = groups.count();
     if are_many_beside(count, rows / WIDE_GROUPS) {
@@ -208,6 +211,9 @@ pub fn extent_to_take<S: ConceptSet>(
 ) -> Result<Extent, AllocError>
     requires index { IsIndexOf indexes.now snapshot.now.release }
     requires bound { S.bound_of concepts.now ≡ length snapshot.now.release.concepts }
+    requires candidates { AreConcepts S.ConceptSet snapshot.now.release indexes.now candidates.now }
+    requires among { All (λ number. may_be S.items_of candidates.now number ≡ true) (S.items_of concepts.now) }
+    ensures { IfOk result (IsExtentOf indexes.now (S.items_of concepts.now)) }
 {
     if may_be_read_thrice(concepts.count(), sizes) {
         extent_of(
@@ -218,7 +224,7 @@ pub fn extent_to_take<S: ConceptSet>(
             u64::from(indexes.row_count()),
         )
     } else {
-        Ok(extent_left(candidates, concepts.count()))
+        Ok(extent_left(candidates, concepts))
     }
 }
 
@@ -233,6 +239,9 @@ pub fn group_extent_to_take<S: ConceptSet>(
 ) -> Result<Extent, AllocError>
     requires index { IsIndexOf indexes.now snapshot.now.release }
     requires bound { S.bound_of groups.now ≡ length (all_groups snapshot.now.release) }
+    requires candidates { AreGroups S.ConceptSet snapshot.now.release indexes.now candidates.now }
+    requires among { All (λ number. may_be S.items_of candidates.now number ≡ true) (S.items_of groups.now) }
+    ensures { IfOk result (IsGroupExtentOf indexes.now (S.items_of groups.now)) }
 {
     if may_be_read_thrice(groups.count(), sizes) {
         group_extent_of(
@@ -243,7 +252,7 @@ pub fn group_extent_to_take<S: ConceptSet>(
             u64::from(indexes.row_count()),
         )
     } else {
-        Ok(extent_left(candidates, groups.count()))
+        Ok(extent_left(candidates, groups))
     }
 }
 
@@ -252,19 +261,26 @@ fn may_be_read_thrice(items: u32, sizes: (u64, u64)) -> bool {
     items as u64 * 3 <= sizes.0.saturating_add(sizes.1)
 }
 
-// How much there is of so many of some candidates: of rows and groups no more than these have.
-fn extent_left<S>(candidates: &Candidates<'_, S>, items: u32) -> Extent {
+// How much there is of a set of some candidates: of rows and groups no more than these have.
+fn extent_left<S: ConceptSet>(candidates: &Candidates<'_, S>, left: &S) -> Extent
+    requires { All (λ number. may_be S.items_of candidates.now number ≡ true) (S.items_of left.now) }
+    ensures concepts { (indexed : Indexed) → HaveExtent S.items_of (IsExtentOf indexed) candidates.now → IsExtentOf indexed (S.items_of left.now) result }
+    ensures groups { (indexed : Indexed) → HaveExtent S.items_of (IsGroupExtentOf indexed) candidates.now → IsGroupExtentOf indexed (S.items_of left.now) result }
+{
     match candidates {
-        Candidates::All => uncounted(items),
+        Candidates::All => uncounted(left.count()),
         Candidates::Within(_, extent) => Extent {
-            items: items as u64,
+            items: left.count() as u64,
             ..*extent
         },
     }
 }
 
 // What is said of so many candidates whose rows are not counted.
-fn uncounted(items: u32) -> Extent {
+fn uncounted(items: u32) -> Extent
+    ensures concepts { (indexed : Indexed) (concepts : List ℕ) → length concepts ≡ items → IsExtentOf indexed concepts result }
+    ensures groups { (indexed : Indexed) (groups : List ℕ) → length groups ≡ items → IsGroupExtentOf indexed groups result }
+{
     Extent {
         items: u64::from(items),
         rows: u64::MAX,
@@ -277,6 +293,7 @@ fn uncounted(items: u32) -> Extent {
 // How much there is of some concepts.
 fn extent_among(indexes: &Indexes, concepts: &[u32]) -> Extent
     requires { All (λ concept. concept < length indexes.now.concepts) concepts.now }
+    ensures { IsExtentOf indexes.now concepts.now result }
 {
     let mut rows = 0u64;
     let mut back_rows = 0u64;
@@ -299,6 +316,7 @@ fn extent_among(indexes: &Indexes, concepts: &[u32]) -> Extent
 // How many items the lists of some concepts have, if these are few.
 fn lists_among(indexes: &Indexes, concepts: &[u32]) -> ListExtent
     requires { All (λ concept. concept < length indexes.now.concepts) concepts.now }
+    ensures { AreListed indexes.now.hierarchy concepts.now result }
 {
     if concepts.len() > LISTED {
         return UNLISTED;
@@ -328,6 +346,7 @@ fn lists_among(indexes: &Indexes, concepts: &[u32]) -> ListExtent
 // How much there is of some groups.
 fn group_extent_among(indexes: &Indexes, groups: &[u32]) -> Extent
     requires { All (λ group. group < length (groups_in indexes.now)) groups.now }
+    ensures { IsGroupExtentOf indexes.now groups.now result }
 {
     let mut rows = 0u64;
     for group in groups {

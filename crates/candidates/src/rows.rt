@@ -1,6 +1,6 @@
 //! How many rows concepts have, and which rows are read sooner.
-ghost use Rattle.std.specs.Prelude.{◌≡◌, ◌<◌, length};
-ghost use Rattle.candidates.specs.RowCounts.{row_count_of};
+ghost use Rattle.std.specs.Prelude.{◌≡◌, ◌≤◌, ◌<◌, true, length};
+ghost use Rattle.candidates.specs.RowCounts.{extent_items, row_count_of};
 
 use crate::candidates::Extent;
 use postings::Indexes;
@@ -18,7 +18,9 @@ pub fn rows_of_value(indexes: &Indexes, back: bool, concept: u32) -> u64
 }
 
 /// Whether there are candidates whose rows are looked up sooner than so many rows are read that stand side by side.
-pub fn are_read_before(candidates: Option<Extent>, rows: u64) -> bool {
+pub fn are_read_before(candidates: Option<Extent>, rows: u64) -> bool
+    ensures { result ≡ true → extent_items candidates < rows }
+{
     match candidates {
         Some(extent) => look_ups(extent.items_and_rows()) < rows,
         None => false,
@@ -26,6 +28,8 @@ pub fn are_read_before(candidates: Option<Extent>, rows: u64) -> bool {
 }
 
 /// About how many rows that stand side by side are read while so many rows are looked up by their numbers.
-pub fn look_ups(rows: u64) -> u64 {
+pub fn look_ups(rows: u64) -> u64
+    ensures { rows ≤ result }
+{
     rows.saturating_mul(8)
 }

@@ -1,5 +1,9 @@
 //! How many rows values have, as these are found.
-ghost use Rattle.std.specs.Prelude.{◌≡◌, IfOk};
+ghost use Rattle.std.specs.Prelude.{◌≡◌, ◌+◌, IfOk, IfSome, None, Some};
+ghost use Rattle.std.specs.List.{sum_by};
+ghost use Rattle.candidates.specs.Counted.{full};
+ghost use Rattle.candidates.specs.RowCounts.{row_count_of};
+ghost use Rattle.candidates.specs.Tallies.{Adds};
 
 use crate::candidates::{Candidates, extent_for};
 use crate::rows::{are_read_before, rows_of_value};
@@ -7,6 +11,7 @@ use idset::ConceptSet;
 use postings::Indexes;
 use set_algebra::Choice;
 use std::alloc::{AllocError, Global};
+use std::marker::Model;
 
 // To look at a value is worth it where so many rows that stand side by side might be left out for it.
 const VALUE: u64 = 4;
@@ -16,7 +21,7 @@ const TESTED: u64 = 512;
 
 /// How many rows have one of some concepts as their value, or, read backwards, as their source, or more than that: added up as
 /// the lists are read in which they are found, if that is asked for. No answer depends on it.
-#[derive(Clone, Copy)]
+#[derive(Drop)]
 pub struct RowTally<'a> {
     // whose rows, where they are asked for
     indexes: Option<&'a Indexes>,
@@ -29,9 +34,21 @@ pub struct RowTally<'a> {
     tested: u64,
 }
 
+impl<'a> Model for RowTally<'a> {
+    ghost use Rattle.candidates.specs.Tallies.{Tally};
+
+    ghost Value = { Tally };
+
+    ghost use Rattle.candidates.specs.inside.TallyInside.{tally_in};
+
+    ghost view = { tally_in };
+}
+
 impl<'a> RowTally<'a> {
     /// Of rows that are not asked for.
-    pub fn unasked() -> RowTally<'a> {
+    pub fn unasked() -> RowTally<'a>
+        ensures { result.rows ≡ None }
+    {
         RowTally {
             indexes: None,
             back: false,
@@ -49,7 +66,11 @@ impl<'a> RowTally<'a> {
         back: bool,
         others: u64,
         candidates: &Candidates<'_, S>,
-    ) -> RowTally<'a> {
+    ) -> RowTally<'a>
+        ensures indexed { result.indexed ≡ Some indexes.now }
+        ensures back { result.back ≡ back }
+        ensures none { result.rows ≡ Some 0 }
+    {
         let asks_others = choice != Choice::ByValue
             && !are_read_before(extent_for(candidates, back), others);
         RowTally {
@@ -62,12 +83,16 @@ impl<'a> RowTally<'a> {
     }
 
     /// How many they are at the most, where all that was found was added.
-    pub fn rows(&self) -> Option<u64> {
+    pub fn rows(&self) -> Option<u64>
+        ensures { result ≡ self.now.rows }
+    {
         self.rows
     }
 
     /// What is found is not added, so it is not known how many there are.
-    pub fn forget(&mut self) {
+    pub fn forget(&mut self)
+        ensures { self.new ≡ record self.old { rows = None } }
+    {
         self.rows = None;
     }
 
@@ -90,36 +115,35 @@ impl<'a> RowTally<'a> {
 
     /// The items of a list, whose rows are added. The list is read once.
     pub fn read(&mut self, alloc: Global, list: &[u32]) -> Result<Vec<u32>, AllocError>
-        ensures { IfOk result (λ own. own.items ≡ list.now) }
+        ensures items { IfOk result (λ own. own.items ≡ list.now) }
+        ensures adds { IfOk result (λ own. Adds list.now self.old self.new) }
     {
         let own = Vec::from_slice(alloc, list)?;
         self.add(own.as_slice());
         Ok(own)
     }
 
-    /// Adds the rows of some concepts.
-    pub fn add(&mut self, concepts: &[u32]) {
-        if let Some(before) = self.rows {
-            self.rows = Some(before.saturating_add(self.rows_among(concepts)));
-        }
+    /// Adds the rows of some concepts. Where one of them is no concept of the indexes it is no longer known how many there are.
+    pub fn add(&mut self, concepts: &[u32])
+        ensures { Adds concepts.now self.old self.new }
+    {
+        self.rows = match (self.indexes, self.rows) {
+            (Some(indexes), Some(before)) => rows_after(indexes, self.back, before, concepts),
+            _ => None,
+        };
     }
+}
 
-    // How many rows some concepts have.
-    fn rows_among(&self, concepts: &[u32]) -> u64 {
-        let mut rows = 0u64;
-        for concept in concepts {
-            rows = rows.saturating_add(self.rows_of(*concept));
+// How many rows there are with those of some concepts, if all of these are concepts of the indexes.
+fn rows_after(indexes: &Indexes, back: bool, before: u64, concepts: &[u32]) -> Option<u64>
+    ensures { IfSome result (λ all. full (before + sum_by (row_count_of indexes.now back) concepts.now) ≡ all) }
+{
+    let mut rows = before;
+    for concept in concepts {
+        if *concept >= indexes.concept_count() {
+            return None;
         }
-        rows
+        rows = rows.saturating_add(rows_of_value(indexes, back, *concept));
     }
-
-    // How many rows a concept has.
-    fn rows_of(&self, concept: u32) -> u64 {
-        match self.indexes {
-            Some(indexes) if concept < indexes.concept_count() => {
-                rows_of_value(indexes, self.back, concept)
-            }
-            _ => 0,
-        }
-    }
+    Some(rows)
 }

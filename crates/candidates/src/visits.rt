@@ -1,5 +1,6 @@
 //! The count of what is read.
-ghost use Rattle.std.specs.Prelude.{◌≡◌, ◌≤◌, ◌+◌, ◌-◌, ◌^◌, max, min};
+ghost use Rattle.std.specs.Prelude.{◌≡◌, ◌≤◌, ◌+◌, max};
+ghost use Rattle.candidates.specs.Counted.{full};
 
 use set_algebra::NodeLimits;
 
@@ -14,21 +15,27 @@ pub struct Visits {
 impl Visits {
     /// So many items more.
     pub fn add(&mut self, items: u64)
-        ensures count { self.new.count ≡ min (self.old.count + items) (2 ^ 64 - 1) }
+        ensures count { self.new.count ≡ full (self.old.count + items) }
         ensures grows { self.old.count ≤ self.new.count }
     {
         self.count = self.count.saturating_add(items);
     }
 
-    /// The items that a node reads; and where they are fewer than its floor, so many. No node reads more than its bound: that
-    /// it counts no more is seen here.
+    /// The items that a node reads, which are no more than its bound; and where they are fewer than its floor, so many.
     pub fn add_node(&mut self, items: u64, limits: NodeLimits)
         requires ordered { limits.floor ≤ limits.bound }
+        requires within { items ≤ limits.bound }
+        ensures count { self.new.count ≡ full (self.old.count + max items limits.floor) }
         ensures grows { self.old.count ≤ self.new.count }
-        ensures within { self.new.count ≤ self.old.count + limits.bound }
-        ensures floor { min (self.old.count + limits.floor) (2 ^ 64 - 1) ≤ self.new.count }
-        ensures counted { self.new.count ≡ min (self.old.count + max (min items limits.bound) limits.floor) (2 ^ 64 - 1) }
     {
-        self.add(items.min(limits.bound).max(limits.floor));
+        self.add(items.max(limits.floor));
+    }
+
+    /// What is missing, since there were so many, to the floor of a node that has read fewer items.
+    pub fn fill(&mut self, since: u64, floor: u64)
+        ensures count { self.new.count ≡ max self.old.count (full (since + floor)) }
+        ensures grows { self.old.count ≤ self.new.count }
+    {
+        self.count = self.count.max(since.saturating_add(floor));
     }
 }

@@ -1,8 +1,12 @@
 pub mod CountingLemmas
 pub mod GroupNodeLemmas
+pub mod LeafWork
+pub mod MemberWork
+pub mod NamedLemmas
 pub mod NodeLemmas
 pub mod NodeWork
 pub mod PartWork
 pub mod Rules
+pub mod WalkWork
 pub mod WithinNodes
 pub mod WorkLemmas

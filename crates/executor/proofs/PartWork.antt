@@ -1,16 +1,17 @@
 -- What the parts of a node of either sort find at most, and what they visit with what is read of that; and how many a set has of
 -- those that a plan means.
-use Rattle.std.proofs.Common.{ℕ, ◌+◌, ◌≡◌, ◌≤◌, ◌∙◌, ◌&&◌, Bool, true, List, length, get_or, min, refl, ap, arith}
+use Rattle.std.proofs.Common.{ℕ, ◌+◌, ◌*◌, ◌≡◌, ◌≤◌, ◌∙◌, ◌&&◌, Bool, true, List, length, get_or, min, refl, sym, ap, subst, arith}
 use Rattle.std.specs.Prelude.{All, slice_get}
 use Rattle.std.specs.List.{list_any, range_with_len}
 use Rattle.std.specs.List.Sorted.{IsStrictlyIncreasing}
 use Rattle.std.proofs.lemmas.Bool.{and_parts}
-use Rattle.std.proofs.lemmas.List.Elements.{All-contains}
+use Rattle.std.proofs.lemmas.List.Elements.{All-contains, Contains-get_or}
 use Rattle.std.proofs.lemmas.List.Sums.{length-filter}
 use Rattle.rf2_rows.specs.Pairs.{Pair}
 use Rattle.rf2_rows.specs.Release.{Attribute, Release}
 use Rattle.number_lists.specs.Members.{has}
 use Rattle.number_lists.proofs.MemberLemmas.{contains_had}
+use Rattle.number_lists.proofs.WhereLemmas.{there_where}
 use Rattle.number_lists.specs.Rising.{numbers_where}
 use Rattle.constraint_tree.specs.Denotation.{is_value}
 use Rattle.constraint_tree.proofs.WalkLemmas.{tells_in_force}
@@ -31,6 +32,7 @@ use Rattle.plan_bounds.proofs.SizeLemmas.{group_numbers-le, numbers-le}
 use Rattle.candidates.specs.Groups.{groups_where, some_group_in}
 use Rattle.candidates.specs.Numbers.{numbers_in}
 use Rattle.candidates.specs.Within.{groups_within, numbers_within}
+use Rattle.pair_sets.proofs.OwnedLemmas.{listed_few}
 use Rattle.executor.proofs.GroupNodeLemmas as groups
 use Rattle.executor.proofs.NodeLemmas.{or_node}
 use Rattle.executor.proofs.WithinNodes.{groups_same, within_same}
@@ -45,8 +47,8 @@ concepts_found indexed = record {
 
 abbrev pub concepts_read : Indexed → Sum ConceptPlan of_concepts
 concepts_read indexed = record {
-  of_part = λ choices part. size indexed choices (plan_of part) + node_sum (own_number indexed) choices (plan_of part);
-  of_parts = λ choices parts. total (sizes indexed choices (plans_of parts)) + plans_sum (own_number indexed) choices (plans_of parts);
+  of_part = λ choices part. 2 * size indexed choices (plan_of part) + node_sum (own_number indexed) choices (plan_of part);
+  of_parts = λ choices parts. 2 * total (sizes indexed choices (plans_of parts)) + plans_sum (own_number indexed) choices (plans_of parts);
   none = λ choices. refl;
   more = λ choices part parts. omega arith;
 }
@@ -61,9 +63,9 @@ groups_found indexed = record {
 
 abbrev pub groups_read : Indexed → Sum UnitPlan of_groups
 groups_read indexed = record {
-  of_part = λ choices part. group_size indexed choices (unit_plan_of part) + group_sum (own_number indexed) choices (unit_plan_of part);
+  of_part = λ choices part. 2 * group_size indexed choices (unit_plan_of part) + group_sum (own_number indexed) choices (unit_plan_of part);
   of_parts = λ choices parts.
-      total (group_sizes indexed choices (unit_plans_of parts)) + groups_sum (own_number indexed) choices (unit_plans_of parts);
+      2 * total (group_sizes indexed choices (unit_plans_of parts)) + groups_sum (own_number indexed) choices (unit_plans_of parts);
   none = λ choices. refl;
   more = λ choices part parts. omega arith;
 }
@@ -77,6 +79,29 @@ fewer bound may set =
       length-filter set (range_with_len 0 bound),
       count_le (λ n. may n && set n) set (range_with_len 0 bound) (λ n passes. (and_parts (may n) (set n) passes).1),
     )
+
+-- nor more than there are candidates, and each is one
+pub few_of_candidates : (bound : ℕ) (candidates : List ℕ) (set : ℕ → Bool) (found : List ℕ)
+    → found ≡ numbers_where bound (λ n. has candidates n && set n) → length found ≤ length candidates
+few_of_candidates bound candidates set found is =
+    omega (
+      arith,
+      ap (λ (numbers : List ℕ). length numbers) is,
+      length-filter (λ n. has candidates n && set n) (range_with_len 0 bound),
+      length-filter (has candidates) (range_with_len 0 bound),
+      count_le (λ n. has candidates n && set n) (has candidates) (range_with_len 0 bound)
+          (λ n passes. (and_parts (has candidates n) (set n) passes).0),
+      listed_few bound candidates,
+    )
+
+pub are_candidates : (bound : ℕ) (may set : ℕ → Bool) (found : List ℕ) → found ≡ numbers_where bound (λ n. may n && set n)
+    → All (λ n. may n ≡ true) found
+are_candidates bound may set found is =
+    subst (All (λ n. may n ≡ true)) (sym is)
+    (λ k d within.
+    let n = get_or (numbers_where bound (λ n. may n && set n)) k d in
+    (and_parts (may n) (set n) (there_where bound (λ n. may n && set n) n
+    (Contains-get_or (numbers_where bound (λ n. may n && set n)) k d within)).1).0)
 
 module _ (release : Release) (indexed : Indexed) (is : IsIndexOf indexed release) (rising : IsStrictlyIncreasing release.concepts)
     (known : All (λ (row : Attribute). has release.concepts row.source ≡ true) release.attributes) where

@@ -8,6 +8,7 @@ use Rattle.std.proofs.lemmas.Bool.{and_parts, cases_lt}
 use Rattle.std.proofs.lemmas.Option.{slice_get_cases, slice_get_past}
 use Rattle.rf2_rows.specs.Pairs.{Pair}
 use Rattle.rf2_rows.specs.Release.{Release}
+use Rattle.constraint_tree.specs.declared.operator.Cardinality.{Cardinality}
 use Rattle.constraint_tree.specs.declared.operator.Operator.{Operator}
 use Rattle.number_lists.specs.Rising.{IsRisingBelow, numbers_where}
 use Rattle.number_lists.specs.Members.{has}
@@ -18,8 +19,8 @@ use Rattle.ancestor_index.specs.HierarchyLists.{Hierarchy, hierarchy_of}
 use Rattle.postings.specs.Groups.{ConceptGroup, all_groups}
 use Rattle.set_algebra.specs.declared.plan.ConceptPlan.{ConceptPlan}
 use Rattle.set_algebra.specs.declared.plan.UnitPlan.{UnitPlan}
-use Rattle.set_algebra.specs.Meaning.{unit_means, means}
-use Rattle.set_algebra.specs.Plan.{PlanOfUnits, Plan, unit_plan_of, minus_units, minus_plan, nothing_unit, empty_plan, plan_of, walk_plan}
+use Rattle.set_algebra.specs.Meaning.{has_groups, means, unit_means}
+use Rattle.set_algebra.specs.Plan.{PlanOfUnits, Plan, and_plan, and_units, empty_plan, minus_plan, minus_units, nothing_unit, or_plan, or_units, plan_of, plans_of, unit_plan_of, unit_plans_of, units_plan, walk_plan}
 use Rattle.candidates.specs.Groups.{groups_where, some_group_in}
 use Rattle.candidates.specs.Numbers.{numbers_in}
 use Rattle.walks.specs.Asked.{AreEnough, asked_lists}
@@ -27,7 +28,8 @@ use Rattle.walks.specs.Led.{led_to}
 use Rattle.executor.specs.inside.Lead.{leads_off, leads_off_groups}
 use Rattle.candidates.specs.Within.{groups_within, numbers_within}
 use Rattle.walks.proofs.AskedLemmas.{led_from_part}
-use Rattle.executor.proofs.NodeLemmas.{walk_node}
+use Rattle.executor.proofs.GroupNodeLemmas as groups
+use Rattle.executor.proofs.NodeLemmas.{and_node, or_node, units_node, walk_node}
 use Rattle.pair_sets.proofs.LeafLemmas as leaf
 use Rattle.candidates.proofs.WithinLemmas.{all_again, all_done, kept_groups, minus_within, restricted_to, some_of_none}
 
@@ -277,3 +279,45 @@ walk_of_part release child operator hierarchy count may enough part found over c
               has-numbers_where_past (length release.concepts) (λ m. enough m && holds m) n past
               ∙ sym (has-numbers_where_past (length release.concepts) holds n past)
         ]
+
+-- ---- parts that are joined, and concepts with groups, as the plan of their node
+module _ (release : Release) (may : ℕ → Bool) where
+  pub and_within : (parts : List ConceptPlan)
+      → numbers_within release may (λ concept. list_all (λ part. means release (plan_of part) concept) parts)
+      ≡ numbers_within release may (means release (and_plan (plans_of parts)))
+  and_within parts =
+      let set : ℕ → Bool = λ concept. list_all (λ part. means release (plan_of part) concept) parts in
+      let plan : Plan = and_plan (plans_of parts) in
+      within_same release may set (means release plan) (and_node release plan (numbers_in release set) parts refl refl)
+
+  pub or_within : (parts : List ConceptPlan)
+      → numbers_within release may (λ concept. list_any (λ part. means release (plan_of part) concept) parts)
+      ≡ numbers_within release may (means release (or_plan (plans_of parts)))
+  or_within parts =
+      let set : ℕ → Bool = λ concept. list_any (λ part. means release (plan_of part) concept) parts in
+      let plan : Plan = or_plan (plans_of parts) in
+      within_same release may set (means release plan) (or_node release plan (numbers_in release set) parts refl refl)
+
+  pub units_within : (count : Cardinality) (units : PlanOfUnits)
+      → numbers_within release may (has_groups release count (unit_means release units))
+      ≡ numbers_within release may (means release (units_plan count units))
+  units_within count units =
+      let set : ℕ → Bool = has_groups release count (unit_means release units) in
+      let plan : Plan = units_plan count units in
+      within_same release may set (means release plan) (units_node release plan (numbers_in release set) count units refl refl)
+
+  pub and_groups : (parts : List UnitPlan)
+      → groups_within release may (λ pairs. list_all (λ part. unit_means release (unit_plan_of part) pairs) parts)
+      ≡ groups_within release may (unit_means release (and_units (unit_plans_of parts)))
+  and_groups parts =
+      let set : List Pair → Bool = λ pairs. list_all (λ part. unit_means release (unit_plan_of part) pairs) parts in
+      let plan : PlanOfUnits = and_units (unit_plans_of parts) in
+      groups_same release may set (unit_means release plan) (groups.and_node release plan (groups_where release set) parts refl refl)
+
+  pub or_groups : (parts : List UnitPlan)
+      → groups_within release may (λ pairs. list_any (λ part. unit_means release (unit_plan_of part) pairs) parts)
+      ≡ groups_within release may (unit_means release (or_units (unit_plans_of parts)))
+  or_groups parts =
+      let set : List Pair → Bool = λ pairs. list_any (λ part. unit_means release (unit_plan_of part) pairs) parts in
+      let plan : PlanOfUnits = or_units (unit_plans_of parts) in
+      groups_same release may set (unit_means release plan) (groups.or_node release plan (groups_where release set) parts refl refl)

@@ -5,12 +5,8 @@ use Rattle.std.proofs.lemmas.Bool.{both_ways, cases_lt, eq-eqb, eqb-true, ne_eqb
 use Rattle.std.proofs.lemmas.List.{take_all, drop-drop}
 use Rattle.std.proofs.lemmas.Option.{slice_get_cases, slice_get_read}
 use Rattle.postings.specs.Indexed.{Indexed}
-use Rattle.set_algebra.specs.Plan.{Plan, Plans, values_plan}
 use Rattle.set_algebra.specs.declared.choice.Choice.{Choice}
-use Rattle.plan_bounds.specs.Bounds.{own_number, values_bound}
-use Rattle.plan_bounds.specs.Leaves.{leaves, plan_count}
-use Rattle.plan_bounds.specs.Nodes.{node_sum, plans_sum}
-use Rattle.plan_bounds.specs.Sizes.{size}
+use Rattle.plan_bounds.specs.Bounds.{values_bound}
 use Rattle.plan_bounds.proofs.LoopLemmas.{Sort, Sum}
 use Rattle.executor.specs.inside.Lead.{of_lead}
 use Rattle.number_lists.proofs.ListLemmas.{next_place}
@@ -192,6 +188,15 @@ module _ {Part : Type 0} {sort : Sort Part} {least most : Sum Part sort} {choice
         };
         late = λ past. absurd (omega (arith, past));
       }
+
+  -- the same, by the part itself
+  pub all_first : {before after : ℕ} {at : List Choice} → at ≡ choices_before sort choices parts lead
+      → (part : Part) → lead < length parts → part ≡ get_or parts lead part → before ≤ after
+      → after ≤ before + most.of_part at part → min (before + least.of_part at part) (2 ^ 64 - 1) ≤ after
+      → AllSoFar Part sort least most choices parts lead 0 before after choices
+  all_first {at = at} at_is part inside is grows within floor =
+      all_start at_is grows (omega (arith, within, lead_is (most.of_part at) parts lead part inside is))
+      (omega (arith, floor, lead_is (least.of_part at) parts lead part inside is))
 
   -- what has been counted is no more than all parts have
   pub all_most : {place before after : ℕ} {rest : List Choice} → AllSoFar Part sort least most choices parts lead place before after rest
@@ -420,20 +425,3 @@ along_le indexed (suc place) (suc further) first before =
 pub along_from : (indexed : Indexed) (place few many : ℕ) → few ≤ many → values_bound indexed place few ≤ values_bound indexed place many
 along_from indexed zero few many more = omega arith
 along_from indexed (suc place) few many more = omega (arith, more, along_one indexed place few, along_one indexed place many)
-
--- what dotted attributes read: their start, and what is read along their names from so many
-pub led_reads : (indexed : Indexed) (choices : List Choice) {plan start : Plan} {names : Plans} {rest : List Choice} (old between new found : ℕ)
-    → plan ≡ values_plan start names → rest ≡ drop (leaves start) choices
-    → between ≤ old + node_sum (own_number indexed) choices start
-    → new ≤ between + (values_bound indexed (plan_count names) found + plans_sum (own_number indexed) rest names)
-    → found ≤ size indexed choices start
-    → new ≤ old + node_sum (own_number indexed) choices plan
-led_reads indexed choices {start = start} {names = names} old between new found is behind first along few =
-    omega (
-      arith,
-      first,
-      along,
-      along_from indexed (plan_count names) found (size indexed choices start) few,
-      ap (λ (plan : Plan). node_sum (own_number indexed) choices plan) is,
-      ap (λ (rest : List Choice). plans_sum (own_number indexed) rest names) behind,
-    )

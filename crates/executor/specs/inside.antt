@@ -1,5 +1,5 @@
 -- Definitions that private functions alone need: no contract of a public call names one.
-pub mod Kinds
+pub mod Executed
 pub mod Lead
 pub mod Named
 pub mod WithUnits

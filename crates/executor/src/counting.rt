@@ -1,61 +1,29 @@
-//! The visits of a node beside its parts, which are counted before the node reads. What it reads is told to each function, and what
-//! is counted lies between the floor and the own bound of the node.
-ghost use Rattle.std.specs.Prelude.{◌≡◌, ◌≤◌, ◌<◌, ◌+◌, ◌-◌, ◌*◌, ◌==◌, ◌^◌, false, length, min};
-ghost use Rattle.constraint_tree.specs.declared.operator.Cardinality.{Cardinality as cardinality};
+//! What the nodes read beside their parts: the limits of a leaf, what AND counts and what MINUS does.
+ghost use Rattle.std.specs.Prelude.{◌≡◌, ◌≤◌, ◌<◌, ◌+◌, ◌*◌, false, length, min};
 ghost use Rattle.postings.specs.Groups.{groups_in};
-ghost use Rattle.set_algebra.specs.Plan.{unit_plan_of, members_plan, pairs_units, pairs_plan, plan_of, test_plan_of, units_plan, walk_plan};
-ghost use Rattle.plan_bounds.specs.Alternatives.{leaf_bound, passed_over};
-ghost use Rattle.plan_bounds.specs.Bounds.{capped, group_own_bound, members_bound, own_bound, walk_bound};
-ghost use Rattle.plan_bounds.specs.Counts.{leaf_of, one_of};
+ghost use Rattle.set_algebra.specs.Plan.{pairs_plan, pairs_units, plan_of, test_plan_of};
+ghost use Rattle.plan_bounds.specs.Alternatives.{leaf_bound};
+ghost use Rattle.plan_bounds.specs.Bounds.{capped, group_own_bound, own_bound};
+ghost use Rattle.plan_bounds.specs.Counts.{leaf_of};
 ghost use Rattle.plan_bounds.specs.Floors.{group_own_floor, own_floor};
 ghost use Rattle.plan_bounds.specs.Leaves.{first_choice, test_choices, type_choices};
-ghost use Rattle.plan_bounds.specs.Sizes.{group_size, size, test_size};
+ghost use Rattle.plan_bounds.specs.Sizes.{size, test_size};
+ghost use Rattle.candidates.specs.Counted.{full};
 
 use candidates::Visits;
-use constraint_tree::{Cardinality, Operator};
-use plan_bounds::{
-    Choice, NodeLimits, first_choice, leaf_limits, members_limits, units_limits, walk_limits,
-};
+use constraint_tree::Cardinality;
+use idset::ConceptSet;
+use plan_bounds::{Choice, NodeLimits, first_choice, leaf_limits};
 use postings::Indexes;
-use set_algebra::{ConceptPlan, UnitPlan, ValueTest};
+use set_algebra::{ConceptPlan, ValueTest};
 
-/// Counts a walk from so many concepts, which reads so many items of lists beside.
-pub fn count_walk(
-    indexes: &Indexes,
-    _choices: &[Choice],
-    operator: Operator,
-    operand: &ConceptPlan,
-    from: u32,
-    items: u64,
-    visits: &mut Visits,
-)
-    requires { from ≤ size indexes.now _choices.now (plan_of operand.now) }
+/// Counts what a part of an AND has found. It is gone through twice: to see how much there is of it, and as the candidates of the next
+/// part.
+pub fn count_part<S: ConceptSet>(found: &S, visits: &mut Visits)
+    ensures count { visits.new.count ≡ full (visits.old.count + 2 * length (S.items_of found.now)) }
     ensures grows { visits.old.count ≤ visits.new.count }
-    ensures within { visits.new.count ≤ visits.old.count + own_bound indexes.now _choices.now (walk_plan operator (plan_of operand.now)) }
-    ensures floor { min (visits.old.count + own_floor indexes.now _choices.now (walk_plan operator (plan_of operand.now))) (2 ^ 64 - 1) ≤ visits.new.count }
-    ensures counted { min (visits.old.count + min (items + from) (capped (walk_bound indexes.now operator (one_of (plan_of operand.now)) from))) (2 ^ 64 - 1) ≤ visits.new.count }
 {
-    let limits = walk_limits(indexes, operator, operand, from as u64);
-    visits.add_node(items.saturating_add(from as u64), limits);
-}
-
-/// Counts the components of so many reference sets, which has so many items of lists beside.
-pub fn count_members(
-    indexes: &Indexes,
-    _choices: &[Choice],
-    operand: &ConceptPlan,
-    from: u32,
-    items: u64,
-    visits: &mut Visits,
-)
-    requires { from ≤ size indexes.now _choices.now (plan_of operand.now) }
-    ensures grows { visits.old.count ≤ visits.new.count }
-    ensures within { visits.new.count ≤ visits.old.count + own_bound indexes.now _choices.now (members_plan (plan_of operand.now)) }
-    ensures floor { min (visits.old.count + own_floor indexes.now _choices.now (members_plan (plan_of operand.now))) (2 ^ 64 - 1) ≤ visits.new.count }
-    ensures counted { min (visits.old.count + min (items + from) (capped (members_bound indexes.now (one_of (plan_of operand.now)) from))) (2 ^ 64 - 1) ≤ visits.new.count }
-{
-    let limits = members_limits(indexes, operand, from as u64);
-    visits.add_node(items.saturating_add(from as u64), limits);
+    visits.add(2 * u64::from(found.count()));
 }
 
 /// A leaf among concepts: between which numbers its visits lie, where so many types and so
@@ -105,25 +73,6 @@ pub fn group_leaf_limits(
     let sizes = (type_count as u64, test_count as u64);
     let choice = first_choice(choices);
     leaf_limits(indexes, all, false, count, types, test, sizes, choice)
-}
-
-/// Counts what is read for the concepts so many of whose groups are among so many.
-pub fn count_units(
-    indexes: &Indexes,
-    _choices: &[Choice],
-    count: Cardinality,
-    units: &UnitPlan,
-    groups: u64,
-    items: u64,
-    visits: &mut Visits,
-)
-    requires { groups ≤ group_size indexes.now _choices.now (unit_plan_of units.now) }
-    ensures grows { visits.old.count ≤ visits.new.count }
-    ensures within { visits.new.count ≤ visits.old.count + own_bound indexes.now _choices.now (units_plan count (unit_plan_of units.now)) }
-    ensures counted { min (visits.old.count + min items (capped (groups + passed_over (count.min == 0) (length indexes.now.concepts)))) (2 ^ 64 - 1) ≤ visits.new.count }
-{
-    let limits = units_limits(count, indexes.concept_count() as u64, groups);
-    visits.add_node(items, limits);
 }
 
 /// How many items MINUS reads where the first of its parts has found so many, and what both find at most is told: what the first has

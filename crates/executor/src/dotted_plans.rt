@@ -1,16 +1,17 @@
 //! Dotted attributes of a plan.
-ghost use Rattle.std.specs.Prelude.{true, ◌≡◌, ◌≤◌, ◌<◌, ◌+◌, ◌*◌, ◌-◌, ◌^◌, IfOk, IfSome, length, min};
+ghost use Rattle.std.specs.Prelude.{◌≡◌, ◌+◌, IfOk, IfSome, length};
 ghost use Rattle.postings.specs.Indexed.{IsIndexOf};
 ghost use Rattle.set_algebra.specs.Meaning.{leads, means};
-ghost use Rattle.set_algebra.specs.Plan.{Plan, plan_of, plans_of};
-ghost use Rattle.executor.specs.inside.Kinds.{is_dotted};
+ghost use Rattle.set_algebra.specs.Plan.{Plan, plan_of, plans_of, values_plan};
 ghost use Rattle.plan_bounds.specs.Bounds.{own_number, values_bound};
 ghost use Rattle.plan_bounds.specs.Floors.{floor_number};
 ghost use Rattle.plan_bounds.specs.Leaves.{plan_count};
-ghost use Rattle.plan_bounds.specs.Nodes.{node_sum, plans_sum};
+ghost use Rattle.plan_bounds.specs.Nodes.{plans_sum};
 ghost use Rattle.candidates.specs.Numbers.{numbers_in};
 ghost use Rattle.executor.specs.inside.Named.{HasNamed};
-ghost use Rattle.candidates.specs.Within.{AreBelow, may_be, numbers_within};
+ghost use Rattle.candidates.specs.Within.{AreConcepts};
+ghost use Rattle.candidates.specs.Counted.{CountsWithin, IsFound};
+ghost use Rattle.executor.specs.inside.Executed.{AnswersAll, AnswersPlan, CountsPlan};
 
 use crate::nodes::no_concept;
 use crate::plans::execute_within;
@@ -27,33 +28,26 @@ use std::alloc::{AllocError, Global};
 #[cycle(execute)]
 pub fn led_from<S: ConceptSet>(
     alloc: Global,
-    plan: &ConceptPlan,
+    start: &ConceptPlan,
+    names: &[ConceptPlan],
     choices: &[Choice],
     candidates: &Candidates<'_, S>,
     snapshot: &Snapshot,
     indexes: &Indexes,
     visits: &mut Visits,
 ) -> Result<S, AllocError>
-    requires plan { is_dotted plan.now ≡ true }
     requires index { IsIndexOf indexes.now snapshot.now.release }
-    requires candidates { AreBelow S.bound_of (length snapshot.now.release.concepts) candidates.now }
-    ensures items { IfOk result (λ found. S.items_of found ≡ numbers_within snapshot.now.release (may_be S.items_of candidates.now) (means snapshot.now.release (plan_of plan.now))) }
-    ensures bound { IfOk result (λ found. S.bound_of found ≡ length snapshot.now.release.concepts) }
-    ensures grows { visits.old.count ≤ visits.new.count }
-    ensures within { visits.new.count ≤ visits.old.count + node_sum (own_number indexes.now) choices.now (plan_of plan.now) }
-    ensures floor { IfOk result (λ _. min (visits.old.count + node_sum (floor_number indexes.now) choices.now (plan_of plan.now)) (2 ^ 64 - 1) ≤ visits.new.count) }
+    requires candidates { AreConcepts S.ConceptSet snapshot.now.release indexes.now candidates.now }
+    ensures counted { CountsPlan indexes.now choices.now (values_plan (plan_of start.now) (plans_of names.now)) visits.old visits.new }
+    ensures found { IfOk result (AnswersPlan S.ConceptSet snapshot.now.release indexes.now choices.now candidates.now
+        (values_plan (plan_of start.now) (plans_of names.now)) visits.old visits.new) }
 {
-    match plan {
-        ConceptPlan::Values(start, names) => {
-            let all = Candidates::All;
-            let from: S = execute_within(alloc, start, choices, &all, snapshot, indexes, visits)?;
-            let rest = plan_floor(start, choices, indexes).rest;
-            let led = led_along(alloc, from, names, rest, snapshot, indexes, visits)?;
-            let found = restricted(alloc, led, candidates)?;
-            Ok(found)
-        }
-        _ => no_concept(alloc, snapshot),
-    }
+    let all = Candidates::All;
+    let from: S = execute_within(alloc, start, choices, &all, snapshot, indexes, visits)?;
+    let rest = plan_floor(start, choices, indexes).rest;
+    let led = led_along(alloc, from, names, rest, snapshot, indexes, visits)?;
+    let found = restricted(alloc, led, candidates)?;
+    Ok(found)
 }
 
 // The concepts to which dotted attributes lead from a set: the values of its attributes of the first name, of these those
@@ -70,12 +64,12 @@ fn led_along<S: ConceptSet>(
 ) -> Result<S, AllocError>
     requires index { IsIndexOf indexes.now snapshot.now.release }
     requires bound { S.bound_of from ≡ length snapshot.now.release.concepts }
-    ensures items { IfOk result (λ found. (plan : Plan) → S.items_of from ≡ numbers_in snapshot.now.release (means snapshot.now.release plan)
-        → S.items_of found ≡ numbers_in snapshot.now.release (leads snapshot.now.release (means snapshot.now.release plan) (plans_of names.now))) }
-    ensures bound { IfOk result (λ found. S.bound_of found ≡ length snapshot.now.release.concepts) }
-    ensures grows { visits.old.count ≤ visits.new.count }
-    ensures within { visits.new.count ≤ visits.old.count + (values_bound indexes.now (plan_count (plans_of names.now)) (length (S.items_of from)) + plans_sum (own_number indexes.now) choices.now (plans_of names.now)) }
-    ensures floor { IfOk result (λ _. min (visits.old.count + plans_sum (floor_number indexes.now) choices.now (plans_of names.now)) (2 ^ 64 - 1) ≤ visits.new.count) }
+    ensures counted { CountsWithin (values_bound indexes.now (plan_count (plans_of names.now)) (length (S.items_of from))
+        + plans_sum (own_number indexes.now) choices.now (plans_of names.now)) visits.old visits.new }
+    ensures found { IfOk result (λ found. (plan : Plan) → S.items_of from ≡ numbers_in snapshot.now.release (means snapshot.now.release plan)
+        → IsFound S.ConceptSet (length snapshot.now.release.concepts)
+        (numbers_in snapshot.now.release (leads snapshot.now.release (means snapshot.now.release plan) (plans_of names.now)))
+        (plans_sum (floor_number indexes.now) choices.now (plans_of names.now)) visits.old visits.new found) }
 {
     // the concepts rise, and the sources of all attribute rows are in force
     snapshot.concept_count();
@@ -107,10 +101,8 @@ fn named_by<S: ConceptSet>(
 ) -> Result<S, AllocError>
     requires index { IsIndexOf indexes.now snapshot.now.release }
     requires known { IfSome known (λ known. HasNamed snapshot.now.release (plan_of known.0.now) (S.items_of known.1) (S.bound_of known.1)) }
-    ensures named { IfOk result (λ found. HasNamed snapshot.now.release (plan_of name.now) (S.items_of found) (S.bound_of found)) }
-    ensures grows { visits.old.count ≤ visits.new.count }
-    ensures within { visits.new.count ≤ visits.old.count + node_sum (own_number indexes.now) choices.now (plan_of name.now) }
-    ensures floor { IfOk result (λ _. min (visits.old.count + node_sum (floor_number indexes.now) choices.now (plan_of name.now)) (2 ^ 64 - 1) ≤ visits.new.count) }
+    ensures counted { CountsPlan indexes.now choices.now (plan_of name.now) visits.old visits.new }
+    ensures found { IfOk result (AnswersAll S.ConceptSet snapshot.now.release indexes.now choices.now (plan_of name.now) visits.old visits.new) }
 {
     if let Some((before, set)) = known {
         if *before == *name {

@@ -2,6 +2,10 @@
 //!
 //! A guess reads the lengths of a few lists. It tells which of several parts is executed first, so that a bad one costs
 //! time, and no answer depends on it.
+ghost use Rattle.std.specs.Prelude.{◌≡◌, IsSome};
+ghost use Rattle.set_algebra.specs.Plan.{plan_of};
+ghost use Rattle.plan_bounds.specs.Counts.{one_of};
+
 use constraint_tree::{Cardinality, Operator};
 use postings::Indexes;
 use set_algebra::{ConceptPlan, UnitPlan, ValueTest};
@@ -197,7 +201,9 @@ pub fn rows_of_types(types: &ConceptPlan, indexes: &Indexes) -> u64 {
 }
 
 /// How many rows a plan reads where it reads none of candidates; none where it never does.
-pub fn rows_without(plan: &ConceptPlan, indexes: &Indexes) -> u64 {
+pub fn rows_without(plan: &ConceptPlan, indexes: &Indexes) -> u64
+    ensures { IsSome (one_of (plan_of plan.now)) → result ≡ 0 }
+{
     match plan {
         ConceptPlan::Empty
         | ConceptPlan::All

@@ -1,17 +1,18 @@
 //! Parts of a plan that are joined by AND, or by OR.
-ghost use Rattle.std.specs.Prelude.{◌≡◌, ◌≤◌, ◌<◌, ◌+◌, ◌*◌, ◌-◌, ◌^◌, IfOk, drop, length, min, slice_get, take};
-ghost use Rattle.std.specs.List.{list_all, list_any};
+ghost use Rattle.std.specs.Prelude.{◌≡◌, ◌<◌, ◌+◌, ◌*◌, IfOk, drop, length, min, take};
 ghost use Rattle.postings.specs.Indexed.{IsIndexOf};
 ghost use Rattle.set_algebra.specs.Meaning.{means};
-ghost use Rattle.set_algebra.specs.Plan.{plan_of, plans_of};
+ghost use Rattle.set_algebra.specs.Plan.{and_plan, or_plan, plan_of, plans_of};
 ghost use Rattle.plan_bounds.specs.Bounds.{own_number};
-ghost use Rattle.plan_bounds.specs.Floors.{floor_number};
-ghost use Rattle.plan_bounds.specs.Leaves.{leaves, plan_count, plans_leaves};
-ghost use Rattle.plan_bounds.specs.Nodes.{node_sum, plans_sum};
-ghost use Rattle.plan_bounds.specs.Sizes.{size as size_of, sizes, total};
-ghost use Rattle.executor.specs.inside.Lead.{leads_off, of_lead};
-ghost use Rattle.candidates.specs.Within.{AreBelow, may_be, numbers_within};
+ghost use Rattle.plan_bounds.specs.Leaves.{leaves, plans_leaves};
+ghost use Rattle.plan_bounds.specs.Nodes.{node_sum};
+ghost use Rattle.plan_bounds.specs.Sizes.{size as size_of};
+ghost use Rattle.candidates.specs.Tallies.{Adds};
+ghost use Rattle.candidates.specs.Within.{AreConcepts};
+ghost use Rattle.candidates.specs.Counted.{CountsWithin};
+ghost use Rattle.executor.specs.inside.Executed.{AnswersPlan, CountsPlan};
 
+use crate::counting::count_part;
 use crate::guesses::{lead_of, rows_without};
 use crate::nodes::{either, every_candidate, no_concept};
 use crate::plans::{execute_tallied, execute_within};
@@ -24,7 +25,7 @@ use set_algebra::ConceptPlan;
 use std::alloc::{AllocError, Global};
 
 /// The candidates among the concepts that all of some plans mean; of no plans each candidate. One part is executed
-/// first, and each of the others for what is left. What each has found is read once.
+/// first, and each of the others for what is left. What each has found is gone through twice.
 #[cycle(execute)]
 pub fn in_all<S: ConceptSet>(
     alloc: Global,
@@ -36,12 +37,10 @@ pub fn in_all<S: ConceptSet>(
     visits: &mut Visits,
 ) -> Result<S, AllocError>
     requires index { IsIndexOf indexes.now snapshot.now.release }
-    requires candidates { AreBelow S.bound_of (length snapshot.now.release.concepts) candidates.now }
-    ensures items { IfOk result (λ found. S.items_of found ≡ numbers_within snapshot.now.release (may_be S.items_of candidates.now) (λ concept. list_all (λ part. means snapshot.now.release (plan_of part) concept) parts.now)) }
-    ensures bound { IfOk result (λ found. S.bound_of found ≡ length snapshot.now.release.concepts) }
-    ensures grows { visits.old.count ≤ visits.new.count }
-    ensures within { visits.new.count ≤ visits.old.count + (2 * total (sizes indexes.now choices.now (plans_of parts.now)) + plans_sum (own_number indexes.now) choices.now (plans_of parts.now)) }
-    ensures floor { IfOk result (λ _. min (visits.old.count + plans_sum (floor_number indexes.now) choices.now (plans_of parts.now)) (2 ^ 64 - 1) ≤ visits.new.count) }
+    requires candidates { AreConcepts S.ConceptSet snapshot.now.release indexes.now candidates.now }
+    ensures counted { CountsPlan indexes.now choices.now (and_plan (plans_of parts.now)) visits.old visits.new }
+    ensures found { IfOk result (AnswersPlan S.ConceptSet snapshot.now.release indexes.now choices.now candidates.now
+        (and_plan (plans_of parts.now)) visits.old visits.new) }
 {
     if parts.is_empty() {
         let every = every_candidate(alloc, snapshot, candidates)?;
@@ -50,7 +49,13 @@ pub fn in_all<S: ConceptSet>(
     let lead = lead_of(parts, indexes).min(parts.len() - 1);
     let at = choices_at(parts, choices, lead, indexes);
     let mut found: S = led_by(
-        alloc, parts, lead, at, candidates, snapshot, indexes, visits,
+        alloc,
+        &parts[lead],
+        at,
+        candidates,
+        snapshot,
+        indexes,
+        visits,
     )?;
     let mut rest = choices;
     for place in 0..parts.len() {
@@ -61,7 +66,7 @@ pub fn in_all<S: ConceptSet>(
             let extent = extent_of(alloc, snapshot, indexes, &found, rows)?;
             let still = Candidates::Within(&found, extent);
             let next: S = execute_within(alloc, part, rest, &still, snapshot, indexes, visits)?;
-            visits.add(next.count() as u64);
+            count_part(&next, visits);
             found = next;
         }
         rest = behind;
@@ -86,12 +91,11 @@ fn choices_at<'a>(
     rest
 }
 
-// The candidates among the concepts that the plan at a place means. What it has found is read once.
+// The candidates among the concepts that a plan means. What it has found is gone through twice.
 #[cycle(execute)]
 fn led_by<S: ConceptSet>(
     alloc: Global,
-    parts: &[ConceptPlan],
-    lead: usize,
+    plan: &ConceptPlan,
     choices: &[Choice],
     candidates: &Candidates<'_, S>,
     snapshot: &Snapshot,
@@ -99,24 +103,14 @@ fn led_by<S: ConceptSet>(
     visits: &mut Visits,
 ) -> Result<S, AllocError>
     requires index { IsIndexOf indexes.now snapshot.now.release }
-    requires candidates { AreBelow S.bound_of (length snapshot.now.release.concepts) candidates.now }
-    requires lead { lead < length parts.now }
-    ensures items { IfOk result (λ found. S.items_of found ≡ numbers_within snapshot.now.release (may_be S.items_of candidates.now) (leads_off snapshot.now.release (slice_get parts.now lead))) }
-    ensures bound { IfOk result (λ found. S.bound_of found ≡ length snapshot.now.release.concepts) }
-    ensures grows { visits.old.count ≤ visits.new.count }
-    ensures within { visits.new.count ≤ visits.old.count + of_lead (λ part. size_of indexes.now choices.now (plan_of part) + node_sum (own_number indexes.now) choices.now (plan_of part)) (slice_get parts.now lead) }
-    ensures floor { IfOk result (λ _. min (visits.old.count + of_lead (λ part. node_sum (floor_number indexes.now) choices.now (plan_of part)) (slice_get parts.now lead)) (2 ^ 64 - 1) ≤ visits.new.count) }
+    requires candidates { AreConcepts S.ConceptSet snapshot.now.release indexes.now candidates.now }
+    ensures counted { CountsWithin (2 * size_of indexes.now choices.now (plan_of plan.now) + node_sum (own_number indexes.now) choices.now (plan_of plan.now))
+        visits.old visits.new }
+    ensures found { IfOk result (AnswersPlan S.ConceptSet snapshot.now.release indexes.now choices.now candidates.now
+        (plan_of plan.now) visits.old visits.new) }
 {
-    let found: S = execute_within(
-        alloc,
-        &parts[lead],
-        choices,
-        candidates,
-        snapshot,
-        indexes,
-        visits,
-    )?;
-    visits.add(found.count() as u64);
+    let found: S = execute_within(alloc, plan, choices, candidates, snapshot, indexes, visits)?;
+    count_part(&found, visits);
     Ok(found)
 }
 
@@ -134,12 +128,11 @@ pub fn in_some<S: ConceptSet>(
     tally: &mut RowTally<'_>,
 ) -> Result<S, AllocError>
     requires index { IsIndexOf indexes.now snapshot.now.release }
-    requires candidates { AreBelow S.bound_of (length snapshot.now.release.concepts) candidates.now }
-    ensures items { IfOk result (λ found. S.items_of found ≡ numbers_within snapshot.now.release (may_be S.items_of candidates.now) (λ concept. list_any (λ part. means snapshot.now.release (plan_of part) concept) parts.now)) }
-    ensures bound { IfOk result (λ found. S.bound_of found ≡ length snapshot.now.release.concepts) }
-    ensures grows { visits.old.count ≤ visits.new.count }
-    ensures within { visits.new.count ≤ visits.old.count + (plan_count (plans_of parts.now) * total (sizes indexes.now choices.now (plans_of parts.now)) + plans_sum (own_number indexes.now) choices.now (plans_of parts.now)) }
-    ensures floor { IfOk result (λ _. min (visits.old.count + plans_sum (floor_number indexes.now) choices.now (plans_of parts.now)) (2 ^ 64 - 1) ≤ visits.new.count) }
+    requires candidates { AreConcepts S.ConceptSet snapshot.now.release indexes.now candidates.now }
+    ensures counted { CountsPlan indexes.now choices.now (or_plan (plans_of parts.now)) visits.old visits.new }
+    ensures found { IfOk result (AnswersPlan S.ConceptSet snapshot.now.release indexes.now choices.now candidates.now
+        (or_plan (plans_of parts.now)) visits.old visits.new) }
+    ensures adds { IfOk result (λ found. Adds (S.items_of found) tally.old tally.new) }
 {
     // the concepts rise, and the sources of all attribute rows are in force
     snapshot.concept_count();

@@ -1,18 +1,17 @@
 //! Going down a plan.
-ghost use Rattle.std.specs.Prelude.{true, ◌≡◌, ◌≤◌, ◌<◌, ◌+◌, ◌*◌, ◌-◌, ◌^◌, IfOk, length, min};
-ghost use Rattle.rf2_rows.specs.Release.{Value};
+ghost use Rattle.std.specs.Prelude.{◌≡◌, ◌≤◌, ◌+◌, ◌-◌, ◌^◌, IfOk, length, min};
 ghost use Rattle.postings.specs.Indexed.{IsIndexOf};
-ghost use Rattle.set_algebra.specs.Meaning.{unit_means, has_groups, means, value_passes};
-ghost use Rattle.set_algebra.specs.Plan.{unit_plan_of, members_plan, plan_of, test_plan_of, units_plan};
-ghost use Rattle.executor.specs.inside.Kinds.{is_minus, is_pairs};
-ghost use Rattle.plan_bounds.specs.Bounds.{bound as bound_of, own_number};
-ghost use Rattle.plan_bounds.specs.Floors.{floor as floor_of, floor_number};
+ghost use Rattle.set_algebra.specs.Meaning.{means};
+ghost use Rattle.set_algebra.specs.Plan.{members_plan, minus_plan, pairs_plan, plan_of, test_plan_of, unit_plan_of, units_plan};
+ghost use Rattle.plan_bounds.specs.Bounds.{bound as bound_of};
+ghost use Rattle.plan_bounds.specs.Floors.{floor as floor_of};
 ghost use Rattle.plan_bounds.specs.Leaves.{leaves};
-ghost use Rattle.plan_bounds.specs.Nodes.{node_sum, test_sum};
-ghost use Rattle.plan_bounds.specs.Sizes.{size as size_of, sizes, test_size};
+ghost use Rattle.plan_bounds.specs.Sizes.{size as size_of};
 ghost use Rattle.candidates.specs.Numbers.{numbers_in};
-ghost use Rattle.pair_sets.specs.Tested.{IsTestBelow, found_for, passes_of};
-ghost use Rattle.candidates.specs.Within.{AreBelow, may_be, numbers_within};
+ghost use Rattle.candidates.specs.Tallies.{Adds};
+ghost use Rattle.candidates.specs.Within.{AreConcepts};
+ghost use Rattle.executor.specs.inside.Named.{AddsNamed};
+ghost use Rattle.executor.specs.inside.Executed.{AnswersPlan, AnswersTest, CountsPlan, CountsTest, set_items};
 
 use crate::counting::concept_leaf_limits;
 use crate::dotted_plans::led_from;
@@ -23,7 +22,7 @@ use crate::nodes::{every_candidate, no_concept, one_candidate};
 use crate::second_part::second_part;
 use crate::unit_plans::execute_groups;
 use crate::walk_plans::walk_from;
-use candidates::{Candidates, RowTally, Visits, none_left};
+use candidates::{Candidates, RowTally, Visits, group_extent_of, none_left};
 use constraint_tree::Cardinality;
 use held_release::Snapshot;
 use idset::ConceptSet;
@@ -77,12 +76,10 @@ pub fn execute_within<S: ConceptSet>(
     visits: &mut Visits,
 ) -> Result<S, AllocError>
     requires index { IsIndexOf indexes.now snapshot.now.release }
-    requires candidates { AreBelow S.bound_of (length snapshot.now.release.concepts) candidates.now }
-    ensures items { IfOk result (λ found. S.items_of found ≡ numbers_within snapshot.now.release (may_be S.items_of candidates.now) (means snapshot.now.release (plan_of plan.now))) }
-    ensures bound { IfOk result (λ found. S.bound_of found ≡ length snapshot.now.release.concepts) }
-    ensures grows { visits.old.count ≤ visits.new.count }
-    ensures within { visits.new.count ≤ visits.old.count + node_sum (own_number indexes.now) choices.now (plan_of plan.now) }
-    ensures floor { IfOk result (λ _. min (visits.old.count + node_sum (floor_number indexes.now) choices.now (plan_of plan.now)) (2 ^ 64 - 1) ≤ visits.new.count) }
+    requires candidates { AreConcepts S.ConceptSet snapshot.now.release indexes.now candidates.now }
+    ensures counted { CountsPlan indexes.now choices.now (plan_of plan.now) visits.old visits.new }
+    ensures found { IfOk result (AnswersPlan S.ConceptSet snapshot.now.release indexes.now choices.now candidates.now
+        (plan_of plan.now) visits.old visits.new) }
     ensures size { IfOk result (λ found. length (S.items_of found) ≤ size_of indexes.now choices.now (plan_of plan.now)) }
 {
     let mut tally = RowTally::unasked();
@@ -106,13 +103,12 @@ pub fn execute_tallied<S: ConceptSet>(
     tally: &mut RowTally<'_>,
 ) -> Result<S, AllocError>
     requires index { IsIndexOf indexes.now snapshot.now.release }
-    requires candidates { AreBelow S.bound_of (length snapshot.now.release.concepts) candidates.now }
-    ensures items { IfOk result (λ found. S.items_of found ≡ numbers_within snapshot.now.release (may_be S.items_of candidates.now) (means snapshot.now.release (plan_of plan.now))) }
-    ensures bound { IfOk result (λ found. S.bound_of found ≡ length snapshot.now.release.concepts) }
-    ensures grows { visits.old.count ≤ visits.new.count }
-    ensures within { visits.new.count ≤ visits.old.count + node_sum (own_number indexes.now) choices.now (plan_of plan.now) }
-    ensures floor { IfOk result (λ _. min (visits.old.count + node_sum (floor_number indexes.now) choices.now (plan_of plan.now)) (2 ^ 64 - 1) ≤ visits.new.count) }
+    requires candidates { AreConcepts S.ConceptSet snapshot.now.release indexes.now candidates.now }
+    ensures counted { CountsPlan indexes.now choices.now (plan_of plan.now) visits.old visits.new }
+    ensures found { IfOk result (AnswersPlan S.ConceptSet snapshot.now.release indexes.now choices.now candidates.now
+        (plan_of plan.now) visits.old visits.new) }
     ensures size { IfOk result (λ found. length (S.items_of found) ≤ size_of indexes.now choices.now (plan_of plan.now)) }
+    ensures adds { IfOk result (λ found. Adds (S.items_of found) tally.old tally.new) }
 {
     // the concepts rise, and the sources of all attribute rows are in force
     snapshot.concept_count();
@@ -143,12 +139,11 @@ fn execute_node<S: ConceptSet>(
     tally: &mut RowTally<'_>,
 ) -> Result<S, AllocError>
     requires index { IsIndexOf indexes.now snapshot.now.release }
-    requires candidates { AreBelow S.bound_of (length snapshot.now.release.concepts) candidates.now }
-    ensures items { IfOk result (λ found. S.items_of found ≡ numbers_within snapshot.now.release (may_be S.items_of candidates.now) (means snapshot.now.release (plan_of plan.now))) }
-    ensures bound { IfOk result (λ found. S.bound_of found ≡ length snapshot.now.release.concepts) }
-    ensures grows { visits.old.count ≤ visits.new.count }
-    ensures within { visits.new.count ≤ visits.old.count + node_sum (own_number indexes.now) choices.now (plan_of plan.now) }
-    ensures floor { IfOk result (λ _. min (visits.old.count + node_sum (floor_number indexes.now) choices.now (plan_of plan.now)) (2 ^ 64 - 1) ≤ visits.new.count) }
+    requires candidates { AreConcepts S.ConceptSet snapshot.now.release indexes.now candidates.now }
+    ensures counted { CountsPlan indexes.now choices.now (plan_of plan.now) visits.old visits.new }
+    ensures found { IfOk result (AnswersPlan S.ConceptSet snapshot.now.release indexes.now choices.now candidates.now
+        (plan_of plan.now) visits.old visits.new) }
+    ensures adds { IfOk result (λ found. Adds (S.items_of found) tally.old tally.new) }
 {
     tally_named(plan, snapshot, tally);
     match plan {
@@ -169,15 +164,20 @@ fn execute_node<S: ConceptSet>(
         ConceptPlan::Or(parts) => in_some(
             alloc, parts, choices, candidates, snapshot, indexes, visits, tally,
         ),
-        ConceptPlan::Minus(_, _) => {
-            in_first_alone(alloc, plan, choices, candidates, snapshot, indexes, visits)
-        }
-        ConceptPlan::Values(_, _) => {
-            led_from(alloc, plan, choices, candidates, snapshot, indexes, visits)
-        }
-        ConceptPlan::Pairs { .. } => {
-            pairs_within(alloc, plan, choices, candidates, snapshot, indexes, visits)
-        }
+        ConceptPlan::Minus(first, second) => in_first_alone(
+            alloc, first, second, choices, candidates, snapshot, indexes, visits,
+        ),
+        ConceptPlan::Values(start, names) => led_from(
+            alloc, start, names, choices, candidates, snapshot, indexes, visits,
+        ),
+        ConceptPlan::Pairs {
+            back,
+            count,
+            types,
+            test,
+        } => pairs_within(
+            alloc, *back, *count, types, test, choices, candidates, snapshot, indexes, visits,
+        ),
         ConceptPlan::Units { count, units } => units_within(
             alloc, *count, units, choices, candidates, snapshot, indexes, visits,
         ),
@@ -196,12 +196,10 @@ fn members_of<S: ConceptSet>(
     visits: &mut Visits,
 ) -> Result<S, AllocError>
     requires index { IsIndexOf indexes.now snapshot.now.release }
-    requires candidates { AreBelow S.bound_of (length snapshot.now.release.concepts) candidates.now }
-    ensures items { IfOk result (λ found. S.items_of found ≡ numbers_within snapshot.now.release (may_be S.items_of candidates.now) (means snapshot.now.release (members_plan (plan_of operand.now)))) }
-    ensures bound { IfOk result (λ found. S.bound_of found ≡ length snapshot.now.release.concepts) }
-    ensures grows { visits.old.count ≤ visits.new.count }
-    ensures within { visits.new.count ≤ visits.old.count + node_sum (own_number indexes.now) choices.now (members_plan (plan_of operand.now)) }
-    ensures floor { IfOk result (λ _. min (visits.old.count + node_sum (floor_number indexes.now) choices.now (members_plan (plan_of operand.now))) (2 ^ 64 - 1) ≤ visits.new.count) }
+    requires candidates { AreConcepts S.ConceptSet snapshot.now.release indexes.now candidates.now }
+    ensures counted { CountsPlan indexes.now choices.now (members_plan (plan_of operand.now)) visits.old visits.new }
+    ensures found { IfOk result (AnswersPlan S.ConceptSet snapshot.now.release indexes.now choices.now candidates.now
+        (members_plan (plan_of operand.now)) visits.old visits.new) }
 {
     let all = Candidates::All;
     let from: S = execute_within(alloc, operand, choices, &all, snapshot, indexes, visits)?;
@@ -215,108 +213,93 @@ fn members_of<S: ConceptSet>(
 #[cycle(execute)]
 fn in_first_alone<S: ConceptSet>(
     alloc: Global,
-    plan: &ConceptPlan,
+    first: &ConceptPlan,
+    second: &ConceptPlan,
     choices: &[Choice],
     candidates: &Candidates<'_, S>,
     snapshot: &Snapshot,
     indexes: &Indexes,
     visits: &mut Visits,
 ) -> Result<S, AllocError>
-    requires plan { is_minus plan.now ≡ true }
     requires index { IsIndexOf indexes.now snapshot.now.release }
-    requires candidates { AreBelow S.bound_of (length snapshot.now.release.concepts) candidates.now }
-    ensures items { IfOk result (λ found. S.items_of found ≡ numbers_within snapshot.now.release (may_be S.items_of candidates.now) (means snapshot.now.release (plan_of plan.now))) }
-    ensures bound { IfOk result (λ found. S.bound_of found ≡ length snapshot.now.release.concepts) }
-    ensures grows { visits.old.count ≤ visits.new.count }
-    ensures within { visits.new.count ≤ visits.old.count + node_sum (own_number indexes.now) choices.now (plan_of plan.now) }
-    ensures floor { IfOk result (λ _. min (visits.old.count + node_sum (floor_number indexes.now) choices.now (plan_of plan.now)) (2 ^ 64 - 1) ≤ visits.new.count) }
+    requires candidates { AreConcepts S.ConceptSet snapshot.now.release indexes.now candidates.now }
+    ensures counted { CountsPlan indexes.now choices.now (minus_plan (plan_of first.now) (plan_of second.now)) visits.old visits.new }
+    ensures found { IfOk result (AnswersPlan S.ConceptSet snapshot.now.release indexes.now choices.now candidates.now
+        (minus_plan (plan_of first.now) (plan_of second.now)) visits.old visits.new) }
 {
-    match plan {
-        ConceptPlan::Minus(first, second) => {
-            let left: S = execute_within(
-                alloc, first, choices, candidates, snapshot, indexes, visits,
-            )?;
-            let part = second_part(
-                alloc, first, second, choices, &left, candidates, snapshot, indexes, visits,
-            )?;
-            let still = Candidates::Within(&left, part.extent);
-            let right: S = execute_within(
-                alloc,
-                second,
-                part.choices,
-                &still,
-                snapshot,
-                indexes,
-                visits,
-            )?;
-            let found = without(alloc, &left, &right)?;
-            Ok(found)
-        }
-        _ => no_concept(alloc, snapshot),
-    }
+    let left: S = execute_within(alloc, first, choices, candidates, snapshot, indexes, visits)?;
+    let part = second_part(
+        alloc, first, second, choices, &left, candidates, snapshot, indexes, visits,
+    )?;
+    let still = Candidates::Within(&left, part.extent);
+    let right: S = execute_within(
+        alloc,
+        second,
+        part.choices,
+        &still,
+        snapshot,
+        indexes,
+        visits,
+    )?;
+    let found = without(alloc, &left, &right)?;
+    Ok(found)
 }
 
 // The same of a plan that counts pairs of a concept.
 #[cycle(execute)]
 fn pairs_within<S: ConceptSet>(
     alloc: Global,
-    plan: &ConceptPlan,
+    back: bool,
+    count: Cardinality,
+    types: &ConceptPlan,
+    test: &ValueTest,
     choices: &[Choice],
     candidates: &Candidates<'_, S>,
     snapshot: &Snapshot,
     indexes: &Indexes,
     visits: &mut Visits,
 ) -> Result<S, AllocError>
-    requires plan { is_pairs plan.now ≡ true }
     requires index { IsIndexOf indexes.now snapshot.now.release }
-    requires candidates { AreBelow S.bound_of (length snapshot.now.release.concepts) candidates.now }
-    ensures items { IfOk result (λ found. S.items_of found ≡ numbers_within snapshot.now.release (may_be S.items_of candidates.now) (means snapshot.now.release (plan_of plan.now))) }
-    ensures bound { IfOk result (λ found. S.bound_of found ≡ length snapshot.now.release.concepts) }
-    ensures grows { visits.old.count ≤ visits.new.count }
-    ensures within { visits.new.count ≤ visits.old.count + node_sum (own_number indexes.now) choices.now (plan_of plan.now) }
-    ensures floor { IfOk result (λ _. min (visits.old.count + node_sum (floor_number indexes.now) choices.now (plan_of plan.now)) (2 ^ 64 - 1) ≤ visits.new.count) }
+    requires candidates { AreConcepts S.ConceptSet snapshot.now.release indexes.now candidates.now }
+    ensures counted { CountsPlan indexes.now choices.now (pairs_plan back count (plan_of types.now) (test_plan_of test.now)) visits.old visits.new }
+    ensures found { IfOk result (AnswersPlan S.ConceptSet snapshot.now.release indexes.now choices.now candidates.now
+        (pairs_plan back count (plan_of types.now) (test_plan_of test.now)) visits.old visits.new) }
 {
-    match plan {
-        ConceptPlan::Pairs {
-            back,
-            count,
-            types,
-            test,
-        } => {
-            let all = Candidates::All;
-            let of_types = after_first(choices);
-            let of_test = plan_floor(types, of_types, indexes).rest;
-            let typed: S = execute_within(alloc, types, of_types, &all, snapshot, indexes, visits)?;
-            let choice = first_choice(choices);
-            let others = rows_of_types(types, indexes);
-            let mut tally = RowTally::of(indexes, choice, *back, others, candidates);
-            let tested: Tested<S> = tested_of(
-                alloc, test, of_test, snapshot, indexes, visits, &mut tally,
-            )?;
-            let limits = concept_leaf_limits(
-                indexes,
-                choices,
-                *back,
-                *count,
-                types,
-                test,
-                typed.count(),
-                count_of_test(&tested),
-            );
-            let rows = tally.rows();
-            let found = with_pairs_within(
-                alloc, snapshot, indexes, choice, limits, *back, *count, &typed, tested, rows,
-                candidates, visits,
-            )?;
-            Ok(found)
-        }
-        _ => no_concept(alloc, snapshot),
-    }
+    // the concepts rise
+    snapshot.concept_count();
+    let all = Candidates::All;
+    let of_types = after_first(choices);
+    let of_test = plan_floor(types, of_types, indexes).rest;
+    let typed: S = execute_within(alloc, types, of_types, &all, snapshot, indexes, visits)?;
+    let choice = first_choice(choices);
+    let others = rows_of_types(types, indexes);
+    let mut tally = RowTally::of(indexes, choice, back, others, candidates);
+    let tested: Tested<S> = tested_of(alloc, test, of_test, snapshot, indexes, visits, &mut tally)?;
+    let limits = concept_leaf_limits(
+        indexes,
+        choices,
+        back,
+        count,
+        types,
+        test,
+        typed.count(),
+        count_of_test(&tested),
+    );
+    let rows = tally.rows();
+    let found = with_pairs_within(
+        alloc, snapshot, indexes, choice, limits, back, count, &typed, tested, rows, candidates,
+        visits,
+    )?;
+    Ok(found)
 }
 
 // Adds the rows of the concept that a plan names. Those of what a walk or an OR finds are added as it is found; how many any other
 // plan finds is not known.
-fn tally_named(plan: &ConceptPlan, snapshot: &Snapshot, tally: &mut RowTally<'_>) {
+fn tally_named(plan: &ConceptPlan, snapshot: &Snapshot, tally: &mut RowTally<'_>)
+    ensures { AddsNamed snapshot.now.release (plan_of plan.now) tally.old tally.new }
+{
+    // the concepts rise
+    snapshot.concept_count();
     match plan {
         ConceptPlan::One(id) => {
             if let Some(concept) = snapshot.index_of(*id) {
@@ -341,12 +324,10 @@ fn units_within<S: ConceptSet>(
     visits: &mut Visits,
 ) -> Result<S, AllocError>
     requires index { IsIndexOf indexes.now snapshot.now.release }
-    requires candidates { AreBelow S.bound_of (length snapshot.now.release.concepts) candidates.now }
-    ensures items { IfOk result (λ found. S.items_of found ≡ numbers_within snapshot.now.release (may_be S.items_of candidates.now) (has_groups snapshot.now.release count (unit_means snapshot.now.release (unit_plan_of units.now)))) }
-    ensures bound { IfOk result (λ found. S.bound_of found ≡ length snapshot.now.release.concepts) }
-    ensures grows { visits.old.count ≤ visits.new.count }
-    ensures within { visits.new.count ≤ visits.old.count + node_sum (own_number indexes.now) choices.now (units_plan count (unit_plan_of units.now)) }
-    ensures floor { IfOk result (λ _. min (visits.old.count + node_sum (floor_number indexes.now) choices.now (units_plan count (unit_plan_of units.now))) (2 ^ 64 - 1) ≤ visits.new.count) }
+    requires candidates { AreConcepts S.ConceptSet snapshot.now.release indexes.now candidates.now }
+    ensures counted { CountsPlan indexes.now choices.now (units_plan count (unit_plan_of units.now)) visits.old visits.new }
+    ensures found { IfOk result (AnswersPlan S.ConceptSet snapshot.now.release indexes.now choices.now candidates.now
+        (units_plan count (unit_plan_of units.now)) visits.old visits.new) }
 {
     // the concepts rise, so that each has its groups once
     snapshot.concept_count();
@@ -354,33 +335,23 @@ fn units_within<S: ConceptSet>(
         let most = unit_size(units, choices, indexes);
         if extent.has_few_groups(guess_of_groups(units, indexes), most) {
             let own: S = groups_of(alloc, snapshot, indexes, *wanted)?;
-            let theirs = Candidates::Within(&own, extent.of_groups());
+            let theirs_extent = group_extent_of(alloc, snapshot, indexes, &own, u64::MAX)?;
+            let theirs = Candidates::Within(&own, theirs_extent);
             let groups: S = execute_groups(
                 alloc, units, choices, &theirs, snapshot, indexes, visits,
             )?;
-            let items = extent.items_of_groups(groups.count());
+            let items = extent.items_of_groups(u64::from(groups.count()));
             let found = units_found(
-                alloc, count, units, choices, &groups, most, items, candidates, snapshot, indexes,
-                visits,
+                alloc, count, units, choices, &groups, items, candidates, snapshot, indexes, visits,
             )?;
             return Ok(found);
         }
     }
     let all = Candidates::All;
     let groups: S = execute_groups(alloc, units, choices, &all, snapshot, indexes, visits)?;
-    let most = groups.count() as u64;
+    let items = u64::from(groups.count());
     let found = units_found(
-        alloc,
-        count,
-        units,
-        choices,
-        &groups,
-        most,
-        u64::MAX,
-        candidates,
-        snapshot,
-        indexes,
-        visits,
+        alloc, count, units, choices, &groups, items, candidates, snapshot, indexes, visits,
     )?;
     Ok(found)
 }
@@ -397,13 +368,13 @@ pub fn tested_of<S: ConceptSet>(
     tally: &mut RowTally<'_>,
 ) -> Result<Tested<S>, AllocError>
     requires index { IsIndexOf indexes.now snapshot.now.release }
-    ensures passes { IfOk result (λ tested. (value : Value) → passes_of S.items_of indexes.now.concepts tested value ≡ value_passes snapshot.now.release (test_plan_of test.now) value) }
-    ensures bound { IfOk result (λ tested. IsTestBelow S.bound_of (length indexes.now.concepts) tested) }
-    ensures grows { visits.old.count ≤ visits.new.count }
-    ensures within { visits.new.count ≤ visits.old.count + test_sum (own_number indexes.now) choices.now (test_plan_of test.now) }
-    ensures floor { IfOk result (λ _. min (visits.old.count + test_sum (floor_number indexes.now) choices.now (test_plan_of test.now)) (2 ^ 64 - 1) ≤ visits.new.count) }
-    ensures size { IfOk result (λ tested. found_for S.items_of tested ≤ test_size indexes.now choices.now (test_plan_of test.now)) }
+    ensures counted { CountsTest indexes.now choices.now (test_plan_of test.now) visits.old visits.new }
+    ensures tested { IfOk result (AnswersTest S.ConceptSet snapshot.now.release indexes.now choices.now
+        (test_plan_of test.now) visits.old visits.new) }
+    ensures adds { IfOk result (λ tested. Adds (set_items S.items_of tested) tally.old tally.new) }
 {
+    // the concepts rise
+    snapshot.concept_count();
     let all = Candidates::All;
     match test {
         ValueTest::Within(operand) => {

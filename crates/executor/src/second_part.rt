@@ -1,12 +1,15 @@
 //! What MINUS does between its two parts: it counts what it reads of what they find, and sees how much there is of what the first has
 //! found, for which alone the second is executed.
-ghost use Rattle.std.specs.Prelude.{◌≡◌, ◌≤◌, ◌+◌, IfOk, drop, length};
+ghost use Rattle.std.specs.Prelude.{◌≡◌, ◌≤◌, All, IfOk, drop, length, true};
 ghost use Rattle.postings.specs.Groups.{all_groups};
 ghost use Rattle.postings.specs.Indexed.{IsIndexOf};
 ghost use Rattle.set_algebra.specs.Plan.{minus_plan, minus_units, plan_of, unit_plan_of};
 ghost use Rattle.plan_bounds.specs.Bounds.{group_own_bound, own_bound};
 ghost use Rattle.plan_bounds.specs.Leaves.{group_leaves, leaves};
 ghost use Rattle.plan_bounds.specs.Sizes.{group_size, size as size_of};
+ghost use Rattle.candidates.specs.Counted.{CountsWithin};
+ghost use Rattle.candidates.specs.Extents.{IsExtentOf, IsGroupExtentOf};
+ghost use Rattle.candidates.specs.Within.{AreConcepts, AreGroups, may_be};
 
 use crate::counting::minus_reads;
 use candidates::{Candidates, Extent, Visits, extent_to_take, group_extent_to_take};
@@ -40,10 +43,12 @@ pub fn second_part<'a, S: ConceptSet>(
 ) -> Result<SecondPart<'a>, AllocError>
     requires index { IsIndexOf indexes.now snapshot.now.release }
     requires bound { S.bound_of left.now ≡ length snapshot.now.release.concepts }
+    requires candidates { AreConcepts S.ConceptSet snapshot.now.release indexes.now candidates.now }
+    requires among { All (λ number. may_be S.items_of candidates.now number ≡ true) (S.items_of left.now) }
     requires size { length (S.items_of left.now) ≤ size_of indexes.now choices.now (plan_of first.now) }
     ensures choices { IfOk result (λ part. part.choices.now ≡ drop (leaves (plan_of first.now)) choices.now) }
-    ensures grows { visits.old.count ≤ visits.new.count }
-    ensures within { visits.new.count ≤ visits.old.count + own_bound indexes.now choices.now (minus_plan (plan_of first.now) (plan_of second.now)) }
+    ensures extent { IfOk result (λ part. IsExtentOf indexes.now (S.items_of left.now) part.extent) }
+    ensures counted { CountsWithin (own_bound indexes.now choices.now (minus_plan (plan_of first.now) (plan_of second.now))) visits.old visits.new }
 {
     let rest = plan_floor(first, choices, indexes).rest;
     let sizes = (
@@ -72,10 +77,12 @@ pub fn second_unit_part<'a, S: ConceptSet>(
 ) -> Result<SecondPart<'a>, AllocError>
     requires index { IsIndexOf indexes.now snapshot.now.release }
     requires bound { S.bound_of left.now ≡ length (all_groups snapshot.now.release) }
+    requires candidates { AreGroups S.ConceptSet snapshot.now.release indexes.now candidates.now }
+    requires among { All (λ number. may_be S.items_of candidates.now number ≡ true) (S.items_of left.now) }
     requires size { length (S.items_of left.now) ≤ group_size indexes.now choices.now (unit_plan_of first.now) }
     ensures choices { IfOk result (λ part. part.choices.now ≡ drop (group_leaves (unit_plan_of first.now)) choices.now) }
-    ensures grows { visits.old.count ≤ visits.new.count }
-    ensures within { visits.new.count ≤ visits.old.count + group_own_bound indexes.now choices.now (minus_units (unit_plan_of first.now) (unit_plan_of second.now)) }
+    ensures extent { IfOk result (λ part. IsGroupExtentOf indexes.now (S.items_of left.now) part.extent) }
+    ensures counted { CountsWithin (group_own_bound indexes.now choices.now (minus_units (unit_plan_of first.now) (unit_plan_of second.now))) visits.old visits.new }
 {
     let rest = unit_floor(first, choices, indexes).rest;
     let sizes = (

@@ -1,20 +1,17 @@
 //! Going down a plan of groups.
-ghost use Rattle.std.specs.Prelude.{true, ◌≡◌, ◌≤◌, ◌<◌, ◌+◌, ◌*◌, ◌-◌, ◌^◌, IfOk, drop, length, min, slice_get, take};
-ghost use Rattle.std.specs.List.{list_all, list_any};
+ghost use Rattle.std.specs.Prelude.{◌≡◌, ◌≤◌, ◌<◌, ◌+◌, ◌*◌, IfOk, drop, length, min, take};
 ghost use Rattle.postings.specs.Groups.{all_groups};
 ghost use Rattle.postings.specs.Indexed.{IsIndexOf};
-ghost use Rattle.set_algebra.specs.Meaning.{unit_means};
-ghost use Rattle.set_algebra.specs.Plan.{unit_plan_of, unit_plans_of};
-ghost use Rattle.executor.specs.inside.Kinds.{is_minus_of_units, is_pairs_of_units};
+ghost use Rattle.set_algebra.specs.Plan.{and_units, minus_units, or_units, pairs_units, plan_of, test_plan_of, unit_plan_of, unit_plans_of};
 ghost use Rattle.plan_bounds.specs.Bounds.{own_number};
-ghost use Rattle.plan_bounds.specs.Floors.{floor_number};
-ghost use Rattle.plan_bounds.specs.Leaves.{group_count, groups_leaves};
-ghost use Rattle.plan_bounds.specs.Nodes.{group_sum, groups_sum};
-ghost use Rattle.plan_bounds.specs.Sizes.{group_size, group_sizes, total};
-ghost use Rattle.executor.specs.inside.Lead.{leads_off_groups, of_lead};
-ghost use Rattle.candidates.specs.Within.{AreBelow, groups_within, may_be};
+ghost use Rattle.plan_bounds.specs.Leaves.{groups_leaves};
+ghost use Rattle.plan_bounds.specs.Nodes.{group_sum};
+ghost use Rattle.plan_bounds.specs.Sizes.{group_size};
+ghost use Rattle.candidates.specs.Within.{AreGroups};
+ghost use Rattle.candidates.specs.Counted.{CountsWithin};
+ghost use Rattle.executor.specs.inside.Executed.{AnswersUnits, CountsUnits};
 
-use crate::counting::group_leaf_limits;
+use crate::counting::{count_part, group_leaf_limits};
 use crate::guesses::{group_lead_of, rows_of_types, unit_rows_without};
 use crate::nodes::{either, every_candidate_group, no_group};
 use crate::plans::{execute_within, tested_of};
@@ -42,12 +39,10 @@ pub fn execute_groups<S: ConceptSet>(
     visits: &mut Visits,
 ) -> Result<S, AllocError>
     requires index { IsIndexOf indexes.now snapshot.now.release }
-    requires candidates { AreBelow S.bound_of (length (all_groups snapshot.now.release)) candidates.now }
-    ensures items { IfOk result (λ found. S.items_of found ≡ groups_within snapshot.now.release (may_be S.items_of candidates.now) (unit_means snapshot.now.release (unit_plan_of plan.now))) }
-    ensures bound { IfOk result (λ found. S.bound_of found ≡ length (all_groups snapshot.now.release)) }
-    ensures grows { visits.old.count ≤ visits.new.count }
-    ensures within { visits.new.count ≤ visits.old.count + group_sum (own_number indexes.now) choices.now (unit_plan_of plan.now) }
-    ensures floor { IfOk result (λ _. min (visits.old.count + group_sum (floor_number indexes.now) choices.now (unit_plan_of plan.now)) (2 ^ 64 - 1) ≤ visits.new.count) }
+    requires candidates { AreGroups S.ConceptSet snapshot.now.release indexes.now candidates.now }
+    ensures counted { CountsUnits indexes.now choices.now (unit_plan_of plan.now) visits.old visits.new }
+    ensures found { IfOk result (AnswersUnits S.ConceptSet snapshot.now.release indexes.now choices.now candidates.now
+        (unit_plan_of plan.now) visits.old visits.new) }
     ensures size { IfOk result (λ found. length (S.items_of found) ≤ group_size indexes.now choices.now (unit_plan_of plan.now)) }
 {
     // the concepts rise, and the sources of all attribute rows are in force
@@ -75,12 +70,10 @@ fn execute_group_node<S: ConceptSet>(
     visits: &mut Visits,
 ) -> Result<S, AllocError>
     requires index { IsIndexOf indexes.now snapshot.now.release }
-    requires candidates { AreBelow S.bound_of (length (all_groups snapshot.now.release)) candidates.now }
-    ensures items { IfOk result (λ found. S.items_of found ≡ groups_within snapshot.now.release (may_be S.items_of candidates.now) (unit_means snapshot.now.release (unit_plan_of plan.now))) }
-    ensures bound { IfOk result (λ found. S.bound_of found ≡ length (all_groups snapshot.now.release)) }
-    ensures grows { visits.old.count ≤ visits.new.count }
-    ensures within { visits.new.count ≤ visits.old.count + group_sum (own_number indexes.now) choices.now (unit_plan_of plan.now) }
-    ensures floor { IfOk result (λ _. min (visits.old.count + group_sum (floor_number indexes.now) choices.now (unit_plan_of plan.now)) (2 ^ 64 - 1) ≤ visits.new.count) }
+    requires candidates { AreGroups S.ConceptSet snapshot.now.release indexes.now candidates.now }
+    ensures counted { CountsUnits indexes.now choices.now (unit_plan_of plan.now) visits.old visits.new }
+    ensures found { IfOk result (AnswersUnits S.ConceptSet snapshot.now.release indexes.now choices.now candidates.now
+        (unit_plan_of plan.now) visits.old visits.new) }
 {
     match plan {
         UnitPlan::Nothing => no_group(alloc, snapshot, indexes),
@@ -91,12 +84,12 @@ fn execute_group_node<S: ConceptSet>(
         UnitPlan::Or(parts) => {
             groups_in_some(alloc, parts, choices, candidates, snapshot, indexes, visits)
         }
-        UnitPlan::Minus(_, _) => {
-            groups_in_first_alone(alloc, plan, choices, candidates, snapshot, indexes, visits)
-        }
-        UnitPlan::Pairs { .. } => {
-            groups_with_pairs(alloc, plan, choices, candidates, snapshot, indexes, visits)
-        }
+        UnitPlan::Minus(first, second) => groups_in_first_alone(
+            alloc, first, second, choices, candidates, snapshot, indexes, visits,
+        ),
+        UnitPlan::Pairs { count, types, test } => groups_with_pairs(
+            alloc, *count, types, test, choices, candidates, snapshot, indexes, visits,
+        ),
     }
 }
 
@@ -104,97 +97,81 @@ fn execute_group_node<S: ConceptSet>(
 #[cycle(execute)]
 fn groups_in_first_alone<S: ConceptSet>(
     alloc: Global,
-    plan: &UnitPlan,
+    first: &UnitPlan,
+    second: &UnitPlan,
     choices: &[Choice],
     candidates: &Candidates<'_, S>,
     snapshot: &Snapshot,
     indexes: &Indexes,
     visits: &mut Visits,
 ) -> Result<S, AllocError>
-    requires plan { is_minus_of_units plan.now ≡ true }
     requires index { IsIndexOf indexes.now snapshot.now.release }
-    requires candidates { AreBelow S.bound_of (length (all_groups snapshot.now.release)) candidates.now }
-    ensures items { IfOk result (λ found. S.items_of found ≡ groups_within snapshot.now.release (may_be S.items_of candidates.now) (unit_means snapshot.now.release (unit_plan_of plan.now))) }
-    ensures bound { IfOk result (λ found. S.bound_of found ≡ length (all_groups snapshot.now.release)) }
-    ensures grows { visits.old.count ≤ visits.new.count }
-    ensures within { visits.new.count ≤ visits.old.count + group_sum (own_number indexes.now) choices.now (unit_plan_of plan.now) }
-    ensures floor { IfOk result (λ _. min (visits.old.count + group_sum (floor_number indexes.now) choices.now (unit_plan_of plan.now)) (2 ^ 64 - 1) ≤ visits.new.count) }
+    requires candidates { AreGroups S.ConceptSet snapshot.now.release indexes.now candidates.now }
+    ensures counted { CountsUnits indexes.now choices.now (minus_units (unit_plan_of first.now) (unit_plan_of second.now)) visits.old visits.new }
+    ensures found { IfOk result (AnswersUnits S.ConceptSet snapshot.now.release indexes.now choices.now candidates.now
+        (minus_units (unit_plan_of first.now) (unit_plan_of second.now)) visits.old visits.new) }
 {
-    match plan {
-        UnitPlan::Minus(first, second) => {
-            let left: S = execute_groups(
-                alloc, first, choices, candidates, snapshot, indexes, visits,
-            )?;
-            let part = second_unit_part(
-                alloc, first, second, choices, &left, candidates, snapshot, indexes, visits,
-            )?;
-            let still = Candidates::Within(&left, part.extent);
-            let right: S = execute_groups(
-                alloc,
-                second,
-                part.choices,
-                &still,
-                snapshot,
-                indexes,
-                visits,
-            )?;
-            let groups = without(alloc, &left, &right)?;
-            Ok(groups)
-        }
-        _ => no_group(alloc, snapshot, indexes),
-    }
+    let left: S = execute_groups(alloc, first, choices, candidates, snapshot, indexes, visits)?;
+    let part = second_unit_part(
+        alloc, first, second, choices, &left, candidates, snapshot, indexes, visits,
+    )?;
+    let still = Candidates::Within(&left, part.extent);
+    let right: S = execute_groups(
+        alloc,
+        second,
+        part.choices,
+        &still,
+        snapshot,
+        indexes,
+        visits,
+    )?;
+    let groups = without(alloc, &left, &right)?;
+    Ok(groups)
 }
 
 // The same of a plan that counts pairs of a group.
 #[cycle(execute)]
 fn groups_with_pairs<S: ConceptSet>(
     alloc: Global,
-    plan: &UnitPlan,
+    count: Cardinality,
+    types: &ConceptPlan,
+    test: &ValueTest,
     choices: &[Choice],
     candidates: &Candidates<'_, S>,
     snapshot: &Snapshot,
     indexes: &Indexes,
     visits: &mut Visits,
 ) -> Result<S, AllocError>
-    requires plan { is_pairs_of_units plan.now ≡ true }
     requires index { IsIndexOf indexes.now snapshot.now.release }
-    requires candidates { AreBelow S.bound_of (length (all_groups snapshot.now.release)) candidates.now }
-    ensures items { IfOk result (λ found. S.items_of found ≡ groups_within snapshot.now.release (may_be S.items_of candidates.now) (unit_means snapshot.now.release (unit_plan_of plan.now))) }
-    ensures bound { IfOk result (λ found. S.bound_of found ≡ length (all_groups snapshot.now.release)) }
-    ensures grows { visits.old.count ≤ visits.new.count }
-    ensures within { visits.new.count ≤ visits.old.count + group_sum (own_number indexes.now) choices.now (unit_plan_of plan.now) }
-    ensures floor { IfOk result (λ _. min (visits.old.count + group_sum (floor_number indexes.now) choices.now (unit_plan_of plan.now)) (2 ^ 64 - 1) ≤ visits.new.count) }
+    requires candidates { AreGroups S.ConceptSet snapshot.now.release indexes.now candidates.now }
+    ensures counted { CountsUnits indexes.now choices.now (pairs_units count (plan_of types.now) (test_plan_of test.now)) visits.old visits.new }
+    ensures found { IfOk result (AnswersUnits S.ConceptSet snapshot.now.release indexes.now choices.now candidates.now
+        (pairs_units count (plan_of types.now) (test_plan_of test.now)) visits.old visits.new) }
 {
-    match plan {
-        UnitPlan::Pairs { count, types, test } => {
-            let all = Candidates::All;
-            let of_types = after_first(choices);
-            let of_test = plan_floor(types, of_types, indexes).rest;
-            let typed: S = execute_within(alloc, types, of_types, &all, snapshot, indexes, visits)?;
-            let choice = first_choice(choices);
-            let others = rows_of_types(types, indexes);
-            let mut tally = RowTally::of(indexes, choice, false, others, candidates);
-            let tested: Tested<S> = tested_of(
-                alloc, test, of_test, snapshot, indexes, visits, &mut tally,
-            )?;
-            let limits = group_leaf_limits(
-                indexes,
-                choices,
-                *count,
-                types,
-                test,
-                typed.count(),
-                count_of_test(&tested),
-            );
-            let rows = tally.rows();
-            let found = groups_with_pairs_within(
-                alloc, snapshot, indexes, choice, limits, *count, &typed, tested, rows, candidates,
-                visits,
-            )?;
-            Ok(found)
-        }
-        _ => no_group(alloc, snapshot, indexes),
-    }
+    // the concepts rise
+    snapshot.concept_count();
+    let all = Candidates::All;
+    let of_types = after_first(choices);
+    let of_test = plan_floor(types, of_types, indexes).rest;
+    let typed: S = execute_within(alloc, types, of_types, &all, snapshot, indexes, visits)?;
+    let choice = first_choice(choices);
+    let others = rows_of_types(types, indexes);
+    let mut tally = RowTally::of(indexes, choice, false, others, candidates);
+    let tested: Tested<S> = tested_of(alloc, test, of_test, snapshot, indexes, visits, &mut tally)?;
+    let limits = group_leaf_limits(
+        indexes,
+        choices,
+        count,
+        types,
+        test,
+        typed.count(),
+        count_of_test(&tested),
+    );
+    let rows = tally.rows();
+    let found = groups_with_pairs_within(
+        alloc, snapshot, indexes, choice, limits, count, &typed, tested, rows, candidates, visits,
+    )?;
+    Ok(found)
 }
 
 // The candidates among the groups that all of some plans mean; of no plans each candidate.
@@ -209,12 +186,10 @@ fn groups_in_all<S: ConceptSet>(
     visits: &mut Visits,
 ) -> Result<S, AllocError>
     requires index { IsIndexOf indexes.now snapshot.now.release }
-    requires candidates { AreBelow S.bound_of (length (all_groups snapshot.now.release)) candidates.now }
-    ensures items { IfOk result (λ found. S.items_of found ≡ groups_within snapshot.now.release (may_be S.items_of candidates.now) (λ pairs. list_all (λ part. unit_means snapshot.now.release (unit_plan_of part) pairs) parts.now)) }
-    ensures bound { IfOk result (λ found. S.bound_of found ≡ length (all_groups snapshot.now.release)) }
-    ensures grows { visits.old.count ≤ visits.new.count }
-    ensures within { visits.new.count ≤ visits.old.count + (2 * total (group_sizes indexes.now choices.now (unit_plans_of parts.now)) + groups_sum (own_number indexes.now) choices.now (unit_plans_of parts.now)) }
-    ensures floor { IfOk result (λ _. min (visits.old.count + groups_sum (floor_number indexes.now) choices.now (unit_plans_of parts.now)) (2 ^ 64 - 1) ≤ visits.new.count) }
+    requires candidates { AreGroups S.ConceptSet snapshot.now.release indexes.now candidates.now }
+    ensures counted { CountsUnits indexes.now choices.now (and_units (unit_plans_of parts.now)) visits.old visits.new }
+    ensures found { IfOk result (AnswersUnits S.ConceptSet snapshot.now.release indexes.now choices.now candidates.now
+        (and_units (unit_plans_of parts.now)) visits.old visits.new) }
 {
     if parts.is_empty() {
         let every = every_candidate_group(alloc, snapshot, indexes, candidates)?;
@@ -223,7 +198,13 @@ fn groups_in_all<S: ConceptSet>(
     let lead = group_lead_of(parts, indexes).min(parts.len() - 1);
     let at = unit_choices_at(parts, choices, lead, indexes);
     let mut groups: S = groups_led_by(
-        alloc, parts, lead, at, candidates, snapshot, indexes, visits,
+        alloc,
+        &parts[lead],
+        at,
+        candidates,
+        snapshot,
+        indexes,
+        visits,
     )?;
     let mut rest = choices;
     for place in 0..parts.len() {
@@ -234,7 +215,7 @@ fn groups_in_all<S: ConceptSet>(
             let extent = group_extent_of(alloc, snapshot, indexes, &groups, rows)?;
             let still = Candidates::Within(&groups, extent);
             let next: S = execute_groups(alloc, part, rest, &still, snapshot, indexes, visits)?;
-            visits.add(next.count() as u64);
+            count_part(&next, visits);
             groups = next;
         }
         rest = behind;
@@ -259,12 +240,11 @@ fn unit_choices_at<'a>(
     rest
 }
 
-// The candidates among the groups that the plan at a place means.
+// The candidates among the groups that a plan means. What it has found is gone through twice.
 #[cycle(execute)]
 fn groups_led_by<S: ConceptSet>(
     alloc: Global,
-    parts: &[UnitPlan],
-    lead: usize,
+    plan: &UnitPlan,
     choices: &[Choice],
     candidates: &Candidates<'_, S>,
     snapshot: &Snapshot,
@@ -272,24 +252,14 @@ fn groups_led_by<S: ConceptSet>(
     visits: &mut Visits,
 ) -> Result<S, AllocError>
     requires index { IsIndexOf indexes.now snapshot.now.release }
-    requires candidates { AreBelow S.bound_of (length (all_groups snapshot.now.release)) candidates.now }
-    requires lead { lead < length parts.now }
-    ensures items { IfOk result (λ found. S.items_of found ≡ groups_within snapshot.now.release (may_be S.items_of candidates.now) (leads_off_groups snapshot.now.release (slice_get parts.now lead))) }
-    ensures bound { IfOk result (λ found. S.bound_of found ≡ length (all_groups snapshot.now.release)) }
-    ensures grows { visits.old.count ≤ visits.new.count }
-    ensures within { visits.new.count ≤ visits.old.count + of_lead (λ part. group_size indexes.now choices.now (unit_plan_of part) + group_sum (own_number indexes.now) choices.now (unit_plan_of part)) (slice_get parts.now lead) }
-    ensures floor { IfOk result (λ _. min (visits.old.count + of_lead (λ part. group_sum (floor_number indexes.now) choices.now (unit_plan_of part)) (slice_get parts.now lead)) (2 ^ 64 - 1) ≤ visits.new.count) }
+    requires candidates { AreGroups S.ConceptSet snapshot.now.release indexes.now candidates.now }
+    ensures counted { CountsWithin (2 * group_size indexes.now choices.now (unit_plan_of plan.now) + group_sum (own_number indexes.now) choices.now (unit_plan_of plan.now))
+        visits.old visits.new }
+    ensures found { IfOk result (AnswersUnits S.ConceptSet snapshot.now.release indexes.now choices.now candidates.now
+        (unit_plan_of plan.now) visits.old visits.new) }
 {
-    let groups: S = execute_groups(
-        alloc,
-        &parts[lead],
-        choices,
-        candidates,
-        snapshot,
-        indexes,
-        visits,
-    )?;
-    visits.add(groups.count() as u64);
+    let groups: S = execute_groups(alloc, plan, choices, candidates, snapshot, indexes, visits)?;
+    count_part(&groups, visits);
     Ok(groups)
 }
 
@@ -305,12 +275,10 @@ fn groups_in_some<S: ConceptSet>(
     visits: &mut Visits,
 ) -> Result<S, AllocError>
     requires index { IsIndexOf indexes.now snapshot.now.release }
-    requires candidates { AreBelow S.bound_of (length (all_groups snapshot.now.release)) candidates.now }
-    ensures items { IfOk result (λ found. S.items_of found ≡ groups_within snapshot.now.release (may_be S.items_of candidates.now) (λ pairs. list_any (λ part. unit_means snapshot.now.release (unit_plan_of part) pairs) parts.now)) }
-    ensures bound { IfOk result (λ found. S.bound_of found ≡ length (all_groups snapshot.now.release)) }
-    ensures grows { visits.old.count ≤ visits.new.count }
-    ensures within { visits.new.count ≤ visits.old.count + (group_count (unit_plans_of parts.now) * total (group_sizes indexes.now choices.now (unit_plans_of parts.now)) + groups_sum (own_number indexes.now) choices.now (unit_plans_of parts.now)) }
-    ensures floor { IfOk result (λ _. min (visits.old.count + groups_sum (floor_number indexes.now) choices.now (unit_plans_of parts.now)) (2 ^ 64 - 1) ≤ visits.new.count) }
+    requires candidates { AreGroups S.ConceptSet snapshot.now.release indexes.now candidates.now }
+    ensures counted { CountsUnits indexes.now choices.now (or_units (unit_plans_of parts.now)) visits.old visits.new }
+    ensures found { IfOk result (AnswersUnits S.ConceptSet snapshot.now.release indexes.now choices.now candidates.now
+        (or_units (unit_plans_of parts.now)) visits.old visits.new) }
 {
     // the concepts rise, and the sources of all attribute rows are in force
     snapshot.concept_count();

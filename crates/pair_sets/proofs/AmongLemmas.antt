@@ -1,9 +1,8 @@
 -- How many rows of a concept or a group count.
-use Rattle.std.proofs.Common.{ℕ, suc, ◌≡◌, ◌<◌, ◌+◌, ◌∙◌, ◌∷◌, [], Bool, true, false, ◌&&◌, ◌||◌, ◌==◌, cond, List, Option, None, Some, length, get_or, map, refl, sym, ap, arith, inl, inr}
+use Rattle.std.proofs.Common.{ℕ, suc, ◌≡◌, ◌<◌, ◌+◌, ◌∙◌, ◌∷◌, [], Bool, true, false, ◌&&◌, ◌==◌, cond, List, Option, None, Some, length, get_or, map, refl, sym, ap, arith}
 use Rattle.std.specs.Prelude.{All, IfSome, count_by, filter, slice_get}
 use Rattle.std.specs.List.Sorted.{IsStrictlyIncreasing}
 use Rattle.std.proofs.lemmas.List.{length-map}
-use Rattle.std.proofs.lemmas.Bool.{cases_eq, eq-eqb, ne_eqb}
 use Rattle.rf2_rows.specs.Pairs.{value_eq}
 use Rattle.rf2_rows.specs.Release.{Attribute, Release, Value, concept_value}
 use Rattle.constraint_tree.specs.Passing.{lies_in}
@@ -18,7 +17,6 @@ use Rattle.postings.specs.Places.{places_from, places_where}
 use Rattle.postings.proofs.EntryLemmas.{rows_of_entries}
 use Rattle.postings.proofs.PlaceLemmas.{places_where-within}
 use Rattle.std.proofs.lemmas.List.Elements.{All-nil}
-use Rattle.std.proofs.Math.Bool.{and-false}
 use Rattle.set_algebra.specs.Meaning.{has_pairs, pairs_of}
 use Rattle.pair_sets.specs.inside.Among.{at_entry, pair_counts, pairs_among, pairs_of_concept, rows_of_unit}
 use Rattle.candidates.specs.Groups.{some_group_in}

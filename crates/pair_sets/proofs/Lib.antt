@@ -6,6 +6,7 @@ pub mod LeafLemmas
 pub mod ListLemmas
 pub mod OwnedLemmas
 pub mod PassingLemmas
+pub mod RoomLemmas
 pub mod TimesLemmas
 pub mod TypeLemmas
 pub mod UnitLemmas

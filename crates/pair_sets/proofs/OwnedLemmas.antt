@@ -1,7 +1,7 @@
 -- The numbers of the groups of concepts.
 use Rattle.std.proofs.Common.{ℕ, zero, suc, ◌≡◌, ◌≤◌, ◌<◌, ◌+◌, ◌-◌, ◌∙◌, ◌∷◌, ◌++◌, [], inl, inr, ◌⊎◌, arith, length-append}
-use Rattle.std.proofs.Common.{Bool, true, false, ◌||◌, ◌==◌, List, length, get_or, map, take, drop, refl, sym, ap, subst}
-use Rattle.std.specs.Prelude.{All, Contains, Option, nat_eq, slice_get}
+use Rattle.std.proofs.Common.{Bool, true, false, cond, ◌||◌, ◌==◌, List, length, get_or, map, take, drop, refl, sym, ap, subst}
+use Rattle.std.specs.Prelude.{All, Contains, filter, Option, nat_eq, slice_get}
 use Rattle.std.specs.List.{AllByRecursion, IsDistinct, range_with_len}
 use Rattle.std.specs.List.Sorted.{IsStrictlyIncreasing}
 use Rattle.std.proofs.lemmas.Bool.{cases_eq, cases_lt, eq-eqb, false≢true, ne_eqb}
@@ -14,8 +14,9 @@ use Rattle.std.proofs.lemmas.Grind.{flat_map-append}
 use Rattle.std.proofs.Math.Bool.{or-false}
 use Rattle.rf2_rows.specs.Release.{Release}
 use Rattle.number_lists.specs.Members.{has}
-use Rattle.number_lists.specs.Rising.{numbers_where}
-use Rattle.number_lists.proofs.WhereLemmas.{has-numbers_where}
+use Rattle.number_lists.specs.Rising.{listed_numbers, numbers_where}
+use Rattle.number_lists.proofs.WhereLemmas.{has-numbers_where, numbers_where-none}
+use Rattle.candidates.proofs.SumLemmas.{sum_of_either, sum_of_ones}
 use Rattle.postings.specs.Groups.{ConceptGroup, GroupKey, all_groups, groups_among, groups_before, groups_in, keys_of, rows_alone}
 use Rattle.postings.specs.Indexed.{Indexed, IsIndexOf}
 use Rattle.postings.proofs.KeyLemmas.{group_with, groups_at}
@@ -182,3 +183,43 @@ module _ (indexed : Indexed) (release : Release) (index : IsIndexOf indexed rele
     where
       next : suc number ≡ number + 1
       next = omega arith
+
+-- ---- numbers that are listed: no more than the list has
+none_before : (n low count : ℕ) → n < low → length (filter (λ m. n == m) (range_with_len low count)) ≡ 0
+none_before n low zero less = refl
+none_before n low (suc count) less =
+    ap (λ (b : Bool). length (cond b (low ∷ filter (λ m. n == m) (range_with_len (low + 1) count)) (filter (λ m. n == m) (range_with_len (low + 1) count))))
+    (ne_eqb n low (λ same. omega (arith, same, less)))
+    ∙ none_before n (low + 1) count (omega (arith, less))
+
+one_at_most : (n low count : ℕ) → length (filter (λ m. n == m) (range_with_len low count)) ≤ 1
+one_at_most n low zero = omega arith
+one_at_most n low (suc count) = elim (cases_eq n low) [
+  | inl same ↦ omega (arith, one_more (n == low) low rest, none_before n (low + 1) count (omega (arith, same)))
+  | inr other ↦
+      omega (
+        arith,
+        one_at_most n (low + 1) count,
+        ap (λ (b : Bool). length (cond b (low ∷ rest) rest)) (ne_eqb n low other),
+      )
+]
+  where
+    rest : List ℕ
+    rest = filter (λ m. n == m) (range_with_len (low + 1) count)
+
+    one_more : (b : Bool) (x : ℕ) (xs : List ℕ) → length (cond b (x ∷ xs) xs) ≤ 1 + length xs
+    one_more true x xs = omega arith
+    one_more false x xs = omega arith
+
+pub listed_few : (bound : ℕ) (numbers : List ℕ) → length (listed_numbers bound numbers) ≤ length numbers
+listed_few bound [] = omega (arith, ap (λ (xs : List ℕ). length xs) (numbers_where-none bound))
+listed_few bound (n ∷ numbers) =
+    omega (
+      arith,
+      sum_of_either (λ m. 1) (λ m. n == m) (has numbers) (range_with_len 0 bound),
+      sum_of_ones (numbers_where bound (has (n ∷ numbers))),
+      sum_of_ones (numbers_where bound (λ m. n == m)),
+      sum_of_ones (numbers_where bound (has numbers)),
+      one_at_most n 0 bound,
+      listed_few bound numbers,
+    )

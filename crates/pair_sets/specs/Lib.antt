@@ -1,3 +1,4 @@
+pub mod Room
 pub mod inside
 pub mod Owned
 pub mod Tested

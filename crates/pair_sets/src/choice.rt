@@ -1,18 +1,22 @@
 //! In which way a leaf is read, and how many items that reads.
 //!
 //! What is read to find the way is counted too, and is read only where the bound of the leaf has room for it.
-ghost use Rattle.std.specs.Prelude.{ℕ, ◌≡◌, ◌-◌, ◌<◌, ◌^◌, All, Bool, IfOk, IfSome, length, min, sum_by};
-ghost use Rattle.postings.specs.Stats.{type_row_count};
+ghost use Rattle.std.specs.Prelude.{ℕ, true, ◌≡◌, ◌≤◌, ◌+◌, ◌<◌, All, Bool, IfOk, IfSome, List, Some, length};
 ghost use Rattle.postings.specs.Indexed.{IsIndexOf, types_of};
+ghost use Rattle.postings.specs.Stats.{type_row_count};
+ghost use Rattle.candidates.specs.Counted.{full, full_sum};
 ghost use Rattle.candidates.specs.Numbers.{is_one_of};
-ghost use Rattle.pair_sets.specs.Tested.{IsTestBelow, passes_of};
 ghost use Rattle.candidates.specs.RowCounts.{row_count_of};
-ghost use Rattle.pair_sets.specs.inside.Ways.{AreAllThatPass, IsValuesWay, IsWayFor};
+ghost use Rattle.candidates.specs.Within.{extent_told};
+ghost use Rattle.pair_sets.specs.Room.{AreTold, leaf_items, type_items, types_read, value_items};
+ghost use Rattle.pair_sets.specs.Tested.{IsTestBelow, passes_of};
+ghost use Rattle.pair_sets.specs.inside.Ways.{AreAllThatPass, AreFewer, AreLookedUp, IsValuesWay, IsWayFor};
+ghost use Rattle.pair_sets.specs.inside.Ways.{items_by_value, values_way_items, way_items};
 
 use crate::tested::{Tested, count_of_test};
 use crate::types::{types_in, types_to_read};
 use crate::ways::{LeafReads, PassingValues, Way, items_among, values_are_read_before};
-use candidates::{Extent, are_read_before, look_ups, rows_of_value};
+use candidates::{Candidates, Extent, are_read_before, extent_for, look_ups, rows_of_value};
 use held_release::Snapshot;
 use idset::ConceptSet;
 use postings::Indexes;
@@ -33,20 +37,27 @@ pub fn leaf_way<S: ConceptSet>(
     reads: LeafReads,
     types: &S,
     tested: Tested<S>,
-    candidates: Option<Extent>,
+    candidates: &Candidates<'_, S>,
 ) -> Result<(Way<S>, u64), AllocError>
     requires index { IsIndexOf indexes.now snapshot.now.release }
     requires types { S.bound_of types.now ≡ length indexes.now.concepts }
     requires tested { IsTestBelow S.bound_of (length indexes.now.concepts) tested }
-    ensures { IfOk result (λ made. IsWayFor S.items_of S.bound_of indexes.now (is_one_of indexes.now.concepts (S.items_of types.now)) tested made.0) }
+    requires told { AreTold S.items_of indexes.now reads.back tested reads.value_rows }
+    requires room { full (leaf_items S.items_of indexes.now reads.back reads.choice (S.items_of types.now) tested) ≤ reads.bound }
+    ensures way { IfOk result (λ made. IsWayFor S.items_of S.bound_of indexes.now
+        (is_one_of indexes.now.concepts (S.items_of types.now)) tested made.0) }
+    ensures reads { IfOk result (λ made. full (way_items indexes.now reads.back (S.items_of types.now)
+        (extent_told reads.back candidates.now) made.0) ≤ made.1) }
+    ensures within { IfOk result (λ made. made.1 ≤ reads.bound) }
 {
+    let extent = extent_for(candidates, reads.back);
     match reads.choice {
         Choice::ByValue if are_most(indexes, reads, types, &tested) => {
-            by_type(alloc, snapshot, indexes, reads, types, tested, candidates)
+            by_type(alloc, snapshot, indexes, reads, types, tested, extent)
         }
-        Choice::ByValue => by_value(alloc, indexes, reads, tested, candidates),
-        Choice::ByType => by_type(alloc, snapshot, indexes, reads, types, tested, candidates),
-        Choice::Scan => by_scan(alloc, indexes, reads, tested, candidates),
+        Choice::ByValue => by_value(alloc, indexes, reads, tested, extent),
+        Choice::ByType => by_type(alloc, snapshot, indexes, reads, types, tested, extent),
+        Choice::Scan => by_scan(alloc, indexes, reads, tested, extent),
     }
 }
 
@@ -56,7 +67,9 @@ fn are_most<S: ConceptSet>(
     reads: LeafReads,
     types: &S,
     tested: &Tested<S>,
-) -> bool {
+) -> bool
+    ensures { result ≡ true → full (length indexes.now.rows + types_read indexes.now (S.items_of types.now)) ≤ reads.bound }
+{
     let rows = u64::from(indexes.row_count());
     let whole = rows.saturating_add(types_to_read(indexes, types));
     u64::from(count_of_test(tested)) >= rows / SHARE && whole <= reads.bound
@@ -70,8 +83,12 @@ fn by_value<S: ConceptSet>(
     tested: Tested<S>,
     candidates: Option<Extent>,
 ) -> Result<(Way<S>, u64), AllocError>
-    requires { IsTestBelow S.bound_of (length indexes.now.concepts) tested }
-    ensures { IfOk result (λ made. (one : ℕ → Bool) → IsWayFor S.items_of S.bound_of indexes.now one tested made.0) }
+    requires tested { IsTestBelow S.bound_of (length indexes.now.concepts) tested }
+    requires room { full (value_items S.items_of indexes.now reads.back tested) ≤ reads.bound }
+    ensures way { IfOk result (λ made. (one : ℕ → Bool) → IsWayFor S.items_of S.bound_of indexes.now one tested made.0) }
+    ensures reads { IfOk result
+        (λ made. (types : List ℕ) → full (way_items indexes.now reads.back types candidates made.0) ≤ made.1) }
+    ensures within { IfOk result (λ made. made.1 ≤ reads.bound) }
 {
     let all = values_that_pass(alloc, indexes, reads.back, &tested)?;
     match all {
@@ -100,7 +117,13 @@ fn by_type<S: ConceptSet>(
     requires index { IsIndexOf indexes.now snapshot.now.release }
     requires types { S.bound_of types.now ≡ length indexes.now.concepts }
     requires tested { IsTestBelow S.bound_of (length indexes.now.concepts) tested }
-    ensures { IfOk result (λ made. IsWayFor S.items_of S.bound_of indexes.now (is_one_of indexes.now.concepts (S.items_of types.now)) tested made.0) }
+    requires told { AreTold S.items_of indexes.now reads.back tested reads.value_rows }
+    requires room { full (type_items indexes.now (S.items_of types.now)) ≤ reads.bound }
+    ensures way { IfOk result (λ made. IsWayFor S.items_of S.bound_of indexes.now
+        (is_one_of indexes.now.concepts (S.items_of types.now)) tested made.0) }
+    ensures reads { IfOk result
+        (λ made. full (way_items indexes.now reads.back (S.items_of types.now) candidates made.0) ≤ made.1) }
+    ensures within { IfOk result (λ made. made.1 ≤ reads.bound) }
 {
     let typed = types_in(alloc, snapshot, indexes, types)?;
     let rows = rows_of_types(indexes, typed.ids.as_slice());
@@ -130,8 +153,13 @@ fn by_scan<S: ConceptSet>(
     tested: Tested<S>,
     candidates: Option<Extent>,
 ) -> Result<(Way<S>, u64), AllocError>
-    requires { IsTestBelow S.bound_of (length indexes.now.concepts) tested }
-    ensures { IfOk result (λ made. (one : ℕ → Bool) → IsWayFor S.items_of S.bound_of indexes.now one tested made.0) }
+    requires tested { IsTestBelow S.bound_of (length indexes.now.concepts) tested }
+    requires told { AreTold S.items_of indexes.now reads.back tested reads.value_rows }
+    requires room { full (length indexes.now.rows) ≤ reads.bound }
+    ensures way { IfOk result (λ made. (one : ℕ → Bool) → IsWayFor S.items_of S.bound_of indexes.now one tested made.0) }
+    ensures reads { IfOk result
+        (λ made. (types : List ℕ) → full (way_items indexes.now reads.back types candidates made.0) ≤ made.1) }
+    ensures within { IfOk result (λ made. made.1 ≤ reads.bound) }
 {
     let rows = u64::from(indexes.row_count());
     if are_read_before(candidates, rows) {
@@ -154,8 +182,8 @@ struct FewValues {
     looked_up: u64,
 }
 
-// The values that pass, where their rows are read sooner than so many others. If it is not known how many rows they have, they are looked
-// up where they are few and may be read beside so many items.
+// The values that pass, where their rows are read sooner than so many others. If it is known how many rows they have at most, none is
+// looked up in vain, so no room is needed for them beside so many items.
 fn few_values<S: ConceptSet>(
     alloc: Global,
     indexes: &Indexes,
@@ -164,28 +192,77 @@ fn few_values<S: ConceptSet>(
     rows: u64,
     items: u64,
 ) -> Result<FewValues, AllocError>
+    requires tested { IsTestBelow S.bound_of (length indexes.now.concepts) tested.now }
+    requires told { AreTold S.items_of indexes.now reads.back tested.now reads.value_rows }
+    requires room { items ≤ reads.bound }
+    ensures values { IfOk result (λ few. IfSome few.values
+        (AreFewer indexes.now reads.back (passes_of S.items_of indexes.now.concepts tested.now) rows)) }
+    ensures within { IfOk result (λ few. items + few.looked_up ≤ reads.bound) }
+{
+    match reads.value_rows {
+        Some(own) => {
+            let values = values_told(alloc, indexes, reads.back, tested, own, rows)?;
+            Ok(FewValues {
+                values,
+                looked_up: 0,
+            })
+        }
+        None => {
+            let most = reads.room_beside(items);
+            let few = values_looked_up(alloc, indexes, reads.back, tested, rows, most)?;
+            Ok(few)
+        }
+    }
+}
+
+// The values that pass, where they have no more rows of their own than are told, and so many are read sooner than others.
+fn values_told<S: ConceptSet>(
+    alloc: Global,
+    indexes: &Indexes,
+    back: bool,
+    tested: &Tested<S>,
+    own: u64,
+    rows: u64,
+) -> Result<Option<PassingValues>, AllocError>
+    requires tested { IsTestBelow S.bound_of (length indexes.now.concepts) tested.now }
+    requires told { AreTold S.items_of indexes.now back tested.now (Some own) }
+    ensures { IfOk result (λ some. IfSome some
+        (AreFewer indexes.now back (passes_of S.items_of indexes.now.concepts tested.now) rows)) }
+{
+    if !values_are_read_before(back, u64::from(count_of_test(tested)), own, rows) {
+        return Ok(None);
+    }
+    let found = values_that_pass(alloc, indexes, back, tested)?;
+    Ok(found)
+}
+
+// The values that pass, if they are few and their rows are read sooner than others. No more than `most` are looked up in vain.
+fn values_looked_up<S: ConceptSet>(
+    alloc: Global,
+    indexes: &Indexes,
+    back: bool,
+    tested: &Tested<S>,
+    rows: u64,
+    most: u64,
+) -> Result<FewValues, AllocError>
     requires { IsTestBelow S.bound_of (length indexes.now.concepts) tested.now }
-    ensures { IfOk result (λ few. IfSome few.values (λ values. AreAllThatPass indexes.now.concepts (passes_of S.items_of indexes.now.concepts tested.now) values.numbers.items)) }
+    ensures values { IfOk result (λ few. IfSome few.values
+        (AreFewer indexes.now back (passes_of S.items_of indexes.now.concepts tested.now) rows)) }
+    ensures within { IfOk result (λ few. few.looked_up ≤ most) }
 {
     let count = u64::from(count_of_test(tested));
-    let may_pay = match reads.value_rows {
-        Some(own) => values_are_read_before(reads.back, count, own, rows),
-        None => count <= rows / VALUE && count <= reads.room_beside(items),
+    let none = FewValues {
+        values: None,
+        looked_up: 0,
     };
-    if !may_pay {
-        return Ok(FewValues {
-            values: None,
-            looked_up: 0,
-        });
+    if count > rows / VALUE || count > most {
+        return Ok(none);
     }
-    let found = values_that_pass(alloc, indexes, reads.back, tested)?;
+    let found = values_that_pass(alloc, indexes, back, tested)?;
     let Some(values) = found else {
-        return Ok(FewValues {
-            values: None,
-            looked_up: 0,
-        });
+        return Ok(none);
     };
-    if values_are_read_before(reads.back, count, values.rows, rows) {
+    if values_are_read_before(back, count, values.rows, rows) {
         return Ok(FewValues {
             values: Some(values),
             looked_up: 0,
@@ -205,7 +282,9 @@ fn values_that_pass<S: ConceptSet>(
     tested: &Tested<S>,
 ) -> Result<Option<PassingValues>, AllocError>
     requires { IsTestBelow S.bound_of (length indexes.now.concepts) tested.now }
-    ensures { IfOk result (λ some. IfSome some (λ values. AreAllThatPass indexes.now.concepts (passes_of S.items_of indexes.now.concepts tested.now) values.numbers.items)) }
+    ensures pass { IfOk result (λ some. IfSome some (λ values. AreAllThatPass indexes.now.concepts
+        (passes_of S.items_of indexes.now.concepts tested.now) values.numbers.items)) }
+    ensures found { IfOk result (AreLookedUp S.items_of indexes.now back tested.now) }
 {
     match tested {
         Tested::Within(set) => {
@@ -238,7 +317,10 @@ pub fn values_way<S: ConceptSet>(
     requires index { IsIndexOf indexes.now snapshot.now.release }
     requires sources { S.bound_of sources.now ≡ length indexes.now.concepts }
     requires types { S.bound_of types.now ≡ length indexes.now.concepts }
-    ensures { IfOk result (λ made. IsValuesWay (types_of indexes.now.rows) (S.items_of sources.now) (is_one_of indexes.now.concepts (S.items_of types.now)) made.0) }
+    ensures way { IfOk result (λ made. IsValuesWay (types_of indexes.now.rows) (S.items_of sources.now)
+        (is_one_of indexes.now.concepts (S.items_of types.now)) made.0) }
+    ensures reads { IfOk result (λ made. full (values_way_items indexes.now (S.items_of types.now) made.0) ≤ made.1) }
+    ensures within { IfOk result (λ made. made.1 ≤ length (S.items_of sources.now) + length indexes.now.rows) }
 {
     let count = u64::from(sources.count());
     if count <= types_to_read(indexes, types) {
@@ -266,8 +348,12 @@ fn with_rows<S: ConceptSet>(
     concepts: &S,
 ) -> Result<(Vec<u32>, u64), AllocError>
     requires { S.bound_of concepts.now ≡ length indexes.now.concepts }
-    ensures { IfOk result (λ made. made.0.items ≡ S.items_of concepts.now) }
+    ensures items { IfOk result (λ made. made.0.items ≡ S.items_of concepts.now) }
+    ensures reads { IfOk result (λ made. made.1 ≡ full (items_by_value indexes.now true (S.items_of concepts.now))) }
+    ensures within { IfOk result (λ made. made.1 ≤ length (S.items_of concepts.now) + length indexes.now.rows) }
 {
+    // the concepts rise, so that no row has two numbers for its source
+    indexes.concept_count();
     let own = concepts.items(alloc)?;
     let rows = rows_of_values(indexes, true, own.as_slice());
     let items = rows.saturating_add(own.len() as u64);
@@ -276,7 +362,7 @@ fn with_rows<S: ConceptSet>(
 
 /// How many rows have one of some types, or `u64::MAX` where that is more.
 pub fn rows_of_types(indexes: &Indexes, ids: &[u64]) -> u64
-    ensures { result ≡ min (sum_by (type_row_count indexes.now) ids.now) (2 ^ 64 - 1) }
+    ensures { result ≡ full_sum (type_row_count indexes.now) ids.now }
 {
     let mut rows = 0u64;
     for id in ids {
@@ -288,7 +374,7 @@ pub fn rows_of_types(indexes: &Indexes, ids: &[u64]) -> u64
 // How many rows have one of some concepts as their value, or, read backwards, as their source; `u64::MAX` where that is more.
 fn rows_of_values(indexes: &Indexes, back: bool, concepts: &[u32]) -> u64
     requires { All (λ number. number < length indexes.now.concepts) concepts.now }
-    ensures { result ≡ min (sum_by (row_count_of indexes.now back) concepts.now) (2 ^ 64 - 1) }
+    ensures { result ≡ full_sum (row_count_of indexes.now back) concepts.now }
 {
     let mut rows = 0u64;
     for concept in concepts {

@@ -1,14 +1,16 @@
 //! The concepts and the groups with so many pairs of a type and a value.
-ghost use Rattle.std.specs.Prelude.{ℕ, ◌≡◌, ◌≤◌, ◌+◌, ◌-◌, ◌^◌, Bool, IfOk, filter, length, min};
+ghost use Rattle.std.specs.Prelude.{ℕ, false, ◌≡◌, ◌≤◌, ◌+◌, Bool, IfOk, filter, length, max};
 ghost use Rattle.constraint_tree.specs.Denotation.{is_value};
 ghost use Rattle.number_lists.specs.Rising.{IsRisingBelow};
 ghost use Rattle.postings.specs.Groups.{all_groups};
 ghost use Rattle.postings.specs.Indexed.{IsIndexOf, types_of};
 ghost use Rattle.set_algebra.specs.Meaning.{has_pairs, pairs_of};
 ghost use Rattle.candidates.specs.Numbers.{is_one_of, numbers_in};
+ghost use Rattle.candidates.specs.Counted.{CountsWithin, IsFound, full};
+ghost use Rattle.pair_sets.specs.Room.{AreTold, leaf_items};
 ghost use Rattle.pair_sets.specs.Tested.{IsTestBelow, passes_of};
-ghost use Rattle.pair_sets.specs.inside.Ways.{HasTypes, IsWayBelow, passes_by};
-ghost use Rattle.candidates.specs.Within.{AreBelow, groups_within, may_be, numbers_within};
+ghost use Rattle.pair_sets.specs.inside.Ways.{HasTypes, IsValuesWay, IsWayBelow, passes_by, values_way_items, way_items};
+ghost use Rattle.candidates.specs.Within.{AreBelow, AreConcepts, AreGroups, extent_told, groups_within, may_be, numbers_within};
 
 use crate::by_rows::{
     groups_with_pairs_among, groups_with_pairs_by_type, groups_with_pairs_by_value,
@@ -17,7 +19,7 @@ use crate::by_rows::{
 use crate::choice::{ValuesWay, leaf_way, values_way};
 use crate::tested::Tested;
 use crate::ways::{LeafReads, Way};
-use candidates::{Candidates, Visits, extent_for, restricted};
+use candidates::{Candidates, Visits, restricted};
 use constraint_tree::Cardinality;
 use held_release::Snapshot;
 use idset::ConceptSet;
@@ -27,7 +29,8 @@ use std::alloc::{AllocError, Global};
 
 /// The candidates so many of whose distinct pairs, their own or those read backwards, have a type in a set and a value
 /// that passes (Expression Constraint Language, "Refinements", "Cardinality" and "Reverse attributes"). What is read is counted,
-/// between two limits. If it is known how many rows the values have that pass, that is told.
+/// within the bound of the node, which has room for its choice, and where that is less than its floor, so much. If it is known how
+/// many rows the values have at most that pass, that is told.
 pub fn with_pairs_within<S: ConceptSet>(
     alloc: Global,
     snapshot: &Snapshot,
@@ -45,14 +48,16 @@ pub fn with_pairs_within<S: ConceptSet>(
     requires index { IsIndexOf indexes.now snapshot.now.release }
     requires bound { S.bound_of types.now ≡ length indexes.now.concepts }
     requires limits { limits.floor ≤ limits.bound }
+    requires room { full (leaf_items S.items_of indexes.now back choice (S.items_of types.now) tested) ≤ limits.bound }
     requires tested { IsTestBelow S.bound_of (length indexes.now.concepts) tested }
-    requires candidates { AreBelow S.bound_of (length snapshot.now.release.concepts) candidates.now }
-    ensures items { IfOk result (λ found. S.items_of found ≡ numbers_within snapshot.now.release (may_be S.items_of candidates.now)
-        (λ concept. has_pairs count (is_one_of indexes.now.concepts (S.items_of types.now)) (passes_of S.items_of indexes.now.concepts tested) (pairs_of snapshot.now.release back concept))) }
-    ensures bound { IfOk result (λ found. S.bound_of found ≡ length snapshot.now.release.concepts) }
-    ensures grows { visits.old.count ≤ visits.new.count }
-    ensures within { visits.new.count ≤ visits.old.count + limits.bound }
-    ensures floor { IfOk result (λ _. min (visits.old.count + limits.floor) (2 ^ 64 - 1) ≤ visits.new.count) }
+    requires told { AreTold S.items_of indexes.now back tested value_rows }
+    requires candidates { AreConcepts S.ConceptSet snapshot.now.release indexes.now candidates.now }
+    ensures counted { CountsWithin limits.bound visits.old visits.new }
+    ensures found { IfOk result (IsFound S.ConceptSet (length snapshot.now.release.concepts)
+        (numbers_within snapshot.now.release (may_be S.items_of candidates.now)
+        (λ concept. has_pairs count (is_one_of indexes.now.concepts (S.items_of types.now))
+        (passes_of S.items_of indexes.now.concepts tested) (pairs_of snapshot.now.release back concept)))
+        limits.floor visits.old visits.new) }
 {
     let reads = LeafReads {
         choice,
@@ -60,17 +65,16 @@ pub fn with_pairs_within<S: ConceptSet>(
         bound: limits.bound,
         value_rows,
     };
-    let extent = extent_for(candidates, back);
-    let (way, read) = leaf_way(alloc, snapshot, indexes, reads, types, tested, extent)?;
-    visits.add_node(read, limits);
+    let (way, read) = leaf_way(alloc, snapshot, indexes, reads, types, tested, candidates)?;
     let found = with_pairs_by(
-        alloc, snapshot, indexes, &way, back, count, types, candidates,
+        alloc, snapshot, indexes, &way, back, count, types, candidates, read, limits, visits,
     )?;
     Ok(found)
 }
 
 /// The candidates among the groups so many of whose distinct pairs have a type in a set and a value that passes
-/// (Expression Constraint Language, "Attribute groups" and "Cardinality"). What is read is counted, between two limits.
+/// (Expression Constraint Language, "Attribute groups" and "Cardinality"). What is read is counted, within the bound of the node,
+/// which has room for its choice, and where that is less than its floor, so much.
 pub fn groups_with_pairs_within<S: ConceptSet>(
     alloc: Global,
     snapshot: &Snapshot,
@@ -87,14 +91,16 @@ pub fn groups_with_pairs_within<S: ConceptSet>(
     requires index { IsIndexOf indexes.now snapshot.now.release }
     requires bound { S.bound_of types.now ≡ length indexes.now.concepts }
     requires limits { limits.floor ≤ limits.bound }
+    requires room { full (leaf_items S.items_of indexes.now false choice (S.items_of types.now) tested) ≤ limits.bound }
     requires tested { IsTestBelow S.bound_of (length indexes.now.concepts) tested }
-    requires candidates { AreBelow S.bound_of (length (all_groups snapshot.now.release)) candidates.now }
-    ensures items { IfOk result (λ found. S.items_of found ≡ groups_within snapshot.now.release (may_be S.items_of candidates.now)
-        (has_pairs count (is_one_of indexes.now.concepts (S.items_of types.now)) (passes_of S.items_of indexes.now.concepts tested))) }
-    ensures bound { IfOk result (λ found. S.bound_of found ≡ length (all_groups snapshot.now.release)) }
-    ensures grows { visits.old.count ≤ visits.new.count }
-    ensures within { visits.new.count ≤ visits.old.count + limits.bound }
-    ensures floor { IfOk result (λ _. min (visits.old.count + limits.floor) (2 ^ 64 - 1) ≤ visits.new.count) }
+    requires told { AreTold S.items_of indexes.now false tested value_rows }
+    requires candidates { AreGroups S.ConceptSet snapshot.now.release indexes.now candidates.now }
+    ensures counted { CountsWithin limits.bound visits.old visits.new }
+    ensures found { IfOk result (IsFound S.ConceptSet (length (all_groups snapshot.now.release))
+        (groups_within snapshot.now.release (may_be S.items_of candidates.now)
+        (has_pairs count (is_one_of indexes.now.concepts (S.items_of types.now))
+        (passes_of S.items_of indexes.now.concepts tested)))
+        limits.floor visits.old visits.new) }
 {
     let reads = LeafReads {
         choice,
@@ -102,16 +108,16 @@ pub fn groups_with_pairs_within<S: ConceptSet>(
         bound: limits.bound,
         value_rows,
     };
-    let extent = extent_for(candidates, false);
-    let (way, items) = leaf_way(alloc, snapshot, indexes, reads, types, tested, extent)?;
-    visits.add_node(items, limits);
-    let found = groups_with_pairs_by(alloc, snapshot, indexes, &way, count, types, candidates)?;
+    let (way, items) = leaf_way(alloc, snapshot, indexes, reads, types, tested, candidates)?;
+    let found = groups_with_pairs_by(
+        alloc, snapshot, indexes, &way, count, types, candidates, items, limits, visits,
+    )?;
     Ok(found)
 }
 
 /// The values of the attributes whose source is in a set and whose type is in another (Expression Constraint Language,
 /// "Refinements", dotted attributes). The rows of the sources are read where there are no more sources than types, or
-/// where these are fewer than those of the types. What is read is counted.
+/// where these are fewer than those of the types. What is read is counted: no more items than there are sources and rows.
 pub fn values_along<S: ConceptSet>(
     alloc: Global,
     snapshot: &Snapshot,
@@ -123,15 +129,42 @@ pub fn values_along<S: ConceptSet>(
     requires index { IsIndexOf indexes.now snapshot.now.release }
     requires sources { S.bound_of sources ≡ length indexes.now.concepts }
     requires types { S.bound_of types.now ≡ length indexes.now.concepts }
-    ensures items { IfOk result (λ found. S.items_of found ≡ numbers_in snapshot.now.release
-        (is_value snapshot.now.release (is_one_of indexes.now.concepts (S.items_of sources)) (is_one_of indexes.now.concepts (S.items_of types.now)))) }
-    ensures bound { IfOk result (λ found. S.bound_of found ≡ length snapshot.now.release.concepts) }
-    ensures grows { visits.old.count ≤ visits.new.count }
-    ensures within { visits.new.count ≤ visits.old.count + (length (S.items_of sources) + length indexes.now.rows) }
+    ensures counted { CountsWithin (length (S.items_of sources) + length indexes.now.rows) visits.old visits.new }
+    ensures found { IfOk result (IsFound S.ConceptSet (length snapshot.now.release.concepts)
+        (numbers_in snapshot.now.release (is_value snapshot.now.release (is_one_of indexes.now.concepts (S.items_of sources))
+        (is_one_of indexes.now.concepts (S.items_of types.now))))
+        0 visits.old visits.new) }
 {
-    let most = u64::from(sources.count()) + u64::from(indexes.row_count());
     let (way, items) = values_way(alloc, snapshot, indexes, &sources, types)?;
-    visits.add(items.min(most));
+    let found = values_by(alloc, snapshot, indexes, way, sources, types, items, visits)?;
+    Ok(found)
+}
+
+// By the rows of the sources or by those of the types. First so many items are counted: no fewer than are read in this way.
+fn values_by<S: ConceptSet>(
+    alloc: Global,
+    snapshot: &Snapshot,
+    indexes: &Indexes,
+    way: ValuesWay,
+    sources: S,
+    types: &S,
+    items: u64,
+    visits: &mut Visits,
+) -> Result<S, AllocError>
+    requires index { IsIndexOf indexes.now snapshot.now.release }
+    requires sources { S.bound_of sources ≡ length indexes.now.concepts }
+    requires types { S.bound_of types.now ≡ length indexes.now.concepts }
+    requires way { IsValuesWay (types_of indexes.now.rows) (S.items_of sources)
+        (is_one_of indexes.now.concepts (S.items_of types.now)) way }
+    requires reads { full (values_way_items indexes.now (S.items_of types.now) way) ≤ items }
+    ensures items { IfOk result (λ found. S.items_of found ≡ numbers_in snapshot.now.release
+        (is_value snapshot.now.release (is_one_of indexes.now.concepts (S.items_of sources))
+        (is_one_of indexes.now.concepts (S.items_of types.now)))) }
+    ensures bound { IfOk result (λ found. S.bound_of found ≡ length snapshot.now.release.concepts) }
+    ensures counted { visits.new.count ≡ full (visits.old.count + items) }
+    ensures grows { visits.old.count ≤ visits.new.count }
+{
+    visits.add(items);
     match way {
         ValuesWay::BySource(own) => {
             let found = values_by_source(alloc, snapshot, indexes, own.as_slice(), types)?;
@@ -183,7 +216,7 @@ fn values_by_source<S: ConceptSet>(
 }
 
 /// The candidates so many of whose distinct pairs, their own or those read backwards, have a type that is one of some and a
-/// value that passes, read in a way.
+/// value that passes, read in a way. First `read` items are counted, or the floor: no fewer than are read in this way.
 pub fn with_pairs_by<S: ConceptSet>(
     alloc: Global,
     snapshot: &Snapshot,
@@ -193,16 +226,26 @@ pub fn with_pairs_by<S: ConceptSet>(
     count: Cardinality,
     types: &S,
     candidates: &Candidates<'_, S>,
+    read: u64,
+    limits: NodeLimits,
+    visits: &mut Visits,
 ) -> Result<S, AllocError>
     requires index { IsIndexOf indexes.now snapshot.now.release }
     requires way { IsWayBelow S.bound_of (length indexes.now.concepts) way.now }
     requires ids { HasTypes (types_of indexes.now.rows) (is_one_of indexes.now.concepts (S.items_of types.now)) way.now }
     requires types { S.bound_of types.now ≡ length indexes.now.concepts }
     requires candidates { AreBelow S.bound_of (length snapshot.now.release.concepts) candidates.now }
+    requires limits { limits.floor ≤ limits.bound }
+    requires reads { full (way_items indexes.now back (S.items_of types.now) (extent_told back candidates.now) way.now) ≤ read }
+    requires within { read ≤ limits.bound }
     ensures items { IfOk result (λ found. S.items_of found ≡ numbers_within snapshot.now.release (may_be S.items_of candidates.now)
-        (λ concept. has_pairs count (is_one_of indexes.now.concepts (S.items_of types.now)) (passes_by S.items_of indexes.now.concepts way.now) (pairs_of snapshot.now.release back concept))) }
+        (λ concept. has_pairs count (is_one_of indexes.now.concepts (S.items_of types.now))
+        (passes_by S.items_of indexes.now.concepts way.now) (pairs_of snapshot.now.release back concept))) }
     ensures bound { IfOk result (λ found. S.bound_of found ≡ length snapshot.now.release.concepts) }
+    ensures counted { visits.new.count ≡ full (visits.old.count + max read limits.floor) }
+    ensures grows { visits.old.count ≤ visits.new.count }
 {
+    visits.add_node(read, limits);
     match way {
         Way::ByCandidates(tested) => {
             let found = with_pairs_among(
@@ -232,7 +275,7 @@ pub fn with_pairs_by<S: ConceptSet>(
 }
 
 /// The candidates among the groups so many of whose distinct pairs have a type that is one of some and a value that passes,
-/// read in a way.
+/// read in a way. First so many items are counted, or the floor: no fewer than are read in this way.
 pub fn groups_with_pairs_by<S: ConceptSet>(
     alloc: Global,
     snapshot: &Snapshot,
@@ -241,16 +284,25 @@ pub fn groups_with_pairs_by<S: ConceptSet>(
     count: Cardinality,
     types: &S,
     candidates: &Candidates<'_, S>,
+    items: u64,
+    limits: NodeLimits,
+    visits: &mut Visits,
 ) -> Result<S, AllocError>
     requires index { IsIndexOf indexes.now snapshot.now.release }
     requires way { IsWayBelow S.bound_of (length indexes.now.concepts) way.now }
     requires ids { HasTypes (types_of indexes.now.rows) (is_one_of indexes.now.concepts (S.items_of types.now)) way.now }
     requires types { S.bound_of types.now ≡ length indexes.now.concepts }
     requires candidates { AreBelow S.bound_of (length (all_groups snapshot.now.release)) candidates.now }
+    requires limits { limits.floor ≤ limits.bound }
+    requires reads { full (way_items indexes.now false (S.items_of types.now) (extent_told false candidates.now) way.now) ≤ items }
+    requires within { items ≤ limits.bound }
     ensures items { IfOk result (λ found. S.items_of found ≡ groups_within snapshot.now.release (may_be S.items_of candidates.now)
         (has_pairs count (is_one_of indexes.now.concepts (S.items_of types.now)) (passes_by S.items_of indexes.now.concepts way.now))) }
     ensures bound { IfOk result (λ found. S.bound_of found ≡ length (all_groups snapshot.now.release)) }
+    ensures counted { visits.new.count ≡ full (visits.old.count + max items limits.floor) }
+    ensures grows { visits.old.count ≤ visits.new.count }
 {
+    visits.add_node(items, limits);
     match way {
         Way::ByCandidates(tested) => {
             let found = groups_with_pairs_among(

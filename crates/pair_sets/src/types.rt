@@ -4,6 +4,7 @@ ghost use Rattle.idset.specs.Words.{is_set};
 ghost use Rattle.postings.specs.Indexed.{IsIndexOf, types_of};
 ghost use Rattle.pair_sets.specs.inside.Hits.{ArePlacesOf, is_type_in};
 ghost use Rattle.candidates.specs.Numbers.{is_one_of};
+ghost use Rattle.pair_sets.specs.Room.{types_read};
 
 use held_release::Snapshot;
 use idset::{ConceptSet, is_marked, marks_of};
@@ -30,7 +31,9 @@ pub fn types_in<S: ConceptSet>(
 ) -> Result<TypesIn, AllocError>
     requires index { IsIndexOf indexes.now snapshot.now.release }
     requires bound { S.bound_of set.now ≡ length indexes.now.concepts }
-    ensures { IfOk result (λ types. types.ids.items ≡ filter (is_one_of indexes.now.concepts (S.items_of set.now)) (types_of indexes.now.rows)) }
+    ensures ids { IfOk result (λ types. types.ids.items
+        ≡ filter (is_one_of indexes.now.concepts (S.items_of set.now)) (types_of indexes.now.rows)) }
+    ensures read { IfOk result (λ types. types.read ≡ types_read indexes.now (S.items_of set.now)) }
 {
     // there are no more types than rows, so 32 bits hold the place of each
     indexes.row_count();
@@ -43,7 +46,9 @@ pub fn types_in<S: ConceptSet>(
 }
 
 /// How many items are read to find the types of rows that are in a set.
-pub fn types_to_read<S: ConceptSet>(indexes: &Indexes, set: &S) -> u64 {
+pub fn types_to_read<S: ConceptSet>(indexes: &Indexes, set: &S) -> u64
+    ensures { result ≡ types_read indexes.now (S.items_of set.now) }
+{
     u64::from(set.count()).min(indexes.types().len() as u64)
 }
 

@@ -2,12 +2,13 @@
 ghost use Rattle.std.specs.Prelude.{ℕ, ◌≡◌, ◌≤◌, ◌<◌, ◌+◌, ◌-◌, ◌++◌, true, All, IfOk, OnOk, length, map, slice_get, slice_index};
 ghost use Rattle.postings.specs.Groups.{all_groups, groups_before, groups_in};
 ghost use Rattle.postings.specs.Indexed.{IsIndexOf};
+ghost use Rattle.candidates.specs.Extents.{group_count_of};
 ghost use Rattle.candidates.specs.Groups.{concept_in};
 ghost use Rattle.pair_sets.specs.Owned.{HaveGroupsOf, groups_owned};
 ghost use Rattle.constraint_tree.specs.Passing.{lies_in};
 ghost use Rattle.number_lists.specs.Members.{has};
 ghost use Rattle.number_lists.specs.Rising.{numbers_where};
-ghost use Rattle.std.specs.List.{range_with_len};
+ghost use Rattle.std.specs.List.{range_with_len, sum_by};
 
 use crate::counts::as_often;
 use constraint_tree::Cardinality;
@@ -60,6 +61,7 @@ pub fn groups_of<S: ConceptSet>(
     requires index { IsIndexOf indexes.now snapshot.now.release }
     requires bound { S.bound_of concepts.now ≡ length snapshot.now.release.concepts }
     ensures groups { IfOk result (λ groups. HaveGroupsOf snapshot.now.release (S.items_of concepts.now) (S.items_of groups)) }
+    ensures few { IfOk result (λ groups. length (S.items_of groups) ≤ sum_by (group_count_of indexes.now) (S.items_of concepts.now)) }
     ensures bound { IfOk result (λ groups. S.bound_of groups ≡ length (all_groups snapshot.now.release)) }
 {
     // the concepts rise, so that each has its groups once
@@ -77,6 +79,7 @@ fn numbers_of_groups(
 ) -> Result<Vec<u32>, AllocError>
     requires { All (λ concept. concept < length indexes.now.concepts) concepts.now }
     ensures within { IfOk result (λ found. All (λ group. group < length (groups_in indexes.now)) found.items) }
+    ensures few { IfOk result (λ found. length found.items ≡ sum_by (group_count_of indexes.now) concepts.now) }
     ensures all { IfOk result (λ found. (concept group : ℕ) → has concepts.now concept ≡ true → length (groups_before indexes.now concept) ≤ group
         → group < length (groups_before indexes.now (concept + 1)) → has found.items group ≡ true) }
 {

@@ -2,6 +2,10 @@
 //!
 //! A choice names the rows that are read: those of the values that pass, those of the types, or all. Where the candidates, or
 //! a few values, have fewer, their rows are read in place of these. Each way finds the same, so a bad one costs time alone.
+ghost use Rattle.std.specs.Prelude.{true, ◌≡◌, ◌<◌, ◌+◌, ◌-◌, length};
+ghost use Rattle.candidates.specs.Counted.{full};
+ghost use Rattle.candidates.specs.RowCounts.{extent_items};
+
 use crate::tested::Tested;
 use candidates::{Extent, look_ups};
 use set_algebra::Choice;
@@ -28,13 +32,15 @@ pub struct LeafReads {
     pub back: bool,
     /// How many items may be read.
     pub bound: u64,
-    /// How many rows the values have that pass, where that is known.
+    /// How many rows the values have at most that pass, where that is known.
     pub value_rows: Option<u64>,
 }
 
 impl LeafReads {
     /// How many items may be read beside so many.
-    pub fn room_beside(self, items: u64) -> u64 {
+    pub fn room_beside(self, items: u64) -> u64
+        ensures { result ≡ self.bound - items }
+    {
         self.bound.saturating_sub(items)
     }
 }
@@ -50,19 +56,25 @@ pub struct PassingValues {
 
 impl PassingValues {
     /// How many values there are.
-    pub fn count(&self) -> u64 {
+    pub fn count(&self) -> u64
+        ensures { result ≡ length self.now.numbers.items }
+    {
         self.numbers.len() as u64
     }
 
     /// How many items are read by value.
-    pub fn items(&self) -> u64 {
+    pub fn items(&self) -> u64
+        ensures { result ≡ full (length self.now.numbers.items + self.now.rows) }
+    {
         self.count().saturating_add(self.rows)
     }
 }
 
 /// Whether so many values with so many rows are read sooner than so many rows that stand side by side. The rows of a value stand
 /// so too; those of a source, which are read backwards, are looked up.
-pub fn values_are_read_before(back: bool, values: u64, rows: u64, others: u64) -> bool {
+pub fn values_are_read_before(back: bool, values: u64, rows: u64, others: u64) -> bool
+    ensures { result ≡ true → full (values + rows) < others }
+{
     let items = values.saturating_add(rows);
     if back {
         look_ups(items) < others
@@ -72,7 +84,9 @@ pub fn values_are_read_before(back: bool, values: u64, rows: u64, others: u64) -
 }
 
 /// How many items are read of candidates, each with its rows.
-pub fn items_among(candidates: Option<Extent>) -> u64 {
+pub fn items_among(candidates: Option<Extent>) -> u64
+    ensures { result ≡ extent_items candidates }
+{
     match candidates {
         Some(extent) => extent.items_and_rows(),
         None => 0,

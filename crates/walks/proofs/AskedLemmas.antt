@@ -22,7 +22,7 @@ use Rattle.number_lists.proofs.MemberLemmas.{contains_had, had_contained}
 use Rattle.walks.specs.Asked.{AreEnough, asked_lists}
 use Rattle.walks.specs.inside.Joined.{back_of}
 use Rattle.walks.specs.Led.{IsOver, apart, joined, led_to}
-use Rattle.walks.specs.inside.Steps.{lists_of}
+use Rattle.walks.specs.Families.{lists_of}
 use Rattle.walks.specs.declared.family.Family.{Family}
 use Rattle.walks.specs.declared.family.Family.TheVariants as family
 use Rattle.walks.specs.declared.family.Reach.TheVariants.{Listed, ListedOrSelf, Apart}

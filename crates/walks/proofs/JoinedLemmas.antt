@@ -24,7 +24,7 @@ use Rattle.std.proofs.lemmas.List.Folds.{list_any-append}
 use Rattle.std.proofs.Math.Bool.{or-false}
 use Rattle.walks.specs.inside.Joined.{AreJoined, is_long, is_whole, near_of, with_length}
 use Rattle.walks.specs.Led.{IsOver, joined}
-use Rattle.walks.specs.inside.Steps.{lists_of}
+use Rattle.walks.specs.Families.{lists_of}
 use Rattle.walks.specs.declared.family.Family.{Family}
 use Rattle.walks.specs.declared.family.Family.TheVariants as family
 
@@ -42,7 +42,7 @@ lists_are release family.Descendants = refl
 lists_are release family.Parents = refl
 lists_are release family.Children = refl
 
-over_lists : (count : ℕ) (hierarchy : Hierarchy) (over : IsOver count hierarchy) (f : Family) → lists_of hierarchy f ≡ lists_where count (stands over.release f)
+pub over_lists : (count : ℕ) (hierarchy : Hierarchy) (over : IsOver count hierarchy) (f : Family) → lists_of hierarchy f ≡ lists_where count (stands over.release f)
 over_lists count hierarchy over f =
     ap (λ (h : Hierarchy). lists_of h f) over.hierarchy_is ∙ lists_are over.release f
     ∙ ap (λ (n : ℕ). lists_where n (stands over.release f)) (sym over.count_is)

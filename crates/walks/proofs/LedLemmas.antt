@@ -14,7 +14,8 @@ use Rattle.ancestor_index.specs.HierarchyLists.{Hierarchy}
 use Rattle.number_lists.proofs.MemberLemmas.{contains_had, had_contained}
 use Rattle.walks.specs.inside.Joined.{AreJoined, back_of, is_whole, near_of}
 use Rattle.walks.specs.Led.{IsOver, apart, joined}
-use Rattle.walks.specs.inside.Steps.{lists_of, stepped}
+use Rattle.walks.specs.inside.Steps.{stepped}
+use Rattle.walks.specs.Families.{lists_of}
 use Rattle.walks.specs.declared.family.Family.{Family}
 use Rattle.walks.specs.declared.family.Family.TheVariants as family
 use Rattle.walks.specs.declared.family.Reach.{Reach}

@@ -2,5 +2,6 @@ pub mod AskedLemmas
 pub mod JoinedLemmas
 pub mod LedLemmas
 pub mod MemberLemmas
+pub mod ReadLemmas
 pub mod ReachedLemmas
 pub mod StepLemmas

@@ -23,7 +23,7 @@ use Rattle.number_lists.proofs.MemberLemmas.{contains_had, had_contained}
 use Rattle.ancestor_index.proofs.ClosureLemmas.{row_there, there_row}
 use Rattle.walks.specs.inside.Joined.{AreJoined, is_whole, near_of, turn_of}
 use Rattle.walks.specs.Led.{IsOver}
-use Rattle.walks.specs.inside.Steps.{lists_of}
+use Rattle.walks.specs.Families.{lists_of}
 use Rattle.walks.specs.declared.family.Family.{Family}
 use Rattle.walks.specs.declared.family.Family.TheVariants as family
 use Rattle.number_lists.proofs.RisingLemmas.{all_below}

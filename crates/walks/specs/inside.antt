@@ -1,4 +1,5 @@
 -- Definitions that private functions alone need: no contract of a public call names one.
 pub mod Components
+pub mod Counts
 pub mod Joined
 pub mod Steps

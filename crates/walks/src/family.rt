@@ -4,7 +4,9 @@ ghost use Rattle.number_lists.specs.Members.{has};
 ghost use Rattle.idset.specs.Words.{MarkedBelow};
 ghost use Rattle.number_lists.specs.KeyedLists.{list_of};
 ghost use Rattle.walks.specs.inside.Joined.{back_of, is_whole as is_whole_of, near_of, turn_of};
-ghost use Rattle.walks.specs.inside.Steps.{HasWords, IsStepFor, asked_of, lists_of};
+ghost use Rattle.walks.specs.inside.Counts.{told_of};
+ghost use Rattle.walks.specs.inside.Steps.{HasWords, IsStepFor, asked_of};
+ghost use Rattle.walks.specs.Families.{lists_of};
 
 use ancestor_index::AncestorIndex;
 use candidates::ListExtent;
@@ -94,7 +96,9 @@ impl Family {
     }
 
     /// How many items the lists of this family have, of concepts of which that is known.
-    pub fn items_of(self, lists: ListExtent) -> u64 {
+    pub fn items_of(self, lists: ListExtent) -> u64
+        ensures { result ≡ told_of self lists }
+    {
         match self {
             Family::Ancestors => lists.ancestors,
             Family::Descendants => lists.descendants,
@@ -158,9 +162,4 @@ impl Step {
     pub fn is_apart(self) -> bool {
         matches!(self.reach, Reach::Apart)
     }
-}
-
-/// Whether an operator leads to none but the concepts themselves: to those that have no other of them above (`!!>`), or below (`!!<`).
-pub fn keeps_apart(operator: Operator) -> bool {
-    Step::of(operator).is_apart()
 }

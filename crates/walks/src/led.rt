@@ -1,55 +1,176 @@
-//! Which of some candidates an operator leads to, by the lists of each.
-ghost use Rattle.std.specs.Prelude.{◌≡◌, ◌<◌, ◌∷◌, All, IfOk, filter};
+//! The concepts that an operator leads to from a set, of some candidates. What is read is counted.
+ghost use Rattle.std.specs.Prelude.{◌≡◌, ◌≤◌, ◌<◌, ◌+◌, ◌∷◌, All, IfOk, filter, length};
 ghost use Rattle.std.specs.List.{flat_map};
 ghost use Rattle.number_lists.specs.KeyedLists.{list_of};
 ghost use Rattle.idset.specs.Sets.{all_items};
 ghost use Rattle.number_lists.specs.Members.{has};
 ghost use Rattle.walks.specs.Asked.{AreEnough, asked_lists};
 ghost use Rattle.walks.specs.Led.{apart as apart_of, IsOf, IsOver, joined, led_to};
-ghost use Rattle.walks.specs.inside.Steps.{lists_of, stepped};
-ghost use Rattle.candidates.specs.Within.{AreBelow, may_be};
+ghost use Rattle.walks.specs.inside.Steps.{stepped};
+ghost use Rattle.walks.specs.Families.{lists_of};
+ghost use Rattle.candidates.specs.Counted.{CountsWithin, IsFound, full};
+ghost use Rattle.candidates.specs.Extents.{IsExtentOf};
+ghost use Rattle.candidates.specs.Tallies.{Adds};
+ghost use Rattle.candidates.specs.Within.{AreBelow, AreConcepts, HaveExtent, may_be};
+ghost use Rattle.postings.specs.Indexed.{IsIndexOf};
+ghost use Rattle.walks.specs.Reads.{asked_items, walk_items};
 
 use crate::family::{Family, Reach, Step};
-use crate::walk_ways::WalkWay;
+use crate::walk_ways::{WalkWay, items_of_all_lists, items_unlisted, walk_way};
 use crate::walks::{meets, walk};
 use ancestor_index::AncestorIndex;
-use candidates::{Candidates, RowTally, restricted};
+use candidates::{Candidates, RowTally, Visits, restricted};
 use constraint_tree::Operator;
 use held_release::Snapshot;
 use idset::ConceptSet;
+use postings::Indexes;
 use std::alloc::{AllocError, Global};
 
 /// The candidates among the concepts that an operator leads to from those of a set (Expression Constraint Language,
-/// "Simple Expression Constraints"), found in a way. The operand is given as a list too, since it is read once.
+/// "Simple Expression Constraints"). They are found in the way that reads the fewest items, and these are counted: the set, where it
+/// is gone through, and of one concept no more than its list, of more no more than all lists of the operator. The rows are added of
+/// what is found from one concept, if the tally asks for them.
 pub fn walk_within<S: ConceptSet>(
+    alloc: Global,
+    snapshot: &Snapshot,
+    indexes: &Indexes,
+    operator: Operator,
+    from: &S,
+    candidates: &Candidates<'_, S>,
+    visits: &mut Visits,
+    tally: &mut RowTally<'_>,
+) -> Result<S, AllocError>
+    requires index { IsIndexOf indexes.now snapshot.now.release }
+    requires bound { S.bound_of from.now ≡ length snapshot.now.release.concepts }
+    requires candidates { AreConcepts S.ConceptSet snapshot.now.release indexes.now candidates.now }
+    ensures counted { CountsWithin (length (S.items_of from.now) + walk_items indexes.now.hierarchy operator (S.items_of from.now)) visits.old visits.new }
+    ensures found { IfOk result (IsFound S.ConceptSet (length snapshot.now.release.concepts)
+        (filter (may_be S.items_of candidates.now) (led_to indexes.now.hierarchy (S.bound_of from.now) operator (S.items_of from.now)))
+        0 visits.old visits.new) }
+    ensures adds { IfOk result (λ found. Adds (S.items_of found) tally.old tally.new) }
+{
+    let index = indexes.hierarchy();
+    if let Candidates::Within(wanted, _) = candidates {
+        let asked = items_unlisted(indexes, operator, from.count(), from.bound(), candidates);
+        if let Some(items) = asked {
+            tally.forget();
+            let found = led_among(alloc, index, operator, from, *wanted, items, visits)?;
+            return Ok(found);
+        }
+    }
+    if from.bound() > 1 && from.count() == from.bound() {
+        tally.forget();
+        return walk_from_all(alloc, index, operator, from, candidates, visits);
+    }
+    walk_listed(
+        alloc, snapshot, indexes, operator, from, candidates, visits, tally,
+    )
+}
+
+// From all concepts: each is asked. They are gone through once, and of a list that is not empty the first item tells.
+fn walk_from_all<S: ConceptSet>(
+    alloc: Global,
+    index: &AncestorIndex,
+    operator: Operator,
+    from: &S,
+    candidates: &Candidates<'_, S>,
+    visits: &mut Visits,
+) -> Result<S, AllocError>
+    requires over { IsOver (S.bound_of from.now) index.now }
+    requires candidates { AreBelow S.bound_of (S.bound_of from.now) candidates.now }
+    requires many { 1 < length (S.items_of from.now) }
+    requires all { length (S.items_of from.now) ≡ S.bound_of from.now }
+    ensures read { full (visits.old.count + length (S.items_of from.now)) ≤ visits.new.count }
+    ensures counted { CountsWithin (length (S.items_of from.now) + walk_items index.now operator (S.items_of from.now)) visits.old visits.new }
+    ensures items { IfOk result (λ found. S.items_of found ≡ filter (may_be S.items_of candidates.now) (led_to index.now (S.bound_of from.now) operator (S.items_of from.now))) }
+    ensures bound { IfOk result (λ found. S.bound_of found ≡ S.bound_of from.now) }
+{
+    let all = u64::from(from.count());
+    let lists = items_of_all_lists(index, Step::of(operator).family);
+    visits.add(all.saturating_add(all.min(lists)));
+    let led = those_of_set_led_to(alloc, index, operator, from, from)?;
+    let left = restricted(alloc, led, candidates)?;
+    Ok(left)
+}
+
+// From the concepts of a set, which are gone through.
+fn walk_listed<S: ConceptSet>(
+    alloc: Global,
+    snapshot: &Snapshot,
+    indexes: &Indexes,
+    operator: Operator,
+    from: &S,
+    candidates: &Candidates<'_, S>,
+    visits: &mut Visits,
+    tally: &mut RowTally<'_>,
+) -> Result<S, AllocError>
+    requires over { IsOf snapshot.now.release (S.bound_of from.now) indexes.now.hierarchy }
+    requires candidates { AreBelow S.bound_of (S.bound_of from.now) candidates.now }
+    requires listed { HaveExtent S.items_of (IsExtentOf indexes.now) candidates.now }
+    ensures counted { CountsWithin (length (S.items_of from.now) + walk_items indexes.now.hierarchy operator (S.items_of from.now)) visits.old visits.new }
+    ensures items { IfOk result (λ found. S.items_of found ≡ filter (may_be S.items_of candidates.now) (led_to indexes.now.hierarchy (S.bound_of from.now) operator (S.items_of from.now))) }
+    ensures bound { IfOk result (λ found. S.bound_of found ≡ S.bound_of from.now) }
+    ensures adds { IfOk result (λ found. Adds (S.items_of found) tally.old tally.new) }
+{
+    let concepts = from.items(alloc)?;
+    let own = concepts.as_slice();
+    let way = walk_way(indexes, operator, own, from.bound(), candidates);
+    count_way(from, way, visits);
+    let found = walk_by(
+        alloc,
+        snapshot,
+        indexes.hierarchy(),
+        operator,
+        from,
+        own,
+        candidates,
+        way,
+        tally,
+    )?;
+    Ok(found)
+}
+
+// Counts the concepts of a set, and what is read in a way from them.
+fn count_way<S: ConceptSet>(from: &S, way: WalkWay, visits: &mut Visits)
+    ensures count { visits.new.count ≡ full (visits.old.count + (length (S.items_of from.now) + way.items)) }
+    ensures grows { visits.old.count ≤ visits.new.count }
+{
+    visits.add(u64::from(from.count()).saturating_add(way.items));
+}
+
+// In a way. The set is given as a list too, since it is gone through once.
+fn walk_by<S: ConceptSet>(
     alloc: Global,
     snapshot: &Snapshot,
     index: &AncestorIndex,
     operator: Operator,
-    operand: &S,
+    from: &S,
     concepts: &[u32],
     candidates: &Candidates<'_, S>,
     way: WalkWay,
     tally: &mut RowTally<'_>,
 ) -> Result<S, AllocError>
-    requires over { IsOf snapshot.now.release (S.bound_of operand.now) index.now }
-    requires concepts { concepts.now ≡ S.items_of operand.now }
-    requires candidates { AreBelow S.bound_of (S.bound_of operand.now) candidates.now }
-    ensures items { IfOk result (λ found. S.items_of found ≡ filter (may_be S.items_of candidates.now) (led_to index.now (S.bound_of operand.now) operator (S.items_of operand.now))) }
-    ensures bound { IfOk result (λ found. S.bound_of found ≡ S.bound_of operand.now) }
+    requires over { IsOf snapshot.now.release (S.bound_of from.now) index.now }
+    requires concepts { concepts.now ≡ S.items_of from.now }
+    requires candidates { AreBelow S.bound_of (S.bound_of from.now) candidates.now }
+    ensures items { IfOk result (λ found. S.items_of found ≡ filter (may_be S.items_of candidates.now) (led_to index.now (S.bound_of from.now) operator (S.items_of from.now))) }
+    ensures bound { IfOk result (λ found. S.bound_of found ≡ S.bound_of from.now) }
+    ensures adds { IfOk result (λ found. Adds (S.items_of found) tally.old tally.new) }
 {
     if way.asks_candidates {
         if let Candidates::Within(wanted, _) = candidates {
-            let found = led_among(alloc, index, operator, operand, *wanted)?;
+            tally.forget();
+            let found = those_of_set_led_to(alloc, index, operator, from, *wanted)?;
             return Ok(found);
         }
     }
+    let step = Step::of(operator);
     let led = walk(
         alloc,
         snapshot,
         index,
-        Step::of(operator),
-        operand,
+        step,
+        from,
         concepts,
         way.near_first,
         tally,
@@ -58,8 +179,32 @@ pub fn walk_within<S: ConceptSet>(
     Ok(found)
 }
 
-/// The concepts of a set that an operator leads to from another, each asked by its own lists.
+/// The concepts of a set that an operator leads to from another, each asked by its own lists. So many items are read, the concepts
+/// of the set and their lists.
 pub fn led_among<S: ConceptSet>(
+    alloc: Global,
+    index: &AncestorIndex,
+    operator: Operator,
+    operand: &S,
+    wanted: &S,
+    items: u64,
+    visits: &mut Visits,
+) -> Result<S, AllocError>
+    requires over { IsOver (S.bound_of operand.now) index.now }
+    requires wanted { S.bound_of wanted.now ≡ S.bound_of operand.now }
+    requires read { full (asked_items index.now operator (S.items_of wanted.now)) ≤ items }
+    ensures counted { CountsWithin items visits.old visits.new }
+    ensures found { IfOk result (IsFound S.ConceptSet (S.bound_of operand.now)
+        (filter (has (S.items_of wanted.now)) (led_to index.now (S.bound_of operand.now) operator (S.items_of operand.now)))
+        items visits.old visits.new) }
+{
+    visits.add(items);
+    let found = those_of_set_led_to(alloc, index, operator, operand, wanted)?;
+    Ok(found)
+}
+
+// The concepts of a set that an operator leads to from another, each asked by its own lists.
+fn those_of_set_led_to<S: ConceptSet>(
     alloc: Global,
     index: &AncestorIndex,
     operator: Operator,
@@ -77,17 +222,24 @@ pub fn led_among<S: ConceptSet>(
     S::from_items(alloc, kept.as_slice(), operand.bound())
 }
 
-/// The concepts of a set, and those in the lists by which it is asked whether an operator leads to them.
+/// The concepts of a set, and those in the lists by which it is asked whether an operator leads to them. So many items are read, the
+/// concepts and their lists.
 pub fn enough_for<S: ConceptSet>(
     alloc: Global,
     index: &AncestorIndex,
     operator: Operator,
     wanted: &S,
+    items: u64,
+    visits: &mut Visits,
 ) -> Result<S, AllocError>
-    requires { IsOver (S.bound_of wanted.now) index.now }
+    requires over { IsOver (S.bound_of wanted.now) index.now }
+    requires read { full (asked_items index.now operator (S.items_of wanted.now)) ≤ items }
+    ensures counted { CountsWithin items visits.old visits.new }
+    ensures floor { IfOk result (λ _. full (visits.old.count + items) ≤ visits.new.count) }
     ensures enough { IfOk result (λ enough. AreEnough (asked_lists index.now operator) (has (S.items_of wanted.now)) (has (S.items_of enough))) }
     ensures bound { IfOk result (λ enough. S.bound_of enough ≡ S.bound_of wanted.now) }
 {
+    visits.add(items);
     let family = Step::of(operator).asked();
     let own = wanted.items(alloc)?;
     let numbers = with_lists(alloc, index, family, own.as_slice(), wanted.bound())?;

@@ -1,7 +1,7 @@
 //! The concepts that an operator leads to, and the components of reference sets.
 //!
-//! Both are found as sets of numbers, of some candidates alone, in the way that reads the fewest items; how many it reads is
-//! known before. Where an operator leads is read from the lists of each concept, or by one pass over the is-a rows.
+//! Both are found as sets of numbers, of some candidates alone, in the way that reads the fewest items, and what is read is counted.
+//! Where an operator leads is read from the lists of each concept, or by one pass over the is-a rows.
 #![tactic(auto)]
 
 mod family;
@@ -11,7 +11,6 @@ mod reference_sets;
 mod walk_ways;
 mod walks;
 
-pub use crate::family::keeps_apart;
 pub use crate::led::{enough_for, led_among, walk_within};
-pub use crate::reference_sets::{MembersWay, members_way, members_within};
-pub use crate::walk_ways::{WalkWay, items_enough, items_from_all, items_unlisted, walk_way};
+pub use crate::reference_sets::members_within;
+pub use crate::walk_ways::items_enough;

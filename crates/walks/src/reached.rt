@@ -4,7 +4,7 @@ ghost use Rattle.std.specs.List.{list_all};
 ghost use Rattle.number_lists.specs.Members.{has};
 ghost use Rattle.walks.specs.inside.Joined.{AreJoined, is_whole as is_whole_of, turn_of};
 ghost use Rattle.walks.specs.Led.{IsOf, IsOver};
-ghost use Rattle.walks.specs.inside.Steps.{lists_of};
+ghost use Rattle.walks.specs.Families.{lists_of};
 
 use crate::family::Family;
 use ancestor_index::AncestorIndex;

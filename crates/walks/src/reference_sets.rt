@@ -1,14 +1,16 @@
 //! The components of reference sets.
-ghost use Rattle.std.specs.Prelude.{◌≡◌, ◌<◌, All, IfOk, filter, length};
+ghost use Rattle.std.specs.Prelude.{◌≡◌, ◌≤◌, ◌<◌, ◌+◌, All, IfOk, filter, length};
 ghost use Rattle.std.specs.List.{flat_map};
 ghost use Rattle.number_lists.specs.KeyedLists.{list_of};
 ghost use Rattle.number_lists.specs.Members.{has};
 ghost use Rattle.postings.specs.Indexed.{IsIndexOf};
 ghost use Rattle.walks.specs.Components.{components_of};
 ghost use Rattle.walks.specs.inside.Components.{is_in_one_of};
-ghost use Rattle.candidates.specs.Within.{AreBelow, may_be};
+ghost use Rattle.walks.specs.Families.{items_in};
+ghost use Rattle.candidates.specs.Counted.{CountsWithin, IsFound, full};
+ghost use Rattle.candidates.specs.Within.{AreConcepts, may_be};
 
-use candidates::{Candidates, restricted};
+use candidates::{Candidates, Visits, restricted};
 use held_release::Snapshot;
 use idset::{ConceptSet, has_number};
 use postings::Indexes;
@@ -17,71 +19,49 @@ use std::alloc::{AllocError, Global};
 // To look up a candidate in a list takes about as long as to copy so many components.
 const LOOK_UP: u64 = 32;
 
-/// How the components of some reference sets are found. No answer depends on it.
-#[derive(Clone, Copy, Debug)]
-pub struct MembersWay {
-    /// Whether the candidates are looked up in the lists of the reference sets, one by one.
-    pub looks_up: bool,
-    /// How many items are read: the candidates, or the components.
-    pub items: u64,
-}
-
-/// The way to the components of some reference sets: few candidates are looked up, where these lists are long. No more items are
-/// read than there are components.
-pub fn members_way<S>(
-    indexes: &Indexes,
-    refsets: &[u32],
-    candidates: &Candidates<'_, S>,
-) -> MembersWay
-    requires { All (λ refset. refset < length indexes.now.concepts) refsets.now }
-{
-    let components = component_count(indexes, refsets);
-    match candidates {
-        Candidates::Within(_, extent) if look_ups(extent.items, refsets) < components => {
-            MembersWay {
-                looks_up: true,
-                items: extent.items,
-            }
-        }
-        _ => MembersWay {
-            looks_up: false,
-            items: components,
-        },
-    }
-}
-
-// About how many components are copied while so many candidates are looked up in the lists of some reference sets.
-fn look_ups(candidates: u64, refsets: &[u32]) -> u64 {
-    candidates
-        .saturating_mul(refsets.len() as u64)
-        .saturating_mul(LOOK_UP)
-}
-
-/// The candidates among the concepts that a member row with a reference set among some leads to (Expression Constraint Language,
-/// "Simple Expression Constraints", memberOf), found in a way.
+/// The candidates among the components of the reference sets in a set: among the concepts that a member row with one of them leads to
+/// (Expression Constraint Language, "Simple Expression Constraints", memberOf). Few candidates are looked up, where the lists of these
+/// are long. What is read is counted: the reference sets, and no more items than they have components.
 pub fn members_within<S: ConceptSet>(
     alloc: Global,
     snapshot: &Snapshot,
     indexes: &Indexes,
-    refsets: &[u32],
+    from: &S,
     candidates: &Candidates<'_, S>,
-    way: MembersWay,
+    visits: &mut Visits,
 ) -> Result<S, AllocError>
     requires index { IsIndexOf indexes.now snapshot.now.release }
-    requires below { All (λ refset. refset < length indexes.now.concepts) refsets.now }
-    requires candidates { AreBelow S.bound_of (length snapshot.now.release.concepts) candidates.now }
-    ensures items { IfOk result (λ found. S.items_of found ≡ filter (may_be S.items_of candidates.now) (components_of snapshot.now.release refsets.now)) }
-    ensures bound { IfOk result (λ found. S.bound_of found ≡ length snapshot.now.release.concepts) }
+    requires bound { S.bound_of from.now ≡ length snapshot.now.release.concepts }
+    requires candidates { AreConcepts S.ConceptSet snapshot.now.release indexes.now candidates.now }
+    ensures counted { CountsWithin (length (S.items_of from.now) + items_in indexes.now.members (S.items_of from.now)) visits.old visits.new }
+    ensures found { IfOk result (IsFound S.ConceptSet (length snapshot.now.release.concepts)
+        (filter (may_be S.items_of candidates.now) (components_of snapshot.now.release (S.items_of from.now)))
+        (length (S.items_of from.now)) visits.old visits.new) }
 {
-    if way.looks_up {
-        if let Candidates::Within(wanted, _) = candidates {
+    let numbers = from.items(alloc)?;
+    let refsets = numbers.as_slice();
+    let components = component_count(indexes, refsets);
+    visits.add(u64::from(from.count()));
+    if let Candidates::Within(wanted, extent) = candidates {
+        if look_ups(extent.items, refsets) < components {
+            visits.add(extent.items);
             let found = members_among(alloc, snapshot, indexes, refsets, *wanted)?;
             return Ok(found);
         }
     }
+    visits.add(components);
     let all: S = members(alloc, snapshot, indexes, refsets)?;
     let found = restricted(alloc, all, candidates)?;
     Ok(found)
+}
+
+// About how many components are copied while so many candidates are looked up in the lists of some reference sets.
+fn look_ups(candidates: u64, refsets: &[u32]) -> u64
+    ensures { 0 < length refsets.now → candidates ≤ result }
+{
+    candidates
+        .saturating_mul(refsets.len() as u64)
+        .saturating_mul(LOOK_UP)
 }
 
 // The concepts of a set among the components of some reference sets, each looked up in the lists of these.
@@ -158,6 +138,7 @@ fn members<S: ConceptSet>(
 // How many components some reference sets have, one set beside the other.
 fn component_count(indexes: &Indexes, refsets: &[u32]) -> u64
     requires { All (λ refset. refset < length indexes.now.concepts) refsets.now }
+    ensures { result ≡ full (items_in indexes.now.members refsets.now) }
 {
     let mut components = 0u64;
     for refset in refsets {

@@ -1,12 +1,23 @@
 //! In which way the concepts are found that an operator leads to, and how many items that reads.
-ghost use Rattle.std.specs.Prelude.{◌<◌, All};
+ghost use Rattle.std.specs.Prelude.{◌≡◌, ◌≤◌, ◌<◌, ◌*◌, false, IfSome, length, min};
+ghost use Rattle.std.specs.Bool.{OnFalse, OnTrue};
+ghost use Rattle.number_lists.specs.Rising.{IsRisingBelow};
+ghost use Rattle.postings.specs.Indexed.{Indexed};
+ghost use Rattle.candidates.specs.Counted.{full};
+ghost use Rattle.candidates.specs.Extents.{IsExtentOf};
+ghost use Rattle.candidates.specs.Within.{HaveExtent};
+ghost use Rattle.walks.specs.Families.{all_items_of, family_of, items_in, lists_of};
 ghost use Rattle.walks.specs.Led.{IsOver};
+ghost use Rattle.walks.specs.Reads.{AreAsked, items_at_most, walk_items};
+ghost use Rattle.walks.specs.inside.Counts.{pass_items};
 
 use crate::family::{Family, Step};
-use crate::walks::{items_of_lists, most_items};
+use crate::walks::{items_of_lists, items_of_pass, most_items};
 use ancestor_index::AncestorIndex;
 use candidates::Candidates;
 use constraint_tree::Operator;
+use idset::ConceptSet;
+use postings::Indexes;
 
 // The lists of more concepts than these are not added up one by one: all lists stand for them.
 const MANY: usize = 4096;
@@ -22,59 +33,72 @@ pub struct WalkWay {
     /// Whether, where concepts of a set are looked for in the lists of its own, those one is-a row away are looked at first; and
     /// how many items the whole lists may have that are looked at then, before a pass over the is-a rows stands for them.
     pub near_first: Option<u64>,
-    /// How many items of lists are read, and of the candidates.
+    /// How many items are read: of lists, of the order of the concepts, and of the candidates.
     pub items: u64,
 }
 
 /// How many items are read where few candidates are asked one by one, and the concepts, which are not few, are not even listed: no
 /// more than all lists have. `None` where that is not so.
-pub fn items_unlisted<S>(
-    index: &AncestorIndex,
+pub fn items_unlisted<S: ConceptSet>(
+    indexes: &Indexes,
     operator: Operator,
     concepts: u32,
     count: u32,
     candidates: &Candidates<'_, S>,
-) -> Option<u64> {
-    let step = Step::of(operator);
-    let all = items_of_all_lists(index, step.family);
-    items_asked(step, count, candidates).filter(|items| concepts as usize > MANY && *items <= all)
-}
-
-/// How many items are read where each concept is asked whether an operator leads to it from all of them: of a list that is not empty the
-/// first item tells.
-pub fn items_from_all(index: &AncestorIndex, operator: Operator, concepts: u32) -> u64 {
-    items_of_all_lists(index, Step::of(operator).family).min(u64::from(concepts))
+) -> Option<u64>
+    requires { HaveExtent S.items_of (IsExtentOf indexes.now) candidates.now }
+    ensures many { IfSome result (λ _. 1 < concepts) }
+    ensures all { IfSome result (λ items. items ≤ all_items_of indexes.now.hierarchy (family_of operator)) }
+    ensures told { IfSome result (AreAsked S.items_of indexes.now.hierarchy operator candidates.now) }
+{
+    let all = items_of_all_lists(indexes.hierarchy(), Step::of(operator).family);
+    match items_asked(operator, count, candidates) {
+        Some(items) if concepts as usize > MANY && items <= all => Some(items),
+        _ => None,
+    }
 }
 
 /// How many items few candidates and the lists have by which they are asked, where these are few beside so many rows, which are read
 /// to find of all concepts those from which an operator leads. The items may be read twice. `None` where that is not so.
-pub fn items_enough<S>(
-    index: &AncestorIndex,
+pub fn items_enough<S: ConceptSet>(
+    indexes: &Indexes,
     operator: Operator,
     count: u32,
     rows: u64,
     candidates: &Candidates<'_, S>,
-) -> Option<u64> {
-    let step = Step::of(operator);
-    let most = items_of_all_lists(index, step.family).min(rows / ROWS);
-    items_asked(step, count, candidates).filter(|items| items.saturating_mul(2) <= most)
+) -> Option<u64>
+    requires { HaveExtent S.items_of (IsExtentOf indexes.now) candidates.now }
+    ensures all { IfSome result (λ items. 2 * items ≤ all_items_of indexes.now.hierarchy (family_of operator)) }
+    ensures some { IfSome result (λ _. 0 < rows) }
+    ensures told { IfSome result (AreAsked S.items_of indexes.now.hierarchy operator candidates.now) }
+{
+    let all = items_of_all_lists(indexes.hierarchy(), Step::of(operator).family);
+    let most = all.min(rows / ROWS);
+    match items_asked(operator, count, candidates) {
+        Some(items) if rows > 0 && items <= most / 2 => Some(items),
+        _ => None,
+    }
 }
 
 /// The way from some concepts. The candidates are asked where they are few and their lists have no more items than those of the
 /// concepts. Of all lists only the lengths are looked up.
-pub fn walk_way<S>(
-    index: &AncestorIndex,
+pub fn walk_way<S: ConceptSet>(
+    indexes: &Indexes,
     operator: Operator,
     concepts: &[u32],
     count: u32,
     candidates: &Candidates<'_, S>,
 ) -> WalkWay
-    requires over { IsOver count index.now }
-    requires below { All (λ concept. concept < count) concepts.now }
+    requires over { IsOver count indexes.now.hierarchy }
+    requires rising { IsRisingBelow count concepts.now }
+    requires listed { HaveExtent S.items_of (IsExtentOf indexes.now) candidates.now }
+    ensures within { result.items ≤ walk_items indexes.now.hierarchy operator concepts.now }
+    ensures asked { OnTrue result.asks_candidates (AreAsked S.items_of indexes.now.hierarchy operator candidates.now result.items) }
+    ensures read { OnFalse result.asks_candidates (full (min (items_in (lists_of indexes.now.hierarchy (family_of operator)) concepts.now) (pass_items indexes.now.hierarchy count)) ≤ result.items) }
 {
     let step = Step::of(operator);
-    let whole = whole_way(index, step, concepts, count);
-    match items_asked(step, count, candidates) {
+    let whole = whole_way(indexes.hierarchy(), step, concepts, count);
+    match items_asked(operator, count, candidates) {
         Some(items) if items <= whole.items => WalkWay {
             asks_candidates: true,
             near_first: None,
@@ -85,10 +109,17 @@ pub fn walk_way<S>(
 }
 
 // How many items are read where few candidates are asked one by one.
-fn items_asked<S>(step: Step, count: u32, candidates: &Candidates<'_, S>) -> Option<u64> {
+fn items_asked<S: ConceptSet>(
+    operator: Operator,
+    count: u32,
+    candidates: &Candidates<'_, S>,
+) -> Option<u64>
+    ensures { IfSome result (λ items. (indexed : Indexed) → HaveExtent S.items_of (IsExtentOf indexed) candidates.now
+        → AreAsked S.items_of indexed.hierarchy operator candidates.now items) }
+{
     match candidates {
         Candidates::Within(_, extent) if extent.are_few_beside(count) => {
-            let lists = step.asked().items_of(extent.lists);
+            let lists = Step::of(operator).asked().items_of(extent.lists);
             Some(extent.items.saturating_add(lists))
         }
         _ => None,
@@ -98,53 +129,76 @@ fn items_asked<S>(step: Step, count: u32, candidates: &Candidates<'_, S>) -> Opt
 // The way without the candidates.
 fn whole_way(index: &AncestorIndex, step: Step, concepts: &[u32], count: u32) -> WalkWay
     requires over { IsOver count index.now }
-    requires below { All (λ concept. concept < count) concepts.now }
+    requires rising { IsRisingBelow count concepts.now }
+    ensures within { result.items ≤ items_at_most index.now step.family concepts.now }
+    ensures read { full (min (items_in (lists_of index.now step.family) concepts.now) (pass_items index.now count)) ≤ result.items }
+    ensures asks { result.asks_candidates ≡ false }
 {
     let family = step.family;
     if step.is_apart() {
         return apart_way(index, family, concepts, count);
     }
+    let own = items_or_all(index, family, concepts, count);
     if concepts.len() > MANY {
-        return without_candidates(None, items_of_all_lists(index, family));
+        return without_candidates(None, own);
     }
-    let own = items_of_lists(index, family, concepts, count, u64::MAX);
-    without_candidates(None, with_pass(index, family, concepts.len(), own))
+    without_candidates(None, with_pass(index, family, concepts.len(), own, count))
 }
 
 // The way to those of some concepts that have none of them in their list. The near lists are looked at first where all lists have
 // room for them and for what is read then: the whole lists of those that are left, or a pass over the is-a rows.
 fn apart_way(index: &AncestorIndex, family: Family, concepts: &[u32], count: u32) -> WalkWay
     requires over { IsOver count index.now }
-    requires below { All (λ concept. concept < count) concepts.now }
+    requires rising { IsRisingBelow count concepts.now }
+    ensures within { result.items ≤ items_at_most index.now family concepts.now }
+    ensures read { full (min (items_in (lists_of index.now family) concepts.now) (pass_items index.now count)) ≤ result.items }
+    ensures asks { result.asks_candidates ≡ false }
 {
     let all = items_of_all_lists(index, family);
-    let links = index.link_count() as u64;
-    let (own, near) = if concepts.len() > MANY {
-        (all, links)
-    } else {
-        let own = items_of_lists(index, family, concepts, count, u64::MAX);
-        let near = items_of_lists(index, family.near(), concepts, count, u64::MAX);
-        (own, near)
-    };
-    if concepts.len() > 1 && near.saturating_add(own.min(links)) <= all {
+    let own = items_or_all(index, family, concepts, count);
+    let near = items_or_all(index, family.near(), concepts, count);
+    let pass = items_of_pass(index, count);
+    if concepts.len() > 1 && near.saturating_add(own.min(pass)) <= all {
         without_candidates(Some(all - near), near.saturating_add(own).min(all))
     } else {
         without_candidates(None, own)
     }
 }
 
-// How many items are read where the lists of so many concepts have so many: where the lists are left for a pass over the is-a rows,
-// those of the pass too.
-fn with_pass(index: &AncestorIndex, family: Family, concepts: usize, own: u64) -> u64 {
-    let most = most_items(index);
-    if family.is_whole() && concepts > 1 && own > most {
-        most.saturating_add(index.link_count() as u64)
+// How many items the lists of some concepts have; of many concepts all lists stand for them.
+fn items_or_all(index: &AncestorIndex, family: Family, concepts: &[u32], count: u32) -> u64
+    requires over { IsOver count index.now }
+    requires rising { IsRisingBelow count concepts.now }
+    ensures within { result ≤ items_at_most index.now family concepts.now }
+    ensures read { full (items_in (lists_of index.now family) concepts.now) ≤ result }
+{
+    if concepts.len() > MANY {
+        items_of_all_lists(index, family)
     } else {
-        own
+        items_of_lists(index, family, concepts, count, u64::MAX)
     }
 }
 
-fn without_candidates(near_first: Option<u64>, items: u64) -> WalkWay {
+// How many items are read where the lists of so many concepts have so many: where the lists are left for a pass over the is-a rows,
+// those of the pass too.
+fn with_pass(index: &AncestorIndex, family: Family, concepts: usize, own: u64, count: u32) -> u64
+    ensures few { concepts ≤ 1 → result ≡ own }
+    ensures within { own ≤ all_items_of index.now family → result ≤ all_items_of index.now family }
+    ensures read { min own (pass_items index.now count) ≤ result }
+{
+    if !family.is_whole() || concepts <= 1 {
+        return own;
+    }
+    match most_items(index, count) {
+        Some(most) if own > most => most.saturating_add(items_of_pass(index, count)),
+        _ => own,
+    }
+}
+
+fn without_candidates(near_first: Option<u64>, items: u64) -> WalkWay
+    ensures items { result.items ≡ items }
+    ensures asks { result.asks_candidates ≡ false }
+{
     WalkWay {
         asks_candidates: false,
         near_first,
@@ -152,8 +206,10 @@ fn without_candidates(near_first: Option<u64>, items: u64) -> WalkWay {
     }
 }
 
-// How many items all lists have.
-fn items_of_all_lists(index: &AncestorIndex, family: Family) -> u64 {
+/// How many items all lists have.
+pub fn items_of_all_lists(index: &AncestorIndex, family: Family) -> u64
+    ensures { result ≡ all_items_of index.now family }
+{
     if family.is_whole() {
         index.ancestor_count() as u64
     } else {

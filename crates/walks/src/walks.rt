@@ -1,12 +1,16 @@
 //! Where an operator leads from a set.
-ghost use Rattle.std.specs.Prelude.{ℕ, ◌≡◌, ◌<◌, ◌++◌, ◌∷◌, [], false, not, true, List, All, IfOk, OnOk, filter};
-ghost use Rattle.std.specs.List.{list_any};
+ghost use Rattle.std.specs.Prelude.{ℕ, ◌≡◌, ◌≤◌, ◌<◌, ◌+◌, ◌++◌, ◌∷◌, [], false, not, true, List, All, IfOk, IfSome, OnOk, filter, length};
+ghost use Rattle.std.specs.List.{concat, list_any};
 ghost use Rattle.idset.specs.Sets.{all_items};
 ghost use Rattle.number_lists.specs.Members.{has};
 ghost use Rattle.number_lists.specs.KeyedLists.{list_of};
 ghost use Rattle.walks.specs.inside.Joined.{AreJoined, is_long as is_long_of, is_whole as is_whole_of, with_length};
 ghost use Rattle.walks.specs.Led.{apart as apart_of, IsOf, IsOver, joined};
-ghost use Rattle.walks.specs.inside.Steps.{lists_of, stepped};
+ghost use Rattle.candidates.specs.Counted.{full};
+ghost use Rattle.candidates.specs.Tallies.{Adds};
+ghost use Rattle.walks.specs.Families.{items_in, lists_of};
+ghost use Rattle.walks.specs.inside.Counts.{pass_items};
+ghost use Rattle.walks.specs.inside.Steps.{stepped};
 
 use crate::family::{Family, Reach, Step};
 use crate::reached::reached;
@@ -23,8 +27,8 @@ const LONG: usize = 64;
 const PASS: u64 = 8;
 
 /// The concepts that a step leads to from those of a set. The set is given as a list too, since it is read once. The rows are counted
-/// of what is found from one concept, if that is asked for. Which lists are looked at first, where the set is looked for in them, is
-/// as `WalkWay` says.
+/// of what is found from one concept, if that is asked for; of what is found otherwise it is not known how many there are. Which
+/// lists are looked at first, where the set is looked for in them, is as `WalkWay` says.
 pub fn walk<S: ConceptSet>(
     alloc: Global,
     snapshot: &Snapshot,
@@ -40,6 +44,7 @@ pub fn walk<S: ConceptSet>(
     requires concepts { concepts.now ≡ S.items_of operand.now }
     ensures items { IfOk result (λ found. S.items_of found ≡ stepped (lists_of index.now step.family) (S.bound_of operand.now) step.reach (S.items_of operand.now)) }
     ensures bound { IfOk result (λ found. S.bound_of found ≡ S.bound_of operand.now) }
+    ensures adds { IfOk result (λ found. Adds (S.items_of found) tally.old tally.new) }
 {
     let family = step.family;
     match step.reach {
@@ -47,9 +52,12 @@ pub fn walk<S: ConceptSet>(
         Reach::ListedOrSelf => {
             listed_or_self(alloc, snapshot, index, family, operand, concepts, tally)
         }
-        Reach::Apart => apart(
-            alloc, snapshot, index, family, operand, concepts, near_first,
-        ),
+        Reach::Apart => {
+            tally.forget();
+            apart(
+                alloc, snapshot, index, family, operand, concepts, near_first,
+            )
+        }
     }
 }
 
@@ -67,10 +75,14 @@ fn listed<S: ConceptSet>(
     requires concepts { concepts.now ≡ S.items_of operand.now }
     ensures items { IfOk result (λ found. S.items_of found ≡ joined (S.bound_of operand.now) (lists_of index.now family) (S.items_of operand.now)) }
     ensures bound { IfOk result (λ found. S.bound_of found ≡ S.bound_of operand.now) }
+    ensures adds { IfOk result (λ found. Adds (S.items_of found) tally.old tally.new) }
 {
     match concepts {
         [concept] => list_of_one(alloc, index, family, *concept, operand.bound(), tally),
-        concepts => union(alloc, snapshot, index, family, concepts, operand),
+        concepts => {
+            tally.forget();
+            union(alloc, snapshot, index, family, concepts, operand)
+        }
     }
 }
 
@@ -88,6 +100,7 @@ fn listed_or_self<S: ConceptSet>(
     requires concepts { concepts.now ≡ S.items_of operand.now }
     ensures items { IfOk result (λ found. S.items_of found ≡ all_items (S.bound_of operand.now) (S.items_of operand.now) (joined (S.bound_of operand.now) (lists_of index.now family) (S.items_of operand.now))) }
     ensures bound { IfOk result (λ found. S.bound_of found ≡ S.bound_of operand.now) }
+    ensures adds { IfOk result (λ found. Adds (S.items_of found) tally.old tally.new) }
 {
     let mut found: S = listed(alloc, snapshot, index, family, operand, concepts, tally)?;
     tally.add(concepts);
@@ -108,6 +121,7 @@ fn list_of_one<S: ConceptSet>(
     requires below { concept < count }
     ensures items { IfOk result (λ found. S.items_of found ≡ joined count (lists_of index.now family) (concept ∷ [])) }
     ensures bound { IfOk result (λ found. S.bound_of found ≡ count) }
+    ensures adds { IfOk result (λ found. Adds (S.items_of found) tally.old tally.new) }
 {
     let list = family.list(index, concept);
     if tally.asks_for(list.len()) {
@@ -153,11 +167,12 @@ fn all_listed<S: ConceptSet>(
     ensures joined { IfOk result (λ found. AreJoined (lists_of index.now family) (S.items_of operand.now) (⟦<WordSet as ConceptSet>⟧.items_of found)) }
     ensures bound { IfOk result (λ found. ⟦<WordSet as ConceptSet>⟧.bound_of found ≡ S.bound_of operand.now) }
 {
-    let mut left = most_items(index);
-    if family.is_whole() && has_more_items(index, family, concepts, operand.bound(), left) {
+    let count = operand.bound();
+    let mut left = most_items(index, count).unwrap_or(u64::MAX);
+    if family.is_whole() && has_more_items(index, family, concepts, count, left) {
         return reached(alloc, snapshot, index, family, operand, concepts);
     }
-    let mut found = WordSet::from_items(alloc, &[], operand.bound())?;
+    let mut found = WordSet::from_items(alloc, &[], count)?;
     let long = add_lists(alloc, index, family, concepts, true, &mut left, &mut found)?;
     if !long {
         return reached(alloc, snapshot, index, family, operand, concepts);
@@ -169,12 +184,26 @@ fn all_listed<S: ConceptSet>(
     Ok(found)
 }
 
+/// How many items one pass over the is-a rows reads: the concepts in their order, and each row once.
+pub fn items_of_pass(index: &AncestorIndex, count: u32) -> u64
+    ensures { result ≡ full (pass_items index.now count) }
+{
+    (index.link_count() as u64).saturating_add(u64::from(count))
+}
+
 /// How many items of lists are read at the most before the lists are left for a pass over the is-a rows. With those of the
-/// pass they are no more than all lists have.
-pub fn most_items(index: &AncestorIndex) -> u64 {
+/// pass they are no more than all lists have; `None` where all lists have no room for a pass.
+pub fn most_items(index: &AncestorIndex, count: u32) -> Option<u64>
+    ensures { IfSome result (λ most. most + pass_items index.now count ≤ length (concat index.now.ancestors)) }
+{
     let links = index.link_count() as u64;
     let pairs = index.ancestor_count() as u64;
-    links.saturating_mul(PASS).min(pairs.saturating_sub(links))
+    let pass = items_of_pass(index, count);
+    if pass < pairs {
+        Some(links.saturating_mul(PASS).min(pairs - pass))
+    } else {
+        None
+    }
 }
 
 // Whether the lists of some concepts have more items than so many, so that not all are read. Of descendants this shows as they
@@ -203,6 +232,8 @@ pub fn items_of_lists(
 ) -> u64
     requires over { IsOver count index.now }
     requires below { All (λ concept. concept < count) concepts.now }
+    ensures few { result ≤ items_in (lists_of index.now family) concepts.now }
+    ensures all { result ≤ most → full (items_in (lists_of index.now family) concepts.now) ≤ result }
 {
     let mut items = 0u64;
     for concept in concepts {

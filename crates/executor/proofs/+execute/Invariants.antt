@@ -1,4 +1,4 @@
-use Rattle.std.proofs.Common.{◌≡◌, ◌≤◌, ◌<◌, ◌*◌, ◌&&◌, length, get_or, min, take}
+use Rattle.std.proofs.Common.{◌≡◌, ◌≤◌, ◌<◌, ◌+◌, ◌*◌, ◌&&◌, ℕ, List, length, get_or, max, min, take}
 use Rattle.std.specs.Prelude.{IfSome, slice_get}
 use Rattle.std.specs.List.{list_all, list_any}
 use Rattle.number_lists.specs.Rising.{numbers_where}
@@ -15,9 +15,16 @@ use Rattle.candidates.specs.Groups.{some_group_in}
 use Rattle.candidates.specs.Numbers.{numbers_in}
 use Rattle.executor.specs.inside.Lead.{leads_off, leads_off_groups}
 use Rattle.executor.specs.inside.Named.{HasNamed}
+use Rattle.candidates.specs.Tallies.{Adds}
 use Rattle.candidates.specs.Within.{may_be}
 use Rattle.executor.proofs.PartWork.{concepts_read, groups_read}
 use Rattle.executor.proofs.WorkLemmas.{AllSoFar, SomeSoFar}
+use Rattle.set_algebra.proofs.plan.ConceptPlan.TheLaws as concept_plan
+use Rattle.set_algebra.proofs.plan.UnitPlan.TheLaws as unit_plan
+use Rattle.set_algebra.proofs.plan.ValueTest.TheLaws as value_test
+use Rattle.set_algebra.specs.declared.plan.ConceptPlan.TheVariants.{the_data as concept_data}
+use Rattle.set_algebra.specs.declared.plan.UnitPlan.TheVariants.{the_data as unit_data}
+use denote.Param.Weighed.{most}
 use Rattle.executor.proofs.+execute.Given as goal
 
 -- what is left of the part executed first, and of those so far
@@ -40,6 +47,7 @@ invariant-joined_plans::in_some-loop-part g l = record {
       (λ n. may_be g.S.ConceptSet.items_of l.candidates n
       && list_any (λ part. means l.snapshot.release (plan_of part) (get_or l.snapshot.release.concepts n 0)) (take l.part-index l.parts));
   bound : g.S.ConceptSet.bound_of l.found ≡ length l.snapshot.release.concepts;
+  adds : Adds (g.S.ConceptSet.items_of l.found) l.fn.tally l.tally;
   work : SomeSoFar ConceptPlan of_concepts (concept_sum (floor_number l.indexes)) (concept_sum (own_number l.indexes))
       (λ place. place * total (sizes l.indexes l.choices (plans_of l.parts))) l.choices l.parts l.part-index
       l.fn.visits.count l.visits.count l.rest;
@@ -86,3 +94,80 @@ invariant-dotted_plans::led_along-loop-name g l = record {
       l.fn.visits.count l.visits.count l.rest;
   known : IfSome l.known (λ known. HasNamed l.snapshot.release (plan_of known.0.now) (g.S.ConceptSet.items_of known.1) (g.S.ConceptSet.bound_of known.1));
 }
+
+-- ---- what gets less from call to call: the depth of what a function goes down, of two parts that of the deeper, and of two functions for
+-- one plan the first is ranked above the second
+abbrev deepest : List ConceptPlan → ℕ
+deepest parts = most {X = concept_data} (λ x. concept_plan.the_size x) parts
+
+abbrev deepest_units : List UnitPlan → ℕ
+deepest_units parts = most {X = unit_data} (λ x. unit_plan.the_size x) parts
+
+abbrev pub decreases-plans::execute_node : goal.decreases-plans::execute_node
+decreases-plans::execute_node g l = 6 * (concept_plan.the_size l.plan.now) + 0
+
+abbrev pub decreases-plans::execute_tallied : goal.decreases-plans::execute_tallied
+decreases-plans::execute_tallied g l = 6 * (concept_plan.the_size l.plan.now) + 1
+
+abbrev pub decreases-plans::execute_within : goal.decreases-plans::execute_within
+decreases-plans::execute_within g l = 6 * (concept_plan.the_size l.plan.now) + 2
+
+abbrev pub decreases-plans::members_of : goal.decreases-plans::members_of
+decreases-plans::members_of g l = 6 * (concept_plan.the_size l.operand.now) + 3
+
+abbrev pub decreases-plans::in_first_alone : goal.decreases-plans::in_first_alone
+decreases-plans::in_first_alone g l = 6 * (max (concept_plan.the_size l.first.now) (concept_plan.the_size l.second.now)) + 3
+
+abbrev pub decreases-plans::pairs_within : goal.decreases-plans::pairs_within
+decreases-plans::pairs_within g l = 6 * (max (concept_plan.the_size l.types.now) (value_test.the_size l.test.now)) + 3
+
+abbrev pub decreases-plans::units_within : goal.decreases-plans::units_within
+decreases-plans::units_within g l = 6 * (unit_plan.the_size l.units.now) + 2
+
+abbrev pub decreases-plans::tested_of : goal.decreases-plans::tested_of
+decreases-plans::tested_of g l = 6 * (value_test.the_size l.test.now) + 0
+
+abbrev pub decreases-joined_plans::in_all : goal.decreases-joined_plans::in_all
+decreases-joined_plans::in_all g l = 6 * (deepest l.parts.now) + 4
+
+abbrev pub decreases-joined_plans::led_by : goal.decreases-joined_plans::led_by
+decreases-joined_plans::led_by g l = 6 * (concept_plan.the_size l.plan.now) + 3
+
+abbrev pub decreases-joined_plans::in_some : goal.decreases-joined_plans::in_some
+decreases-joined_plans::in_some g l = 6 * (deepest l.parts.now) + 2
+
+abbrev pub decreases-walk_plans::walk_from : goal.decreases-walk_plans::walk_from
+decreases-walk_plans::walk_from g l = 6 * (concept_plan.the_size l.operand.now) + 4
+
+abbrev pub decreases-walk_plans::walk_to_few : goal.decreases-walk_plans::walk_to_few
+decreases-walk_plans::walk_to_few g l = 6 * (concept_plan.the_size l.operand.now) + 3
+
+abbrev pub decreases-dotted_plans::led_from : goal.decreases-dotted_plans::led_from
+decreases-dotted_plans::led_from g l = 6 * (max (concept_plan.the_size l.start.now) (deepest l.names.now)) + 5
+
+abbrev pub decreases-dotted_plans::led_along : goal.decreases-dotted_plans::led_along
+decreases-dotted_plans::led_along g l = 6 * (deepest l.names.now) + 4
+
+abbrev pub decreases-dotted_plans::named_by : goal.decreases-dotted_plans::named_by
+decreases-dotted_plans::named_by g l = 6 * (concept_plan.the_size l.name.now) + 3
+
+abbrev pub decreases-unit_plans::execute_group_node : goal.decreases-unit_plans::execute_group_node
+decreases-unit_plans::execute_group_node g l = 6 * (unit_plan.the_size l.plan.now) + 0
+
+abbrev pub decreases-unit_plans::execute_groups : goal.decreases-unit_plans::execute_groups
+decreases-unit_plans::execute_groups g l = 6 * (unit_plan.the_size l.plan.now) + 1
+
+abbrev pub decreases-unit_plans::groups_in_first_alone : goal.decreases-unit_plans::groups_in_first_alone
+decreases-unit_plans::groups_in_first_alone g l = 6 * (max (unit_plan.the_size l.first.now) (unit_plan.the_size l.second.now)) + 2
+
+abbrev pub decreases-unit_plans::groups_with_pairs : goal.decreases-unit_plans::groups_with_pairs
+decreases-unit_plans::groups_with_pairs g l = 6 * (max (concept_plan.the_size l.types.now) (value_test.the_size l.test.now)) + 3
+
+abbrev pub decreases-unit_plans::groups_in_all : goal.decreases-unit_plans::groups_in_all
+decreases-unit_plans::groups_in_all g l = 6 * (deepest_units l.parts.now) + 3
+
+abbrev pub decreases-unit_plans::groups_led_by : goal.decreases-unit_plans::groups_led_by
+decreases-unit_plans::groups_led_by g l = 6 * (unit_plan.the_size l.plan.now) + 2
+
+abbrev pub decreases-unit_plans::groups_in_some : goal.decreases-unit_plans::groups_in_some
+decreases-unit_plans::groups_in_some g l = 6 * (deepest_units l.parts.now) + 2

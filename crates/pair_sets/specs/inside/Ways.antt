@@ -1,12 +1,19 @@
--- The ways in which a leaf is read, which all find the same.
-use Rattle.std.specs.Prelude.{ℕ, ◌≡◌, Bool, if◌then◌else◌, List, filter, length}
+-- The ways in which a leaf is read, which all find the same, and how many items are read in each.
+use Rattle.std.specs.Prelude.{ℕ, ◌≡◌, ◌+◌, ◌<◌, Bool, true, List, Option, None, Some, filter, length, sum_by}
 use Rattle.rf2_rows.specs.Release.{Value}
 use Rattle.constraint_tree.specs.Passing.{is_within}
 use Rattle.number_lists.specs.Rising.{IsRisingBelow}
-use Rattle.postings.specs.Indexed.{Indexed, rows_by_source, rows_by_value, types_of}
+use Rattle.postings.specs.Indexed.{Indexed, types_of}
+use Rattle.postings.specs.Stats.{type_row_count}
+use Rattle.candidates.specs.Counted.{full, full_sum}
 use Rattle.candidates.specs.Numbers.{is_one_of}
+use Rattle.candidates.specs.RowCounts.{extent_items, row_count_of}
+use Rattle.candidates.specs.declared.candidates.Extent.{Extent}
+use Rattle.pair_sets.specs.Room.{types_read}
 use Rattle.pair_sets.specs.Tested.{IsTestBelow, passes_of}
 use Rattle.pair_sets.specs.declared.tested.Tested.{Tested}
+use Rattle.pair_sets.specs.declared.tested.Tested.TheVariants as tests
+use Rattle.pair_sets.specs.declared.ways.PassingValues.{PassingValues}
 use Rattle.pair_sets.specs.declared.choice.ValuesWay.{ValuesWay}
 use Rattle.pair_sets.specs.declared.choice.ValuesWay.TheVariants as along
 use Rattle.pair_sets.specs.declared.ways.Way.{Way}
@@ -45,7 +52,44 @@ pub record IsWayFor {S : Type 0} (items_of : S → List ℕ) (bound_of : S → �
   pub types : HasTypes (types_of indexed.rows) one way
   pub passes : (value : Value) → passes_by items_of indexed.concepts way value ≡ passes_of items_of indexed.concepts test value
 
+-- values and their rows
+abbrev pub items_by_value : Indexed → Bool → List ℕ → ℕ
+items_by_value indexed back values = length values + sum_by (row_count_of indexed back) values
+
+-- what is read to find some types of rows, and their rows
+abbrev pub items_by_type : Indexed → List ℕ → List ℕ → ℕ
+items_by_type indexed types ids = types_read indexed types + sum_by (type_row_count indexed) ids
+
+-- how many items are read in a way
+abbrev pub way_items : {S : Type 0} → Indexed → Bool → List ℕ → Option Extent → Way S → ℕ
+way_items indexed back types candidates (ways.ByCandidates test) = extent_items candidates
+way_items indexed back types candidates (ways.ByValue values) = items_by_value indexed back values.items
+way_items indexed back types candidates (ways.ByType ids test) = items_by_type indexed types ids.items
+way_items indexed back types candidates (ways.Scan test) = length indexed.rows
+
+-- the values that are looked up: where a test is of the concepts of a set these, and how many rows they have; else none
+abbrev pub AreLookedUp : {S : Type 0} → (S → List ℕ) → Indexed → Bool → Tested S → Option PassingValues → Type 0
+AreLookedUp items_of indexed back (tests.Within set) (Some values) =
+    (values.numbers.items ≡ items_of set) × (values.rows ≡ full_sum (row_count_of indexed back) (items_of set))
+AreLookedUp items_of indexed back (tests.Within set) None = ⊥
+AreLookedUp items_of indexed back (tests.Outside set) (Some values) = ⊥
+AreLookedUp items_of indexed back (tests.Outside set) None = Unit {0}
+AreLookedUp items_of indexed back (tests.Number compare number) (Some values) = ⊥
+AreLookedUp items_of indexed back (tests.Number compare number) None = Unit {0}
+
+-- values that pass and how many rows they have, together fewer than other rows
+pub record AreFewer (indexed : Indexed) (back : Bool) (passes : Value → Bool) (others : ℕ)
+    (values : PassingValues) : Type 0 where
+  pub pass : AreAllThatPass indexed.concepts passes values.numbers.items
+  pub counted : values.rows ≡ full_sum (row_count_of indexed back) values.numbers.items
+  pub fewer : full (length values.numbers.items + values.rows) < others
+
 -- the values of some sources are read by the rows of all of these, or by those of all types that are one of some
 abbrev pub IsValuesWay : List ℕ → List ℕ → (ℕ → Bool) → ValuesWay → Type 0
 IsValuesWay types sources one (along.BySource own) = own.items ≡ sources
 IsValuesWay types sources one (along.ByType ids) = ids.items ≡ filter one types
+
+-- how many items are read by either
+abbrev pub values_way_items : Indexed → List ℕ → ValuesWay → ℕ
+values_way_items indexed types (along.BySource own) = items_by_value indexed true own.items
+values_way_items indexed types (along.ByType ids) = items_by_type indexed types ids.items

@@ -11,15 +11,9 @@ use Rattle.walks.specs.declared.family.Reach.{Reach}
 use Rattle.walks.specs.declared.family.Reach.TheVariants.{Listed, ListedOrSelf, Apart}
 use Rattle.walks.specs.declared.family.Step.{Step}
 use Rattle.walks.specs.Asked.{asked_lists}
+use Rattle.walks.specs.Families.{family_of, lists_of}
 use Rattle.walks.specs.Led.{apart, joined, led_to}
 use Rattle.walks.specs.inside.Joined.{back_of, is_whole}
-
--- a family of lists of a hierarchy
-abbrev pub lists_of : Hierarchy → Family → List (List ℕ)
-lists_of hierarchy family.Ancestors = hierarchy.ancestors
-lists_of hierarchy family.Descendants = hierarchy.descendants
-lists_of hierarchy family.Parents = hierarchy.parents
-lists_of hierarchy family.Children = hierarchy.children
 
 -- whether an index has the list of a concept as words of bits too: lists of descendants that are wide
 abbrev pub HasWords : Hierarchy → Family → ℕ → Type 0
@@ -43,9 +37,10 @@ asked_by family Apart = family
 abbrev pub asked_of : Step → Family
 asked_of step = asked_by step.family step.reach
 
--- a step leads where an operator leads, and keeps some concepts apart by whole lists alone
+-- a step leads where an operator leads, along the operator's lists, and keeps some concepts apart by whole lists alone
 pub record IsStepFor (operator : Operator) (step : Step) : Type 0 where
   pub led : (hierarchy : Hierarchy) (count : ℕ) (concepts : List ℕ)
       → led_to hierarchy count operator concepts ≡ stepped (lists_of hierarchy step.family) count step.reach concepts
+  pub family : step.family ≡ family_of operator
   pub whole : step.reach ≡ Apart → is_whole step.family ≡ true
   pub asked : (hierarchy : Hierarchy) → lists_of hierarchy (asked_of step) ≡ asked_lists hierarchy operator

@@ -9,3 +9,7 @@ extent_among-requires g c =
     (subst (λ (bound : ℕ). All (λ concept. concept < bound) items)
     (c.requires.bound ∙ ap (λ (ids : List ℕ). length ids) (sym c.requires.index.concepts))
     (all_below (g.S.ConceptSet.bound_of c.args.concepts.now) items (g.met.S.ConceptSet.rising c.args.concepts.now)))
+
+pub returns-then-are_many_beside : goal.returns-then-are_many_beside
+returns-then-are_many_beside g c =
+    c.uncounted.ensures.concepts c.args.indexes.now (g.S.ConceptSet.items_of c.args.concepts.now) (sym c.count-count.ensures)

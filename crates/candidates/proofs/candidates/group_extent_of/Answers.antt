@@ -13,3 +13,7 @@ group_extent_among-requires g c =
     ∙ ap (λ (groups : List ConceptGroup). length groups)
     (sym (groups_are c.args.indexes.now c.args.snapshot.now.release c.requires.index c.concept_count.ensures.rising)))
     (all_below (g.S.ConceptSet.bound_of c.args.groups.now) items (g.met.S.ConceptSet.rising c.args.groups.now)))
+
+pub returns-then-are_many_beside : goal.returns-then-are_many_beside
+returns-then-are_many_beside g c =
+    c.uncounted.ensures.groups c.args.indexes.now (g.S.ConceptSet.items_of c.args.groups.now) (sym c.count-count.ensures)

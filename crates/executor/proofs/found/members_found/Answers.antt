@@ -1,26 +1,35 @@
-use Rattle.std.proofs.Common.{ℕ, List, ◌∙◌, length, sym, ap}
-use Rattle.std.specs.Prelude.{filter}
-use Rattle.walks.specs.Components.{components_of}
-use Rattle.candidates.specs.Within.{may_be}
-use Rattle.walks.proofs.MemberLemmas.{numbers_below}
+use Rattle.std.proofs.Common.{ℕ, ◌≤◌, ◌∙◌, subst, sym, arith}
+use Rattle.number_lists.specs.Rising.{IsRisingBelow}
+use Rattle.set_algebra.specs.Plan.{plan_of}
+use Rattle.plan_bounds.specs.Counts.{one_of}
+use Rattle.plan_bounds.specs.Sizes.{size}
+use Rattle.executor.proofs.CountingLemmas.{members_more}
+use Rattle.executor.proofs.MemberWork.{members_read}
 use Rattle.executor.proofs.found.members_found.Goals as goal
 
--- the reference sets are concepts
+-- what is read is within the bound of the node, and so is its floor
+pub returns-in_err-found-clause-counted : goal.returns-in_err-found-clause-counted
+returns-in_err-found-clause-counted g c =
+    let indexed = c.args.indexes.now in
+    let items = g.S.ConceptSet.items_of c.args.from.now in
+    let plan = plan_of c.args.operand.now in
+    let read =
+    members_read c.args.snapshot.now.release indexed c.requires.index c.concept_count.ensures.rising c.stats.ensures.members items
+    (subst (λ (bound : ℕ). IsRisingBelow bound items) c.requires.bound (g.met.S.ConceptSet.rising c.args.from.now))
+    (size indexed c.args._choices.now plan) c.requires.size plan c.requires.from in
+    record { grows = omega arith; within = omega (arith, read) }
 
-pub members_way-way-requires : goal.members_way-way-requires
-members_way-way-requires g c =
-    numbers_below (g.met.S.ConceptSet.rising c.args.from.now) (c.requires.bound ∙ ap (λ (ids : List ℕ). length ids) (sym c.requires.index.concepts))
-    (c.as_slice-refsets.ensures.value ∙ c.in_ok-numbers.ensures)
-
-pub members_within-requires-clause-below : goal.members_within-requires-clause-below
-members_within-requires-clause-below g c =
-    numbers_below (g.met.S.ConceptSet.rising c.args.from.now) (c.requires.bound ∙ ap (λ (ids : List ℕ). length ids) (sym c.requires.index.concepts))
-    (c.as_slice-refsets.ensures.value ∙ c.in_ok-numbers.ensures)
-
--- they are those of the set
-
-pub returns-clause-items : goal.returns-clause-items
-returns-clause-items g c =
-    c.in_ok-found.ensures.items
-    ∙ ap (λ (refsets : List ℕ). filter (may_be g.S.ConceptSet.items_of c.args.candidates.now) (components_of c.args.snapshot.now.release refsets))
-    (c.as_slice-refsets.ensures.value ∙ c.in_ok-numbers.ensures)
+pub returns-clause-counted : goal.returns-clause-counted
+returns-clause-counted g c =
+    let indexed = c.args.indexes.now in
+    let items = g.S.ConceptSet.items_of c.args.from.now in
+    let plan = plan_of c.args.operand.now in
+    let most : ℕ = size indexed c.args._choices.now plan in
+    let read =
+    members_read c.args.snapshot.now.release indexed c.requires.index c.concept_count.ensures.rising c.stats.ensures.members items
+    (subst (λ (bound : ℕ). IsRisingBelow bound items) c.requires.bound (g.met.S.ConceptSet.rising c.args.from.now))
+    most c.requires.size plan c.requires.from in
+    let more =
+    members_more indexed (one_of plan) c.from.result most
+    (subst (λ (count : ℕ). count ≤ most) (sym (c.from.ensures ∙ c.count.ensures)) c.requires.size) in
+    record { grows = omega arith; within = omega (arith, read, more) }

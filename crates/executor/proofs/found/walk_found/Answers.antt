@@ -1,17 +1,36 @@
-use Rattle.std.proofs.Common.{ℕ, List, ◌∙◌, sym, ap}
-use Rattle.std.specs.Prelude.{filter}
-use Rattle.ancestor_index.specs.HierarchyLists.{Hierarchy}
-use Rattle.walks.specs.Led.{led_to}
-use Rattle.candidates.specs.Within.{may_be}
-use Rattle.candidates.specs.declared.candidates.Candidates.{Candidates}
+use Rattle.std.proofs.Common.{ℕ, ◌≤◌, ◌∙◌, subst, sym, arith}
+use Rattle.number_lists.specs.Rising.{IsRisingBelow}
+use Rattle.set_algebra.specs.Plan.{plan_of}
+use Rattle.plan_bounds.specs.Bounds.{walk_bound}
+use Rattle.plan_bounds.specs.Counts.{one_of}
+use Rattle.plan_bounds.specs.Sizes.{size}
+use Rattle.executor.proofs.CountingLemmas.{walk_more}
+use Rattle.executor.proofs.WalkWork.{walk_read}
 use Rattle.executor.proofs.found.walk_found.Goals as goal
 
--- where the candidates are asked one by one
+-- what is read is within the bound of the node, and so is its floor
+pub returns-in_err-found-clause-counted : goal.returns-in_err-found-clause-counted
+returns-in_err-found-clause-counted g c =
+    let indexed = c.args.indexes.now in
+    let items = g.S.ConceptSet.items_of c.args.from.now in
+    let plan = plan_of c.args.operand.now in
+    let read =
+    walk_read c.args.snapshot.now.release indexed c.requires.index c.concept_count.ensures.rising items
+    (subst (λ (bound : ℕ). IsRisingBelow bound items) c.requires.bound (g.met.S.ConceptSet.rising c.args.from.now))
+    c.args.operator (size indexed c.args._choices.now plan) c.requires.size plan c.requires.from in
+    record { grows = omega arith; within = omega (arith, read) }
 
-pub returns-in-Some-clause-items : goal.returns-in-Some-clause-items
-returns-in-Some-clause-items g c =
-    let led : Hierarchy → List ℕ = λ hierarchy.
-    led_to hierarchy (g.S.ConceptSet.bound_of c.args.from.now) c.args.operator (g.S.ConceptSet.items_of c.args.from.now) in
-    c.in_ok-found.ensures.items
-    ∙ ap (λ (candidates : Candidates _). filter (may_be g.S.ConceptSet.items_of candidates) (led c.hierarchy-hierarchy.result.now)) (sym c.in-Within.is)
-    ∙ ap (λ (hierarchy : Hierarchy). filter (may_be g.S.ConceptSet.items_of c.args.candidates.now) (led hierarchy)) c.hierarchy-hierarchy.ensures
+pub returns-clause-counted : goal.returns-clause-counted
+returns-clause-counted g c =
+    let indexed = c.args.indexes.now in
+    let items = g.S.ConceptSet.items_of c.args.from.now in
+    let plan = plan_of c.args.operand.now in
+    let most : ℕ = size indexed c.args._choices.now plan in
+    let read =
+    walk_read c.args.snapshot.now.release indexed c.requires.index c.concept_count.ensures.rising items
+    (subst (λ (bound : ℕ). IsRisingBelow bound items) c.requires.bound (g.met.S.ConceptSet.rising c.args.from.now))
+    c.args.operator most c.requires.size plan c.requires.from in
+    let more =
+    walk_more indexed c.args.operator (one_of plan) c.from.result most
+    (subst (λ (count : ℕ). count ≤ most) (sym (c.from.ensures ∙ c.count.ensures)) c.requires.size) in
+    record { grows = omega arith; within = omega (arith, read, more) }

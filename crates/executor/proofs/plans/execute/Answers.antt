@@ -9,7 +9,7 @@ returns-in_err-found-clause-within g c =
     let physical = c.args.physical.now in
     let same : bound indexed physical.choices (plan_of physical.plan) ≡ bound indexed c.choices-choices.result.now (plan_of c.plan-plan.result.now) =
     (λ i. bound indexed (sym c.choices-choices.ensures.choices i) (plan_of (sym c.plan-plan.ensures i))) in
-    omega (arith, c.execute_within.ensures.within, same)
+    omega (arith, c.execute_within.ensures.counted.within, same)
 
 pub returns-clause-within : goal.returns-clause-within
 returns-clause-within g c =
@@ -17,4 +17,4 @@ returns-clause-within g c =
     let physical = c.args.physical.now in
     let same : bound indexed physical.choices (plan_of physical.plan) ≡ bound indexed c.choices-choices.result.now (plan_of c.plan-plan.result.now) =
     (λ i. bound indexed (sym c.choices-choices.ensures.choices i) (plan_of (sym c.plan-plan.ensures i))) in
-    omega (arith, c.execute_within.ensures.within, same)
+    omega (arith, c.execute_within.ensures.counted.within, same)

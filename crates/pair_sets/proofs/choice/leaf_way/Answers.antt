@@ -1,12 +1,36 @@
+use Rattle.std.proofs.Common.{arith}
 use Rattle.std.proofs.lemmas.Result.{IfOk-weaker}
 use Rattle.candidates.specs.Numbers.{is_one_of}
+use Rattle.pair_sets.proofs.RoomLemmas.{type_rows_few}
 use Rattle.pair_sets.proofs.choice.leaf_way.Goals as goal
 
 -- no types are read in these ways, so they are for any
-pub returns-in-ByValue-2 : goal.returns-in-ByValue-2
-returns-in-ByValue-2 g c =
-    IfOk-weaker c.by_value.result _ _ (λ made ways. ways (is_one_of c.args.indexes.now.concepts (g.S.ConceptSet.items_of c.args.types.now))) c.by_value.ensures
+pub returns-in-ByValue-2-clause-way : goal.returns-in-ByValue-2-clause-way
+returns-in-ByValue-2-clause-way g c =
+    let types = g.S.ConceptSet.items_of c.args.types.now in
+    IfOk-weaker c.by_value.result _ _ (λ made ways. ways (is_one_of c.args.indexes.now.concepts types)) c.by_value.ensures.way
 
-pub returns-in-Scan : goal.returns-in-Scan
-returns-in-Scan g c =
-    IfOk-weaker c.by_scan.result _ _ (λ made ways. ways (is_one_of c.args.indexes.now.concepts (g.S.ConceptSet.items_of c.args.types.now))) c.by_scan.ensures
+pub returns-in-ByValue-2-clause-reads : goal.returns-in-ByValue-2-clause-reads
+returns-in-ByValue-2-clause-reads g c =
+    let types = g.S.ConceptSet.items_of c.args.types.now in
+    IfOk-weaker c.by_value.result _ _ (λ made reads. rw c.extent_for-extent.ensures at (reads types)) c.by_value.ensures.reads
+
+pub returns-in-Scan-clause-way : goal.returns-in-Scan-clause-way
+returns-in-Scan-clause-way g c =
+    let types = g.S.ConceptSet.items_of c.args.types.now in
+    IfOk-weaker c.by_scan.result _ _ (λ made ways. ways (is_one_of c.args.indexes.now.concepts types)) c.by_scan.ensures.way
+
+pub returns-in-Scan-clause-reads : goal.returns-in-Scan-clause-reads
+returns-in-Scan-clause-reads g c =
+    let types = g.S.ConceptSet.items_of c.args.types.now in
+    IfOk-weaker c.by_scan.result _ _ (λ made reads. rw c.extent_for-extent.ensures at (reads types)) c.by_scan.ensures.reads
+
+-- where most values pass there is room for all rows, so for those of the types
+pub by_type-requires-clause-room : goal.by_type-requires-clause-room
+by_type-requires-clause-room g c =
+    let indexed = c.args.indexes.now in
+    omega (
+      arith,
+      c.are_most.ensures c.if-are_most.true,
+      type_rows_few indexed (is_one_of indexed.concepts (g.S.ConceptSet.items_of c.args.types.now)),
+    )

@@ -1,20 +1,25 @@
-use Rattle.std.proofs.Common.{ℕ, Bool, ◌∙◌}
+use Rattle.std.proofs.Common.{ℕ, Bool, ◌∙◌, arith}
 use Rattle.set_algebra.specs.Meaning.{has_pairs}
 use Rattle.candidates.specs.Numbers.{is_one_of}
 use Rattle.candidates.specs.Within.{groups_within, may_be}
 use Rattle.pair_sets.proofs.leaves.groups_with_pairs_within.Goals as goal
 
 -- the values that pass in the way that is taken are those that pass the test
-pub returns-clause-items : goal.returns-clause-items
-returns-clause-items g c =
+pub returns-clause-found : goal.returns-clause-found
+returns-clause-found g c =
     let release = c.args.snapshot.now.release in
     let one : ℕ → Bool = is_one_of c.args.indexes.now.concepts (g.S.ConceptSet.items_of c.args.types.now) in
-    c.in_ok-found.ensures.items
-    ∙ (λ i. groups_within release (may_be g.S.ConceptSet.items_of c.args.candidates.now)
-    (has_pairs c.args.count one (λ value. c.in_ok-way.ensures.passes value i)))
+    record {
+      items =
+          c.in_ok-found.ensures.items
+          ∙ (λ i. groups_within release (may_be g.S.ConceptSet.items_of c.args.candidates.now)
+          (has_pairs c.args.count one (λ value. c.in_ok-way.ensures.way.passes value i)));
+      bound = c.in_ok-found.ensures.bound;
+      floor = omega arith;
+    }
 
 pub groups_with_pairs_by-requires-clause-way : goal.groups_with_pairs_by-requires-clause-way
-groups_with_pairs_by-requires-clause-way g c = c.in_ok-way.ensures.below
+groups_with_pairs_by-requires-clause-way g c = c.in_ok-way.ensures.way.below
 
 pub groups_with_pairs_by-requires-clause-ids : goal.groups_with_pairs_by-requires-clause-ids
-groups_with_pairs_by-requires-clause-ids g c = c.in_ok-way.ensures.types
+groups_with_pairs_by-requires-clause-ids g c = c.in_ok-way.ensures.way.types

@@ -1,20 +1,26 @@
-use Rattle.std.proofs.Common.{ℕ, Bool, ◌∙◌}
+use Rattle.std.proofs.Common.{ℕ, Bool, ◌∙◌, arith}
 use Rattle.set_algebra.specs.Meaning.{has_pairs, pairs_of}
 use Rattle.candidates.specs.Numbers.{is_one_of}
 use Rattle.candidates.specs.Within.{may_be, numbers_within}
 use Rattle.pair_sets.proofs.leaves.with_pairs_within.Goals as goal
 
 -- the values that pass in the way that is taken are those that pass the test
-pub returns-clause-items : goal.returns-clause-items
-returns-clause-items g c =
+pub returns-clause-found : goal.returns-clause-found
+returns-clause-found g c =
     let release = c.args.snapshot.now.release in
     let one : ℕ → Bool = is_one_of c.args.indexes.now.concepts (g.S.ConceptSet.items_of c.args.types.now) in
-    c.in_ok-found.ensures.items
-    ∙ (λ i. numbers_within release (may_be g.S.ConceptSet.items_of c.args.candidates.now)
-    (λ concept. has_pairs c.args.count one (λ value. c.in_ok-way.ensures.passes value i) (pairs_of release c.args.back concept)))
+    record {
+      items =
+          c.in_ok-found.ensures.items
+          ∙ (λ i. numbers_within release (may_be g.S.ConceptSet.items_of c.args.candidates.now)
+          (λ concept. has_pairs c.args.count one (λ value. c.in_ok-way.ensures.way.passes value i)
+          (pairs_of release c.args.back concept)));
+      bound = c.in_ok-found.ensures.bound;
+      floor = omega arith;
+    }
 
 pub with_pairs_by-requires-clause-way : goal.with_pairs_by-requires-clause-way
-with_pairs_by-requires-clause-way g c = c.in_ok-way.ensures.below
+with_pairs_by-requires-clause-way g c = c.in_ok-way.ensures.way.below
 
 pub with_pairs_by-requires-clause-ids : goal.with_pairs_by-requires-clause-ids
-with_pairs_by-requires-clause-ids g c = c.in_ok-way.ensures.types
+with_pairs_by-requires-clause-ids g c = c.in_ok-way.ensures.way.types

@@ -21,8 +21,8 @@ pub marked_ids-requires : goal.marked_ids-requires
 marked_ids-requires g c =
     omega (arith, c.row_count.ensures.few, few_types c.args.indexes.now.rows, ap (λ (ids : List ℕ). length ids) c.types-types.ensures)
 
-pub returns : goal.returns
-returns g c =
+pub returns-clause-ids : goal.returns-clause-ids
+returns-clause-ids g c =
     let types = types_of c.args.indexes.now.rows in
     let one : ℕ → Bool = is_one_of c.args.indexes.now.concepts (g.S.ConceptSet.items_of c.args.set.now) in
     let told : (place : ℕ) → place < length types → is_set c.in_ok-places.places.items place ≡ one (get_or types place 0) =

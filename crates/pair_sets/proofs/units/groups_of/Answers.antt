@@ -1,11 +1,13 @@
-use Rattle.std.proofs.Common.{ℕ, List, ◌<◌, ◌∙◌, All, length, sym, ap, subst}
+use Rattle.std.proofs.Common.{ℕ, List, ◌<◌, ◌∙◌, All, length, sym, ap, subst, arith}
+use Rattle.std.specs.List.{sum_by}
 use Rattle.std.proofs.lemmas.Result.{IfOk-weaker}
 use Rattle.number_lists.specs.Members.{has}
 use Rattle.number_lists.specs.Rising.{numbers_where}
 use Rattle.postings.specs.Groups.{ConceptGroup, groups_in}
 use Rattle.number_lists.proofs.RisingLemmas.{all_below}
 use Rattle.candidates.proofs.GroupLemmas.{groups_are}
-use Rattle.pair_sets.proofs.OwnedLemmas.{owned}
+use Rattle.candidates.specs.Extents.{group_count_of}
+use Rattle.pair_sets.proofs.OwnedLemmas.{listed_few, owned}
 use Rattle.pair_sets.proofs.units.groups_of.Goals as goal
 
 pub numbers_of_groups-requires : goal.numbers_of_groups-requires
@@ -38,3 +40,17 @@ returns-clause-bound g c =
     ∙ ap (λ (groups : List ConceptGroup). length groups)
     (groups_are c.args.indexes.now c.args.snapshot.now.release c.requires.index c.concept_count.ensures.rising))
     c.from_numbers.ensures.bound
+
+pub returns-clause-few : goal.returns-clause-few
+returns-clause-few g c =
+    IfOk-weaker c.from_numbers.result _ _
+    (λ groups listed.
+    omega (
+      arith,
+      ap (λ (xs : List ℕ). length xs) listed,
+      listed_few c.group_count.result c.as_slice-2.result.now,
+      ap (λ (xs : List ℕ). length xs) c.as_slice-2.ensures.value,
+      c.in_ok-numbers.ensures.few,
+      ap (sum_by (group_count_of c.args.indexes.now)) (c.as_slice.ensures.value ∙ c.in_ok-own.ensures),
+    ))
+    c.from_numbers.ensures.items

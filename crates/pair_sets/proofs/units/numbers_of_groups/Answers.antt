@@ -1,9 +1,12 @@
-use Rattle.std.proofs.Common.{ℕ, List, ◌≡◌, ◌≤◌, ◌<◌, ◌+◌, ◌-◌, ◌∙◌, ◌++◌, All, length, get_or, inl, inr, sym, ap, subst, arith}
+use Rattle.std.proofs.Common.{ℕ, List, ◌≡◌, ◌≤◌, ◌<◌, ◌+◌, ◌-◌, ◌∙◌, ◌++◌, All, length, length-append, get_or, inl, inr, sym, ap, subst, arith}
 use Rattle.std.specs.List.{range_with_len}
 use Rattle.std.proofs.lemmas.List.{take_all}
+use Rattle.std.proofs.lemmas.List.FromFn.{length-range_with_len}
+use Rattle.std.proofs.lemmas.List.Sums.{sum_by_more}
 use Rattle.std.proofs.lemmas.List.Elements.{All-append}
 use Rattle.number_lists.specs.Members.{has}
 use Rattle.postings.specs.Groups.{groups_before, groups_in}
+use Rattle.candidates.specs.Extents.{group_count_of}
 use Rattle.pair_sets.proofs.OwnedLemmas.{before_all, has_later, has_sooner, has_range, range_below, taken_more}
 use Rattle.pair_sets.proofs.units.numbers_of_groups.Goals as goal
 
@@ -20,6 +23,16 @@ loop-concept-preserved c =
           (All-append (λ group. group < length (groups_in indexed)) c.loop-concept.found.items more c.loop-concept.invariant.within
           (range_below units.start units.end (length (groups_in indexed))
           (subst (λ (n : ℕ). n ≤ length (groups_in indexed)) (sym c.units_of-units.ensures.end) (before_all indexed (get_or concepts k 0 + 1)))));
+      few = omega (
+        arith,
+        ap (λ (numbers : List ℕ). length numbers) pushed,
+        length-append c.loop-concept.found.items more,
+        length-range_with_len units.start (units.end - units.start),
+        c.loop-concept.invariant.few,
+        sum_by_more (group_count_of indexed) concepts k 0 c.loop-concept-test.true,
+        c.units_of-units.ensures.start,
+        c.units_of-units.ensures.end,
+      );
       all = λ concept group there from below.
           ap (λ (xs : List ℕ). has xs group) pushed
           ∙ elim (taken_more concepts k concept c.loop-concept-test.true there) [

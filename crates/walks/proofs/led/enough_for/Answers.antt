@@ -6,7 +6,7 @@ use Rattle.number_lists.specs.KeyedLists.{list_of}
 use Rattle.number_lists.specs.Members.{has}
 use Rattle.number_lists.specs.Rising.{listed_numbers}
 use Rattle.walks.specs.Asked.{AreEnough}
-use Rattle.walks.specs.inside.Steps.{lists_of}
+use Rattle.walks.specs.Families.{lists_of}
 use Rattle.number_lists.proofs.RisingLemmas.{all_below}
 use Rattle.walks.proofs.AskedLemmas.{with_lists_below, with_lists_enough}
 use Rattle.walks.proofs.led.enough_for.Goals as goal
@@ -26,7 +26,7 @@ from_numbers-requires g c =
     let numbers : c.as_slice-2.result.now ≡ flat_map each wanted = c.as_slice-2.ensures.value ∙ c.in_ok-numbers.ensures ∙ ap (flat_map each) own in
     subst (λ (bound : ℕ). All (λ n. n < bound) c.as_slice-2.result.now) (sym c.bound-2.ensures)
     (subst (All (λ n. n < count)) (sym numbers)
-    (with_lists_below count c.args.index.now c.requires c.asked-family.result wanted
+    (with_lists_below count c.args.index.now c.requires.over c.asked-family.result wanted
     (all_below count wanted (g.met.S.ConceptSet.rising c.args.wanted.now))))
 
 pub returns-clause-enough : goal.returns-clause-enough
@@ -44,5 +44,5 @@ returns-clause-enough g c =
     (ap (lists_of hierarchy) c.asked-family.ensures ∙ c.of.ensures.asked hierarchy)
     (subst (λ (items : List ℕ). AreEnough (lists_of hierarchy family) (has wanted) (has items))
     (sym (is ∙ (λ i. listed_numbers (c.bound-2.ensures i) (numbers i))))
-    (with_lists_enough count hierarchy c.requires family wanted (all_below count wanted (g.met.S.ConceptSet.rising c.args.wanted.now)))))
+    (with_lists_enough count hierarchy c.requires.over family wanted (all_below count wanted (g.met.S.ConceptSet.rising c.args.wanted.now)))))
     c.from_numbers.ensures.items

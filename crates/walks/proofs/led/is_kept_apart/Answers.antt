@@ -2,7 +2,7 @@ use Rattle.std.proofs.Common.{◌≡◌, ◌∙◌, ◌&&◌, true, false, not, 
 use Rattle.std.specs.List.{list_any}
 use Rattle.number_lists.specs.KeyedLists.{list_of}
 use Rattle.number_lists.specs.Members.{has}
-use Rattle.walks.specs.inside.Steps.{lists_of}
+use Rattle.walks.specs.Families.{lists_of}
 use Rattle.walks.proofs.JoinedLemmas.{over_length}
 use Rattle.walks.proofs.LedLemmas.{asked_apart}
 use Rattle.walks.proofs.led.is_kept_apart.Goals as goal

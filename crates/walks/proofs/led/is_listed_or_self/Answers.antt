@@ -1,7 +1,7 @@
 use Rattle.std.proofs.Common.{◌≡◌, ◌∙◌, ◌||◌, true, false, sym}
 use Rattle.number_lists.specs.Members.{has}
 use Rattle.walks.specs.Led.{joined}
-use Rattle.walks.specs.inside.Steps.{lists_of}
+use Rattle.walks.specs.Families.{lists_of}
 use Rattle.walks.proofs.LedLemmas.{asked_or_self}
 use Rattle.walks.proofs.led.is_listed_or_self.Goals as goal
 

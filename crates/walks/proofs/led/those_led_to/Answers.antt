@@ -3,7 +3,8 @@ use Rattle.std.specs.Prelude.{filter}
 use Rattle.std.proofs.lemmas.List.{take_all}
 use Rattle.number_lists.specs.Members.{has}
 use Rattle.idset.proofs.Places.{filter_step}
-use Rattle.walks.specs.inside.Steps.{lists_of, stepped}
+use Rattle.walks.specs.inside.Steps.{stepped}
+use Rattle.walks.specs.Families.{lists_of}
 use Rattle.walks.proofs.led.those_led_to.Goals as goal
 use Rattle.walks.proofs.led.those_led_to.Goals.{then-is_led_to+in_ok-push, else-is_led_to}
 

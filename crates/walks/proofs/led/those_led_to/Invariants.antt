@@ -1,7 +1,8 @@
 use Rattle.std.proofs.Common.{◌≡◌, take}
 use Rattle.std.specs.Prelude.{filter}
 use Rattle.number_lists.specs.Members.{has}
-use Rattle.walks.specs.inside.Steps.{lists_of, stepped}
+use Rattle.walks.specs.inside.Steps.{stepped}
+use Rattle.walks.specs.Families.{lists_of}
 use Rattle.walks.proofs.led.those_led_to.Given as goal
 
 abbrev pub invariant-loop-concept : goal.invariant-loop-concept

@@ -1,7 +1,7 @@
 use Rattle.std.proofs.Common.{◌≡◌, ◌∷◌, take}
 use Rattle.std.specs.List.{flat_map}
 use Rattle.number_lists.specs.KeyedLists.{list_of}
-use Rattle.walks.specs.inside.Steps.{lists_of}
+use Rattle.walks.specs.Families.{lists_of}
 use Rattle.walks.proofs.led.with_lists.Given as goal
 
 -- the concepts so far, each with its list behind it

@@ -5,7 +5,7 @@ use Rattle.idset.specs.Sets.{all_items}
 use Rattle.number_lists.specs.Members.{has}
 use Rattle.idset.specs.Words.{is_set}
 use Rattle.walks.specs.inside.Joined.{AreJoined}
-use Rattle.walks.specs.inside.Steps.{lists_of}
+use Rattle.walks.specs.Families.{lists_of}
 use Rattle.walks.proofs.JoinedLemmas.{join_list, over_length, over_rising}
 use Rattle.walks.proofs.reached.near_of_all.Goals as goal
 

@@ -6,7 +6,7 @@ use Rattle.idset.specs.Sets.{all_items}
 use Rattle.number_lists.specs.Members.{has}
 use Rattle.idset.specs.Words.{is_set}
 use Rattle.walks.specs.inside.Joined.{AreJoined, near_of, turn_of}
-use Rattle.walks.specs.inside.Steps.{lists_of}
+use Rattle.walks.specs.Families.{lists_of}
 use Rattle.walks.specs.declared.family.Family.{Family}
 use Rattle.number_lists.proofs.RisingLemmas.{all_below}
 use Rattle.walks.proofs.ReachedLemmas.{IsPassed, all_among, near_rises, near_there, passed_all, passed_first, passed_on, passed_over, turn_within}

@@ -2,7 +2,7 @@ use Rattle.std.proofs.Common.{◌≡◌, length, get_or}
 use Rattle.number_lists.specs.Rising.{numbers_where}
 use Rattle.idset.specs.Words.{is_set}
 use Rattle.walks.specs.inside.Joined.{near_of, turn_of}
-use Rattle.walks.specs.inside.Steps.{lists_of}
+use Rattle.walks.specs.Families.{lists_of}
 use Rattle.walks.proofs.ReachedLemmas.{IsPassed}
 use Rattle.walks.proofs.reached.reached.Given as goal
 

@@ -3,7 +3,7 @@ use Rattle.std.proofs.lemmas.Result.{on_ok_weaker}
 use Rattle.number_lists.specs.Rising.{IsRisingBelow}
 use Rattle.idset.specs.Words.{AreWordsBelow}
 use Rattle.number_lists.specs.KeyedLists.{list_of}
-use Rattle.walks.specs.inside.Steps.{lists_of}
+use Rattle.walks.specs.Families.{lists_of}
 use Rattle.walks.proofs.JoinedLemmas.{join_list, join_skipped, over_length, over_rising, words_list}
 use Rattle.walks.proofs.walks.add_list.Goals as goal
 

@@ -4,7 +4,7 @@ use Rattle.std.proofs.lemmas.List.{take_all}
 use Rattle.number_lists.specs.KeyedLists.{list_of}
 use Rattle.walks.specs.inside.Joined.{AreJoined, is_long, with_length}
 use Rattle.walks.specs.Led.{IsOver}
-use Rattle.walks.specs.inside.Steps.{lists_of}
+use Rattle.walks.specs.Families.{lists_of}
 use Rattle.walks.proofs.JoinedLemmas.{over_length, with_length_more, with_length_same}
 use Rattle.walks.proofs.walks.add_lists.Goals as goal
 use Rattle.walks.proofs.walks.add_lists.Goals.{then-is_long-long+else-not-may_be_read+in_ok-add_list, else-is_long-long}

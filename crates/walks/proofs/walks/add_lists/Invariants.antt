@@ -1,6 +1,6 @@
 use Rattle.std.proofs.Common.{ℕ, List, ◌≡◌, ◌++◌, take}
 use Rattle.walks.specs.inside.Joined.{AreJoined, with_length}
-use Rattle.walks.specs.inside.Steps.{lists_of}
+use Rattle.walks.specs.Families.{lists_of}
 use Rattle.walks.proofs.walks.add_lists.Given as goal
 
 -- the lists of the concepts so far are there

@@ -3,7 +3,7 @@ use Rattle.number_lists.specs.Members.{has}
 use Rattle.number_lists.specs.Rising.{numbers_where}
 use Rattle.idset.specs.Words.{is_set}
 use Rattle.walks.specs.inside.Joined.{AreJoined, with_length}
-use Rattle.walks.specs.inside.Steps.{lists_of}
+use Rattle.walks.specs.Families.{lists_of}
 use Rattle.number_lists.proofs.RisingLemmas.{all_below}
 use Rattle.walks.proofs.JoinedLemmas.{both_joined}
 use Rattle.walks.proofs.walks.all_listed.Goals as goal
@@ -23,19 +23,19 @@ returns-clause-joined g c =
 
 pub add_lists-requires-clause-below : goal.add_lists-requires-clause-below
 add_lists-requires-clause-below g c =
-    subst (λ (count : ℕ). All (λ concept. concept < count) c.args.concepts.now) (sym (c.in_ok-found.ensures.bound ∙ c.bound-2.ensures))
+    subst (λ (count : ℕ). All (λ concept. concept < count) c.args.concepts.now) (sym (c.in_ok-found.ensures.bound ∙ c.bound-count.ensures))
     (subst (All (λ concept. concept < g.S.ConceptSet.bound_of c.args.operand.now)) (sym c.requires.concepts)
     (all_below (g.S.ConceptSet.bound_of c.args.operand.now) (g.S.ConceptSet.items_of c.args.operand.now) (g.met.S.ConceptSet.rising c.args.operand.now)))
 
 pub add_lists-requires-2-clause-below : goal.add_lists-requires-2-clause-below
 add_lists-requires-2-clause-below g c =
     subst (λ (count : ℕ). All (λ concept. concept < count) c.args.concepts.now)
-    (sym (c.add_lists.ensures.bound ∙ c.in_ok-found.ensures.bound ∙ c.bound-2.ensures))
+    (sym (c.add_lists.ensures.bound ∙ c.in_ok-found.ensures.bound ∙ c.bound-count.ensures))
     (subst (All (λ concept. concept < g.S.ConceptSet.bound_of c.args.operand.now)) (sym c.requires.concepts)
     (all_below (g.S.ConceptSet.bound_of c.args.operand.now) (g.S.ConceptSet.items_of c.args.operand.now) (g.met.S.ConceptSet.rising c.args.operand.now)))
 
 pub has_more_items-requires-clause-below : goal.has_more_items-requires-clause-below
 has_more_items-requires-clause-below g c =
-    subst (λ (count : ℕ). All (λ concept. concept < count) c.args.concepts.now) (sym c.bound.ensures)
+    subst (λ (count : ℕ). All (λ concept. concept < count) c.args.concepts.now) (sym c.bound-count.ensures)
     (subst (All (λ concept. concept < g.S.ConceptSet.bound_of c.args.operand.now)) (sym c.requires.concepts)
     (all_below (g.S.ConceptSet.bound_of c.args.operand.now) (g.S.ConceptSet.items_of c.args.operand.now) (g.met.S.ConceptSet.rising c.args.operand.now)))

@@ -6,7 +6,7 @@ use Rattle.number_lists.specs.Members.{has}
 use Rattle.number_lists.specs.Rising.{IsRisingBelow}
 use Rattle.number_lists.proofs.RisingLemmas.{rises_within-filter, all_below}
 use Rattle.number_lists.specs.KeyedLists.{list_of}
-use Rattle.walks.specs.inside.Steps.{lists_of}
+use Rattle.walks.specs.Families.{lists_of}
 use Rattle.walks.proofs.walks.apart.Goals as goal
 
 pub kept_apart-requires-clause-below : goal.kept_apart-requires-clause-below

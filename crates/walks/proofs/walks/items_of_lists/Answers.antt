@@ -1,4 +1,7 @@
-use Rattle.std.proofs.Common.{◌<◌, get_or, arith}
+use Rattle.std.proofs.Common.{ℕ, List, ◌<◌, ap, length, get_or, arith}
+use Rattle.std.proofs.lemmas.List.Sums.{sum_by_more_le}
+use Rattle.number_lists.specs.KeyedLists.{list_of}
+use Rattle.walks.specs.Families.{lists_of}
 use Rattle.walks.proofs.JoinedLemmas.{over_length}
 use Rattle.walks.proofs.walks.items_of_lists.Goals as goal
 
@@ -7,3 +10,14 @@ list-requires c =
     let below : get_or c.args.concepts.now c.loop-concept.concept-index 0 < c.args.count =
     c.requires.below c.loop-concept.concept-index 0 c.loop-concept-test.true in
     omega (arith, below, over_length c.args.count c.args.index.now c.requires.over c.args.family)
+
+pub returns-then-items-most-clause-few : goal.returns-then-items-most-clause-few
+returns-then-items-most-clause-few c =
+    let lists = lists_of c.args.index.now c.args.family in
+    omega (
+      arith,
+      c.loop-concept.invariant,
+      c.saturating_add-items.ensures,
+      ap (λ (items : List ℕ). length items) c.list.ensures,
+      sum_by_more_le (λ concept. length (list_of lists concept)) c.args.concepts.now c.loop-concept.concept-index 0 c.loop-concept-test.true,
+    )

@@ -8,7 +8,7 @@ use Rattle.number_lists.specs.Members.{has}
 use Rattle.number_lists.proofs.BlockLemmas.{filter-twice, filter-within}
 use Rattle.walks.specs.inside.Joined.{near_of}
 use Rattle.walks.specs.Led.{IsOver}
-use Rattle.walks.specs.inside.Steps.{lists_of}
+use Rattle.walks.specs.Families.{lists_of}
 use Rattle.walks.specs.declared.family.Family.{Family}
 use Rattle.walks.proofs.LedLemmas.{apart_near}
 use Rattle.walks.proofs.walks.kept_apart.Goals as goal

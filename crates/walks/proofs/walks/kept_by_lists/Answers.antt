@@ -5,7 +5,7 @@ use Rattle.std.proofs.lemmas.List.{take_all}
 use Rattle.number_lists.specs.KeyedLists.{list_of}
 use Rattle.number_lists.specs.Members.{has}
 use Rattle.idset.proofs.Places.{filter_step}
-use Rattle.walks.specs.inside.Steps.{lists_of}
+use Rattle.walks.specs.Families.{lists_of}
 use Rattle.walks.proofs.JoinedLemmas.{over_length}
 use Rattle.walks.proofs.walks.kept_by_lists.Goals as goal
 use Rattle.walks.proofs.walks.kept_by_lists.Goals.{then-not-meets+in_ok-push, else-not-meets}

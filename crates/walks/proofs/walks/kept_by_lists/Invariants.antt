@@ -3,7 +3,7 @@ use Rattle.std.specs.Prelude.{filter}
 use Rattle.std.specs.List.{list_any}
 use Rattle.number_lists.specs.Members.{has}
 use Rattle.number_lists.specs.KeyedLists.{list_of}
-use Rattle.walks.specs.inside.Steps.{lists_of}
+use Rattle.walks.specs.Families.{lists_of}
 use Rattle.walks.proofs.walks.kept_by_lists.Given as goal
 
 abbrev pub invariant-loop-concept : goal.invariant-loop-concept

@@ -9,7 +9,7 @@ use Rattle.idset.specs.Words.{is_set}
 use Rattle.number_lists.proofs.BlockLemmas.{filter-within}
 use Rattle.walks.specs.inside.Joined.{AreJoined, back_of, is_whole}
 use Rattle.walks.specs.Led.{IsOver}
-use Rattle.walks.specs.inside.Steps.{lists_of}
+use Rattle.walks.specs.Families.{lists_of}
 use Rattle.walks.specs.declared.family.Family.{Family}
 use Rattle.walks.proofs.LedLemmas.{asked_outside, back_is_whole}
 use Rattle.walks.proofs.walks.kept_in_room.Goals as goal

@@ -2,7 +2,7 @@ use Rattle.std.proofs.Common.{ℕ, List, ◌∙◌, sym, subst, arith}
 use Rattle.std.proofs.lemmas.Result.{IfOk-weaker}
 use Rattle.number_lists.specs.Rising.{IsRisingBelow}
 use Rattle.idset.specs.Words.{AreWordsBelow}
-use Rattle.walks.specs.inside.Steps.{lists_of}
+use Rattle.walks.specs.Families.{lists_of}
 use Rattle.walks.proofs.JoinedLemmas.{list_joined, over_length, over_rising, words_joined}
 use Rattle.walks.proofs.walks.list_of_one.Goals as goal
 
@@ -40,7 +40,7 @@ returns-in-None-clause-items g c = IfOk-weaker c.from_items-in-None.result _ _
 
 pub from_items-requires : goal.from_items-requires
 from_items-requires g c =
-    subst (λ (list : List ℕ). IsRisingBelow c.args.count list) (sym (c.as_slice.ensures.value ∙ c.in_ok-own.ensures ∙ c.list-list.ensures))
+    subst (λ (list : List ℕ). IsRisingBelow c.args.count list) (sym (c.as_slice.ensures.value ∙ c.in_ok-own.ensures.items ∙ c.list-list.ensures))
     (over_rising c.args.count c.args.index.now c.requires.over c.args.family c.args.concept c.requires.below)
 
 pub returns-then-asks_for-clause-items : goal.returns-then-asks_for-clause-items
@@ -48,7 +48,7 @@ returns-then-asks_for-clause-items g c = IfOk-weaker c.from_items.result _ _
     (λ found items.
     items
     ∙ list_joined c.args.count (lists_of c.args.index.now c.args.family) c.args.concept c.as_slice.result.now
-    (subst (λ (list : List ℕ). IsRisingBelow c.args.count list) (sym (c.as_slice.ensures.value ∙ c.in_ok-own.ensures ∙ c.list-list.ensures))
+    (subst (λ (list : List ℕ). IsRisingBelow c.args.count list) (sym (c.as_slice.ensures.value ∙ c.in_ok-own.ensures.items ∙ c.list-list.ensures))
     (over_rising c.args.count c.args.index.now c.requires.over c.args.family c.args.concept c.requires.below))
-    (c.as_slice.ensures.value ∙ c.in_ok-own.ensures ∙ c.list-list.ensures))
+    (c.as_slice.ensures.value ∙ c.in_ok-own.ensures.items ∙ c.list-list.ensures))
     c.from_items.ensures.items

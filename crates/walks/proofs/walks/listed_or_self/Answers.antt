@@ -2,8 +2,10 @@ use Rattle.std.proofs.Common.{ℕ, List, ◌∙◌, refl, sym, subst}
 use Rattle.number_lists.specs.Rising.{IsRisingBelow}
 use Rattle.idset.specs.Sets.{all_items}
 use Rattle.idset.proofs.Normal.{all_items-swap}
+use Rattle.candidates.specs.Tallies.{Adds}
+use Rattle.candidates.proofs.AddsLemmas.{adds_both}
 use Rattle.walks.specs.Led.{joined}
-use Rattle.walks.specs.inside.Steps.{lists_of}
+use Rattle.walks.specs.Families.{lists_of}
 use Rattle.walks.proofs.walks.listed_or_self.Goals as goal
 
 pub add_all-requires : goal.add_all-requires
@@ -21,3 +23,16 @@ returns-clause-items g c =
     c.in_ok-add_all.ensures.items
     ∙ (λ i. all_items (c.in_ok-found.ensures.bound i) (c.in_ok-found.ensures.items i) (c.requires.concepts i))
     ∙ all_items-swap bound bound items others refl
+
+-- the rows of the list were added, and then those of the concepts
+pub returns-clause-adds : goal.returns-clause-adds
+returns-clause-adds g c =
+    let bound = g.S.ConceptSet.bound_of c.args.operand.now in
+    let own = g.S.ConceptSet.items_of c.args.operand.now in
+    let list = g.S.ConceptSet.items_of c.in_ok-found.found in
+    subst (λ (items : List ℕ). Adds items c.args.tally.now c.add.new.self) (sym c.in_ok-add_all.ensures.items)
+    (adds_both (g.S.ConceptSet.bound_of c.in_ok-found.found) list c.args.concepts.now c.args.tally.now c.listed.new.tally c.add.new.self
+    (g.met.S.ConceptSet.rising c.in_ok-found.found)
+    (subst (λ (bound : ℕ). IsRisingBelow bound c.args.concepts.now) (sym c.in_ok-found.ensures.bound)
+    (subst (λ (items : List ℕ). IsRisingBelow bound items) (sym c.requires.concepts) (g.met.S.ConceptSet.rising c.args.operand.now)))
+    c.in_ok-found.ensures.adds c.add.ensures)

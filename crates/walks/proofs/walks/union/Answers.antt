@@ -2,7 +2,7 @@ use Rattle.std.proofs.Common.{ℕ, List, ◌∙◌, sym, subst}
 use Rattle.std.proofs.lemmas.Result.{IfOk-weaker}
 use Rattle.number_lists.specs.Rising.{IsRisingBelow, numbers_where}
 use Rattle.idset.specs.Words.{AreWordsBelow, is_set}
-use Rattle.walks.specs.inside.Steps.{lists_of}
+use Rattle.walks.specs.Families.{lists_of}
 use Rattle.walks.proofs.JoinedLemmas.{all_joined}
 use Rattle.walks.proofs.walks.union.Goals as goal
 

@@ -1,0 +1,56 @@
+-- What is read of the components of reference sets is within the bound of the node.
+use Rattle.std.proofs.Common.{ℕ, ◌+◌, ◌∷◌, [], ◌≡◌, ◌≤◌, ◌∙◌, List, Option, Some, None, length, refl, sym, ap, subst, arith}
+use Rattle.std.specs.List.{concat, sum_by}
+use Rattle.std.specs.List.Sorted.{IsStrictlyIncreasing}
+use Rattle.std.proofs.lemmas.List.Sums.{sum_by-cons}
+use Rattle.rf2_rows.specs.Release.{Release}
+use Rattle.number_lists.specs.KeyedLists.{list_of}
+use Rattle.number_lists.specs.Rising.{IsRisingBelow}
+use Rattle.held_release.specs.Numbering.{concept_number}
+use Rattle.set_algebra.specs.Meaning.{means}
+use Rattle.set_algebra.specs.Plan.{Plan, empty_plan, all_plan, one_plan, walk_plan, members_plan, and_plan, or_plan, minus_plan, values_plan, pairs_plan, units_plan}
+use Rattle.postings.specs.Indexed.{Indexed, IsIndexOf}
+use Rattle.plan_bounds.specs.Bounds.{members_bound}
+use Rattle.plan_bounds.specs.Counts.{counted, member_count, one_of}
+use Rattle.candidates.specs.Numbers.{numbers_in}
+use Rattle.candidates.proofs.Normal.{as_list, one_in}
+use Rattle.walks.specs.Families.{items_in}
+use Rattle.walks.proofs.ReadLemmas.{items_of_some}
+
+-- those of one concept, or of none
+of_one : (indexed : Indexed) (number : Option ℕ)
+    → length (as_list number) + items_in indexed.members (as_list number) ≤ 1 + counted (λ n. length (list_of indexed.members n)) number
+of_one indexed None = omega arith
+of_one indexed (Some n) = omega (arith, sum_by-cons (λ key. length (list_of indexed.members key)) n [])
+
+module _ (release : Release) (indexed : Indexed) (index : IsIndexOf indexed release) (rising : IsStrictlyIncreasing release.concepts)
+    (lists : length indexed.members ≡ length indexed.concepts) (items : List ℕ) (below : IsRisingBelow (length release.concepts) items)
+    (size : ℕ) (few : length items ≤ size) where
+  -- those of any
+  of_any : length items + items_in indexed.members items ≤ size + length (concat indexed.members)
+  of_any =
+      let rises : IsRisingBelow (length indexed.members) items =
+      subst (λ (n : ℕ). IsRisingBelow n items) (sym (lists ∙ ap (λ (xs : List ℕ). length xs) index.concepts)) below in
+      omega (arith, few, items_of_some indexed.members items rises)
+
+  pub members_read : (plan : Plan) → items ≡ numbers_in release (means release plan)
+      → length items + items_in indexed.members items ≤ members_bound indexed (one_of plan) size
+  members_read (one_plan id) is =
+      let number = concept_number release.concepts id in
+      let one : items ≡ as_list number = is ∙ sym (one_in release rising id number refl) in
+      omega (
+        arith,
+        of_one indexed number,
+        ap (λ (xs : List ℕ). length xs + items_in indexed.members xs) one,
+        ap (λ (ids : List ℕ). counted (λ n. length (list_of indexed.members n)) (concept_number ids id)) index.concepts,
+      )
+  members_read empty_plan is = of_any
+  members_read all_plan is = of_any
+  members_read (walk_plan operator operand) is = of_any
+  members_read (members_plan operand) is = of_any
+  members_read (and_plan parts) is = of_any
+  members_read (or_plan parts) is = of_any
+  members_read (minus_plan first second) is = of_any
+  members_read (values_plan start names) is = of_any
+  members_read (pairs_plan back count types test) is = of_any
+  members_read (units_plan count units) is = of_any

@@ -1,0 +1,24 @@
+-- What is known of the rows of the concept that a plan names.
+use Rattle.std.proofs.Common.{ℕ, ◌≡◌, ◌==◌, ◌&&◌, Bool, List, Option, sym, subst}
+use Rattle.std.specs.List.Sorted.{IsStrictlyIncreasing}
+use Rattle.rf2_rows.specs.Release.{Release}
+use Rattle.constraint_tree.specs.Walks.{has_concept}
+use Rattle.held_release.specs.Numbering.{concept_number}
+use Rattle.set_algebra.specs.Plan.{Plan, one_plan}
+use Rattle.candidates.specs.Numbers.{numbers_in}
+use Rattle.candidates.specs.Tallies.{Adds, Tally}
+use Rattle.candidates.proofs.Normal.{as_list, one_in}
+use Rattle.executor.specs.inside.Named.{AddsNamed}
+
+-- the rows of the one concept in force with the identifier, if there is one, are those that are added
+pub adds_named : (release : Release) → IsStrictlyIncreasing release.concepts → (id : ℕ) (number : Option ℕ)
+    → concept_number release.concepts id ≡ number → (early late : Tally) → Adds (as_list number) early late
+    → (plan : Plan) → plan ≡ one_plan id → AddsNamed release plan early late
+adds_named release rising id number at early late adds plan is =
+    subst (λ (plan : Plan). AddsNamed release plan early late) (sym is)
+    (subst (λ (values : List ℕ). Adds values early late) (one_in release rising id number at) adds)
+
+-- and so they are once the plan is known
+pub named_adds : (release : Release) (id : ℕ) (early late : Tally) (plan : Plan) → plan ≡ one_plan id → AddsNamed release plan early late
+    → Adds (numbers_in release (λ concept. has_concept release concept && (concept == id))) early late
+named_adds release id early late plan is = subst (λ (plan : Plan). AddsNamed release plan early late) is

@@ -1,0 +1,115 @@
+-- What is read where an operator leads from what a plan has found is within the bound of the node.
+use Rattle.std.proofs.Common.{ℕ, ◌+◌, ◌*◌, ◌∷◌, [], ◌≡◌, ◌≤◌, ◌<◌, ◌∙◌, Bool, true, false, cond, List, Option, None, Some, length, refl, sym, ap, subst, arith, rules}
+use Rattle.std.specs.Prelude.{IsSome, if◌then◌else◌}
+use Rattle.std.specs.List.Sorted.{IsStrictlyIncreasing}
+use Rattle.std.proofs.lemmas.List.Sums.{sum_by-cons}
+use Rattle.constraint_tree.specs.declared.operator.Operator.{Operator}
+use Rattle.constraint_tree.specs.declared.operator.Operator.TheVariants.{Descendants, DescendantsOrSelf, Children, ChildrenOrSelf, Ancestors, AncestorsOrSelf, Parents, ParentsOrSelf, Top, Bottom}
+use Rattle.rf2_rows.specs.Release.{Release}
+use Rattle.number_lists.specs.KeyedLists.{list_of}
+use Rattle.number_lists.specs.Rising.{IsRisingBelow}
+use Rattle.held_release.specs.Numbering.{concept_number}
+use Rattle.set_algebra.specs.Meaning.{means}
+use Rattle.set_algebra.specs.Plan.{Plan, empty_plan, all_plan, one_plan, walk_plan, members_plan, and_plan, or_plan, minus_plan, values_plan, pairs_plan, units_plan}
+use Rattle.ancestor_index.specs.HierarchyLists.{Hierarchy}
+use Rattle.postings.specs.Indexed.{Indexed, IsIndexOf}
+use Rattle.plan_bounds.specs.Bounds.{walk_bound}
+use Rattle.plan_bounds.specs.Counts.{counted, is_extreme, list_length, lists_along, lists_length, one_of}
+use Rattle.plan_bounds.specs.Floors.{of_one as of_one_concept}
+use Rattle.candidates.specs.Numbers.{numbers_in}
+use Rattle.candidates.proofs.Normal.{as_list, one_in}
+use Rattle.walks.specs.Families.{all_items_of, family_of, items_in, lists_of}
+use Rattle.walks.specs.Reads.{walk_items}
+use Rattle.walks.proofs.ReadLemmas.{at_most_all}
+
+-- what is counted of a walk at least
+abbrev walk_floor : Indexed → Operator → Option ℕ → ℕ
+walk_floor indexed operator one = if is_extreme operator then 0 else of_one_concept indexed one (list_length indexed operator)
+
+-- the lists of a node are those of the operator's family
+along : (hierarchy : Hierarchy) (operator : Operator) → lists_of hierarchy (family_of operator) ≡ lists_along hierarchy operator
+along hierarchy Descendants = refl
+along hierarchy DescendantsOrSelf = refl
+along hierarchy Children = refl
+along hierarchy ChildrenOrSelf = refl
+along hierarchy Ancestors = refl
+along hierarchy AncestorsOrSelf = refl
+along hierarchy Parents = refl
+along hierarchy ParentsOrSelf = refl
+along hierarchy Top = refl
+along hierarchy Bottom = refl
+
+pub all_along : (indexed : Indexed) (operator : Operator) → all_items_of indexed.hierarchy (family_of operator) ≡ lists_length indexed operator
+all_along indexed Descendants = refl
+all_along indexed DescendantsOrSelf = refl
+all_along indexed Children = refl
+all_along indexed ChildrenOrSelf = refl
+all_along indexed Ancestors = refl
+all_along indexed AncestorsOrSelf = refl
+all_along indexed Parents = refl
+all_along indexed ParentsOrSelf = refl
+all_along indexed Top = refl
+all_along indexed Bottom = refl
+
+-- from one concept, or from none
+of_one : (indexed : Indexed) (operator : Operator) (number : Option ℕ)
+    → length (as_list number) + walk_items indexed.hierarchy operator (as_list number)
+    ≤ 1 + counted (λ n. length (list_of (lists_along indexed.hierarchy operator) n)) number
+of_one indexed operator None = omega arith
+of_one indexed operator (Some n) =
+    omega (
+      arith,
+      sum_by-cons (λ key. length (list_of (lists_of indexed.hierarchy (family_of operator)) key)) n [],
+      ap (λ (lists : List (List ℕ)). length (list_of lists n)) (along indexed.hierarchy operator),
+    )
+
+module _ (release : Release) (indexed : Indexed) (index : IsIndexOf indexed release) (rising : IsStrictlyIncreasing release.concepts)
+    (items : List ℕ) (below : IsRisingBelow (length release.concepts) items) (operator : Operator) (size : ℕ) (few : length items ≤ size) where
+  -- from any
+  of_any : length items + walk_items indexed.hierarchy operator items ≤ size + lists_length indexed operator
+  of_any =
+      omega (
+        arith,
+        few,
+        at_most_all (length release.concepts) indexed.hierarchy
+            (record { release = release; hierarchy_is = index.hierarchy; count_is = refl }) (family_of operator) items below,
+        all_along indexed operator,
+      )
+
+  pub walk_read : (plan : Plan) → items ≡ numbers_in release (means release plan)
+      → length items + walk_items indexed.hierarchy operator items ≤ walk_bound indexed operator (one_of plan) size
+  walk_read (one_plan id) is =
+      let number = concept_number release.concepts id in
+      let one : items ≡ as_list number = is ∙ sym (one_in release rising id number refl) in
+      omega (
+        arith,
+        of_one indexed operator number,
+        ap (λ (xs : List ℕ). length xs + walk_items indexed.hierarchy operator xs) one,
+        ap (λ (ids : List ℕ). counted (λ n. length (list_of (lists_along indexed.hierarchy operator) n)) (concept_number ids id)) index.concepts,
+      )
+  walk_read empty_plan is = of_any
+  walk_read all_plan is = of_any
+  walk_read (walk_plan other operand) is = of_any
+  walk_read (members_plan operand) is = of_any
+  walk_read (and_plan parts) is = of_any
+  walk_read (or_plan parts) is = of_any
+  walk_read (minus_plan first second) is = of_any
+  walk_read (values_plan start names) is = of_any
+  walk_read (pairs_plan back count types test) is = of_any
+  walk_read (units_plan count units) is = of_any
+
+-- from what is no one concept any list may be read, and nothing has to be counted
+pub several_bound : (indexed : Indexed) (operator : Operator) (one : Option ℕ) (size : ℕ) → one ≡ None
+    → walk_bound indexed operator one size ≡ size + lists_length indexed operator
+several_bound indexed operator one size none = ap (λ (one : Option ℕ). walk_bound indexed operator one size) none
+
+pub several_floor : (indexed : Indexed) (operator : Operator) (one : Option ℕ) → one ≡ None → walk_floor indexed operator one ≡ 0
+several_floor indexed operator one none = ap (walk_floor indexed operator) none ∙ at (is_extreme operator)
+  where
+    at : (extreme : Bool) → cond {A = ℕ} extreme 0 0 ≡ 0
+    at true = refl
+    at false = refl
+
+pub not_one : (one : Option ℕ) (rows : ℕ) → (IsSome one → rows ≡ 0) → 0 < rows → one ≡ None
+not_one None rows none some = refl
+not_one (Some id) rows none some = let is : IsSome (Some id) = search rules in absurd (omega (arith, none is, some))

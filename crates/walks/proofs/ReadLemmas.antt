@@ -1,0 +1,165 @@
+-- How many items the lists of some concepts have together: no more than all lists of their family.
+use Rattle.std.proofs.Common.{ℕ, ◌+◌, ◌∷◌, [], ◌≡◌, ◌≤◌, ◌<◌, ◌∙◌, Bool, true, false, cond, List, length, map, refl, sym, ap, subst, arith}
+use Rattle.std.specs.Prelude.{nat_lt}
+use Rattle.std.specs.List.{concat, range_with_len, sum_by}
+use Rattle.std.proofs.lemmas.Bool.{false≢true, lt-ltb, ltb-false, ltb-true}
+use Rattle.std.proofs.lemmas.List.Concat.{concat_is, length-flat_map}
+use Rattle.std.proofs.lemmas.List.Folds.{flat_map-map}
+use Rattle.std.proofs.lemmas.List.Sums.{length-filter, sum_by-cons}
+use Rattle.number_lists.proofs.BlockLemmas.{items_by_place}
+use Rattle.number_lists.proofs.RisingLemmas.{rising_is_numbers_where}
+use Rattle.number_lists.specs.KeyedLists.{list_of}
+use Rattle.number_lists.specs.Members.{has}
+use Rattle.number_lists.specs.Rising.{IsRisingBelow, numbers_where}
+use Rattle.constraint_tree.specs.declared.operator.Operator.{Operator}
+use Rattle.ancestor_index.specs.HierarchyLists.{Hierarchy, lists_where}
+use Rattle.postings.specs.Indexed.{Indexed}
+use Rattle.walks.specs.Asked.{asked_lists}
+use Rattle.walks.specs.inside.Joined.{is_whole}
+use Rattle.walks.specs.Families.{all_items_of, items_in, lists_of}
+use Rattle.walks.specs.Led.{IsOver}
+use Rattle.walks.specs.Reads.{asked_items, items_at_most}
+use Rattle.walks.specs.declared.family.Family.{Family}
+use Rattle.walks.specs.declared.family.Family.TheVariants as family
+use Rattle.walks.proofs.JoinedLemmas.{over_length, over_lists, stands}
+use Rattle.candidates.specs.Counted.{full}
+use Rattle.candidates.specs.Extents.{AreListed, IsExtentOf}
+use Rattle.candidates.specs.declared.candidates.Extent.{Extent}
+use Rattle.candidates.specs.declared.candidates.ListExtent.{ListExtent}
+use Rattle.walks.specs.inside.Counts.{told_of}
+use Rattle.candidates.proofs.SumLemmas.{no_sum, sum_of_some, two_sums}
+
+-- ---- all lists, one by one
+all_one_by_one : (lists : List (List ℕ)) → length (concat lists) ≡ items_in lists (range_with_len 0 (length lists))
+all_one_by_one lists =
+    let all = range_with_len 0 (length lists) in
+    ap (λ (xs : List (List ℕ)). length (concat xs)) (items_by_place lists [])
+    ∙ ap (λ (xs : List ℕ). length xs) (concat_is (map (list_of lists) all) ∙ flat_map-map (λ xs. xs) (list_of lists) all)
+    ∙ length-flat_map (list_of lists) all
+
+-- the lists of distinct keys have no more items than all lists
+pub items_of_some : (lists : List (List ℕ)) (keys : List ℕ) → IsRisingBelow (length lists) keys → items_in lists keys ≤ length (concat lists)
+items_of_some lists keys rising =
+    omega (
+      arith,
+      sum_of_some (λ key. length (list_of lists key)) (has keys) (range_with_len 0 (length lists)),
+      ap (items_in lists) (rising_is_numbers_where (length lists) keys rising),
+      all_one_by_one lists,
+    )
+
+-- ---- lists turned round have as many items
+turned_sums : (f : ℕ → ℕ → ℕ) (xs ys : List ℕ) → sum_by (λ x. sum_by (f x) ys) xs ≡ sum_by (λ y. sum_by (λ x. f x y) xs) ys
+turned_sums f [] ys = sym (no_sum ys)
+turned_sums f (x ∷ xs) ys =
+    sum_by-cons (λ x. sum_by (f x) ys) x xs
+    ∙ (λ i. sum_by (f x) ys + turned_sums f xs ys i)
+    ∙ sym (two_sums (f x) (λ y. sum_by (λ x. f x y) xs) ys)
+    ∙ (λ i. sum_by (λ y. sym (sum_by-cons (λ x. f x y) x xs) i) ys)
+
+length-all_where : (count : ℕ) (test : ℕ → ℕ → Bool)
+    → length (concat (lists_where count test)) ≡ sum_by (λ a. length (numbers_where count (test a))) (range_with_len 0 count)
+length-all_where count test =
+    let all = range_with_len 0 count in
+    let list : ℕ → List ℕ = λ a. numbers_where count (test a) in
+    ap (λ (xs : List ℕ). length xs) (concat_is (map list all) ∙ flat_map-map (λ xs. xs) list all)
+    ∙ length-flat_map list all
+
+turned_items : (count : ℕ) (test : ℕ → ℕ → Bool)
+    → length (concat (lists_where count (λ a b. test b a))) ≡ length (concat (lists_where count test))
+turned_items count test =
+    let all = range_with_len 0 count in
+    length-all_where count (λ a b. test b a)
+    ∙ (λ i. sum_by (λ a. length-filter (λ b. test b a) all i) all)
+    ∙ turned_sums (λ a b. cond (test b a) 1 0) all all
+    ∙ (λ i. sum_by (λ b. sym (length-filter (test b) all) i) all)
+    ∙ sym (length-all_where count test)
+
+-- ---- the families of a hierarchy
+-- a family has as many items as the table of a plan's bounds says: those of the ancestors, or of the parents
+pub family_items : (count : ℕ) (hierarchy : Hierarchy) → IsOver count hierarchy → (f : Family)
+    → length (concat (lists_of hierarchy f)) ≡ all_items_of hierarchy f
+family_items count hierarchy over family.Ancestors = refl
+family_items count hierarchy over family.Parents = refl
+family_items count hierarchy over family.Descendants =
+    ap (λ (xs : List (List ℕ)). length (concat xs)) (over_lists count hierarchy over family.Descendants)
+    ∙ turned_items count (stands over.release family.Ancestors)
+    ∙ ap (λ (xs : List (List ℕ)). length (concat xs)) (sym (over_lists count hierarchy over family.Ancestors))
+family_items count hierarchy over family.Children =
+    ap (λ (xs : List (List ℕ)). length (concat xs)) (over_lists count hierarchy over family.Children)
+    ∙ turned_items count (stands over.release family.Parents)
+    ∙ ap (λ (xs : List (List ℕ)). length (concat xs)) (sym (over_lists count hierarchy over family.Parents))
+
+-- so the lists of concepts of a set have no more
+pub set_items : (count : ℕ) (hierarchy : Hierarchy) → IsOver count hierarchy → (f : Family) (concepts : List ℕ) → IsRisingBelow count concepts
+    → items_in (lists_of hierarchy f) concepts ≤ all_items_of hierarchy f
+set_items count hierarchy over f concepts rising =
+    omega (
+      arith,
+      items_of_some (lists_of hierarchy f) concepts
+          (subst (λ (n : ℕ). IsRisingBelow n concepts) (sym (over_length count hierarchy over f)) rising),
+      family_items count hierarchy over f,
+    )
+
+-- a whole family has all pairs
+pub whole_items : (hierarchy : Hierarchy) (f : Family) → is_whole f ≡ true → all_items_of hierarchy f ≡ length (concat hierarchy.ancestors)
+whole_items hierarchy family.Ancestors whole = refl
+whole_items hierarchy family.Descendants whole = refl
+whole_items hierarchy family.Parents whole = absurd (false≢true whole)
+whole_items hierarchy family.Children whole = absurd (false≢true whole)
+
+-- of one concept its list, of more no more than all lists
+pub items_of_set : (count : ℕ) (hierarchy : Hierarchy) → IsOver count hierarchy → (f : Family) (concepts : List ℕ) → IsRisingBelow count concepts
+    → items_in (lists_of hierarchy f) concepts ≤ items_at_most hierarchy f concepts
+items_of_set count hierarchy over f concepts rising = at (nat_lt 1 (length concepts))
+  where
+    at : (many : Bool) → items_in (lists_of hierarchy f) concepts
+        ≤ cond many (all_items_of hierarchy f) (items_in (lists_of hierarchy f) concepts)
+    at true = set_items count hierarchy over f concepts rising
+    at false = omega arith
+
+-- which is no more than all lists either way
+pub at_most_all : (count : ℕ) (hierarchy : Hierarchy) → IsOver count hierarchy → (f : Family) (concepts : List ℕ) → IsRisingBelow count concepts
+    → items_at_most hierarchy f concepts ≤ all_items_of hierarchy f
+at_most_all count hierarchy over f concepts rising = at (nat_lt 1 (length concepts))
+  where
+    at : (many : Bool) → cond many (all_items_of hierarchy f) (items_in (lists_of hierarchy f) concepts) ≤ all_items_of hierarchy f
+    at true = omega arith
+    at false = set_items count hierarchy over f concepts rising
+
+-- where there are more than one, all lists stand for them
+pub many_items : (hierarchy : Hierarchy) (f : Family) (concepts : List ℕ) → 1 < length concepts
+    → items_at_most hierarchy f concepts ≡ all_items_of hierarchy f
+many_items hierarchy f concepts many =
+    ap (λ (b : Bool). cond b (all_items_of hierarchy f) (items_in (lists_of hierarchy f) concepts)) (lt-ltb 1 (length concepts) many)
+
+-- a number that is that of the lists of at most one concept, and else no more than all lists have, is within what is read at most
+pub within_at_most : (hierarchy : Hierarchy) (f : Family) (concepts : List ℕ) (own items : ℕ) → own ≤ items_at_most hierarchy f concepts
+    → (length concepts ≤ 1 → items ≡ own) → (own ≤ all_items_of hierarchy f → items ≤ all_items_of hierarchy f)
+    → items ≤ items_at_most hierarchy f concepts
+within_at_most hierarchy f concepts own items within one more = at (nat_lt 1 (length concepts)) refl
+  where
+    at : (many : Bool) → nat_lt 1 (length concepts) ≡ many → items ≤ items_at_most hierarchy f concepts
+    at true is =
+        let all = many_items hierarchy f concepts (ltb-true 1 (length concepts) is) in
+        omega (arith, all, more (omega (arith, all, within)))
+    at false is = omega (arith, one (ltb-false 1 (length concepts) is), within)
+
+-- the lists of some concepts have no more items than is told of them
+told_items : (hierarchy : Hierarchy) (concepts : List ℕ) (lists : ListExtent) → AreListed hierarchy concepts lists → (f : Family)
+    → full (items_in (lists_of hierarchy f) concepts) ≤ told_of f lists
+told_items hierarchy concepts lists listed family.Ancestors = listed.ancestors
+told_items hierarchy concepts lists listed family.Descendants = listed.descendants
+told_items hierarchy concepts lists listed family.Parents = listed.parents
+told_items hierarchy concepts lists listed family.Children = listed.children
+
+-- to ask concepts takes no more items than there are of them and of their lists
+pub asked_within : (indexed : Indexed) (operator : Operator) (f : Family) (concepts : List ℕ) (extent : Extent) → IsExtentOf indexed concepts extent
+    → lists_of indexed.hierarchy f ≡ asked_lists indexed.hierarchy operator
+    → full (asked_items indexed.hierarchy operator concepts) ≤ full (extent.items + told_of f extent.lists)
+asked_within indexed operator f concepts extent is asked =
+    omega (
+      arith,
+      is.items,
+      told_items indexed.hierarchy concepts extent.lists is.lists f,
+      ap (λ (lists : List (List ℕ)). items_in lists concepts) asked,
+    )

@@ -1,0 +1,45 @@
+use Rattle.std.proofs.Common.{ℕ, List, ◌≡◌, ◌<◌, ◌∙◌, sym, ap, subst}
+use Rattle.std.specs.Prelude.{All, filter}
+use Rattle.std.proofs.lemmas.Result.{IfOk-weaker}
+use Rattle.number_lists.specs.Rising.{IsRisingBelow}
+use Rattle.number_lists.specs.Members.{has}
+use Rattle.number_lists.proofs.RisingLemmas.{rises_within-filter, all_below}
+use Rattle.walks.specs.inside.Steps.{stepped}
+use Rattle.walks.specs.Families.{lists_of}
+use Rattle.walks.proofs.LedLemmas.{led_asked}
+use Rattle.walks.proofs.led.those_of_set_led_to.Goals as goal
+
+pub those_led_to-requires-clause-below : goal.those_led_to-requires-clause-below
+those_led_to-requires-clause-below g c =
+    let wanted = g.S.ConceptSet.items_of c.args.wanted.now in
+    subst (All (λ concept. concept < g.S.ConceptSet.bound_of c.args.operand.now)) (sym (c.as_slice.ensures.value ∙ c.in_ok-own.ensures))
+    (subst (λ (bound : ℕ). All (λ concept. concept < bound) wanted) c.requires.wanted
+    (all_below (g.S.ConceptSet.bound_of c.args.wanted.now) wanted (g.met.S.ConceptSet.rising c.args.wanted.now)))
+
+pub from_items-requires : goal.from_items-requires
+from_items-requires g c =
+    let count = g.S.ConceptSet.bound_of c.args.operand.now in
+    let wanted = g.S.ConceptSet.items_of c.args.wanted.now in
+    let led : List ℕ = stepped (lists_of c.args.index.now c.of-step.result.family) count c.of-step.result.reach (g.S.ConceptSet.items_of c.args.operand.now) in
+    let kept : c.as_slice-2.result.now ≡ filter (has led) wanted =
+    c.as_slice-2.ensures.value ∙ c.in_ok-kept.ensures ∙ ap (filter (has led)) (c.as_slice.ensures.value ∙ c.in_ok-own.ensures) in
+    subst (λ (bound : ℕ). IsRisingBelow bound c.as_slice-2.result.now) (sym c.bound.ensures)
+    (subst (λ (items : List ℕ). IsRisingBelow count items) (sym kept)
+    (rises_within-filter 0 count (has led) wanted (subst (λ (bound : ℕ). IsRisingBelow bound wanted) c.requires.wanted
+    (g.met.S.ConceptSet.rising c.args.wanted.now))))
+
+pub returns-clause-items : goal.returns-clause-items
+returns-clause-items g c =
+    let count = g.S.ConceptSet.bound_of c.args.operand.now in
+    let items = g.S.ConceptSet.items_of c.args.operand.now in
+    let wanted = g.S.ConceptSet.items_of c.args.wanted.now in
+    let step = c.of-step.result in
+    let led : List ℕ = stepped (lists_of c.args.index.now step.family) count step.reach items in
+    IfOk-weaker c.from_items.result _ _
+    (λ found same.
+    same ∙ c.as_slice-2.ensures.value ∙ c.in_ok-kept.ensures ∙ ap (filter (has led)) (c.as_slice.ensures.value ∙ c.in_ok-own.ensures)
+    ∙ led_asked count c.args.index.now c.requires.over items (g.met.S.ConceptSet.rising c.args.operand.now)
+    (lists_of c.args.index.now step.family) step.reach wanted
+    (subst (λ (bound : ℕ). IsRisingBelow bound wanted) c.requires.wanted (g.met.S.ConceptSet.rising c.args.wanted.now))
+    ∙ ap (filter (has wanted)) (sym (c.of-step.ensures.led c.args.index.now count items)))
+    c.from_items.ensures.items

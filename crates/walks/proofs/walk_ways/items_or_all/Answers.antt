@@ -1,0 +1,24 @@
+use Rattle.std.proofs.Common.{◌≤◌, arith, length}
+use Rattle.number_lists.proofs.RisingLemmas.{all_below}
+use Rattle.walks.specs.Families.{all_items_of, items_in, lists_of}
+use Rattle.walks.proofs.ReadLemmas.{items_of_set, set_items}
+use Rattle.walks.proofs.walk_ways.items_or_all.Goals as goal
+
+pub items_of_lists-requires-clause-below : goal.items_of_lists-requires-clause-below
+items_of_lists-requires-clause-below c = all_below c.args.count c.args.concepts.now c.requires.rising
+
+pub returns-then-concepts-gt-MANY-clause-read : goal.returns-then-concepts-gt-MANY-clause-read
+returns-then-concepts-gt-MANY-clause-read c =
+    omega (
+      arith,
+      c.items_of_all_lists.ensures,
+      set_items c.args.count c.args.index.now c.requires.over c.args.family c.args.concepts.now c.requires.rising,
+    )
+
+pub returns-else-concepts-gt-MANY-clause-within : goal.returns-else-concepts-gt-MANY-clause-within
+returns-else-concepts-gt-MANY-clause-within c =
+    omega (
+      arith,
+      c.items_of_lists.ensures.few,
+      items_of_set c.args.count c.args.index.now c.requires.over c.args.family c.args.concepts.now c.requires.rising,
+    )

@@ -1,0 +1,40 @@
+-- The lists of a hierarchy, by families: one list for each concept (Expression Constraint Language, "Simple Expression Constraints").
+use Rattle.std.specs.Prelude.{ℕ, List, length}
+use Rattle.std.specs.List.{concat, sum_by}
+use Rattle.number_lists.specs.KeyedLists.{list_of}
+use Rattle.constraint_tree.specs.declared.operator.Operator.{Operator}
+use Rattle.constraint_tree.specs.declared.operator.Operator.TheVariants.{Descendants, DescendantsOrSelf, Children, ChildrenOrSelf, Ancestors, AncestorsOrSelf, Parents, ParentsOrSelf, Top, Bottom}
+use Rattle.ancestor_index.specs.HierarchyLists.{Hierarchy}
+use Rattle.walks.specs.declared.family.Family.{Family}
+use Rattle.walks.specs.declared.family.Family.TheVariants as family
+
+-- a family of lists of a hierarchy
+abbrev pub lists_of : Hierarchy → Family → List (List ℕ)
+lists_of hierarchy family.Ancestors = hierarchy.ancestors
+lists_of hierarchy family.Descendants = hierarchy.descendants
+lists_of hierarchy family.Parents = hierarchy.parents
+lists_of hierarchy family.Children = hierarchy.children
+
+-- the family that an operator goes along
+abbrev pub family_of : Operator → Family
+family_of Descendants = family.Descendants
+family_of DescendantsOrSelf = family.Descendants
+family_of Children = family.Children
+family_of ChildrenOrSelf = family.Children
+family_of Ancestors = family.Ancestors
+family_of AncestorsOrSelf = family.Ancestors
+family_of Parents = family.Parents
+family_of ParentsOrSelf = family.Parents
+family_of Top = family.Ancestors
+family_of Bottom = family.Descendants
+
+-- how many items the lists of some concepts have, one beside the other
+abbrev pub items_in : List (List ℕ) → List ℕ → ℕ
+items_in lists concepts = sum_by (λ concept. length (list_of lists concept)) concepts
+
+-- how many items all lists of a family have: as many as there are pairs of a concept and one that it reaches, or is-a links
+abbrev pub all_items_of : Hierarchy → Family → ℕ
+all_items_of hierarchy family.Ancestors = length (concat hierarchy.ancestors)
+all_items_of hierarchy family.Descendants = length (concat hierarchy.ancestors)
+all_items_of hierarchy family.Parents = length (concat hierarchy.parents)
+all_items_of hierarchy family.Children = length (concat hierarchy.parents)
