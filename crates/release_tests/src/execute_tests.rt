@@ -15,54 +15,64 @@ use std::alloc::{AllocError, Global};
 use std::process::Abort;
 use std::test::Fail;
 
-// A query line, and the numbers of the concepts that answer it: A 0, B 1, C 2, D 3, T 4, U 5, X 6, Y 7, Q 8
-// and Root 9.
-type Row = (&'static [u8], &'static [u32]);
+// A query line; the numbers of the concepts that answer it: A 0, B 1, C 2, D 3, T 4, U 5, X 6, Y 7, Q 8 and Root 9; and, where
+// that is worked out, how many items are visited where its leaves are answered by value, by type and by a scan. A leaf that
+// can't be answered by value is answered by type then.
+//
+// The items are added up by hand from the lists. Of `<100005:104001=106004` by value: one value and its two rows, 3; the two
+// concepts that are found, each gone through twice, 4; A and the three below it, 4; and the two that are left, twice, 4.
+type Row<'a> = (&'a [u8], &'a [u32], &'a [u64]);
 
-const ROWS: [Row; 43] = [
-    (b"*", &[0, 1, 2, 3, 4, 5, 6, 7, 8, 9]),
-    (b"103007", &[3]),
-    (b"999999", &[]),
-    (b"<100005", &[1, 2, 3]),
-    (b"<<*", &[0, 1, 2, 3, 4, 5, 6, 7, 8, 9]),
-    (b"!!>(<100005)", &[1, 2]),
-    (b"!!<(<<100005)", &[3]),
-    (b"!!>(100005 OR 103007)", &[0]),
-    (b">103007", &[0, 1, 2, 9]),
-    (b">!103007", &[1, 2]),
-    (b"<!138875005", &[0, 4, 5, 6, 8]),
-    (b">>!107008", &[6, 7]),
-    (b"<<(101009 AND 102002)", &[]),
-    (b"<<101009 AND <<102002", &[3]),
-    (b"<<(101009 OR 107008)", &[1, 3, 7]),
-    (b">(101009 OR 107008)", &[0, 6, 9]),
-    (b"<!(100005 OR 101009)", &[1, 2, 3]),
-    (b"* MINUS (<<100005 OR <<106004)", &[4, 5, 8, 9]),
-    (b"<100005 MINUS 101009", &[2, 3]),
-    (b"^108003", &[1, 3]),
-    (b"<^108003", &[3]),
-    (b"^*", &[1, 3]),
-    (b"<100005:104001=106004", &[1, 2]),
-    (b"<(<100005.104001)", &[7]),
-    (b"<100005.104001", &[6, 7]),
-    (b"<100005:{104001=<<106004,105000=*}", &[1]),
-    (b"<100005:[2..*]{104001=* OR 105000=*}", &[2, 3]),
-    (b"<<106004:[3..3] R 105000=<100005", &[7]),
-    (b"*:105000>#2", &[2, 3]),
-    (b"<100005:104001=<<106004,105000=*", &[1, 2, 3]),
-    (b"<100005:[2..*]105000=*", &[]),
-    (b"<100005:[1..1]{105000=*}", &[1, 2]),
-    (b"<100005:{[0..0]105000=*}", &[2, 3]),
-    (b"<<100005:[0..0]105000=*", &[0]),
-    (b"<<100005:[0..0]{105000=*}", &[0]),
-    (b"<100005 . 104001 . 105000", &[]),
-    (b"<100005:104001!=106004", &[3]),
-    (b"<100005:105000!=#3", &[2]),
-    (b"<100005:105000=#3", &[3]),
-    (b"*:105000=#2.50", &[2]),
-    (b"*:105000<#+2.6", &[2]),
-    (b"*:R 105000=103007", &[7]),
-    (b"107008,(*:R 104001=103007)", &[7]),
+const ROWS: [Row<'static>; 45] = [
+    (b"*", &[0, 1, 2, 3, 4, 5, 6, 7, 8, 9], &[]),
+    (b"103007", &[3], &[]),
+    (b"999999", &[], &[]),
+    (b"<100005", &[1, 2, 3], &[]),
+    (b"<<*", &[0, 1, 2, 3, 4, 5, 6, 7, 8, 9], &[]),
+    (b"!!>(<100005)", &[1, 2], &[19, 19, 19]),
+    (b"!!<(<<100005)", &[3], &[]),
+    (b"!!>(100005 OR 103007)", &[0], &[]),
+    (b">103007", &[0, 1, 2, 9], &[]),
+    (b">!103007", &[1, 2], &[]),
+    (b"<!138875005", &[0, 4, 5, 6, 8], &[]),
+    (b">>!107008", &[6, 7], &[]),
+    (b"<<(101009 AND 102002)", &[], &[]),
+    (b"<<101009 AND <<102002", &[3], &[]),
+    (b"<<(101009 OR 107008)", &[1, 3, 7], &[]),
+    (b">(101009 OR 107008)", &[0, 6, 9], &[9, 9, 9]),
+    (b"<!(100005 OR 101009)", &[1, 2, 3], &[]),
+    (b"* MINUS (<<100005 OR <<106004)", &[4, 5, 8, 9], &[]),
+    (b"<100005 MINUS 101009", &[2, 3], &[]),
+    (b"^108003", &[1, 3], &[3, 3, 3]),
+    (b"<^108003", &[3], &[]),
+    (b"^*", &[1, 3], &[]),
+    (b"<100005:104001=106004", &[1, 2], &[15, 16, 21]),
+    (b"<(<100005.104001)", &[7], &[]),
+    (b"<100005.104001", &[6, 7], &[]),
+    (b"<100005:{104001=<<106004,105000=*}", &[1], &[35, 30, 39]),
+    (b"<100005:[2..*]{104001=* OR 105000=*}", &[2, 3], &[]),
+    (b"<<106004:[3..3] R 105000=<100005", &[7], &[]),
+    (b"*:105000>#2", &[2, 3], &[15, 15, 17]),
+    (b"<100005:104001=<<106004,105000=*", &[1, 2, 3], &[]),
+    (b"<100005:[2..*]105000=*", &[], &[]),
+    (b"<100005:[1..1]{105000=*}", &[1, 2], &[]),
+    (b"<100005:{[0..0]105000=*}", &[2, 3], &[]),
+    (b"<<100005:[0..0]105000=*", &[0], &[]),
+    (b"<<100005:[0..0]{105000=*}", &[0], &[]),
+    (b"100005,100005", &[0], &[4, 4, 4]),
+    (
+        b"((<100005 OR <106004) MINUS ^108003).104001",
+        &[6],
+        &[26, 26, 26],
+    ),
+    (b"<100005 . 104001 . 105000", &[], &[]),
+    (b"<100005:104001!=106004", &[3], &[]),
+    (b"<100005:105000!=#3", &[2], &[]),
+    (b"<100005:105000=#3", &[3], &[]),
+    (b"*:105000=#2.50", &[2], &[]),
+    (b"*:105000<#+2.6", &[2], &[]),
+    (b"*:R 105000=103007", &[7], &[]),
+    (b"107008,(*:R 104001=103007)", &[7], &[]),
 ];
 
 // How many concepts are in the chain.
@@ -75,13 +85,15 @@ const ASKED: [[Choice; 2]; 3] = [
     [Choice::Scan, Choice::Scan],
 ];
 
-// Whether a plan gives a set that has just some numbers, and counts no less than its floor and no more than its bound.
+// Whether a plan gives a set that has just some numbers, and counts no less than its floor and no more than its bound, and, where
+// that is told, exactly so many items.
 fn is_found<S: ConceptSet>(
     alloc: Global,
     snapshot: &Snapshot,
     indexes: &Indexes,
     physical: &PhysicalPlan,
     want: &[u32],
+    exactly: Option<u64>,
 ) -> Result<bool, AllocError>
     requires { IsIndexOf indexes.now snapshot.now.release }
 {
@@ -89,7 +101,9 @@ fn is_found<S: ConceptSet>(
     let found: S = execute(alloc, physical, snapshot, indexes, &mut visits)?;
     let least = floor(physical, indexes);
     let most = bound(physical, indexes);
-    let counted = least <= visits.count && visits.count <= most;
+    let counted = least <= visits.count
+        && visits.count <= most
+        && exactly.is_none_or(|items| visits.count == items);
     Ok(counted && found.items(alloc)?.as_slice() == want)
 }
 
@@ -100,13 +114,14 @@ fn is_executed(
     indexes: &Indexes,
     physical: &PhysicalPlan,
     want: &[u32],
+    exactly: Option<u64>,
 ) -> Result<bool, AllocError>
     requires { IsIndexOf indexes.now snapshot.now.release }
 {
     Ok(
-        is_found::<SortedSet>(alloc, snapshot, indexes, physical, want)?
-            && is_found::<WordSet>(alloc, snapshot, indexes, physical, want)?
-            && is_found::<MixedSet>(alloc, snapshot, indexes, physical, want)?,
+        is_found::<SortedSet>(alloc, snapshot, indexes, physical, want, exactly)?
+            && is_found::<WordSet>(alloc, snapshot, indexes, physical, want, exactly)?
+            && is_found::<MixedSet>(alloc, snapshot, indexes, physical, want, exactly)?,
     )
 }
 
@@ -119,12 +134,13 @@ fn is_chosen_and_drop(
     plan: ConceptPlan,
     asked: &[Choice],
     want: &[u32],
+    exactly: Option<u64>,
 ) -> Result<bool, AllocError>
     requires { IsIndexOf indexes.now snapshot.now.release }
 {
     match choose_with(alloc, plan, asked, indexes) {
         Ok(physical) => {
-            let is_executed = is_executed(alloc, snapshot, indexes, &physical, want);
+            let is_executed = is_executed(alloc, snapshot, indexes, &physical, want, exactly);
             drop(physical);
             is_executed
         }
@@ -138,13 +154,15 @@ fn is_found_in_each_way(
     snapshot: &Snapshot,
     indexes: &Indexes,
     plan: &ConceptPlan,
-    want: &[u32],
+    row: Row<'_>,
 ) -> Result<bool, AllocError>
     requires { IsIndexOf indexes.now snapshot.now.release }
 {
-    for asked in &ASKED {
+    let (_, want, counts) = row;
+    for (way, asked) in ASKED.iter().enumerate() {
         let same = plan.copy(alloc)?;
-        if !is_chosen_and_drop(alloc, snapshot, indexes, same, asked, want)? {
+        let exactly = counts.get(way).copied();
+        if !is_chosen_and_drop(alloc, snapshot, indexes, same, asked, want, exactly)? {
             return Ok(false);
         }
     }
@@ -156,27 +174,27 @@ fn is_found_and_drop(
     snapshot: &Snapshot,
     indexes: &Indexes,
     plan: ConceptPlan,
-    want: &[u32],
+    row: Row<'_>,
 ) -> Result<bool, AllocError>
     requires { IsIndexOf indexes.now snapshot.now.release }
 {
-    let is_found = is_found_in_each_way(alloc, snapshot, indexes, &plan, want);
+    let is_found = is_found_in_each_way(alloc, snapshot, indexes, &plan, row);
     drop(plan);
     is_found
 }
 
-// Whether just the concepts with some numbers answer a constraint.
+// Whether a constraint is answered as a row says.
 fn is_answered(
     alloc: Global,
     snapshot: &Snapshot,
     indexes: &Indexes,
     constraint: &Constraint,
-    want: &[u32],
+    row: Row<'_>,
 ) -> Result<bool, AllocError>
     requires { IsIndexOf indexes.now snapshot.now.release }
 {
     match lower(alloc, constraint) {
-        Ok(plan) => is_found_and_drop(alloc, snapshot, indexes, plan, want),
+        Ok(plan) => is_found_and_drop(alloc, snapshot, indexes, plan, row),
         Err(AllocError) => Err(AllocError),
     }
 }
@@ -187,11 +205,11 @@ fn assert_answered(
     snapshot: &Snapshot,
     indexes: &Indexes,
     constraint: Constraint,
-    want: &[u32],
+    row: Row<'_>,
 ) -> Result<(), AllocError>
     requires { IsIndexOf indexes.now snapshot.now.release }
 {
-    let holds = is_answered(alloc, snapshot, indexes, &constraint, want);
+    let holds = is_answered(alloc, snapshot, indexes, &constraint, row);
     drop(constraint);
     assert!(rt; holds?);
     Ok(())
@@ -202,30 +220,29 @@ fn assert_executed(
     alloc: Global,
     snapshot: &Snapshot,
     indexes: &Indexes,
-    line: &[u8],
-    want: &[u32],
+    row: Row<'_>,
 ) -> Result<(), AllocError>
     requires { IsIndexOf indexes.now snapshot.now.release }
 {
-    match parse(alloc, line) {
-        Ok(constraint) => assert_answered(rt, alloc, snapshot, indexes, constraint, want),
+    match parse(alloc, row.0) {
+        Ok(constraint) => assert_answered(rt, alloc, snapshot, indexes, constraint, row),
         // no constraint, or there was no memory to read it
         Err(_) => Err(AllocError),
     }
 }
 
-// Queries over a release and its indexes, each by its numbers of concepts.
+// Queries over a release and its indexes.
 fn assert_rows_by(
     rt: &impl Abort,
     alloc: Global,
     snapshot: &Snapshot,
     indexes: &Indexes,
-    rows: &[(&[u8], &[u32])],
+    rows: &[Row<'_>],
 ) -> Result<(), AllocError>
     requires { IsIndexOf indexes.now snapshot.now.release }
 {
-    for (line, want) in rows {
-        assert_executed(rt, alloc, snapshot, indexes, line, want)?;
+    for row in rows {
+        assert_executed(rt, alloc, snapshot, indexes, *row)?;
     }
     Ok(())
 }
@@ -235,7 +252,7 @@ fn assert_rows(
     rt: &impl Abort,
     alloc: Global,
     snapshot: &Snapshot,
-    rows: &[(&[u8], &[u32])],
+    rows: &[Row<'_>],
 ) -> Result<(), AllocError> {
     match Indexes::build(alloc, snapshot) {
         Ok(indexes) => assert_rows_and_drop(rt, alloc, snapshot, indexes, rows),
@@ -248,7 +265,7 @@ fn assert_rows_and_drop(
     alloc: Global,
     snapshot: &Snapshot,
     indexes: Indexes,
-    rows: &[(&[u8], &[u32])],
+    rows: &[Row<'_>],
 ) -> Result<(), AllocError>
     requires { IsIndexOf indexes snapshot.now.release }
 {
@@ -257,12 +274,12 @@ fn assert_rows_and_drop(
     done
 }
 
-// Queries over a release, each by its numbers of concepts.
+// Queries over a release.
 fn assert_all_executed(
     rt: &impl Abort,
     alloc: Global,
     files: &[NamedBytes<'_>],
-    rows: &[(&[u8], &[u32])],
+    rows: &[Row<'_>],
 ) -> Result<(), AllocError> {
     match Snapshot::load(alloc, files, "en", Limits::standard()) {
         Ok(snapshot) => assert_snapshot_and_drop(rt, alloc, snapshot, rows),
@@ -274,7 +291,7 @@ fn assert_snapshot_and_drop(
     rt: &impl Abort,
     alloc: Global,
     snapshot: Snapshot,
-    rows: &[(&[u8], &[u32])],
+    rows: &[Row<'_>],
 ) -> Result<(), AllocError> {
     let done = assert_rows(rt, alloc, &snapshot, rows);
     drop(snapshot);
@@ -300,15 +317,15 @@ fn assert_chain(rt: &impl Abort, alloc: Global) -> Result<(), AllocError> {
     let all = numbers.as_slice();
     let (first, behind) = all.split_at(1);
     let (before, last) = all.split_at(all.len().saturating_sub(1));
-    let wants: [(&[u8], &[u32]); 8] = [
-        (b"<*", behind),
-        (b"<<*", all),
-        (b">*", before),
-        (b">>*", all),
-        (b"<!*", behind),
-        (b">!*", before),
-        (b"!!>*", first),
-        (b"!!<*", last),
+    let wants: [Row<'_>; 8] = [
+        (b"<*", behind, &[]),
+        (b"<<*", all, &[]),
+        (b">*", before, &[]),
+        (b">>*", all, &[]),
+        (b"<!*", behind, &[]),
+        (b">!*", before, &[]),
+        (b"!!>*", first, &[]),
+        (b"!!<*", last, &[]),
     ];
     assert_all_executed(rt, alloc, &files, &wants)
 }
