@@ -193,7 +193,7 @@ pub record IsClosed (tokens : List Symbol → List Symbol) : Type 0 where
   pub closes : (level : ℕ) (rest : List Symbol) → behind_close level (tokens rest) ≡ behind_close level rest
   pub longer : (rest : List Symbol) → length rest ≤ length (tokens rest)
 
-no_bracket_closes : (symbol : Symbol) → is_bracket (kind_of_symbol symbol) ≡ false → (level : ℕ) (rest : List Symbol)
+pub no_bracket_closes : (symbol : Symbol) → is_bracket (kind_of_symbol symbol) ≡ false → (level : ℕ) (rest : List Symbol)
     → behind_close level (symbol ∷ rest) ≡ behind_close level rest
 no_bracket_closes (mark token.RoundOpen) none level rest = absurd (cc)
 no_bracket_closes (mark token.RoundClose) none level rest = absurd (cc)

@@ -1,7 +1,10 @@
+pub mod BracketLemmas
 pub mod Complete
 pub mod EitherLemmas
+pub mod EndLemmas
 pub mod Forms
 pub mod MarkLemmas
+pub mod MatchLemmas
 pub mod ParseLemmas
 pub mod ReadLemmas
 pub mod Shallow

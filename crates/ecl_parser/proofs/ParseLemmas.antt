@@ -20,11 +20,11 @@ use Rattle.ecl_parser.proofs.Forms.{constraint_depth}
 use Rattle.ecl_parser.proofs.Shallow.{fits_most}
 use Rattle.ecl_parser.proofs.Sound.{constraint_derives}
 
-symbols-spelled : (tokens : List Token) → symbols tokens ≡ map symbol_of (map spelled tokens)
+pub symbols-spelled : (tokens : List Token) → symbols tokens ≡ map symbol_of (map spelled tokens)
 symbols-spelled [] = refl
 symbols-spelled (token ∷ tokens) = ap (λ rest. symbol_of (spelled token) ∷ rest) (symbols-spelled tokens)
 
-drop_all : {A : Type 0} (items : List A) (n : ℕ) → length items ≤ n → drop n items ≡ []
+pub drop_all : {A : Type 0} (items : List A) (n : ℕ) → length items ≤ n → drop n items ≡ []
 drop_all [] zero enough = refl
 drop_all [] (suc n) enough = refl
 drop_all (item ∷ items) zero enough = absurd (omega arith)
@@ -76,6 +76,9 @@ left_over tokens at found shallow fewer read = (
 pub none_of_none : {A : Type 0} (items : List A) → length items ≡ 0 → items ≡ []
 none_of_none [] is = refl
 none_of_none (item ∷ items) is = absurd (omega arith)
+
+pub none_shallow : (tokens : List Token) → tokens ≡ [] → is_deep 0 (map spelled tokens) ≡ false
+none_shallow tokens none = ap (λ (found : List Token). is_deep 0 (map spelled found)) none
 
 -- nothing is read where there is no token
 pub nothing_read : (inner : Readers) → constraint_in inner [] ≡ None

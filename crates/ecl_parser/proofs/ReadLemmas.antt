@@ -31,13 +31,13 @@ module _ {T : Type 0} (reader : List Symbol → Found T) (wanted : Mark) where
       rw (is, found, read) (sym (with_more front item (many reader wanted left after)))
 
   -- before the first turn: there are as many turns as tokens from a place on
-  pub no_turn : (tokens : List Token) (at : ℕ) (front : List T)
-      → with_front front (many reader wanted (length tokens - at) (symbols_from tokens at))
+  pub no_turn : (tokens : List Token) (at end : ℕ) (front : List T) → end ≡ length tokens
+      → with_front front (many reader wanted (end - at) (symbols_from tokens at))
       ≡ with_front front (all_behind reader wanted (symbols_from tokens at))
-  no_turn tokens at front =
+  no_turn tokens at end front whole =
       let counted = length-map tokens (λ (token : Token). symbol_of (spelled token)) in
-      let left : length (symbols_from tokens at) ≡ length tokens - at =
-      length-drop at (symbols tokens) ∙ ap (λ (count : ℕ). count - at) counted in
+      let left : length (symbols_from tokens at) ≡ end - at =
+      length-drop at (symbols tokens) ∙ ap (λ (count : ℕ). count - at) (counted ∙ sym whole) in
       ap (λ (turns : ℕ). with_front front (many reader wanted turns (symbols_from tokens at))) (sym left)
 
   -- one more turn, where what is read is put behind the things that stand for what was read before

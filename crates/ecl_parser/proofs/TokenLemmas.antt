@@ -51,3 +51,13 @@ at_token (first ∷ rest) (suc at) token within is =
     let behind : suc at + 1 ≡ suc (suc at) = omega arith in
     at_token rest at token (omega arith) is ∙ ap (λ n. symbol_of (spelled token) ∷ symbols_from rest n) next
     ∙ ap (λ n. symbol_of (spelled token) ∷ symbols_from (first ∷ rest) n) (sym behind)
+
+same_item : (tokens : List Token) (at : ℕ) (one other : Token) → at < length tokens → get_or tokens at one ≡ get_or tokens at other
+same_item [] at one other within = absurd (omega arith)
+same_item (first ∷ rest) zero one other within = refl
+same_item (first ∷ rest) (suc at) one other within = same_item rest at one other (omega arith)
+
+-- the token that is read at a place, whatever is read where there is none
+pub at_place : (tokens : List Token) (at : ℕ) (none : Token) → at < length tokens
+    → symbols_from tokens at ≡ symbol_of (spelled (get_or tokens at none)) ∷ symbols_from tokens (at + 1)
+at_place tokens at none within = at_token tokens at (get_or tokens at none) within (same_item tokens at none (get_or tokens at none) within)

@@ -3,12 +3,12 @@ ghost use Rattle.std.specs.Prelude.{◌≡◌, None, Some, IfSome};
 ghost use Rattle.ecl_parser.specs.inside.Gives.{Gives, symbols_from};
 ghost use Rattle.ecl_parser.specs.inside.Reading.{bounds_at, count_at, most_at};
 
-use crate::tokens::{Mark, take, take_digits};
+use crate::tokens::{Mark, Tokens, take, take_digits};
 use constraint_tree::Cardinality;
-use ecl_lexer::{QueryFault, Token};
+use ecl_lexer::QueryFault;
 
 /// Count: the cardinality at a place, or `[1..*]` where none stands there.
-pub fn count(tokens: &[Token<'_>], at: &mut usize) -> Result<Cardinality, QueryFault>
+pub fn count(tokens: &Tokens<'_>, at: &mut usize) -> Result<Cardinality, QueryFault>
     ensures { Gives (λ found. (found, symbols_from tokens.now at.new)) result (count_at (symbols_from tokens.now at.old)) }
 {
     if !take(Mark::BracketOpen, tokens, at) {
@@ -22,7 +22,7 @@ pub fn count(tokens: &[Token<'_>], at: &mut usize) -> Result<Cardinality, QueryF
 
 // The bounds of a cardinality, and the bracket that closes it.
 #[tactic(auto, unfolding(crate::specs::inside::Reading::bounds_at))]
-fn bounds(tokens: &[Token<'_>], at: &mut usize) -> Option<Cardinality>
+fn bounds(tokens: &Tokens<'_>, at: &mut usize) -> Option<Cardinality>
     ensures some { IfSome result (λ found. bounds_at (symbols_from tokens.now at.old) ≡ Some (found, symbols_from tokens.now at.new)) }
     ensures none { result ≡ None → bounds_at (symbols_from tokens.now at.old) ≡ None }
 {
@@ -38,7 +38,7 @@ fn bounds(tokens: &[Token<'_>], at: &mut usize) -> Option<Cardinality>
 }
 
 // The maximum of a cardinality: `*` is none.
-fn most(tokens: &[Token<'_>], at: &mut usize) -> Option<Option<u64>>
+fn most(tokens: &Tokens<'_>, at: &mut usize) -> Option<Option<u64>>
     ensures some { IfSome result (λ found. most_at (symbols_from tokens.now at.old) ≡ Some (found, symbols_from tokens.now at.new)) }
     ensures none { result ≡ None → most_at (symbols_from tokens.now at.old) ≡ None }
 {

@@ -5,6 +5,7 @@
 //! what is printed of a constraint is read as that constraint.
 #![tactic(auto)]
 
+mod brackets;
 mod counts;
 mod laws;
 mod parser;

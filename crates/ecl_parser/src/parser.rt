@@ -8,12 +8,13 @@ ghost use Rattle.ecl_parser.specs.inside.Reading.{all_behind, constraint_behind,
 
 use crate::counts::count;
 use crate::tokens::{
-    Mark, is_ahead, take, take_bracket, take_compare, take_digits, take_number, take_operator,
+    Mark, Tokens, is_ahead, take, take_bracket, take_compare, take_digits, take_number,
+    take_operator,
 };
 use constraint_tree::{
     Attribute, AttributeSet, Cardinality, Compare, Constraint, Refinement, Test,
 };
-use ecl_lexer::{QueryFault, Token};
+use ecl_lexer::QueryFault;
 use std::alloc::{AllocError, Global};
 
 /// Constraint: a Sub, alone or joined with others, refined, or dotted.
@@ -21,7 +22,7 @@ use std::alloc::{AllocError, Global};
 #[tactic(auto, unfolding(crate::specs::inside::Reading::constraint_in))]
 pub fn constraint(
     alloc: Global,
-    tokens: &[Token<'_>],
+    tokens: &Tokens<'_>,
     at: &mut usize,
     depth: u8,
 ) -> Result<Constraint, QueryFault>
@@ -37,7 +38,7 @@ pub fn constraint(
 fn constraint_behind(
     alloc: Global,
     first: Constraint,
-    tokens: &[Token<'_>],
+    tokens: &Tokens<'_>,
     at: &mut usize,
     depth: u8,
 ) -> Result<Constraint, QueryFault>
@@ -69,7 +70,7 @@ fn joined(
     alloc: Global,
     first: Constraint,
     joint: Mark,
-    tokens: &[Token<'_>],
+    tokens: &Tokens<'_>,
     at: &mut usize,
     depth: u8,
 ) -> Result<Vec<Constraint>, QueryFault>
@@ -85,7 +86,7 @@ fn joined(
 fn dotted(
     alloc: Global,
     start: Constraint,
-    tokens: &[Token<'_>],
+    tokens: &Tokens<'_>,
     at: &mut usize,
     depth: u8,
 ) -> Result<Constraint, QueryFault>
@@ -101,7 +102,7 @@ fn dotted(
 fn refined(
     alloc: Global,
     focus: Constraint,
-    tokens: &[Token<'_>],
+    tokens: &Tokens<'_>,
     at: &mut usize,
     depth: u8,
 ) -> Result<Constraint, QueryFault>
@@ -118,7 +119,7 @@ fn refined(
 fn subtracted(
     alloc: Global,
     first: Constraint,
-    tokens: &[Token<'_>],
+    tokens: &Tokens<'_>,
     at: &mut usize,
     depth: u8,
 ) -> Result<Constraint, QueryFault>
@@ -136,7 +137,7 @@ fn subs(
     alloc: Global,
     mut parts: Vec<Constraint>,
     joint: Mark,
-    tokens: &[Token<'_>],
+    tokens: &Tokens<'_>,
     at: &mut usize,
     depth: u8,
 ) -> Result<Vec<Constraint>, QueryFault>
@@ -161,7 +162,7 @@ fn subs(
 #[tactic(auto, unfolding(crate::specs::inside::Reading::sub_in))]
 fn sub(
     alloc: Global,
-    tokens: &[Token<'_>],
+    tokens: &Tokens<'_>,
     at: &mut usize,
     depth: u8,
 ) -> Result<Constraint, QueryFault>
@@ -182,7 +183,7 @@ fn sub(
 #[tactic(auto, unfolding(crate::specs::inside::Reading::member_in))]
 fn member(
     alloc: Global,
-    tokens: &[Token<'_>],
+    tokens: &Tokens<'_>,
     at: &mut usize,
     depth: u8,
 ) -> Result<Constraint, QueryFault>
@@ -201,7 +202,7 @@ fn member(
 #[tactic(auto, unfolding(crate::specs::inside::Reading::focus_in, crate::specs::inside::Reading::readers))]
 fn focus(
     alloc: Global,
-    tokens: &[Token<'_>],
+    tokens: &Tokens<'_>,
     at: &mut usize,
     depth: u8,
 ) -> Result<Constraint, QueryFault>
@@ -229,7 +230,7 @@ fn focus(
 #[tactic(auto, using(constraint_tree::proofs::TreeLemmas::trees_of_items), unfolding(crate::specs::inside::Reading::refinement_in, crate::specs::inside::Reading::refinement_behind))]
 fn refinement(
     alloc: Global,
-    tokens: &[Token<'_>],
+    tokens: &Tokens<'_>,
     at: &mut usize,
     depth: u8,
 ) -> Result<Refinement, QueryFault>
@@ -255,7 +256,7 @@ fn items(
     alloc: Global,
     mut parts: Vec<Refinement>,
     joint: Mark,
-    tokens: &[Token<'_>],
+    tokens: &Tokens<'_>,
     at: &mut usize,
     depth: u8,
 ) -> Result<Vec<Refinement>, QueryFault>
@@ -280,7 +281,7 @@ fn items(
 #[tactic(auto, unfolding(crate::specs::inside::Reading::item_in, crate::specs::inside::Reading::readers))]
 fn item(
     alloc: Global,
-    tokens: &[Token<'_>],
+    tokens: &Tokens<'_>,
     at: &mut usize,
     depth: u8,
 ) -> Result<Refinement, QueryFault>
@@ -306,7 +307,7 @@ fn item(
 fn counted_item(
     alloc: Global,
     cardinality: Cardinality,
-    tokens: &[Token<'_>],
+    tokens: &Tokens<'_>,
     at: &mut usize,
     depth: u8,
 ) -> Result<Refinement, QueryFault>
@@ -335,7 +336,7 @@ fn counted_item(
 #[tactic(auto, using(constraint_tree::proofs::TreeLemmas::trees_of_items), unfolding(crate::specs::inside::Reading::set_in, crate::specs::inside::Reading::set_behind))]
 fn set(
     alloc: Global,
-    tokens: &[Token<'_>],
+    tokens: &Tokens<'_>,
     at: &mut usize,
     depth: u8,
 ) -> Result<AttributeSet, QueryFault>
@@ -361,7 +362,7 @@ fn parts(
     alloc: Global,
     mut list: Vec<AttributeSet>,
     joint: Mark,
-    tokens: &[Token<'_>],
+    tokens: &Tokens<'_>,
     at: &mut usize,
     depth: u8,
 ) -> Result<Vec<AttributeSet>, QueryFault>
@@ -386,7 +387,7 @@ fn parts(
 #[tactic(auto, unfolding(crate::specs::inside::Reading::part_in, crate::specs::inside::Reading::readers))]
 fn part(
     alloc: Global,
-    tokens: &[Token<'_>],
+    tokens: &Tokens<'_>,
     at: &mut usize,
     depth: u8,
 ) -> Result<AttributeSet, QueryFault>
@@ -414,7 +415,7 @@ fn pair(
     alloc: Global,
     count: Cardinality,
     reverse: bool,
-    tokens: &[Token<'_>],
+    tokens: &Tokens<'_>,
     at: &mut usize,
     depth: u8,
 ) -> Result<Attribute, QueryFault>
@@ -439,7 +440,7 @@ fn pair(
 fn test(
     alloc: Global,
     compare: Compare,
-    tokens: &[Token<'_>],
+    tokens: &Tokens<'_>,
     at: &mut usize,
     depth: u8,
 ) -> Result<Test, QueryFault>

@@ -9,13 +9,12 @@ ghost use Rattle.constraint_tree.specs.Text.{constraint_text};
 ghost use Rattle.constraint_tree.specs.Tree.{Tree, tree_of};
 ghost use Rattle.ecl_parser.specs.inside.Answers.{AreFaulty};
 
+use crate::brackets::{MOST_OPEN, bracket_ends};
 use crate::parser::constraint;
+use crate::tokens::Tokens;
 use constraint_tree::Constraint;
-use ecl_lexer::{QueryFault, Token, TokenKind, lex};
+use ecl_lexer::{QueryFault, Token, lex};
 use std::alloc::Global;
-
-// So many brackets may be open at once.
-const MOST_OPEN: u8 = 64;
 
 /// The constraint that a text is (Expression Constraint Language 2.2, 5.1 "Brief syntax"), or its first
 /// refusal: `Long` above 65,535 bytes; `Utf8`; at the least offset the first of `Unsupported`, `Token`
@@ -66,14 +65,16 @@ fn tree(alloc: Global, tokens: &[Token<'_>]) -> Result<Constraint, QueryFault>
     ensures fault { IfErr result (AreFaulty (map spelled tokens.now)) }
     ensures empty { tokens.now ≡ [] → result ≡ Err Syntax }
 {
-    if is_deep(tokens) {
-        return Err(QueryFault::Depth);
-    }
     if tokens.is_empty() {
         return Err(QueryFault::Syntax);
     }
+    let ends = match bracket_ends(alloc, tokens) {
+        Ok(ends) => ends,
+        Err(fault) => return Err(fault),
+    };
+    let tokens = Tokens::new(tokens, ends.as_slice());
     let mut at = 0usize;
-    let found = match constraint(alloc, tokens, &mut at, MOST_OPEN) {
+    let found = match constraint(alloc, &tokens, &mut at, MOST_OPEN as u8) {
         Ok(found) => found,
         Err(fault) => return Err(fault),
     };
@@ -81,25 +82,4 @@ fn tree(alloc: Global, tokens: &[Token<'_>]) -> Result<Constraint, QueryFault>
         return Err(QueryFault::Syntax);
     }
     Ok(found)
-}
-
-// Whether more brackets are open at once than may be. A closing bracket closes one, if any is open,
-// whether it is round or a brace.
-fn is_deep(tokens: &[Token<'_>]) -> bool
-    ensures { result ≡ is_deep_at 0 (map spelled tokens.now) }
-{
-    let mut count = 0u8;
-    for token in tokens {
-        match token.kind {
-            TokenKind::RoundOpen | TokenKind::BraceOpen => {
-                if count == MOST_OPEN {
-                    return true;
-                }
-                count += 1;
-            }
-            TokenKind::RoundClose | TokenKind::BraceClose => count = count.saturating_sub(1),
-            _ => {}
-        }
-    }
-    false
 }

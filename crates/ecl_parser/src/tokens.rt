@@ -1,14 +1,65 @@
-//! The tokens of a text one after another, from a place on.
-ghost use Rattle.std.specs.Prelude.{◌≡◌, ◌+◌, ◌<◌, ◌≤◌, ◌∷◌, [], false, true, None, Some, IfSome, drop, length, option_map};
+//! The tokens of a text one after another, from a place on. The end of each bracket is known, so that what stands
+//! behind it is not searched for.
+ghost use Rattle.std.specs.Prelude.{◌≡◌, ◌+◌, ◌<◌, ◌^◌, ◌∷◌, [], false, true, None, Some, IfSome, drop, length, option_map};
 ghost use Rattle.numerals.specs.Decimals.{decimal_of};
 ghost use Rattle.ecl_lexer.specs.Tokens.{spelled};
 ghost use Rattle.constraint_tree.specs.Grammar.{symbol_of};
-ghost use Rattle.ecl_parser.specs.inside.Gives.{symbols_from};
+ghost use Rattle.ecl_parser.specs.declared.tokens.Mark.TheVariants as marks;
+ghost use Rattle.ecl_parser.specs.inside.Brackets.{AreEnds};
+ghost use Rattle.ecl_parser.specs.inside.Gives.{symbols, symbols_from};
 ghost use Rattle.ecl_parser.specs.inside.Reading.{behind, behind_close as behind_close_of, bracketed_at, compare_at, compare_of as comparison_of, digits_at, is_mark as is_marked, number_at, operator_at, operator_of as walk_of, stands};
 
 use constraint_tree::{Compare, Operator};
 use ecl_lexer::{Token, TokenKind};
 use numerals::{Decimal, decimal, digits};
+use std::marker::Model;
+
+/// The tokens of a text, whose brackets match. Contracts see the list of them.
+#[derive(Drop)]
+pub struct Tokens<'a> {
+    tokens: &'a [Token<'a>],
+    // for each `(` the place behind the `)` that closes it
+    ends: &'a [usize],
+}
+
+impl<'a> Model for Tokens<'a> {
+    ghost use Rattle.std.specs.Prelude.{List};
+    ghost use Rattle.ecl_lexer.specs.declared.token.Token.{Token};
+
+    ghost Value = { List Token };
+
+    ghost use Rattle.ecl_parser.specs.inside.TokensInside.{HaveEnds, tokens_in};
+
+    ghost view = { tokens_in };
+
+    ghost invariant = { HaveEnds };
+}
+
+impl<'a> Tokens<'a> {
+    /// Tokens with the ends of their brackets.
+    pub fn new(tokens: &'a [Token<'a>], ends: &'a [usize]) -> Tokens<'a>
+        requires { AreEnds (symbols tokens.now) ends.now }
+        ensures { result ≡ tokens.now }
+    {
+        Tokens { tokens, ends }
+    }
+
+    /// How many there are.
+    pub fn len(&self) -> usize
+        ensures { result ≡ length self.now }
+    {
+        self.tokens.len()
+    }
+
+    // The place behind the bracket that closes the round one at a place.
+    fn behind_close(&self, place: usize) -> usize
+        requires { stands marks.RoundOpen (symbols_from self.now place) ≡ true }
+        ensures { symbols_from self.now result ≡ behind_close_of 0 (symbols_from self.now (place + 1)) }
+    {
+        let ends = self.ends;
+        ends[place]
+    }
+}
 
 /// The kinds of token that say nothing but where they stand.
 #[derive(Clone, Copy)]
@@ -90,12 +141,13 @@ fn compare_of(kind: TokenKind) -> Option<Compare>
 }
 
 /// The token at a place, if the tokens go so far.
-pub fn token_at<'t>(tokens: &[Token<'t>], at: usize) -> Option<Token<'t>>
+pub fn token_at<'a>(tokens: &Tokens<'a>, at: usize) -> Option<Token<'a>>
     ensures front { IfSome result (λ token. symbols_from tokens.now at ≡ symbol_of (spelled token) ∷ symbols_from tokens.now (at + 1)) }
     ensures within { IfSome result (λ token. at < length tokens.now) }
+    ensures next { IfSome result (λ token. at + 1 < 2 ^ 64) }
     ensures none { result ≡ None → symbols_from tokens.now at ≡ [] }
 {
-    match tokens.get(at) {
+    match tokens.tokens.get(at) {
         Some(token) => Some(*token),
         None => None,
     }
@@ -103,9 +155,10 @@ pub fn token_at<'t>(tokens: &[Token<'t>], at: usize) -> Option<Token<'t>>
 
 /// Whether a token of a kind stands at a place.
 #[tactic(auto, using(crate::proofs::TokenLemmas::behind_symbol))]
-pub fn is_ahead(wanted: Mark, tokens: &[Token<'_>], at: usize) -> bool
+pub fn is_ahead(wanted: Mark, tokens: &Tokens<'_>, at: usize) -> bool
     ensures kind { result ≡ stands wanted (symbols_from tokens.now at) }
     ensures within { result ≡ true → at < length tokens.now }
+    ensures next { result ≡ true → at + 1 < 2 ^ 64 }
     ensures rest { result ≡ true → behind wanted (symbols_from tokens.now at) ≡ Some (symbols_from tokens.now (at + 1)) }
 {
     match token_at(tokens, at) {
@@ -115,7 +168,7 @@ pub fn is_ahead(wanted: Mark, tokens: &[Token<'_>], at: usize) -> bool
 }
 
 /// Goes on behind a token of a kind, if one stands there.
-pub fn take(wanted: Mark, tokens: &[Token<'_>], at: &mut usize) -> bool
+pub fn take(wanted: Mark, tokens: &Tokens<'_>, at: &mut usize) -> bool
     ensures taken { result ≡ true → behind wanted (symbols_from tokens.now at.old) ≡ Some (symbols_from tokens.now at.new) }
     ensures left { result ≡ false → behind wanted (symbols_from tokens.now at.old) ≡ None }
     ensures same { result ≡ false → at.new ≡ at.old }
@@ -130,7 +183,7 @@ pub fn take(wanted: Mark, tokens: &[Token<'_>], at: &mut usize) -> bool
 
 /// Goes on behind an operator, if one stands there.
 #[tactic(auto, using(crate::proofs::TokenLemmas::operator_symbol))]
-pub fn take_operator(tokens: &[Token<'_>], at: &mut usize) -> Option<Operator>
+pub fn take_operator(tokens: &Tokens<'_>, at: &mut usize) -> Option<Operator>
     ensures taken { IfSome result (λ operator. operator_at (symbols_from tokens.now at.old) ≡ Some (operator, symbols_from tokens.now at.new)) }
     ensures left { result ≡ None → operator_at (symbols_from tokens.now at.old) ≡ None }
     ensures same { result ≡ None → at.new ≡ at.old }
@@ -144,7 +197,7 @@ pub fn take_operator(tokens: &[Token<'_>], at: &mut usize) -> Option<Operator>
 
 /// Goes on behind a comparison, if one stands there.
 #[tactic(auto, using(crate::proofs::TokenLemmas::compare_symbol))]
-pub fn take_compare(tokens: &[Token<'_>], at: &mut usize) -> Option<Compare>
+pub fn take_compare(tokens: &Tokens<'_>, at: &mut usize) -> Option<Compare>
     ensures taken { IfSome result (λ compare. compare_at (symbols_from tokens.now at.old) ≡ Some (compare, symbols_from tokens.now at.new)) }
     ensures left { result ≡ None → compare_at (symbols_from tokens.now at.old) ≡ None }
 {
@@ -156,7 +209,7 @@ pub fn take_compare(tokens: &[Token<'_>], at: &mut usize) -> Option<Compare>
 }
 
 /// Goes on behind digits, 18 at the most and no fewer than `least`, if they stand there: their number.
-pub fn take_digits(least: usize, tokens: &[Token<'_>], at: &mut usize) -> Option<u64>
+pub fn take_digits(least: usize, tokens: &Tokens<'_>, at: &mut usize) -> Option<u64>
     ensures taken { IfSome result (λ number. digits_at least (symbols_from tokens.now at.old) ≡ Some (number, symbols_from tokens.now at.new)) }
     ensures left { result ≡ None → digits_at least (symbols_from tokens.now at.old) ≡ None }
     ensures same { result ≡ None → at.new ≡ at.old }
@@ -174,7 +227,7 @@ pub fn take_digits(least: usize, tokens: &[Token<'_>], at: &mut usize) -> Option
 }
 
 /// Goes on behind a number, if one stands there.
-pub fn take_number(tokens: &[Token<'_>], at: &mut usize) -> Option<Decimal>
+pub fn take_number(tokens: &Tokens<'_>, at: &mut usize) -> Option<Decimal>
     ensures taken { IfSome result (λ number. number_at (symbols_from tokens.now at.old) ≡ Some (number.0, symbols_from tokens.now at.new)) }
     ensures left { result ≡ None → number_at (symbols_from tokens.now at.old) ≡ None }
     ensures same { result ≡ None → at.new ≡ at.old }
@@ -203,7 +256,7 @@ fn number(text: &[u8]) -> Option<Decimal>
 
 /// Goes on behind a `(` that does not begin the name of an attribute, if one stands there: no
 /// comparison follows the brackets.
-pub fn take_bracket(tokens: &[Token<'_>], at: &mut usize) -> bool
+pub fn take_bracket(tokens: &Tokens<'_>, at: &mut usize) -> bool
     ensures taken { result ≡ true → bracketed_at (symbols_from tokens.now at.old) ≡ Some (symbols_from tokens.now at.new) }
     ensures left { result ≡ false → bracketed_at (symbols_from tokens.now at.old) ≡ None }
     ensures same { result ≡ false → at.new ≡ at.old }
@@ -212,34 +265,10 @@ pub fn take_bracket(tokens: &[Token<'_>], at: &mut usize) -> bool
     if !is_ahead(Mark::RoundOpen, tokens, place) {
         return false;
     }
-    let mut behind = behind_close(tokens, place + 1);
+    let mut behind = tokens.behind_close(place);
     if take_compare(tokens, &mut behind).is_some() {
         return false;
     }
     *at = place + 1;
     true
-}
-
-// The place behind the bracket that closes the one before a place.
-fn behind_close(tokens: &[Token<'_>], from: usize) -> usize
-    requires { from ≤ length tokens.now }
-    ensures { symbols_from tokens.now result ≡ behind_close_of 0 (symbols_from tokens.now from) }
-{
-    let mut level = 0usize;
-    for place in from..tokens.len() {
-        let Some(token) = token_at(tokens, place) else {
-            break;
-        };
-        match token.kind {
-            TokenKind::RoundOpen => level += 1,
-            TokenKind::RoundClose => {
-                if level == 0 {
-                    return place + 1;
-                }
-                level -= 1;
-            }
-            _ => {}
-        }
-    }
-    tokens.len()
 }

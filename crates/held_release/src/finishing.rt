@@ -21,18 +21,21 @@ use crate::lines::{ConceptLines, lines_among};
 use crate::numbered_attributes::number_attributes;
 use crate::numbering::number_rows;
 use crate::sorted_attributes::{SortedAttributes, sort_by_source};
+use first_met::Seed;
 use hierarchy::{least_cyclic, parents_first};
 use row_lists::{Attributes, LoadFault, Names, ReadRows, RowLists};
 use sctid::SctId;
 use std::alloc::{AllocError, Global};
 
 /// The release that the rows make which were read of so many files: its concepts in force are numbered in rising order, and the rows
-/// between them kept; names in a language come first. The fault is `Cycle`, with the least concept that reaches itself, or `Memory`.
+/// between them kept; names in a language come first. What the rows hold is hashed over `seed`, which the release keeps. The fault is
+/// `Cycle`, with the least concept that reaches itself, or `Memory`.
 pub fn finish(
     alloc: Global,
     read: ReadRows,
     language: String,
     files: u64,
+    seed: Seed,
 ) -> Result<Snapshot, LoadFault>
     requires { AreFew read.count (read_in read.lists) }
     ensures ok { IfOk result (λ snapshot. finished (string_bytes language) files read.count (read_in read.lists) ≡ Ok snapshot) }
@@ -59,6 +62,7 @@ pub fn finish(
                 language.as_str(),
                 attributes,
                 member_ends.as_slice(),
+                seed,
             )?;
             let Lists {
                 lines,
@@ -80,6 +84,7 @@ pub fn finish(
                 language,
                 files,
                 passed: count.saturating_sub(listed),
+                seed,
             })
         }
         Err(fault) => Err(fault),
@@ -103,6 +108,7 @@ fn lists_among(
     language: &str,
     attributes: Attributes,
     member_ends: &[(SctId, SctId)],
+    seed: Seed,
 ) -> Result<Lists, AllocError>
     requires few { length names < 2 ^ 32 }
     requires few_attributes { length attributes < 2 ^ 31 }
@@ -112,7 +118,7 @@ fn lists_among(
     ensures sorted { IfOk result (λ lists. IsSortedBySource concepts.now lists.attributes) }
     ensures members { IfOk result (λ lists. lists.members.items ≡ filter_map (numbered_row concepts.now) member_ends.now) }
 {
-    let attributes = sorted_among(alloc, concepts, attributes)?;
+    let attributes = sorted_among(alloc, concepts, attributes, seed)?;
     let members = number_rows(alloc, concepts, member_ends)?;
     let lines = lines_among(alloc, concepts, names, language)?;
     Ok(Lists {
@@ -128,6 +134,7 @@ fn sorted_among(
     alloc: Global,
     concepts: &Concepts,
     attributes: Attributes,
+    seed: Seed,
 ) -> Result<SortedAttributes, AllocError>
     requires { length attributes < 2 ^ 31 }
     ensures order { IfOk result (λ sorted. in_file_order concepts.now sorted ≡ attributes_among concepts.now attributes) }
@@ -135,7 +142,7 @@ fn sorted_among(
 {
     let numbered = number_attributes(alloc, concepts, &attributes)?;
     drop(attributes);
-    sort_by_source(alloc, concepts, numbered)
+    sort_by_source(alloc, concepts, numbered, seed)
 }
 
 // The is-a rows by the numbers of their ends.

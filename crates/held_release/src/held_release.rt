@@ -15,6 +15,7 @@ use crate::concepts::Concepts;
 use crate::lines::ConceptLines;
 use crate::report::Report;
 use crate::sorted_attributes::{AttributeNumbers, AttributeRow, NumberedValue, SortedAttributes};
+use first_met::Seed;
 use rf2_rows::Value;
 use sctid::SctId;
 use std::marker::Model;
@@ -42,6 +43,8 @@ pub struct Snapshot {
     pub(crate) files: u64,
     // how many rows are in none of the lists
     pub(crate) passed: u64,
+    // the seed of the hashes over what the rows hold
+    pub(crate) seed: Seed,
 }
 
 impl Model for Snapshot {
@@ -57,6 +60,11 @@ impl Model for Snapshot {
 }
 
 impl Snapshot {
+    /// The seed of the hashes over what the files hold, as the source of the files told it.
+    pub fn seed(&self) -> Seed {
+        self.seed
+    }
+
     /// How many concepts are in force: fewer than 2^31.
     pub fn concept_count(&self) -> u32
         ensures count { result ≡ length self.now.release.concepts }

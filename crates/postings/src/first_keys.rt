@@ -3,11 +3,11 @@ ghost use Rattle.std.specs.Prelude.{◌≡◌, ◌<◌, ◌^◌, IfOk, OnOk, [],
 ghost use Rattle.std.specs.List.{list_any, position_or_len};
 ghost use Rattle.first_met.specs.FirstMet.{keys_behind};
 
-use first_met::FirstMet;
+use first_met::{FirstMet, Seed};
 use std::alloc::{AllocError, Global};
 use std::marker::Model;
 
-// So many keys are looked through one by one, which takes less time than to go down a tree.
+// So many keys are looked through one by one, which takes less time than to hash one.
 const FEW: usize = 16;
 
 /// Keys in the order in which they were first met, each once. Contracts see the list of them. The first few ask for
@@ -18,6 +18,8 @@ pub struct FirstKeys {
     few: Vec<u128>,
     // those behind them
     others: FirstMet,
+    // over which the others are hashed
+    seed: Seed,
 }
 
 impl Model for FirstKeys {
@@ -33,13 +35,14 @@ impl Model for FirstKeys {
 }
 
 impl FirstKeys {
-    /// No key.
-    pub fn new(alloc: Global) -> FirstKeys
+    /// No key. Those that are met are hashed over `seed`.
+    pub fn new(alloc: Global, seed: Seed) -> FirstKeys
         ensures { result ≡ [] }
     {
         FirstKeys {
             few: Vec::new(alloc),
-            others: FirstMet::new(alloc),
+            others: FirstMet::new(alloc, seed),
+            seed,
         }
     }
 
@@ -49,7 +52,7 @@ impl FirstKeys {
     {
         // none is behind the few where these have room for more
         if self.few.len() >= FEW {
-            self.others = FirstMet::new(alloc);
+            self.others = FirstMet::new(alloc, self.seed);
         }
         self.few.clear();
     }

@@ -11,6 +11,7 @@ ghost use Rattle.postings.specs.Places.{places_by};
 use crate::first_keys::FirstKeys;
 use crate::flagged_number::FlaggedNumber;
 use crate::rows::CodedRow;
+use first_met::Seed;
 use number_lists::{KeyedLists, keep_rising};
 use std::alloc::{AllocError, Global};
 
@@ -45,11 +46,13 @@ struct Tables {
     ungrouped: FirstKeys,
 }
 
-/// The marks of rows that stand source by source. `by_source` has for each source the places of its rows.
+/// The marks of rows that stand source by source. `by_source` has for each source the places of its rows. Pairs are
+/// hashed over `seed`.
 pub fn row_marks(
     alloc: Global,
     rows: &[CodedRow],
     by_source: &KeyedLists,
+    seed: Seed,
 ) -> Result<RowMarks, AllocError>
     requires few { length rows.now < 2 ^ 31 }
     requires few_sources { length by_source.now < 2 ^ 31 }
@@ -61,8 +64,8 @@ pub fn row_marks(
         own: Vec::new(alloc),
         tables: Tables {
             numbers: Vec::new(alloc),
-            seen: FirstKeys::new(alloc),
-            ungrouped: FirstKeys::new(alloc),
+            seen: FirstKeys::new(alloc, seed),
+            ungrouped: FirstKeys::new(alloc, seed),
         },
     };
     let marks = marks_in(alloc, rows, by_source, &mut room);

@@ -15,6 +15,7 @@ use crate::groups::{RowMarks, row_marks};
 use crate::lists::{places_among, places_by_key};
 use crate::rows::{CodedRow, coded_rows};
 use crate::values::Values;
+use first_met::Seed;
 use held_release::{Snapshot, Types};
 use number_lists::KeyedLists;
 use std::alloc::{AllocError, Global};
@@ -105,7 +106,12 @@ pub fn row_indexes(alloc: Global, snapshot: &Snapshot) -> Result<RowIndexes, All
 {
     let coded = coded_rows(alloc, snapshot)?;
     let count = snapshot.concept_count();
-    let (marks, row_numbers) = marks_by_source(alloc, count, coded.rows.as_slice())?;
+    let (marks, row_numbers) = marks_by_source(
+        alloc,
+        count,
+        coded.rows.as_slice(),
+        snapshot.seed(),
+    )?;
     let groups = group_lists(alloc, &marks, coded.rows.as_slice())?;
     let keys = row_keys(alloc, coded.rows.as_slice())?;
     let (types, values) = coded.into_tables();
@@ -177,11 +183,12 @@ fn lists_by_keys(
     })
 }
 
-// The marks of the rows, and the rows of all sources, one source behind the other.
+// The marks of the rows, whose pairs are hashed over `seed`, and the rows of all sources, one source behind the other.
 fn marks_by_source(
     alloc: Global,
     count: u32,
     rows: &[CodedRow],
+    seed: Seed,
 ) -> Result<(RowMarks, Vec<u32>), AllocError>
     requires few { length rows.now < 2 ^ 31 }
     requires few_sources { count < 2 ^ 31 }
@@ -191,7 +198,7 @@ fn marks_by_source(
 {
     let sources = sources_of(alloc, rows)?;
     let by_source = places_by_key(alloc, count, sources.as_slice())?;
-    let marks = row_marks(alloc, rows, &by_source)?;
+    let marks = row_marks(alloc, rows, &by_source, seed)?;
     let numbers = Vec::from_slice(alloc, by_source.flat())?;
     Ok((marks, numbers))
 }

@@ -32,7 +32,7 @@ pub fn coded_rows(alloc: Global, snapshot: &Snapshot) -> Result<CodedRows, Alloc
 {
     let values = row_values(alloc, snapshot)?;
     let mut types = Types {
-        numbers: FirstMet::new(alloc),
+        numbers: FirstMet::new(alloc, snapshot.seed()),
         ids: Vec::new(alloc),
     };
     let mut near = near_types(alloc)?;

@@ -25,6 +25,7 @@ pub trait QueryEngine: AnswerLine + Drop {
 
     /// Loads the Snapshot files of a list, with the names of a language first, or answers the first fault, as
     /// `Snapshot::load` does, or want of memory.
+    /// As `Snapshot::load` it is for files that one trusts.
     fn load(
         alloc: Global,
         files: &[NamedBytes<'_>],

@@ -102,10 +102,41 @@ fn gives_the_files_of_folders(rt: HostRuntime) {
     }
 }
 
+#[test]
+fn draws_the_seed_from_the_system(rt: HostRuntime) {
+    assert!(rt; seed_of(&rt, Some(0x5a)) == Ok(0x5a5a5a5a_5a5a5a5a_5a5a5a5a_5a5a5a5a));
+}
+
+// The seed of a source over a system whose random bytes are all the same.
+fn seed_of(rt: &HostRuntime, random: Option<u8>) -> Result<u128, AllocError> {
+    let folders = texts(rt.alloc(), &["extension"])?;
+    let system = TestFolders::new(rt.clone()?, NODES, random);
+    let source = FolderSource::new(&system, folders.as_slice());
+    Ok(source.seed().bits)
+}
+
+#[test]
+fn lists_nothing_where_no_seed_is_drawn(rt: HostRuntime) {
+    assert!(rt; fails_without_seed(&rt) == Ok(true));
+}
+
+// Whether the listing is a failure of the device, each time, where the random bytes fail.
+fn fails_without_seed(rt: &HostRuntime) -> Result<bool, AllocError> {
+    let folders = texts(rt.alloc(), &["extension"])?;
+    let system = TestFolders::new(rt.clone()?, NODES, None);
+    let mut source = FolderSource::new(&system, folders.as_slice());
+    Ok(
+        lists(&mut source, Err(SourceFault::Device))
+            && source.failures() == 1
+            && lists(&mut source, Err(SourceFault::Device))
+            && source.failures() == 2,
+    )
+}
+
 // Whether a source over the folders of a case gives what the case tells.
 fn holds(rt: &HostRuntime, case: &Case<'_>) -> Result<bool, AllocError> {
     let folders = texts(rt.alloc(), case.0)?;
-    let system = TestFolders::new(rt.clone()?, NODES);
+    let system = TestFolders::new(rt.clone()?, NODES, Some(0));
     Ok(source_gives(&system, folders.as_slice(), case))
 }
 

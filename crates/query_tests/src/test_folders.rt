@@ -4,6 +4,7 @@ ghost use Rattle.std.specs.Prelude.{IsErr};
 use std::alloc::{Alloc, Allocator, Global};
 use std::fs::{Files, Metadata, OpenFile, OpenOptions};
 use std::io::{ErrorKind, Read, Seek, SeekFrom, Write};
+use std::random::RandomSource;
 use std::{fs, io};
 
 /// What stands at a path.
@@ -24,16 +25,22 @@ pub enum Node {
     Unseen(ErrorKind),
 }
 
-/// A file system of what stands at some paths.
+/// A file system of what stands at some paths, with random bytes.
 #[derive(Clone, Drop)]
 pub struct TestFolders {
     rt: HostRuntime,
     nodes: &'static [(&'static str, Node)],
+    // what each random byte is; none where they fail
+    random: Option<u8>,
 }
 
 impl TestFolders {
-    pub fn new(rt: HostRuntime, nodes: &'static [(&'static str, Node)]) -> TestFolders {
-        TestFolders { rt, nodes }
+    pub fn new(
+        rt: HostRuntime,
+        nodes: &'static [(&'static str, Node)],
+        random: Option<u8>,
+    ) -> TestFolders {
+        TestFolders { rt, nodes, random }
     }
 
     // What stands at a path, which may end in a `/`.
@@ -67,6 +74,18 @@ impl Alloc for TestFolders {
 
     fn alloc(&self) -> Global {
         self.rt.alloc()
+    }
+}
+
+impl RandomSource for TestFolders {
+    fn fill_bytes(&self, buffer: &mut [u8]) -> io::Result<()> {
+        match self.random {
+            Some(byte) => {
+                buffer.fill(byte);
+                Ok(())
+            }
+            None => unsupported(),
+        }
     }
 }
 

@@ -49,6 +49,7 @@ impl Model for Engine {
 impl Engine {
     /// Loads the Snapshot files of a list, with the names of a language first, or answers the first
     /// fault as `Snapshot::load` does.
+    /// As `Snapshot::load` it is for files that one trusts.
     pub fn load(
         alloc: Global,
         files: &[NamedBytes<'_>],

@@ -9,7 +9,8 @@ use std::alloc::{AllocError, Global};
 use std::marker::Model;
 
 /// Files in memory as a source. It borrows the files, and takes memory for the names that it lists
-/// alone. Contracts see the files, what is left of the open one, and what is counted.
+/// alone. Its seed is fixed: they are files that one trusts. Contracts see the files, what is left of
+/// the open one, and what is counted.
 #[derive(Debug, Drop)]
 pub struct MemoryFiles<'a> {
     alloc: Global,

@@ -3,6 +3,8 @@ ghost use Rattle.std.specs.Prelude.{◌≡◌, ℕ, ◌≤◌, Err, None, IfOk, 
 ghost use Rattle.std.specs.Io.KnownBytes.{IsAtEnd, Keeps};
 ghost use Rattle.release_files.specs.Source.{CountsFailures, FileText, Opens, ReadsNext, bytes_of, source_fault_number};
 
+use first_met::Seed;
+
 /// Why a source of files gave no answer.
 #[derive(Clone, Copy, Debug, PartialEq, Eq)]
 pub enum SourceFault {
@@ -44,6 +46,13 @@ pub trait FileSource {
     /// How many failures there were. The count stands still at `u64::MAX`.
     fn failures(&self) -> u64
         ensures { result ≡ failure_count self.now };
+
+    /// The seed of the hashes over what the files hold, which stays the same. It is fixed unless a source tells one of its
+    /// own. Whoever knows the seed can make files that take very long to load: a source of files that one does not trust
+    /// draws it (`Seed::draw`).
+    fn seed(&self) -> Seed {
+        Seed::FIXED
+    }
 
     /// The names of the files: the path of each below the folder of the release, with `/` between
     /// its parts. The open file stays open.

@@ -46,7 +46,7 @@ pub fn read_rows<P: PlaceSource>(
     ensures told { P.told files.new ≡ P.told files.old }
     ensures reference { P.reference files.new ≡ P.reference files.old }
 {
-    let mut rows = Rows::new(alloc, limits);
+    let mut rows = Rows::new(alloc, limits, files.seed());
     match files.take_places(&mut rows) {
         Ok(()) => choose_rows(alloc, files, rows),
         Err(fault) => Err(first_of_faults(alloc, files, &rows.keys, fault)),
@@ -202,7 +202,7 @@ fn compare<P: PlaceSource>(
     ensures told { P.told files.new ≡ P.told files.old }
     ensures reference { P.reference files.new ≡ P.reference files.old }
 {
-    let versions = Versions::new(alloc, repeated);
+    let versions = Versions::new(alloc, repeated, files.seed());
     let mut comparing = Comparing::new(keys, versions);
     match files.take_places(&mut comparing) {
         Ok(()) => {

@@ -3,7 +3,7 @@ ghost use Rattle.std.specs.Prelude.{◌≡◌, ◌<◌, ◌^◌, IfOk, IfSome, I
 ghost use Rattle.rf2_rows.specs.RowTexts.{text_in};
 ghost use Rattle.release_rows.specs.inside.Keys.{IsMet, IsShort, key_in, keyed_behind, no_keys, uuids_behind};
 
-use first_met::FirstMet;
+use first_met::{FirstMet, Seed};
 use rf2_rows::Row;
 use sctid::SctId;
 use std::alloc::{AllocError, Global};
@@ -37,11 +37,12 @@ impl Model for RowKeys {
 }
 
 impl RowKeys {
-    pub fn new(alloc: Global) -> RowKeys
+    /// No key. UUIDs are hashed over `seed`.
+    pub fn new(alloc: Global, seed: Seed) -> RowKeys
         ensures { result ≡ no_keys }
     {
         RowKeys {
-            uuids: FirstMet::new(alloc),
+            uuids: FirstMet::new(alloc, seed),
             keys: Vec::new(alloc),
         }
     }

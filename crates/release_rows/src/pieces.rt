@@ -11,6 +11,7 @@ ghost use Rattle.release_rows.specs.Traversal.{StopsAt, TakesAll};
 ghost use Rattle.release_rows.specs.DeviceFaults.{FailsAtRead, FailsOnlyBelow, FileIs, RaisesOnlyAtDevice, is_device};
 
 use crate::places::{Met, PlaceSource, PlaceTaker};
+use first_met::Seed;
 use release_files::{FileSource, PieceLines, SourceFault};
 use rf2_rows::{FileKind, file_kind};
 use row_lists::LoadFault;
@@ -45,6 +46,10 @@ impl<'a, S: FileSource> PlaceSource for PiecePlaces<'a, S> {
 
     fn last_file(&self) -> usize {
         self.names.len().saturating_sub(1)
+    }
+
+    fn seed(&self) -> Seed {
+        self.source.seed()
     }
 
     fn take_places<T: PlaceTaker>(&mut self, taker: &mut T) -> Result<(), LoadFault> {

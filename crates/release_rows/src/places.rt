@@ -6,6 +6,7 @@ ghost use Rattle.release_rows.specs.Files.{later_line, places_from, places_of_fi
 ghost use Rattle.release_rows.specs.Traversal.{StopsAt, TakesAll, place_of};
 ghost use Rattle.release_rows.specs.DeviceFaults.{FileIs, is_device};
 
+use first_met::Seed;
 use release_files::{Line, Lines, NamedBytes};
 use rf2_rows::{FileKind, file_kind};
 use row_lists::LoadFault;
@@ -75,6 +76,9 @@ pub trait PlaceSource {
     fn last_file(&self) -> usize
         ensures { result ≡ file_count self.now - 1 };
 
+    /// The seed of the hashes over what the files hold.
+    fn seed(&self) -> Seed;
+
     /// Goes over the places in turn, from the first one on.
     fn take_places<T: PlaceTaker>(&mut self, taker: &mut T) -> Result<(), LoadFault>
         ensures ok { IfSome (places self.old) (λ known. OnOk result (TakesAll T.takes taker.old known taker.new)) }
@@ -92,7 +96,7 @@ pub trait PlaceSource {
         ensures reference { reference self.new ≡ reference self.old };
 }
 
-/// Files in memory as places.
+/// Files in memory as places. Their seed is fixed: they are files that one trusts.
 #[derive(Drop)]
 pub struct MemoryPlaces<'a> {
     pub files: &'a [NamedBytes<'a>],
@@ -117,6 +121,10 @@ impl<'a> PlaceSource for MemoryPlaces<'a> {
 
     fn last_file(&self) -> usize {
         self.files.len().saturating_sub(1)
+    }
+
+    fn seed(&self) -> Seed {
+        Seed::FIXED
     }
 
     fn take_places<T: PlaceTaker>(&mut self, taker: &mut T) -> Result<(), LoadFault> {

@@ -11,6 +11,7 @@ ghost use Rattle.release_rows.specs.DeviceFaults.{FileIs, is_device};
 use crate::keys::RowKeys;
 use crate::limits::Limits;
 use crate::places::{Met, PlaceTaker};
+use first_met::Seed;
 use release_files::Line;
 use rf2_rows::{FileKind, Row, RowReader, header};
 use row_lists::{LoadFault, RowLists};
@@ -30,13 +31,13 @@ pub struct Rows {
 }
 
 impl Rows {
-    /// No row, where so many may come.
-    pub fn new(alloc: Global, limits: Limits) -> Rows
+    /// No row, where so many may come. UUIDs are hashed over `seed`.
+    pub fn new(alloc: Global, limits: Limits, seed: Seed) -> Rows
         ensures { kept_in result ≡ nothing_kept limits }
     {
         Rows {
             reader: RowReader::new(),
-            keys: RowKeys::new(alloc),
+            keys: RowKeys::new(alloc, seed),
             left: limits,
             lists: RowLists::new(alloc),
         }

@@ -10,7 +10,7 @@ ghost use Rattle.release_rows.specs.inside.KeyedRows.{KeyedRow, choices, conflic
 ghost use Rattle.release_rows.specs.inside.VersionTable.{IsCodeOf, Version, is_older, is_outdated, time_code, without};
 
 use crate::rising_keys::RisingKeys;
-use first_met::FirstMet;
+use first_met::{FirstMet, Seed};
 use rf2_rows::{FileKind, same_row};
 use row_lists::{Span, push_bytes};
 use std::alloc::{AllocError, Global};
@@ -153,8 +153,8 @@ impl Versions {
     ghost use Rattle.release_rows.specs.inside.VersionTable.{HasTaken};
     ghost use Rattle.release_rows.specs.inside.VersionsInside.{noted};
 
-    /// No row. The keys of the components that have several rows are given.
-    pub fn new(alloc: Global, repeated: Vec<u64>) -> Versions
+    /// No row. The keys of the components that have several rows are given. Codes are hashed over `seed`.
+    pub fn new(alloc: Global, repeated: Vec<u64>, seed: Seed) -> Versions
         requires rising { IsStrictlyIncreasing repeated.items }
         requires few { length repeated.items < 2 ^ 32 }
         ensures repeated { result.repeated ≡ repeated.items }
@@ -162,7 +162,7 @@ impl Versions {
     {
         Versions {
             repeated: RisingKeys::new(repeated),
-            seen: FirstMet::new(alloc),
+            seen: FirstMet::new(alloc, seed),
             versions: VersionRows::new(alloc),
             chosen: Vec::new(alloc),
         }

@@ -30,6 +30,9 @@ pub trait LoadSnapshot {
     /// lines, `Row`, `Conflict`, `TooMany` by rows; last `Cycle`. `Memory` is answered where a
     /// growth is refused, and never where no file has the name of a Concept file. `lang` is the
     /// language code whose names come first.
+    ///
+    /// It is for files that one trusts: what they hold is hashed over a fixed seed, and whoever knows the seed can
+    /// make files that take very long to load and to index. A source of files tells a seed of its own (`load_from`).
     fn load(
         alloc: Global,
         files: &[NamedBytes<'_>],
@@ -172,7 +175,7 @@ fn load_places<P: PlaceSource>(
                 return Err(TOO_MANY_ROWS);
             }
             let language = String::from_str(alloc, lang)?;
-            finish(alloc, read, language, kinds)
+            finish(alloc, read, language, kinds, files.seed())
         }
         Err(fault) => Err(fault),
     }

@@ -7,6 +7,7 @@ ghost use Rattle.streams.specs.Folders.{AnswersFault, IsNumbered, IsOpenedBy, Is
 
 use crate::fault::TRIES;
 use crate::system::FolderSystem;
+use first_met::Seed;
 use release_files::{FileSource, SourceFault};
 use rf2_rows::file_kind;
 use std::alloc::{AllocError, Global};
@@ -29,12 +30,16 @@ const LEVELS: usize = 16;
 /// order of the names. A link that leads nowhere is listed if its name tells of a kind of Snapshot
 /// file, so that it fails where it is opened, and is passed over otherwise. `open` opens plain files
 /// alone, and a file is closed where its end is read.
+///
+/// The seed is drawn from the system when the source is made. If that fails, so does each `list`.
 #[derive(Drop)]
 pub struct FolderSource<'a, R: Files = HostRuntime> {
     rt: &'a R,
     folders: &'a [String],
     file: Option<R::File>,
     failures: u64,
+    // none where it could not be drawn
+    seed: Option<Seed>,
 }
 
 impl<'a, R: FolderSystem> FolderSource<'a, R> {
@@ -47,6 +52,7 @@ impl<'a, R: FolderSystem> FolderSource<'a, R> {
             folders,
             file: None,
             failures: 0,
+            seed: Seed::draw(rt).ok(),
         }
     }
 
@@ -84,8 +90,12 @@ impl<'a, R: FolderSystem> FileSource for FolderSource<'a, R> {
         self.failures
     }
 
+    fn seed(&self) -> Seed {
+        self.seed.unwrap_or(Seed::FIXED)
+    }
+
     fn list(&mut self) -> Result<Vec<String>, SourceFault> {
-        let names = list_folders(self.rt, self.folders);
+        let names = list_seeded(self.rt, self.folders, self.seed);
         self.counted(names)
     }
 
@@ -111,6 +121,18 @@ impl<'a, R: FolderSystem> FileSource for FolderSource<'a, R> {
             self.file = None;
         }
         self.counted(count)
+    }
+}
+
+// The names of the files of folders, unless there is no seed for what they hold.
+fn list_seeded<R: FolderSystem>(
+    rt: &R,
+    folders: &[String],
+    seed: Option<Seed>,
+) -> io::Result<Vec<String>> {
+    match seed {
+        Some(_) => list_folders(rt, folders),
+        None => Err(io::Error::from(ErrorKind::Other)),
     }
 }
 

@@ -4,13 +4,14 @@ ghost use Rattle.std.specs.Prelude.{ℕ, IfOk, List, ⊤};
 use std::alloc::AllocGlobal;
 use std::fs::{File, Files};
 use std::io::ErrorKind;
+use std::random::RandomSource;
 use std::{fs, io};
 
-/// A system of folders and files, with memory: the runtime that `main` has, or any other.
+/// A system of folders and files, with memory and random bytes: the runtime that `main` has, or any other.
 ///
 /// No clause of the standard library tells what a system gives. So that a clause can say by which
 /// path a file was opened, `opens` tells it of the files that `open_plain` gives, and of no other.
-pub trait FolderSystem: Files + AllocGlobal + Clone + Drop {
+pub trait FolderSystem: Files + RandomSource + AllocGlobal + Clone + Drop {
     /// Whether a file was opened by a path.
     ghost opens: { List ℕ → Self.File → Type 0 };
 
@@ -20,7 +21,7 @@ pub trait FolderSystem: Files + AllocGlobal + Clone + Drop {
         ensures { IfOk result (λ file. opens path.now file) };
 }
 
-impl<R: Files + AllocGlobal + Clone + Drop> FolderSystem for R {
+impl<R: Files + RandomSource + AllocGlobal + Clone + Drop> FolderSystem for R {
     ghost opens = { λ _ _. ⊤ };
 
     fn open_plain(&self, path: &str) -> io::Result<R::File> {

@@ -1,6 +1,6 @@
 use Rattle.constraint_tree.proofs.TreeLemmas.{refinement_tree_of-And, refinement_tree_of-Or, set_tree_of-And, set_tree_of-Or}
 use Rattle.constraint_tree.proofs.TreeLemmas.{tree_of-And, tree_of-Dotted, tree_of-Or}
-use Rattle.std.proofs.Common.{rules, length, map, Some, ap, refl, sym, ◌∙◌, arith}
+use Rattle.std.proofs.Common.{rules, map, Some, ap, refl, sym, ◌∙◌, arith}
 use Rattle.constraint_tree.specs.Tree.{dotted_tree, member_tree, minus_tree, refined_tree, refinement_tree_of, set_tree_of, tree_of, trees_of, within_test}
 use Rattle.ecl_parser.specs.inside.Gives.{symbols_from}
 use Rattle.ecl_parser.specs.inside.Reading.{constraint_behind, constraint_in, item_in, member_in, pair_in, part_in, readers}
@@ -261,19 +261,19 @@ dotted-returns t c =
 
 pub subs-loop-turn-init : goal.subs-loop-turn-init
 subs-loop-turn-init t c =
-    no_turn (sub_in (readers c.args.depth)) c.args.joint c.args.tokens.now c.args.at.now
-    (map tree_of c.args.parts.items)
+    no_turn (sub_in (readers c.args.depth)) c.args.joint c.args.tokens.now c.args.at.now c.len-turn-end.result
+    (map tree_of c.args.parts.items) c.len-turn-end.ensures
 
 pub subs-loop-turn-preserved : goal.subs-loop-turn-preserved
 subs-loop-turn-preserved t c =
     turn_read (sub_in (readers c.args.depth)) c.args.joint tree_of c.loop-turn.parts.items c.push.new.self.items c.in-Ok.part
-    c.loop-turn._turn (length c.args.tokens.now) (symbols_from c.args.tokens.now c.loop-turn.at)
+    c.loop-turn._turn c.len-turn-end.result (symbols_from c.args.tokens.now c.loop-turn.at)
     (symbols_from c.args.tokens.now c.take.new.at) _ _ (omega arith) (search rules) (search (rules, c.take.ensures.taken))
     c.in-Ok.ensures c.loop-turn.invariant
 
 pub subs-returns-in-Err : goal.subs-returns-in-Err
 subs-returns-in-Err t c =
-    many_fails (sub_in (readers c.args.depth)) c.args.joint c.in-Err.fault c.loop-turn._turn (length c.args.tokens.now)
+    many_fails (sub_in (readers c.args.depth)) c.args.joint c.in-Err.fault c.loop-turn._turn c.len-turn-end.result
     (map tree_of c.loop-turn.parts.items) (symbols_from c.args.tokens.now c.loop-turn.at)
     (symbols_from c.args.tokens.now c.take.new.at) _ (omega arith) (search (rules, c.take.ensures.taken))
     c.in-Err.ensures c.loop-turn.invariant
@@ -294,19 +294,19 @@ subs-returns t c =
 
 pub items-loop-turn-init : goal.items-loop-turn-init
 items-loop-turn-init t c =
-    no_turn (item_in (readers c.args.depth)) c.args.joint c.args.tokens.now c.args.at.now
-    (map refinement_tree_of c.args.parts.items)
+    no_turn (item_in (readers c.args.depth)) c.args.joint c.args.tokens.now c.args.at.now c.len-turn-end.result
+    (map refinement_tree_of c.args.parts.items) c.len-turn-end.ensures
 
 pub items-loop-turn-preserved : goal.items-loop-turn-preserved
 items-loop-turn-preserved t c =
     turn_read (item_in (readers c.args.depth)) c.args.joint refinement_tree_of c.loop-turn.parts.items c.push.new.self.items c.in-Ok.part
-    c.loop-turn._turn (length c.args.tokens.now) (symbols_from c.args.tokens.now c.loop-turn.at)
+    c.loop-turn._turn c.len-turn-end.result (symbols_from c.args.tokens.now c.loop-turn.at)
     (symbols_from c.args.tokens.now c.take.new.at) _ _ (omega arith) (search rules) (search (rules, c.take.ensures.taken))
     c.in-Ok.ensures c.loop-turn.invariant
 
 pub items-returns-in-Err : goal.items-returns-in-Err
 items-returns-in-Err t c =
-    many_fails (item_in (readers c.args.depth)) c.args.joint c.in-Err.fault c.loop-turn._turn (length c.args.tokens.now)
+    many_fails (item_in (readers c.args.depth)) c.args.joint c.in-Err.fault c.loop-turn._turn c.len-turn-end.result
     (map refinement_tree_of c.loop-turn.parts.items) (symbols_from c.args.tokens.now c.loop-turn.at)
     (symbols_from c.args.tokens.now c.take.new.at) _ (omega arith) (search (rules, c.take.ensures.taken))
     c.in-Err.ensures c.loop-turn.invariant
@@ -327,19 +327,19 @@ items-returns t c =
 
 pub parts-loop-turn-init : goal.parts-loop-turn-init
 parts-loop-turn-init t c =
-    no_turn (part_in (readers c.args.depth)) c.args.joint c.args.tokens.now c.args.at.now
-    (map set_tree_of c.args.list.items)
+    no_turn (part_in (readers c.args.depth)) c.args.joint c.args.tokens.now c.args.at.now c.len-turn-end.result
+    (map set_tree_of c.args.list.items) c.len-turn-end.ensures
 
 pub parts-loop-turn-preserved : goal.parts-loop-turn-preserved
 parts-loop-turn-preserved t c =
     turn_read (part_in (readers c.args.depth)) c.args.joint set_tree_of c.loop-turn.list.items c.push.new.self.items c.in-Ok.found
-    c.loop-turn._turn (length c.args.tokens.now) (symbols_from c.args.tokens.now c.loop-turn.at)
+    c.loop-turn._turn c.len-turn-end.result (symbols_from c.args.tokens.now c.loop-turn.at)
     (symbols_from c.args.tokens.now c.take.new.at) _ _ (omega arith) (search rules) (search (rules, c.take.ensures.taken))
     c.in-Ok.ensures c.loop-turn.invariant
 
 pub parts-returns-in-Err : goal.parts-returns-in-Err
 parts-returns-in-Err t c =
-    many_fails (part_in (readers c.args.depth)) c.args.joint c.in-Err.fault c.loop-turn._turn (length c.args.tokens.now)
+    many_fails (part_in (readers c.args.depth)) c.args.joint c.in-Err.fault c.loop-turn._turn c.len-turn-end.result
     (map set_tree_of c.loop-turn.list.items) (symbols_from c.args.tokens.now c.loop-turn.at)
     (symbols_from c.args.tokens.now c.take.new.at) _ (omega arith) (search (rules, c.take.ensures.taken))
     c.in-Err.ensures c.loop-turn.invariant

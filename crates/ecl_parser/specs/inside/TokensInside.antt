@@ -1,0 +1,12 @@
+-- What the fields of tokens say, and what they keep.
+use Rattle.std.specs.Prelude.{List}
+use Rattle.ecl_lexer.specs.declared.token.Token.{Token}
+use Rattle.ecl_parser.specs.declared.tokens.Tokens.TheInside.{Inside}
+use Rattle.ecl_parser.specs.inside.Brackets.{AreEnds}
+use Rattle.ecl_parser.specs.inside.Gives.{symbols}
+
+abbrev pub tokens_in : Inside → List Token
+tokens_in inside = inside.tokens.now
+
+abbrev pub HaveEnds : Inside → Type 0
+HaveEnds inside = AreEnds (symbols inside.tokens.now) inside.ends.now

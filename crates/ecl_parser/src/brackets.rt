@@ -1,0 +1,146 @@
+//! Which bracket closes which.
+ghost use Rattle.std.specs.Prelude.{◌≡◌, ◌<◌, ℕ, false, true, IfErr, IfOk, IfSome, None, OnOk, OnSome, [], length, map};
+ghost use Rattle.ecl_lexer.specs.Tokens.{spelled};
+ghost use Rattle.ecl_lexer.specs.declared.fault.QueryFault.TheVariants.{Depth};
+ghost use Rattle.constraint_tree.specs.Refusal.{is_deep, opens};
+ghost use Rattle.ecl_parser.specs.inside.Answers.{AreFaulty};
+ghost use Rattle.ecl_parser.specs.inside.Brackets.{AreEnds, bracket_closed, bracket_opened, nothing_matched, token_matched};
+ghost use Rattle.ecl_parser.specs.inside.Gives.{symbols};
+
+use arrayvec::ArrayVec;
+use ecl_lexer::{QueryFault, Token, TokenKind};
+use std::alloc::{AllocError, Global};
+use std::marker::Model;
+
+/// So many brackets may be open at once.
+pub const MOST_OPEN: usize = 64;
+
+/// A bracket that is open: where it stands, and whether it is round or a brace.
+#[derive(Clone, Copy, Default)]
+pub struct OpenBracket {
+    pub place: usize,
+    pub is_round: bool,
+}
+
+/// The brackets of the tokens so far. Contracts see those that are open, the innermost first, the ends, and whether
+/// each closing bracket closed one of its kind.
+#[derive(Drop)]
+struct Brackets {
+    unclosed: ArrayVec<OpenBracket, MOST_OPEN>,
+    // for the place of each bracket the place behind the one that closed it
+    ends: Vec<usize>,
+    are_matched: bool,
+}
+
+impl Model for Brackets {
+    ghost use Rattle.ecl_parser.specs.inside.Brackets.{Matching};
+
+    ghost Value = { Matching };
+
+    ghost use Rattle.ecl_parser.specs.inside.BracketsInside.{AreWithin, matching_in};
+
+    ghost view = { matching_in };
+
+    ghost invariant = { AreWithin };
+}
+
+impl Brackets {
+    // No bracket, of so many tokens.
+    fn new(alloc: Global, count: usize) -> Result<Brackets, AllocError>
+        ensures { IfOk result (λ brackets. brackets ≡ nothing_matched count) }
+    {
+        let ends = vec![in alloc; 0usize; count]?;
+        Ok(Brackets {
+            unclosed: ArrayVec::new(),
+            ends,
+            are_matched: true,
+        })
+    }
+
+    // Takes the token at a place. The fault is `Depth`, where it opens a bracket too many.
+    fn take(&mut self, place: usize, kind: TokenKind) -> Result<(), QueryFault>
+        requires { place < length self.old.ends }
+        ensures ok { OnOk result (self.new ≡ token_matched place kind self.old) }
+        ensures few { OnOk result (opens kind ≡ true → length self.old.unclosed < 64) }
+        ensures deep { IfErr result (λ fault. (fault ≡ Depth) × (opens kind ≡ true) × (length self.old.unclosed ≡ 64)) }
+    {
+        match kind {
+            TokenKind::RoundOpen => self.open_bracket(place, true),
+            TokenKind::BraceOpen => self.open_bracket(place, false),
+            TokenKind::RoundClose => {
+                self.close_bracket(place, true);
+                Ok(())
+            }
+            TokenKind::BraceClose => {
+                self.close_bracket(place, false);
+                Ok(())
+            }
+            _ => Ok(()),
+        }
+    }
+
+    // Opens a bracket, if one more may be open.
+    fn open_bracket(&mut self, place: usize, is_round: bool) -> Result<(), QueryFault>
+        requires { place < length self.old.ends }
+        ensures ok { OnOk result (self.new ≡ bracket_opened place is_round self.old) }
+        ensures few { OnOk result (length self.old.unclosed < 64) }
+        ensures deep { IfErr result (λ fault. (fault ≡ Depth) × (length self.old.unclosed ≡ 64)) }
+    {
+        match self.unclosed.try_push(OpenBracket { place, is_round }) {
+            Ok(()) => Ok(()),
+            Err(_) => Err(QueryFault::Depth),
+        }
+    }
+
+    // Closes the innermost bracket, if one is open, of whatever kind.
+    fn close_bracket(&mut self, place: usize, is_round: bool)
+        requires { place < length self.old.ends }
+        ensures { self.new ≡ bracket_closed place is_round self.old }
+    {
+        match self.unclosed.pop() {
+            Some(opened) => {
+                self.ends[opened.place] = place + 1;
+                self.are_matched = opened.is_round == is_round && self.are_matched;
+            }
+            None => self.are_matched = false,
+        }
+    }
+
+    // The ends, if all brackets match and none is open.
+    fn ends(self) -> Option<Vec<usize>>
+        ensures ends { IfSome result (λ ends. ends.items ≡ self.ends) }
+        ensures matched { OnSome result ((self.are_matched ≡ true) × (self.unclosed ≡ [])) }
+        ensures none { result ≡ None → self.are_matched ≡ true → self.unclosed ≡ [] → ⊥ }
+    {
+        let Brackets {
+            unclosed,
+            ends,
+            are_matched,
+        } = self;
+        if are_matched && unclosed.is_empty() {
+            return Some(ends);
+        }
+        None
+    }
+}
+
+/// For each token that opens a bracket the place behind the bracket that closes it. `Depth` where more brackets are
+/// open at once than may be: a closing one closes the innermost that is open, whether it is round or a brace.
+/// `Syntax` where the kinds of brackets don't match, or one is not closed or not opened: then there is no tree.
+pub fn bracket_ends(alloc: Global, tokens: &[Token<'_>]) -> Result<Vec<usize>, QueryFault>
+    ensures shallow { IfOk result (λ _. is_deep 0 (map spelled tokens.now) ≡ false) }
+    ensures ends { IfOk result (λ ends. AreEnds (symbols tokens.now) ends.items) }
+    ensures fault { IfErr result (AreFaulty (map spelled tokens.now)) }
+{
+    let mut brackets = Brackets::new(alloc, tokens.len())?;
+    for (place, token) in tokens.iter().enumerate() {
+        match brackets.take(place, token.kind) {
+            Ok(()) => {}
+            Err(fault) => return Err(fault),
+        }
+    }
+    match brackets.ends() {
+        Some(ends) => Ok(ends),
+        None => Err(QueryFault::Syntax),
+    }
+}
