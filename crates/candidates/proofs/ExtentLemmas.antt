@@ -1,4 +1,4 @@
--- Of some of the concepts or groups whose extent is known there is no more than of all.
+-- Of some of the concepts, or groups, whose extent is known there is no more than of all of them.
 use Rattle.std.proofs.Common.{ℕ, ◌+◌, ◌≡◌, ◌≤◌, ◌∙◌, Bool, true, false, not, ◌&&◌, List, length, refl, sym, ap, arith}
 use Rattle.std.specs.Prelude.{All, filter}
 use Rattle.std.specs.List.{sum_by}
@@ -23,7 +23,9 @@ module _ (xs ys : List ℕ) (low high : ℕ) (xs_rise : IsRisingBelow low xs) (y
       (rises_within-wider 0 low 0 (low + high) xs (omega arith) (omega arith) xs_rise)
       (rises_within-filter 0 (low + high) (has xs) ys
       (rises_within-wider 0 high 0 (low + high) ys (omega arith) (omega arith) ys_rise))
-      (λ n. both (has xs n) (has ys n) (λ had. All-contains (λ number. has ys number ≡ true) xs n among (contains_had xs n had))
+      (λ n.
+      both (has xs n) (has ys n)
+      (λ had. All-contains (λ number. has ys number ≡ true) xs n among (contains_had xs n had))
       ∙ sym (has_kept (has xs) ys n))
     where
       both : (a b : Bool) → (a ≡ true → b ≡ true) → a ≡ (b && a)
@@ -43,9 +45,9 @@ module _ (xs ys : List ℕ) (low high : ℕ) (xs_rise : IsRisingBelow low xs) (y
   full_among : (f : ℕ → ℕ) (most : ℕ) → full_sum f ys ≤ most → full_sum f xs ≤ most
   full_among f most within = omega (arith, sum_among f, within)
 
-  -- some of the concepts of which there is no more than is said, so many
-  pub extent_among : (indexed : Indexed) (extent : Extent) (items : ℕ) → length xs ≤ items → IsExtentOf indexed ys extent
-      → IsExtentOf indexed xs (record extent { items = items })
+  -- an extent of some concepts, with another count of them, is one of so many of these
+  pub extent_among : (indexed : Indexed) (extent : Extent) (items : ℕ) → length xs ≤ items
+      → IsExtentOf indexed ys extent → IsExtentOf indexed xs (record extent { items = items })
   extent_among indexed extent items few is = record {
     items = few;
     rows = full_among _ _ is.rows;
@@ -59,7 +61,7 @@ module _ (xs ys : List ℕ) (low high : ℕ) (xs_rise : IsRisingBelow low xs) (y
     };
   }
 
-  -- and some of the groups
+  -- an extent of some groups, with another count of them, is one of so many of these
   pub group_extent_among : (indexed : Indexed) (extent : Extent) (items : ℕ) → length xs ≤ items
       → IsGroupExtentOf indexed ys extent → IsGroupExtentOf indexed xs (record extent { items = items })
   group_extent_among indexed extent items few is = record { items = few; rows = full_among _ _ is.rows }

@@ -1,10 +1,10 @@
 -- How much there is of some concepts or groups, at most: of each what its lists have. Sums stand still at the largest number of 64 bits.
-use Rattle.std.specs.Prelude.{ℕ, ◌≤◌, ◌+◌, ◌-◌, Bool, false, true, List, Option, Some, None, length, slice_get}
+use Rattle.std.specs.Prelude.{ℕ, ◌≤◌, ◌+◌, ◌-◌, false, true, List, Option, Some, None, length, slice_get}
 use Rattle.number_lists.specs.KeyedLists.{list_of}
 use Rattle.ancestor_index.specs.HierarchyLists.{Hierarchy}
 use Rattle.postings.specs.Groups.{ConceptGroup, groups_before, groups_in, rows_of_group}
 use Rattle.postings.specs.Indexed.{Indexed}
-use Rattle.candidates.specs.Counted.{full, full_sum}
+use Rattle.candidates.specs.Counted.{full_sum}
 use Rattle.candidates.specs.RowCounts.{row_count_of}
 use Rattle.candidates.specs.declared.candidates.Extent.{Extent}
 use Rattle.candidates.specs.declared.candidates.ListExtent.{ListExtent}

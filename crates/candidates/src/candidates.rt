@@ -264,8 +264,10 @@ fn may_be_read_thrice(items: u32, sizes: (u64, u64)) -> bool {
 // How much there is of a set of some candidates: of rows and groups no more than these have.
 fn extent_left<S: ConceptSet>(candidates: &Candidates<'_, S>, left: &S) -> Extent
     requires { All (λ number. may_be S.items_of candidates.now number ≡ true) (S.items_of left.now) }
-    ensures concepts { (indexed : Indexed) → HaveExtent S.items_of (IsExtentOf indexed) candidates.now → IsExtentOf indexed (S.items_of left.now) result }
-    ensures groups { (indexed : Indexed) → HaveExtent S.items_of (IsGroupExtentOf indexed) candidates.now → IsGroupExtentOf indexed (S.items_of left.now) result }
+    ensures concepts { (indexed : Indexed) → HaveExtent S.items_of (IsExtentOf indexed) candidates.now
+        → IsExtentOf indexed (S.items_of left.now) result }
+    ensures groups { (indexed : Indexed) → HaveExtent S.items_of (IsGroupExtentOf indexed) candidates.now
+        → IsGroupExtentOf indexed (S.items_of left.now) result }
 {
     match candidates {
         Candidates::All => uncounted(left.count()),

@@ -12,12 +12,14 @@ returns-in-All-clause-groups g c =
 
 pub returns-in-Within-clause-concepts : goal.returns-in-Within-clause-concepts
 returns-in-Within-clause-concepts g c =
-    λ indexed told. extent_among (g.S.ConceptSet.items_of c.args.left.now) (g.S.ConceptSet.items_of c.in-Within.field-0.now) _ _
+    λ indexed told.
+    extent_among (g.S.ConceptSet.items_of c.args.left.now) (g.S.ConceptSet.items_of c.in-Within.field-0.now) _ _
     (g.met.S.ConceptSet.rising c.args.left.now) (g.met.S.ConceptSet.rising c.in-Within.field-0.now)
     (rw c.in-Within.is at c.requires) indexed c.in-Within.extent _ (omega arith) (rw c.in-Within.is at told)
 
 pub returns-in-Within-clause-groups : goal.returns-in-Within-clause-groups
 returns-in-Within-clause-groups g c =
-    λ indexed told. group_extent_among (g.S.ConceptSet.items_of c.args.left.now) (g.S.ConceptSet.items_of c.in-Within.field-0.now) _ _
+    λ indexed told.
+    group_extent_among (g.S.ConceptSet.items_of c.args.left.now) (g.S.ConceptSet.items_of c.in-Within.field-0.now) _ _
     (g.met.S.ConceptSet.rising c.args.left.now) (g.met.S.ConceptSet.rising c.in-Within.field-0.now)
     (rw c.in-Within.is at c.requires) indexed c.in-Within.extent _ (omega arith) (rw c.in-Within.is at told)

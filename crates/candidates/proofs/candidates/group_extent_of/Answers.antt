@@ -7,7 +7,8 @@ use Rattle.candidates.proofs.candidates.group_extent_of.Goals as goal
 pub group_extent_among-requires : goal.group_extent_among-requires
 group_extent_among-requires g c =
     let items = g.S.ConceptSet.items_of c.args.groups.now in
-    subst (All (λ group. group < length (groups_in c.args.indexes.now))) (sym (c.as_slice.ensures.value ∙ c.in_ok-own.ensures))
+    subst (All (λ group. group < length (groups_in c.args.indexes.now)))
+    (sym (c.as_slice.ensures.value ∙ c.in_ok-own.ensures))
     (subst (λ (bound : ℕ). All (λ group. group < bound) items)
     (c.requires.bound
     ∙ ap (λ (groups : List ConceptGroup). length groups)
@@ -16,4 +17,5 @@ group_extent_among-requires g c =
 
 pub returns-then-are_many_beside : goal.returns-then-are_many_beside
 returns-then-are_many_beside g c =
-    c.uncounted.ensures.groups c.args.indexes.now (g.S.ConceptSet.items_of c.args.groups.now) (sym c.count-count.ensures)
+    c.uncounted.ensures.groups c.args.indexes.now (g.S.ConceptSet.items_of c.args.groups.now)
+    (sym c.count-count.ensures)

@@ -15,7 +15,8 @@ returns-in_ok-found-in-BySource-clause-items g c =
     let one : ℕ → Bool = is_one_of concepts (g.S.ConceptSet.items_of c.args.types.now) in
     let items : List ℕ = g.S.ConceptSet.items_of c.args.sources in
     let same : c.in-BySource.own.items ≡ items =
-    subst (λ (way : ValuesWay). IsValuesWay (types_of c.args.indexes.now.rows) items one way) c.in-BySource.is c.requires.way in
+    subst (λ (way : ValuesWay). IsValuesWay (types_of c.args.indexes.now.rows) items one way) c.in-BySource.is
+    c.requires.way in
     c.in_ok-found-in-BySource.ensures.items
     ∙ ap (λ (own : List ℕ). numbers_in release (is_value release (is_one_of concepts own) one))
     (c.as_slice.ensures.value ∙ same)
@@ -26,5 +27,6 @@ returns-in_ok-found-in-ByType-clause-items g c =
     let one : ℕ → Bool = is_one_of c.args.indexes.now.concepts (g.S.ConceptSet.items_of c.args.types.now) in
     let types : List ℕ = types_of c.args.indexes.now.rows in
     let same : c.in-ByType.ids.items ≡ filter one types =
-    subst (λ (way : ValuesWay). IsValuesWay types (g.S.ConceptSet.items_of c.args.sources) one way) c.in-ByType.is c.requires.way in
+    subst (λ (way : ValuesWay). IsValuesWay types (g.S.ConceptSet.items_of c.args.sources) one way) c.in-ByType.is
+    c.requires.way in
     c.in_ok-found-in-ByType.ensures.items one (c.as_slice-in-ByType.ensures.value ∙ same)
