@@ -1,11 +1,9 @@
 -- What is known of the rows of values once more values were found.
-use Rattle.std.proofs.Common.{Err, Ok, ℕ, ◌+◌, ◌≡◌, ◌≤◌, ◌∙◌, Bool, List, [], Option, Some, None, refl, sym, ap, arith}
-use Rattle.std.specs.Prelude.{IfOk, Result, filter}
-use Rattle.std.specs.List.{sum_by}
+use Rattle.std.proofs.Common.{ℕ, ◌+◌, ◌≡◌, ◌≤◌, ◌∙◌, Bool, List, [], Option, Some, None, refl, arith}
+use Rattle.std.specs.Prelude.{filter}
 use Rattle.idset.specs.Sets.{all_items}
 use Rattle.number_lists.specs.Rising.{IsRisingBelow}
 use Rattle.postings.specs.Indexed.{Indexed}
-use Rattle.candidates.specs.Counted.{full_sum}
 use Rattle.candidates.specs.RowCounts.{row_count_of}
 use Rattle.candidates.specs.Tallies.{Adds, Tally, tally_sum}
 use Rattle.candidates.proofs.SumLemmas.{sum_of_both, sum_of_some}
@@ -45,36 +43,6 @@ adds_both bound items others early middle late rising others_rising first second
       (before.0, (before.1.0, omega (arith, before.1.1, then.1.1, same, both_rows early.indexed early.back bound items others rising others_rising)));
 }
 
--- where it is not known how many there are, anything may have been found
-pub adds_unknown : (values : List ℕ) (early late : Tally) → late ≡ record early { rows = None } → Adds values early late
-adds_unknown values early late unknown = record {
-  indexed = ap (λ (tally : Tally). tally.indexed) unknown;
-  back = ap (λ (tally : Tally). tally.back) unknown;
-  rows = λ all known. absurd (differ (sym (ap (λ (tally : Tally). tally.rows) unknown) ∙ known));
-}
-  where
-    differ : {all : ℕ} → None ≡ Some all → ⊥
-    differ equal = cc
-
--- so of whatever a call finds
-pub adds_if_unknown : {S E : Type 0} (items_of : S → List ℕ) (result : Result S E) (early late : Tally) → late ≡ record early { rows = None }
-    → IfOk result (λ found. Adds (items_of found) early late)
-adds_if_unknown items_of (Ok found) early late unknown = adds_unknown (items_of found) early late unknown
-adds_if_unknown items_of (Err error) early late unknown = tt
-
--- and once it is not known it stays so
-pub adds_after_unknown : (values others : List ℕ) (early middle late : Tally) → middle ≡ record early { rows = None } → Adds others middle late
-    → Adds values early late
-adds_after_unknown values others early middle late unknown adds = record {
-  indexed = adds.indexed ∙ ap (λ (tally : Tally). tally.indexed) unknown;
-  back = adds.back ∙ ap (λ (tally : Tally). tally.back) unknown;
-  rows = λ all known.
-      absurd (differ (sym (ap (λ (tally : Tally). tally.rows) unknown) ∙ (adds.rows all known).1.0));
-}
-  where
-    differ : {all : ℕ} → None ≡ Some all → ⊥
-    differ equal = cc
-
 -- where nothing was found nothing is added
 pub adds_none : (tally : Tally) → Adds [] tally tally
 adds_none tally = record {
@@ -86,18 +54,3 @@ adds_none tally = record {
     no_rows : (indexed : Option Indexed) (back : Bool) → tally_sum indexed back [] ≡ 0
     no_rows None back = refl
     no_rows (Some indexed) back = refl
-
--- what was added from none on are no fewer rows than the values have
-pub adds_all : (indexed : Indexed) (values : List ℕ) (early late : Tally) (rows : ℕ) → Adds values early late → early.indexed ≡ Some indexed
-    → early.rows ≡ Some 0 → late.rows ≡ Some rows → full_sum (row_count_of indexed early.back) values ≤ rows
-adds_all indexed values early late rows adds whose none known =
-    let before = adds.rows rows known in
-    omega (
-      arith,
-      before.1.1,
-      ap (λ (indexed : Option Indexed). tally_sum indexed early.back values) whose,
-      same (sym before.1.0 ∙ none),
-    )
-  where
-    same : {one other : ℕ} → Some one ≡ Some other → one ≡ other
-    same equal = cc

@@ -1,12 +1,12 @@
 -- Sums over lists of numbers, and over some of them.
-use Rattle.std.proofs.Common.{ℕ, ◌+◌, ◌∷◌, [], ◌≡◌, ◌≤◌, ◌<◌, ◌∙◌, Bool, true, false, cond, not, List, length, refl, sym, ap, arith}
+use Rattle.std.proofs.Common.{ℕ, ◌+◌, ◌∷◌, [], ◌≡◌, ◌≤◌, ◌∙◌, Bool, true, false, cond, not, List, length, refl, ap, arith}
 use Rattle.std.specs.Prelude.{filter, ◌||◌}
 use Rattle.std.specs.List.{range_with_len, sum_by}
 use Rattle.std.proofs.lemmas.List.Filters.{sum_by-filter_both}
 use Rattle.std.proofs.lemmas.List.Sums.{sum_by-cons}
 use Rattle.idset.specs.Sets.{all_items}
 use Rattle.number_lists.specs.Members.{has}
-use Rattle.number_lists.specs.Rising.{IsRisingBelow, numbers_where}
+use Rattle.number_lists.specs.Rising.{IsRisingBelow}
 use Rattle.number_lists.proofs.RisingLemmas.{rising_is_numbers_where}
 
 pub no_sum : (numbers : List ℕ) → sum_by (λ n. 0) numbers ≡ 0

@@ -1,6 +1,6 @@
 -- What is read of the components of reference sets is within the bound of the node.
-use Rattle.std.proofs.Common.{ℕ, ◌+◌, ◌∷◌, [], ◌≡◌, ◌≤◌, ◌∙◌, List, Option, Some, None, length, refl, sym, ap, subst, arith}
-use Rattle.std.specs.List.{concat, sum_by}
+use Rattle.std.proofs.Common.{ℕ, ◌+◌, [], ◌≡◌, ◌≤◌, ◌∙◌, List, Option, Some, None, length, refl, sym, ap, subst, arith}
+use Rattle.std.specs.List.{concat}
 use Rattle.std.specs.List.Sorted.{IsStrictlyIncreasing}
 use Rattle.std.proofs.lemmas.List.Sums.{sum_by-cons}
 use Rattle.rf2_rows.specs.Release.{Release}
@@ -11,7 +11,7 @@ use Rattle.set_algebra.specs.Meaning.{means}
 use Rattle.set_algebra.specs.Plan.{Plan, empty_plan, all_plan, one_plan, walk_plan, members_plan, and_plan, or_plan, minus_plan, values_plan, pairs_plan, units_plan}
 use Rattle.postings.specs.Indexed.{Indexed, IsIndexOf}
 use Rattle.plan_bounds.specs.Bounds.{members_bound}
-use Rattle.plan_bounds.specs.Counts.{counted, member_count, one_of}
+use Rattle.plan_bounds.specs.Counts.{counted, one_of}
 use Rattle.candidates.specs.Numbers.{numbers_in}
 use Rattle.candidates.proofs.Normal.{as_list, one_in}
 use Rattle.walks.specs.Families.{items_in}

@@ -1,5 +1,5 @@
 -- What is known of the rows of the concept that a plan names.
-use Rattle.std.proofs.Common.{ℕ, ◌≡◌, ◌==◌, ◌&&◌, Bool, List, Option, sym, subst}
+use Rattle.std.proofs.Common.{ℕ, ◌≡◌, ◌==◌, ◌&&◌, List, Option, sym, subst}
 use Rattle.std.specs.List.Sorted.{IsStrictlyIncreasing}
 use Rattle.rf2_rows.specs.Release.{Release}
 use Rattle.constraint_tree.specs.Walks.{has_concept}

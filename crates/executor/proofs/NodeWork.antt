@@ -1,6 +1,6 @@
 -- What is counted of a node, and what it finds, from what is counted and found of its parts. Which node a plan of the code is, is told
 -- by what the code lends of it.
-use Rattle.std.proofs.Common.{Err, Ok, Box, ℕ, ◌+◌, ◌-◌, ◌^◌, ◌≡◌, ◌≤◌, ◌∙◌, [], List, drop, length, max, min, refl, sym, ap, subst, arith}
+use Rattle.std.proofs.Common.{Err, Ok, Box, ℕ, ◌+◌, ◌-◌, ◌^◌, ◌≡◌, ◌≤◌, ◌∙◌, [], List, drop, length, min, refl, sym, ap, subst, arith}
 use Rattle.std.specs.Prelude.{IfOk, Result}
 use Rattle.std.specs.List.Sorted.{IsStrictlyIncreasing}
 use Rattle.std.specs.declared.alloc.Global.{Global}
@@ -29,7 +29,7 @@ use Rattle.pair_sets.specs.declared.tested.Tested.TheVariants as tests
 use Rattle.executor.proofs.LeafWork.{values_read}
 use Rattle.executor.proofs.NodeLemmas.{outside_passes, within_passes}
 use Rattle.executor.proofs.WorkLemmas.{along_from}
-use Rattle.candidates.specs.Counted.{CountsWithin, IsFound, full}
+use Rattle.candidates.specs.Counted.{CountsWithin, IsFound}
 use Rattle.executor.specs.inside.Executed.{AnswersAll, AnswersPlan, AnswersTest, AnswersUnits, CountsPlan, CountsTest, CountsUnits}
 
 -- ---- which node a plan is, for nodes of one part

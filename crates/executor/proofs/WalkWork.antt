@@ -1,5 +1,5 @@
 -- What is read where an operator leads from what a plan has found is within the bound of the node.
-use Rattle.std.proofs.Common.{ℕ, ◌+◌, ◌*◌, ◌∷◌, [], ◌≡◌, ◌≤◌, ◌<◌, ◌∙◌, Bool, true, false, cond, List, Option, None, Some, length, refl, sym, ap, subst, arith, rules}
+use Rattle.std.proofs.Common.{ℕ, ◌+◌, [], ◌≡◌, ◌≤◌, ◌<◌, ◌∙◌, Bool, true, false, cond, List, Option, None, Some, length, refl, sym, ap, arith, rules}
 use Rattle.std.specs.Prelude.{IsSome, if◌then◌else◌}
 use Rattle.std.specs.List.Sorted.{IsStrictlyIncreasing}
 use Rattle.std.proofs.lemmas.List.Sums.{sum_by-cons}
@@ -18,7 +18,7 @@ use Rattle.plan_bounds.specs.Counts.{counted, is_extreme, list_length, lists_alo
 use Rattle.plan_bounds.specs.Floors.{of_one as of_one_concept}
 use Rattle.candidates.specs.Numbers.{numbers_in}
 use Rattle.candidates.proofs.Normal.{as_list, one_in}
-use Rattle.walks.specs.Families.{all_items_of, family_of, items_in, lists_of}
+use Rattle.walks.specs.Families.{all_items_of, family_of, lists_of}
 use Rattle.walks.specs.Reads.{walk_items}
 use Rattle.walks.proofs.ReadLemmas.{at_most_all}
 

@@ -48,11 +48,6 @@ pub found_for : {T E : Type 0} (items_of : T → List ℕ) (result : Result T E)
 found_for items_of result {own} {other} next found =
     IfOk-weaker result (λ x. own (items_of x)) (λ x. other (items_of x)) (λ x. next (items_of x)) found
 
-pub found_as : {T E : Type 0} (items_of : T → List ℕ) (result : Result T E) {own other : List ℕ} → own ≡ other
-    → IfOk result (λ found. items_of found ≡ own) → IfOk result (λ found. items_of found ≡ other)
-found_as items_of result {own} {other} same found =
-    IfOk-weaker result (λ x. items_of x ≡ own) (λ x. items_of x ≡ other) (λ x is. is ∙ same) found
-
 module _ (release : Release) (may : ℕ → Bool) where
   abbrev by_number : (ℕ → Bool) → ℕ → Bool
   by_number set n = set (get_or release.concepts n 0)

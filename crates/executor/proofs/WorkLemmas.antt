@@ -374,12 +374,6 @@ counted_beside before found sum within = omega (arith, within)
 pub counted_without : {after : ℕ} (before sum : ℕ) → after ≤ before + sum → after ≤ before + (sum + 0)
 counted_without before sum within = omega (arith, within)
 
-pub counted_twice : {after : ℕ} (before found sum : ℕ) → after ≤ before + (found + sum) → after ≤ before + (2 * found + sum)
-counted_twice before found sum within = omega (arith, within)
-
-pub counted_first : {after first : ℕ} (before found sum : ℕ) → after ≤ before + first → first ≤ found + sum → after ≤ before + (2 * found + sum)
-counted_first before found sum within less = omega (arith, within, less)
-
 -- ---- values along types
 -- the first type, and those behind it
 pub along_one : (indexed : Indexed) (place first : ℕ)

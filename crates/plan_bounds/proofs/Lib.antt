@@ -2,7 +2,6 @@ pub mod ConceptLemmas
 pub mod FewLemmas
 pub mod FloorLemmas
 pub mod FoundLemmas
-pub mod LeadLemmas
 pub mod ListLemmas
 pub mod LoopLemmas
 pub mod PartLemmas

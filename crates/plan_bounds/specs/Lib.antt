@@ -4,7 +4,6 @@ pub mod Counts
 pub mod Floors
 pub mod Found
 pub mod inside
-pub mod Leads
 pub mod Leaves
 pub mod Nodes
 pub mod Offered

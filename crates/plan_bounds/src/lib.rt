@@ -19,11 +19,9 @@ pub use crate::counts::{
     cost_of_values, cost_of_walk, counts_of_leaf, groups,
 };
 pub use crate::floors::{PlanFloor, plan_floor, unit_floor};
-pub use crate::laws::{finds_within_size, floor_within_bound, leads_are_least};
+pub use crate::laws::{finds_within_size, floor_within_bound};
 pub use crate::leaf::Leaf;
-pub use crate::limits::{
-    leaf_limits, members_limits, plan_size, unit_size, units_limits, walk_limits,
-};
+pub use crate::limits::{leaf_limits, members_limits, plan_size, unit_size, walk_limits};
 pub use crate::physical::{PhysicalPlan, bound, floor};
 pub use crate::tally::Tally;
 pub use set_algebra::{Choice, NodeLimits};

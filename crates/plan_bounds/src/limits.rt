@@ -1,14 +1,14 @@
 //! How many items one node of a plan visits beside its sub-plans, at least and at most, by how much these have found.
-ghost use Rattle.std.specs.Prelude.{◌≡◌, ◌≤◌, ◌==◌, ◌+◌, if◌then◌else◌, length};
+ghost use Rattle.std.specs.Prelude.{◌≡◌, ◌≤◌, if◌then◌else◌};
 ghost use Rattle.set_algebra.specs.Plan.{unit_plan_of, plan_of, test_plan_of};
-ghost use Rattle.plan_bounds.specs.Alternatives.{leaf_bound, passed_over};
+ghost use Rattle.plan_bounds.specs.Alternatives.{leaf_bound};
 ghost use Rattle.plan_bounds.specs.Bounds.{capped, members_bound, walk_bound};
 ghost use Rattle.plan_bounds.specs.Counts.{is_extreme, leaf_of, list_length, member_count, one_of};
 ghost use Rattle.plan_bounds.specs.Floors.{leaf_floor as leaf_floor_of, of_one};
 ghost use Rattle.plan_bounds.specs.Sizes.{group_size, size as size_of};
 
 use crate::costs::{cost, unit_cost};
-use crate::counts::{cost_of_members, cost_of_units, cost_of_walk, counts_of_leaf};
+use crate::counts::{cost_of_members, cost_of_walk, counts_of_leaf};
 use crate::floors::{leaf_floor, members_floor, walk_floor};
 use constraint_tree::{Cardinality, Operator};
 use postings::Indexes;
@@ -62,18 +62,6 @@ pub fn leaf_limits(
     NodeLimits {
         floor: leaf_floor(indexes, back, types, test, choice),
         bound: leaf.cost(choice).bound,
-    }
-}
-
-/// Of the concepts so many of whose groups are among so many.
-pub fn units_limits(count: Cardinality, all: u64, size: u64) -> NodeLimits
-    ensures floor { result.floor ≡ 0 }
-    ensures bound { result.bound ≡ capped (size + passed_over (count.min == 0) all) }
-    ensures ordered { result.floor ≤ result.bound }
-{
-    NodeLimits {
-        floor: 0,
-        bound: cost_of_units(count, all, size).bound,
     }
 }
 

@@ -1,10 +1,8 @@
 //! A plan with its choices, and how much it visits.
 ghost use Rattle.std.specs.Prelude.{◌≡◌, length};
 ghost use Rattle.set_algebra.specs.Plan.{plan_of};
-ghost use Rattle.postings.specs.Indexed.{Indexed};
 ghost use Rattle.plan_bounds.specs.Bounds.{bound as bound_of, capped};
 ghost use Rattle.plan_bounds.specs.Floors.{floor as floor_of};
-ghost use Rattle.plan_bounds.specs.Leads.{leads as leads_of};
 ghost use Rattle.plan_bounds.specs.Leaves.{leaves};
 ghost use Rattle.plan_bounds.specs.Offered.{AreOffered};
 
@@ -20,8 +18,6 @@ use std::marker::Model;
 pub struct PhysicalPlan {
     plan: ConceptPlan,
     choices: Vec<Choice>,
-    // for each node that joins sets by AND, a node before its children, the place of the part of the least size
-    leads: Vec<u64>,
 }
 
 impl Model for PhysicalPlan {
@@ -42,20 +38,14 @@ impl Model for PhysicalPlan {
 }
 
 impl PhysicalPlan {
-    /// A plan with choices that its leaves offer, and with the places of the parts that find least under these.
-    pub fn new(plan: ConceptPlan, choices: Vec<Choice>, leads: Vec<u64>) -> PhysicalPlan
+    /// A plan with choices that its leaves offer.
+    pub fn new(plan: ConceptPlan, choices: Vec<Choice>) -> PhysicalPlan
         requires count { length choices.items ≡ leaves (plan_of plan) }
         requires offered { AreOffered choices.items (plan_of plan) }
-        requires led { (indexed : Indexed) × (leads.items ≡ leads_of indexed choices.items (plan_of plan)) }
         ensures plan { result.plan ≡ plan }
         ensures choices { result.choices ≡ choices.items }
-        ensures leads { result.leads ≡ leads.items }
     {
-        PhysicalPlan {
-            plan,
-            choices,
-            leads,
-        }
+        PhysicalPlan { plan, choices }
     }
 
     /// The plan.
@@ -73,15 +63,6 @@ impl PhysicalPlan {
         ensures offered { AreOffered self.now.choices (plan_of self.now.plan) }
     {
         self.choices.as_slice()
-    }
-
-    /// For each node that joins sets by AND, of concepts or of groups, a node before its children: the place of the part that finds
-    /// least, by its size at most. A plan is best executed from there.
-    pub fn leads(&self) -> &[u64]
-        ensures leads { result.now ≡ self.now.leads }
-        ensures led { (indexed : Indexed) × (self.now.leads ≡ leads_of indexed self.now.choices (plan_of self.now.plan)) }
-    {
-        self.leads.as_slice()
     }
 }
 

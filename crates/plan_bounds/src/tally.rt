@@ -9,8 +9,6 @@ pub struct Tally {
     pub sum: u64,
     /// The least of them, or another number where there is no part.
     pub least: u64,
-    /// The place of the first part of that size.
-    pub lead: u64,
 }
 
 impl Tally {
@@ -21,7 +19,6 @@ impl Tally {
         Tally {
             sum: 0,
             least: other,
-            lead: 0,
         }
     }
 
@@ -30,18 +27,11 @@ impl Tally {
         ensures { result ≡ tally_with place self.now size }
     {
         let sum = self.sum.saturating_add(size);
-        if place == 0 || size < self.least {
-            Tally {
-                sum,
-                least: size,
-                lead: place,
-            }
+        let least = if place == 0 {
+            size
         } else {
-            Tally {
-                sum,
-                least: self.least,
-                lead: self.lead,
-            }
-        }
+            self.least.min(size)
+        };
+        Tally { sum, least }
     }
 }

@@ -9,9 +9,7 @@ use Rattle.set_algebra.specs.declared.choice.Choice.{Choice}
 use Rattle.plan_bounds.specs.Alternatives.{found_by, leaf_size}
 use Rattle.planner.specs.Chosen.{chosen, group_chosen, groups_chosen, plans_chosen, test_chosen}
 use Rattle.plan_bounds.specs.Counts.{leaf_of, one_of}
-use Rattle.plan_bounds.specs.Leads.{group_own_lead, lead_list, lead_of, own_lead}
 use Rattle.plan_bounds.specs.Leaves.{first_choice, group_leaves, groups_leaves, leaves, plan_count, plans_leaves, test_choices, test_leaves, type_choices}
-use Rattle.plan_bounds.specs.Nodes.{NodeList, group_list, groups_list, node_list, plans_list, test_list}
 use Rattle.plan_bounds.specs.Sizes.{group_size, group_sizes, least_of, size, sizes, test_size, total, values_size, walk_size}
 
 -- ---- fronts of choices that are long enough
@@ -178,123 +176,6 @@ mutual
   length-test_chosen indexed asked others (outside_plan operand) = length-chosen indexed asked others operand
   length-test_chosen indexed asked others (number_plan compare number) = refl
 
--- ---- what nodes give in a list, where no node reads choices behind its own
-leaf_list_front : (node : NodeList) (front more : List Choice) (types : Plan) (test : TestPlan) → LeafFront front more types (test_leaves test)
-    → node_list node (type_choices front ++ more) types ≡ node_list node (type_choices front) types
-    → test_list node (test_choices front types ++ more) test ≡ test_list node (test_choices front types) test
-    → node_list node (type_choices (front ++ more)) types ++ test_list node (test_choices (front ++ more) types) test
-    ≡ node_list node (type_choices front) types ++ test_list node (test_choices front types) test
-leaf_list_front node front more types test from same_types same_test =
-    let of_types = ap (λ (choices : List Choice). node_list node choices types) from.types_from ∙ same_types in
-    let of_test = ap (λ (choices : List Choice). test_list node choices test) from.test_from ∙ same_test in
-    (λ i. of_types i ++ of_test i)
-
-module _ (node : NodeList)
-    (plans : (front more : List Choice) (plan : Plan) → leaves plan ≤ length front → node.of_plan (front ++ more) plan ≡ node.of_plan front plan)
-    (groups : (front more : List Choice) (plan : PlanOfUnits) → group_leaves plan ≤ length front
-    → node.of_group (front ++ more) plan ≡ node.of_group front plan) where
-  mutual
-    pub list_front : (front more : List Choice) (plan : Plan) → leaves plan ≤ length front
-        → node_list node (front ++ more) plan ≡ node_list node front plan
-    list_front front more empty_plan long = plans front more empty_plan long
-    list_front front more all_plan long = plans front more all_plan long
-    list_front front more (one_plan number) long = plans front more (one_plan number) long
-    list_front front more (walk_plan operator operand) long =
-        (λ i. plans front more (walk_plan operator operand) long i ++ list_front front more operand long i)
-    list_front front more (members_plan operand) long =
-        (λ i. plans front more (members_plan operand) long i ++ list_front front more operand long i)
-    list_front front more (and_plan parts) long = (λ i. plans front more (and_plan parts) long i ++ plans_front front more parts long i)
-    list_front front more (or_plan parts) long = (λ i. plans front more (or_plan parts) long i ++ plans_front front more parts long i)
-    list_front front more (minus_plan first second) long =
-        let behind = drop-append-le (leaves first) front more (omega (arith, long)) in
-        (λ i. plans front more (minus_plan first second) long i
-        ++ (list_front front more first (omega (arith, long)) i ++ node_list node (behind i) second))
-        ∙ ap (λ (others : List ℕ). node.of_plan front (minus_plan first second) ++ (node_list node front first ++ others))
-        (list_front (drop (leaves first) front) more second (omega (arith, long, length-drop (leaves first) front)))
-    list_front front more (values_plan start names) long =
-        let behind = drop-append-le (leaves start) front more (omega (arith, long)) in
-        (λ i. plans front more (values_plan start names) long i
-        ++ (list_front front more start (omega (arith, long)) i ++ plans_list node (behind i) names))
-        ∙ ap (λ (others : List ℕ). node.of_plan front (values_plan start names) ++ (node_list node front start ++ others))
-        (plans_front (drop (leaves start) front) more names (omega (arith, long, length-drop (leaves start) front)))
-    list_front front more (pairs_plan back count types test) long =
-        let from = leaf_front front more types (test_leaves test) long in
-        let inner = leaf_list_front node front more types test from
-        (list_front (type_choices front) more types from.types_room)
-        (test_front (test_choices front types) more test from.test_room) in
-        (λ i. plans front more (pairs_plan back count types test) long i ++ inner i)
-    list_front front more (units_plan count units) long =
-        (λ i. plans front more (units_plan count units) long i ++ group_front front more units long i)
-
-    pub plans_front : (front more : List Choice) (parts : Plans) → plans_leaves parts ≤ length front
-        → plans_list node (front ++ more) parts ≡ plans_list node front parts
-    plans_front front more no_plans long = refl
-    plans_front front more (plan_then first rest) long =
-        let behind = drop-append-le (leaves first) front more (omega (arith, long)) in
-        (λ i. list_front front more first (omega (arith, long)) i ++ plans_list node (behind i) rest)
-        ∙ ap (λ (others : List ℕ). node_list node front first ++ others)
-        (plans_front (drop (leaves first) front) more rest (omega (arith, long, length-drop (leaves first) front)))
-
-    pub group_front : (front more : List Choice) (plan : PlanOfUnits) → group_leaves plan ≤ length front
-        → group_list node (front ++ more) plan ≡ group_list node front plan
-    group_front front more nothing_unit long = groups front more nothing_unit long
-    group_front front more every_unit long = groups front more every_unit long
-    group_front front more (and_units parts) long = (λ i. groups front more (and_units parts) long i ++ groups_front front more parts long i)
-    group_front front more (or_units parts) long = (λ i. groups front more (or_units parts) long i ++ groups_front front more parts long i)
-    group_front front more (minus_units first second) long =
-        let behind = drop-append-le (group_leaves first) front more (omega (arith, long)) in
-        (λ i. groups front more (minus_units first second) long i
-        ++ (group_front front more first (omega (arith, long)) i ++ group_list node (behind i) second))
-        ∙ ap (λ (others : List ℕ). node.of_group front (minus_units first second) ++ (group_list node front first ++ others))
-        (group_front (drop (group_leaves first) front) more second (omega (arith, long, length-drop (group_leaves first) front)))
-    group_front front more (pairs_units count types test) long =
-        let from = leaf_front front more types (test_leaves test) long in
-        let inner = leaf_list_front node front more types test from
-        (list_front (type_choices front) more types from.types_room)
-        (test_front (test_choices front types) more test from.test_room) in
-        (λ i. groups front more (pairs_units count types test) long i ++ inner i)
-
-    pub groups_front : (front more : List Choice) (parts : PlansOfUnits) → groups_leaves parts ≤ length front
-        → groups_list node (front ++ more) parts ≡ groups_list node front parts
-    groups_front front more no_unit_plans long = refl
-    groups_front front more (unit_plan_then first rest) long =
-        let behind = drop-append-le (group_leaves first) front more (omega (arith, long)) in
-        (λ i. group_front front more first (omega (arith, long)) i ++ groups_list node (behind i) rest)
-        ∙ ap (λ (others : List ℕ). group_list node front first ++ others)
-        (groups_front (drop (group_leaves first) front) more rest (omega (arith, long, length-drop (group_leaves first) front)))
-
-    test_front : (front more : List Choice) (test : TestPlan) → test_leaves test ≤ length front
-        → test_list node (front ++ more) test ≡ test_list node front test
-    test_front front more (within_plan operand) long = list_front front more operand long
-    test_front front more (outside_plan operand) long = list_front front more operand long
-    test_front front more (number_plan compare number) long = refl
-
--- the places of the parts that are taken first
-own_lead_front : (indexed : Indexed) (front more : List Choice) (plan : Plan) → leaves plan ≤ length front
-    → own_lead indexed (front ++ more) plan ≡ own_lead indexed front plan
-own_lead_front indexed front more empty_plan long = refl
-own_lead_front indexed front more all_plan long = refl
-own_lead_front indexed front more (one_plan number) long = refl
-own_lead_front indexed front more (walk_plan operator operand) long = refl
-own_lead_front indexed front more (members_plan operand) long = refl
-own_lead_front indexed front more (and_plan parts) long =
-    ap (λ (parts : List ℕ). lead_of parts ∷ []) (sizes_front indexed front more parts long)
-own_lead_front indexed front more (or_plan parts) long = refl
-own_lead_front indexed front more (minus_plan first second) long = refl
-own_lead_front indexed front more (values_plan start names) long = refl
-own_lead_front indexed front more (pairs_plan back count types test) long = refl
-own_lead_front indexed front more (units_plan count units) long = refl
-
-group_own_lead_front : (indexed : Indexed) (front more : List Choice) (plan : PlanOfUnits) → group_leaves plan ≤ length front
-    → group_own_lead indexed (front ++ more) plan ≡ group_own_lead indexed front plan
-group_own_lead_front indexed front more nothing_unit long = refl
-group_own_lead_front indexed front more every_unit long = refl
-group_own_lead_front indexed front more (and_units parts) long =
-    ap (λ (parts : List ℕ). lead_of parts ∷ []) (group_sizes_front indexed front more parts long)
-group_own_lead_front indexed front more (or_units parts) long = refl
-group_own_lead_front indexed front more (minus_units first second) long = refl
-group_own_lead_front indexed front more (pairs_units count types test) long = refl
-
 -- ---- a plan in front of others reads the choices that it was given
 pub size_chosen : (indexed : Indexed) (asked others : List Choice) (plan : Plan) (more : List Choice)
     → size indexed (chosen indexed asked others plan ++ more) plan ≡ size indexed (chosen indexed asked others plan) plan
@@ -306,13 +187,6 @@ pub drop_chosen : (indexed : Indexed) (asked others : List Choice) (plan : Plan)
 drop_chosen indexed asked others plan more =
     drop_at (chosen indexed asked others plan) more (leaves plan) (length-chosen indexed asked others plan)
 
-pub leads_chosen : (indexed : Indexed) (asked others : List Choice) (plan : Plan) (more : List Choice)
-    → node_list (lead_list indexed) (chosen indexed asked others plan ++ more) plan
-    ≡ node_list (lead_list indexed) (chosen indexed asked others plan) plan
-leads_chosen indexed asked others plan more =
-    list_front (lead_list indexed) (own_lead_front indexed) (group_own_lead_front indexed) (chosen indexed asked others plan) more plan
-    (omega (arith, length-chosen indexed asked others plan))
-
 pub group_size_chosen : (indexed : Indexed) (asked others : List Choice) (plan : PlanOfUnits) (more : List Choice)
     → group_size indexed (group_chosen indexed asked others plan ++ more) plan ≡ group_size indexed (group_chosen indexed asked others plan) plan
 group_size_chosen indexed asked others plan more =
@@ -322,10 +196,3 @@ pub group_drop_chosen : (indexed : Indexed) (asked others : List Choice) (plan :
     → drop (group_leaves plan) (group_chosen indexed asked others plan ++ more) ≡ more
 group_drop_chosen indexed asked others plan more =
     drop_at (group_chosen indexed asked others plan) more (group_leaves plan) (length-group_chosen indexed asked others plan)
-
-pub group_leads_chosen : (indexed : Indexed) (asked others : List Choice) (plan : PlanOfUnits) (more : List Choice)
-    → group_list (lead_list indexed) (group_chosen indexed asked others plan ++ more) plan
-    ≡ group_list (lead_list indexed) (group_chosen indexed asked others plan) plan
-group_leads_chosen indexed asked others plan more =
-    group_front (lead_list indexed) (own_lead_front indexed) (group_own_lead_front indexed) (group_chosen indexed asked others plan) more plan
-    (omega (arith, length-group_chosen indexed asked others plan))

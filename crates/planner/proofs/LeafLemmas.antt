@@ -1,5 +1,4 @@
--- What a leaf is given, once its types and its test have been given theirs: the choices, the places of the parts that are taken first,
--- and the size.
+-- What a leaf is given, once its types and its test have been given theirs: the choices, and the size.
 use Rattle.std.proofs.Common.{ℕ, Bool, ◌∷◌, ◌++◌, [], ◌≡◌, ◌∙◌, List, drop, length, sym, ap}
 use Rattle.std.specs.List.{slice_set}
 use Rattle.constraint_tree.specs.declared.operator.Cardinality.{Cardinality}
@@ -10,13 +9,11 @@ use Rattle.postings.specs.Indexed.{Indexed}
 use Rattle.plan_bounds.specs.Alternatives.{choice_of, leaf_size}
 use Rattle.planner.specs.Chosen.{chosen, test_chosen}
 use Rattle.plan_bounds.specs.Counts.{leaf_of}
-use Rattle.plan_bounds.specs.Leads.{lead_list, leads}
 use Rattle.plan_bounds.specs.Leaves.{first_of, leaves}
-use Rattle.plan_bounds.specs.Nodes.{test_list}
 use Rattle.plan_bounds.specs.Sizes.{size, test_size}
 use Rattle.plan_bounds.specs.declared.leaf.Leaf.{Leaf}
-use Rattle.planner.proofs.FrontLemmas.{drop_chosen, leads_chosen, size_chosen}
-use Rattle.plan_bounds.proofs.ListLemmas.{put_seam_two, two_behind}
+use Rattle.planner.proofs.FrontLemmas.{drop_chosen, size_chosen}
+use Rattle.plan_bounds.proofs.ListLemmas.{put_seam_two}
 
 module _ (indexed : Indexed) (asked others : List Choice) (types : Plan) (test : TestPlan)
     {types_asked types_others test_asked test_others : List Choice}
@@ -36,17 +33,6 @@ module _ (indexed : Indexed) (asked others : List Choice) (types : Plan) (test :
   last_is =
       (λ i. test_chosen indexed ((test_asked_is ∙ ap (drop (leaves types)) types_asked_is) i)
       ((test_others_is ∙ ap (drop (leaves types)) types_others_is) i) test)
-
-  -- what the types and the test have added is what their own choices lead off with
-  pub leaf_leads : (had : List ℕ) {between grown : List ℕ} → between ≡ had ++ leads indexed (chosen indexed types_asked types_others types) types
-      → grown ≡ between ++ test_list (lead_list indexed) (test_chosen indexed test_asked test_others test) test
-      → grown ≡ had ++ (leads indexed (inner ++ last) types ++ test_list (lead_list indexed) (drop (leaves types) (inner ++ last)) test)
-  leaf_leads had {between = between} between_is grown_is =
-      two_behind had (leads indexed inner types) (test_list (lead_list indexed) last test)
-      (grown_is ∙ ap (λ (choices : List Choice). between ++ test_list (lead_list indexed) choices test) last_is)
-      (between_is ∙ ap (λ (choices : List Choice). had ++ leads indexed choices types) inner_is)
-      ∙ (λ i. had ++ (sym (leads_chosen indexed (drop 1 asked) (drop 1 others) types last) i
-      ++ test_list (lead_list indexed) (sym (drop_chosen indexed (drop 1 asked) (drop 1 others) types last) i) test))
 
   -- the leaf by the choices of its types and of its test
   module _ (all : ℕ) (back : Bool) (count : Cardinality) where

@@ -16,7 +16,6 @@ use Rattle.set_algebra.specs.declared.choice.Choice.TheVariants.{ByValue, ByType
 use Rattle.plan_bounds.specs.Bounds.{bound, own_bounds}
 use Rattle.planner.specs.Chosen.{least_choices}
 use Rattle.plan_bounds.specs.Floors.{floor}
-use Rattle.plan_bounds.specs.Leads.{leads}
 
 -- the indexes of the sample release, as far as bounds rest on them
 abbrev pub indexed_sample : Indexed
@@ -33,10 +32,9 @@ indexed_sample = record {
 abbrev pub CountsSample : Type 0
 CountsSample = stats_in indexed_sample ≡ record { n = 10; a = 9; g = 8; r = 15; l = 10; m = 2 }
 
--- what the choices of a plan are, the places of the parts that are taken first, its own bounds, its bound and its floor
-pub record IsBounded (plan : Plan) (choices : List Choice) (places own : List ℕ) (most least : ℕ) : Type 0 where
+-- what the choices of a plan are, its own bounds, its bound and its floor
+pub record IsBounded (plan : Plan) (choices : List Choice) (own : List ℕ) (most least : ℕ) : Type 0 where
   pub choices_are : least_choices indexed_sample plan ≡ choices
-  pub leads_are : leads indexed_sample choices plan ≡ places
   pub own_bounds_are : own_bounds indexed_sample choices plan ≡ own
   pub bound_is : bound indexed_sample choices plan ≡ most
   pub floor_is : floor indexed_sample choices plan ≡ least
@@ -45,20 +43,20 @@ pub record IsBounded (plan : Plan) (choices : List Choice) (places own : List �
 abbrev pub BoundsByValue : Type 0
 BoundsByValue =
     IsBounded (both_plan below_alpha_plan (pairs_plan false (at_least 1) (one_plan type_t) (within_plan (one_plan value_x))))
-    (ByValue ∷ []) (1 ∷ []) (10 ∷ 4 ∷ 0 ∷ 3 ∷ 0 ∷ 0 ∷ []) 17 5
+    (ByValue ∷ []) (10 ∷ 4 ∷ 0 ∷ 3 ∷ 0 ∷ 0 ∷ []) 17 5
 
 -- *:105000>#2
 abbrev pub BoundsByType : Type 0
 BoundsByType =
     IsBounded (both_plan all_plan (pairs_plan false (at_least 1) (one_plan type_u) (number_plan Greater two)))
-    (ByType ∷ []) (1 ∷ []) (32 ∷ 0 ∷ 7 ∷ 0 ∷ []) 39 6
+    (ByType ∷ []) (32 ∷ 0 ∷ 7 ∷ 0 ∷ []) 39 6
 
 -- <100005:{104001=<<106004,105000=*}
 abbrev pub BoundsInBraces : Type 0
 BoundsInBraces =
     IsBounded (both_plan below_alpha_plan (units_plan (at_least 1) (and_units (units_from (x_group ∷ u_group ∷ [])))))
-    (ByType ∷ ByType ∷ []) (0 ∷ 0 ∷ []) (12 ∷ 4 ∷ 0 ∷ 3 ∷ 18 ∷ 4 ∷ 0 ∷ 2 ∷ 0 ∷ 7 ∷ 0 ∷ 0 ∷ []) 50 13
+    (ByType ∷ ByType ∷ []) (12 ∷ 4 ∷ 0 ∷ 3 ∷ 18 ∷ 4 ∷ 0 ∷ 2 ∷ 0 ∷ 7 ∷ 0 ∷ 0 ∷ []) 50 13
 
 -- 100005,100005, of which one is left
 abbrev pub BoundsOfOne : Type 0
-BoundsOfOne = IsBounded (one_plan alpha) [] [] (0 ∷ []) 0 0
+BoundsOfOne = IsBounded (one_plan alpha) [] (0 ∷ []) 0 0

@@ -1,12 +1,10 @@
-//! The choices of a plan, and which part of each node that joins sets by AND is taken first.
+//! The choices of a plan.
 ghost use Rattle.std.specs.Prelude.{◌≡◌, ◌<◌, ◌++◌, ◌∷◌, [], IfOk, OnOk, drop, length};
 ghost use Rattle.std.specs.List.{slice_set};
 ghost use Rattle.set_algebra.specs.Plan.{and_plan, and_units, members_plan, minus_plan, minus_units, or_plan, or_units, plan_of};
 ghost use Rattle.set_algebra.specs.Plan.{plans_of, test_plan_of, unit_plan_of, unit_plans_of, units_plan, values_plan, walk_plan};
 ghost use Rattle.planner.specs.Chosen.{chosen, group_chosen, groups_chosen, plans_chosen, test_chosen};
-ghost use Rattle.plan_bounds.specs.Leads.{lead_list};
 ghost use Rattle.plan_bounds.specs.Leaves.{first_of, group_leaves, groups_leaves, leaves, plans_leaves, test_leaves};
-ghost use Rattle.plan_bounds.specs.Nodes.{group_list, groups_list, node_list, plans_list, test_list};
 ghost use Rattle.plan_bounds.specs.Sizes.{group_size, group_sizes, size as size_of, sizes, test_size};
 ghost use Rattle.planner.specs.inside.SettledNodes.{IsGroupSettled, IsLeafSettled, IsNodeSettled};
 ghost use Rattle.plan_bounds.specs.Tallies.{IsTallyOf};
@@ -18,16 +16,7 @@ use plan_bounds::{
 };
 use postings::Indexes;
 use set_algebra::{Choice, ConceptPlan, UnitPlan, ValueTest};
-use std::alloc::{AllocError, Global};
-
-/// The choices of the leaves so far, and the places of the parts that are taken first.
-#[derive(Drop)]
-pub struct Choosing {
-    /// A node before its children.
-    pub choices: Vec<Choice>,
-    /// One for each node of either sort that joins sets by AND, a node before its children.
-    pub leads: Vec<u64>,
-}
+use std::alloc::AllocError;
 
 /// How much a plan finds at most, and the choices behind its own, both those that are asked for and those in their place.
 #[derive(Clone, Copy)]
@@ -48,17 +37,6 @@ struct SettledParts<'a> {
     others: &'a [Choice],
 }
 
-/// Nothing chosen yet.
-pub fn nothing_chosen(alloc: Global) -> Choosing
-    ensures choices { result.choices.items ≡ [] }
-    ensures leads { result.leads.items ≡ [] }
-{
-    Choosing {
-        choices: Vec::new(alloc),
-        leads: Vec::new(alloc),
-    }
-}
-
 /// Adds the choices of a plan of concepts: of each leaf the one that is asked for, where it offers it; else another, where there
 /// is one; else the least. It goes through the plan once.
 #[cycle(settle)]
@@ -67,16 +45,14 @@ pub fn settle<'a>(
     asked: &'a [Choice],
     others: &'a [Choice],
     indexes: &Indexes,
-    choosing: &mut Choosing,
+    choices: &mut Vec<Choice>,
 ) -> Result<Settled<'a>, AllocError>
-    ensures choices { OnOk result (choosing.new.choices.items ≡ choosing.old.choices.items ++ chosen indexes.now asked.now others.now (plan_of plan.now)) }
-    ensures leads { OnOk result (choosing.new.leads.items ≡ choosing.old.leads.items
-        ++ node_list (lead_list indexes.now) (chosen indexes.now asked.now others.now (plan_of plan.now)) (plan_of plan.now)) }
+    ensures choices { OnOk result (choices.new.items ≡ choices.old.items ++ chosen indexes.now asked.now others.now (plan_of plan.now)) }
     ensures size { IfOk result (λ found. found.size ≡ size_of indexes.now (chosen indexes.now asked.now others.now (plan_of plan.now)) (plan_of plan.now)) }
     ensures asked { IfOk result (λ found. found.asked.now ≡ drop (leaves (plan_of plan.now)) asked.now) }
     ensures others { IfOk result (λ found. found.others.now ≡ drop (leaves (plan_of plan.now)) others.now) }
 {
-    settle_node(plan, asked, others, indexes, choosing)
+    settle_node(plan, asked, others, indexes, choices)
 }
 
 // The same, by the sort of its node; what is known of a node is one fact.
@@ -87,25 +63,25 @@ fn settle_node<'a>(
     asked: &'a [Choice],
     others: &'a [Choice],
     indexes: &Indexes,
-    choosing: &mut Choosing,
+    choices: &mut Vec<Choice>,
 ) -> Result<Settled<'a>, AllocError>
-    ensures { IfOk result (λ found. IsNodeSettled indexes.now asked.now others.now (plan_of plan.now) choosing.old choosing.new found) }
+    ensures { IfOk result (λ found. IsNodeSettled indexes.now asked.now others.now (plan_of plan.now) choices.old.items choices.new.items found) }
 {
     match plan {
         ConceptPlan::Empty => Ok(found_behind(0, asked, others)),
         ConceptPlan::All => Ok(found_behind(concepts(indexes), asked, others)),
         ConceptPlan::One(_) => Ok(found_behind(1, asked, others)),
         ConceptPlan::Walk(operator, operand) => {
-            settle_walk(*operator, operand, asked, others, indexes, choosing)
+            settle_walk(*operator, operand, asked, others, indexes, choices)
         }
-        ConceptPlan::Members(operand) => settle_members(operand, asked, others, indexes, choosing),
-        ConceptPlan::And(parts) => settle_and(parts, asked, others, indexes, choosing),
-        ConceptPlan::Or(parts) => settle_or(parts, asked, others, indexes, choosing),
+        ConceptPlan::Members(operand) => settle_members(operand, asked, others, indexes, choices),
+        ConceptPlan::And(parts) => settle_and(parts, asked, others, indexes, choices),
+        ConceptPlan::Or(parts) => settle_or(parts, asked, others, indexes, choices),
         ConceptPlan::Minus(first, second) => {
-            settle_minus(first, second, asked, others, indexes, choosing)
+            settle_minus(first, second, asked, others, indexes, choices)
         }
         ConceptPlan::Values(start, names) => {
-            settle_values(start, names, asked, others, indexes, choosing)
+            settle_values(start, names, asked, others, indexes, choices)
         }
         ConceptPlan::Pairs {
             back,
@@ -115,11 +91,11 @@ fn settle_node<'a>(
         } => {
             let all = concepts(indexes);
             settle_pairs(
-                all, *back, *count, types, test, asked, others, indexes, choosing,
+                all, *back, *count, types, test, asked, others, indexes, choices,
             )
         }
         ConceptPlan::Units { count, units } => {
-            settle_of_units(*count, units, asked, others, indexes, choosing)
+            settle_of_units(*count, units, asked, others, indexes, choices)
         }
     }
 }
@@ -132,11 +108,12 @@ fn settle_walk<'a>(
     asked: &'a [Choice],
     others: &'a [Choice],
     indexes: &Indexes,
-    choosing: &mut Choosing,
+    choices: &mut Vec<Choice>,
 ) -> Result<Settled<'a>, AllocError>
-    ensures { IfOk result (λ found. IsNodeSettled indexes.now asked.now others.now (walk_plan operator (plan_of operand.now)) choosing.old choosing.new found) }
+    ensures { IfOk result (λ found.
+        IsNodeSettled indexes.now asked.now others.now (walk_plan operator (plan_of operand.now)) choices.old.items choices.new.items found) }
 {
-    let inner = settle(operand, asked, others, indexes, choosing)?;
+    let inner = settle(operand, asked, others, indexes, choices)?;
     let own = cost_of_walk(indexes, operator, operand, inner.size);
     Ok(Settled {
         size: own.size,
@@ -152,11 +129,12 @@ fn settle_members<'a>(
     asked: &'a [Choice],
     others: &'a [Choice],
     indexes: &Indexes,
-    choosing: &mut Choosing,
+    choices: &mut Vec<Choice>,
 ) -> Result<Settled<'a>, AllocError>
-    ensures { IfOk result (λ found. IsNodeSettled indexes.now asked.now others.now (members_plan (plan_of operand.now)) choosing.old choosing.new found) }
+    ensures { IfOk result (λ found.
+        IsNodeSettled indexes.now asked.now others.now (members_plan (plan_of operand.now)) choices.old.items choices.new.items found) }
 {
-    let inner = settle(operand, asked, others, indexes, choosing)?;
+    let inner = settle(operand, asked, others, indexes, choices)?;
     let own = cost_of_members(indexes, operand, inner.size);
     Ok(Settled {
         size: own.size,
@@ -172,13 +150,12 @@ fn settle_and<'a>(
     asked: &'a [Choice],
     others: &'a [Choice],
     indexes: &Indexes,
-    choosing: &mut Choosing,
+    choices: &mut Vec<Choice>,
 ) -> Result<Settled<'a>, AllocError>
-    ensures { IfOk result (λ found. IsNodeSettled indexes.now asked.now others.now (and_plan (plans_of parts.now)) choosing.old choosing.new found) }
+    ensures { IfOk result (λ found.
+        IsNodeSettled indexes.now asked.now others.now (and_plan (plans_of parts.now)) choices.old.items choices.new.items found) }
 {
-    let at = free_lead(choosing)?;
-    let inner = settle_parts(parts, concepts(indexes), asked, others, indexes, choosing)?;
-    put_lead(choosing, at, inner.tally.lead);
+    let inner = settle_parts(parts, concepts(indexes), asked, others, indexes, choices)?;
     Ok(Settled {
         size: inner.tally.least,
         asked: inner.asked,
@@ -193,12 +170,13 @@ fn settle_or<'a>(
     asked: &'a [Choice],
     others: &'a [Choice],
     indexes: &Indexes,
-    choosing: &mut Choosing,
+    choices: &mut Vec<Choice>,
 ) -> Result<Settled<'a>, AllocError>
-    ensures { IfOk result (λ found. IsNodeSettled indexes.now asked.now others.now (or_plan (plans_of parts.now)) choosing.old choosing.new found) }
+    ensures { IfOk result (λ found.
+        IsNodeSettled indexes.now asked.now others.now (or_plan (plans_of parts.now)) choices.old.items choices.new.items found) }
 {
     let all = concepts(indexes);
-    let inner = settle_parts(parts, all, asked, others, indexes, choosing)?;
+    let inner = settle_parts(parts, all, asked, others, indexes, choices)?;
     Ok(Settled {
         size: all.min(inner.tally.sum),
         asked: inner.asked,
@@ -214,13 +192,14 @@ fn settle_minus<'a>(
     asked: &'a [Choice],
     others: &'a [Choice],
     indexes: &Indexes,
-    choosing: &mut Choosing,
+    choices: &mut Vec<Choice>,
 ) -> Result<Settled<'a>, AllocError>
     ensures { IfOk result (λ found.
-        IsNodeSettled indexes.now asked.now others.now (minus_plan (plan_of first.now) (plan_of second.now)) choosing.old choosing.new found) }
+        IsNodeSettled indexes.now asked.now others.now (minus_plan (plan_of first.now) (plan_of second.now))
+        choices.old.items choices.new.items found) }
 {
-    let left = settle(first, asked, others, indexes, choosing)?;
-    let right = settle(second, left.asked, left.others, indexes, choosing)?;
+    let left = settle(first, asked, others, indexes, choices)?;
+    let right = settle(second, left.asked, left.others, indexes, choices)?;
     Ok(Settled {
         size: left.size,
         asked: right.asked,
@@ -236,13 +215,14 @@ fn settle_values<'a>(
     asked: &'a [Choice],
     others: &'a [Choice],
     indexes: &Indexes,
-    choosing: &mut Choosing,
+    choices: &mut Vec<Choice>,
 ) -> Result<Settled<'a>, AllocError>
     ensures { IfOk result (λ found.
-        IsNodeSettled indexes.now asked.now others.now (values_plan (plan_of start.now) (plans_of names.now)) choosing.old choosing.new found) }
+        IsNodeSettled indexes.now asked.now others.now (values_plan (plan_of start.now) (plans_of names.now))
+        choices.old.items choices.new.items found) }
 {
-    let from = settle(start, asked, others, indexes, choosing)?;
-    let types = settle_parts(names, 0, from.asked, from.others, indexes, choosing)?;
+    let from = settle(start, asked, others, indexes, choices)?;
+    let types = settle_parts(names, 0, from.asked, from.others, indexes, choices)?;
     let own = cost_of_values(indexes, names.len() as u64, from.size);
     Ok(Settled {
         size: own.size,
@@ -262,19 +242,20 @@ fn settle_pairs<'a>(
     asked: &'a [Choice],
     others: &'a [Choice],
     indexes: &Indexes,
-    choosing: &mut Choosing,
+    choices: &mut Vec<Choice>,
 ) -> Result<Settled<'a>, AllocError>
     ensures { IfOk result (λ found.
-        IsLeafSettled indexes.now asked.now others.now all back count (plan_of types.now) (test_plan_of test.now) choosing.old choosing.new found) }
+        IsLeafSettled indexes.now asked.now others.now all back count (plan_of types.now) (test_plan_of test.now)
+        choices.old.items choices.new.items found) }
 {
-    let at = free_choice(choosing)?;
+    let at = free_choice(choices)?;
     let inside = (after_first(asked), after_first(others));
-    let of_types = settle(types, inside.0, inside.1, indexes, choosing)?;
-    let of_test = settle_test(test, of_types.asked, of_types.others, indexes, choosing)?;
+    let of_types = settle(types, inside.0, inside.1, indexes, choices)?;
+    let of_test = settle_test(test, of_types.asked, of_types.others, indexes, choices)?;
     let sizes = (of_types.size, of_test.size);
     let leaf = counts_of_leaf(indexes, all, back, count, types, test, sizes);
     let choice = leaf.choice(first(asked), first(others));
-    put_choice(choosing, at, choice);
+    put_choice(choices, at, choice);
     Ok(Settled {
         size: leaf.size(choice),
         asked: of_test.asked,
@@ -290,12 +271,12 @@ fn settle_of_units<'a>(
     asked: &'a [Choice],
     others: &'a [Choice],
     indexes: &Indexes,
-    choosing: &mut Choosing,
+    choices: &mut Vec<Choice>,
 ) -> Result<Settled<'a>, AllocError>
     ensures { IfOk result (λ found.
-        IsNodeSettled indexes.now asked.now others.now (units_plan count (unit_plan_of units.now)) choosing.old choosing.new found) }
+        IsNodeSettled indexes.now asked.now others.now (units_plan count (unit_plan_of units.now)) choices.old.items choices.new.items found) }
 {
-    let inner = settle_units(units, asked, others, indexes, choosing)?;
+    let inner = settle_units(units, asked, others, indexes, choices)?;
     let own = cost_of_units(count, concepts(indexes), inner.size);
     Ok(Settled {
         size: own.size,
@@ -311,18 +292,16 @@ fn settle_units<'a>(
     asked: &'a [Choice],
     others: &'a [Choice],
     indexes: &Indexes,
-    choosing: &mut Choosing,
+    choices: &mut Vec<Choice>,
 ) -> Result<Settled<'a>, AllocError>
-    ensures choices { OnOk result (choosing.new.choices.items ≡ choosing.old.choices.items
+    ensures choices { OnOk result (choices.new.items ≡ choices.old.items
         ++ group_chosen indexes.now asked.now others.now (unit_plan_of plan.now)) }
-    ensures leads { OnOk result (choosing.new.leads.items ≡ choosing.old.leads.items
-        ++ group_list (lead_list indexes.now) (group_chosen indexes.now asked.now others.now (unit_plan_of plan.now)) (unit_plan_of plan.now)) }
     ensures size { IfOk result (λ found. found.size
         ≡ group_size indexes.now (group_chosen indexes.now asked.now others.now (unit_plan_of plan.now)) (unit_plan_of plan.now)) }
     ensures asked { IfOk result (λ found. found.asked.now ≡ drop (group_leaves (unit_plan_of plan.now)) asked.now) }
     ensures others { IfOk result (λ found. found.others.now ≡ drop (group_leaves (unit_plan_of plan.now)) others.now) }
 {
-    settle_unit_node(plan, asked, others, indexes, choosing)
+    settle_unit_node(plan, asked, others, indexes, choices)
 }
 
 // The same, by the sort of its node.
@@ -333,22 +312,23 @@ fn settle_unit_node<'a>(
     asked: &'a [Choice],
     others: &'a [Choice],
     indexes: &Indexes,
-    choosing: &mut Choosing,
+    choices: &mut Vec<Choice>,
 ) -> Result<Settled<'a>, AllocError>
-    ensures { IfOk result (λ found. IsGroupSettled indexes.now asked.now others.now (unit_plan_of plan.now) choosing.old choosing.new found) }
+    ensures { IfOk result (λ found.
+        IsGroupSettled indexes.now asked.now others.now (unit_plan_of plan.now) choices.old.items choices.new.items found) }
 {
     match plan {
         UnitPlan::Nothing => Ok(found_behind(0, asked, others)),
         UnitPlan::Every => Ok(found_behind(groups(indexes), asked, others)),
-        UnitPlan::And(parts) => settle_units_and(parts, asked, others, indexes, choosing),
-        UnitPlan::Or(parts) => settle_units_or(parts, asked, others, indexes, choosing),
+        UnitPlan::And(parts) => settle_units_and(parts, asked, others, indexes, choices),
+        UnitPlan::Or(parts) => settle_units_or(parts, asked, others, indexes, choices),
         UnitPlan::Minus(first, second) => {
-            settle_units_minus(first, second, asked, others, indexes, choosing)
+            settle_units_minus(first, second, asked, others, indexes, choices)
         }
         UnitPlan::Pairs { count, types, test } => {
             let all = groups(indexes);
             settle_pairs(
-                all, false, *count, types, test, asked, others, indexes, choosing,
+                all, false, *count, types, test, asked, others, indexes, choices,
             )
         }
     }
@@ -361,13 +341,12 @@ fn settle_units_and<'a>(
     asked: &'a [Choice],
     others: &'a [Choice],
     indexes: &Indexes,
-    choosing: &mut Choosing,
+    choices: &mut Vec<Choice>,
 ) -> Result<Settled<'a>, AllocError>
-    ensures { IfOk result (λ found. IsGroupSettled indexes.now asked.now others.now (and_units (unit_plans_of parts.now)) choosing.old choosing.new found) }
+    ensures { IfOk result (λ found.
+        IsGroupSettled indexes.now asked.now others.now (and_units (unit_plans_of parts.now)) choices.old.items choices.new.items found) }
 {
-    let at = free_lead(choosing)?;
-    let inner = settle_unit_parts(parts, groups(indexes), asked, others, indexes, choosing)?;
-    put_lead(choosing, at, inner.tally.lead);
+    let inner = settle_unit_parts(parts, groups(indexes), asked, others, indexes, choices)?;
     Ok(Settled {
         size: inner.tally.least,
         asked: inner.asked,
@@ -382,12 +361,13 @@ fn settle_units_or<'a>(
     asked: &'a [Choice],
     others: &'a [Choice],
     indexes: &Indexes,
-    choosing: &mut Choosing,
+    choices: &mut Vec<Choice>,
 ) -> Result<Settled<'a>, AllocError>
-    ensures { IfOk result (λ found. IsGroupSettled indexes.now asked.now others.now (or_units (unit_plans_of parts.now)) choosing.old choosing.new found) }
+    ensures { IfOk result (λ found.
+        IsGroupSettled indexes.now asked.now others.now (or_units (unit_plans_of parts.now)) choices.old.items choices.new.items found) }
 {
     let all = groups(indexes);
-    let inner = settle_unit_parts(parts, all, asked, others, indexes, choosing)?;
+    let inner = settle_unit_parts(parts, all, asked, others, indexes, choices)?;
     Ok(Settled {
         size: all.min(inner.tally.sum),
         asked: inner.asked,
@@ -403,13 +383,14 @@ fn settle_units_minus<'a>(
     asked: &'a [Choice],
     others: &'a [Choice],
     indexes: &Indexes,
-    choosing: &mut Choosing,
+    choices: &mut Vec<Choice>,
 ) -> Result<Settled<'a>, AllocError>
     ensures { IfOk result (λ found.
-        IsGroupSettled indexes.now asked.now others.now (minus_units (unit_plan_of first.now) (unit_plan_of second.now)) choosing.old choosing.new found) }
+        IsGroupSettled indexes.now asked.now others.now (minus_units (unit_plan_of first.now) (unit_plan_of second.now))
+        choices.old.items choices.new.items found) }
 {
-    let left = settle_units(first, asked, others, indexes, choosing)?;
-    let right = settle_units(second, left.asked, left.others, indexes, choosing)?;
+    let left = settle_units(first, asked, others, indexes, choices)?;
+    let right = settle_units(second, left.asked, left.others, indexes, choices)?;
     Ok(Settled {
         size: left.size,
         asked: right.asked,
@@ -424,12 +405,10 @@ fn settle_test<'a>(
     asked: &'a [Choice],
     others: &'a [Choice],
     indexes: &Indexes,
-    choosing: &mut Choosing,
+    choices: &mut Vec<Choice>,
 ) -> Result<Settled<'a>, AllocError>
-    ensures choices { OnOk result (choosing.new.choices.items ≡ choosing.old.choices.items
+    ensures choices { OnOk result (choices.new.items ≡ choices.old.items
         ++ test_chosen indexes.now asked.now others.now (test_plan_of test.now)) }
-    ensures leads { OnOk result (choosing.new.leads.items ≡ choosing.old.leads.items
-        ++ test_list (lead_list indexes.now) (test_chosen indexes.now asked.now others.now (test_plan_of test.now)) (test_plan_of test.now)) }
     ensures size { IfOk result (λ found. found.size
         ≡ test_size indexes.now (test_chosen indexes.now asked.now others.now (test_plan_of test.now)) (test_plan_of test.now)) }
     ensures asked { IfOk result (λ found. found.asked.now ≡ drop (test_leaves (test_plan_of test.now)) asked.now) }
@@ -437,7 +416,7 @@ fn settle_test<'a>(
 {
     match test {
         ValueTest::Within(operand) | ValueTest::Outside(operand) => {
-            settle(operand, asked, others, indexes, choosing)
+            settle(operand, asked, others, indexes, choices)
         }
         ValueTest::Number(_, _) => Ok(found_behind(0, asked, others)),
     }
@@ -451,12 +430,10 @@ fn settle_parts<'a>(
     asked: &'a [Choice],
     others: &'a [Choice],
     indexes: &Indexes,
-    choosing: &mut Choosing,
+    choices: &mut Vec<Choice>,
 ) -> Result<SettledParts<'a>, AllocError>
-    ensures choices { OnOk result (choosing.new.choices.items ≡ choosing.old.choices.items
+    ensures choices { OnOk result (choices.new.items ≡ choices.old.items
         ++ plans_chosen indexes.now asked.now others.now (plans_of parts.now)) }
-    ensures leads { OnOk result (choosing.new.leads.items ≡ choosing.old.leads.items
-        ++ plans_list (lead_list indexes.now) (plans_chosen indexes.now asked.now others.now (plans_of parts.now)) (plans_of parts.now)) }
     ensures tally { IfOk result (λ found.
         IsTallyOf all (sizes indexes.now (plans_chosen indexes.now asked.now others.now (plans_of parts.now)) (plans_of parts.now)) found.tally) }
     ensures asked { IfOk result (λ found. found.asked.now ≡ drop (plans_leaves (plans_of parts.now)) asked.now) }
@@ -466,13 +443,7 @@ fn settle_parts<'a>(
     let mut asked_behind = asked;
     let mut others_behind = others;
     for place in 0..parts.len() {
-        let part = settle(
-            &parts[place],
-            asked_behind,
-            others_behind,
-            indexes,
-            choosing,
-        )?;
+        let part = settle(&parts[place], asked_behind, others_behind, indexes, choices)?;
         tally = tally.with(place as u64, part.size);
         asked_behind = part.asked;
         others_behind = part.others;
@@ -492,12 +463,10 @@ fn settle_unit_parts<'a>(
     asked: &'a [Choice],
     others: &'a [Choice],
     indexes: &Indexes,
-    choosing: &mut Choosing,
+    choices: &mut Vec<Choice>,
 ) -> Result<SettledParts<'a>, AllocError>
-    ensures choices { OnOk result (choosing.new.choices.items ≡ choosing.old.choices.items
+    ensures choices { OnOk result (choices.new.items ≡ choices.old.items
         ++ groups_chosen indexes.now asked.now others.now (unit_plans_of parts.now)) }
-    ensures leads { OnOk result (choosing.new.leads.items ≡ choosing.old.leads.items
-        ++ groups_list (lead_list indexes.now) (groups_chosen indexes.now asked.now others.now (unit_plans_of parts.now)) (unit_plans_of parts.now)) }
     ensures tally { IfOk result (λ found.
         IsTallyOf all (group_sizes indexes.now (groups_chosen indexes.now asked.now others.now (unit_plans_of parts.now))
         (unit_plans_of parts.now)) found.tally) }
@@ -508,13 +477,7 @@ fn settle_unit_parts<'a>(
     let mut asked_behind = asked;
     let mut others_behind = others;
     for place in 0..parts.len() {
-        let part = settle_units(
-            &parts[place],
-            asked_behind,
-            others_behind,
-            indexes,
-            choosing,
-        )?;
+        let part = settle_units(&parts[place], asked_behind, others_behind, indexes, choices)?;
         tally = tally.with(place as u64, part.size);
         asked_behind = part.asked;
         others_behind = part.others;
@@ -540,43 +503,21 @@ fn found_behind<'a>(size: u64, asked: &'a [Choice], others: &'a [Choice]) -> Set
 }
 
 // A place for the choice of a leaf, before those of its sub-plans.
-fn free_choice(choosing: &mut Choosing) -> Result<usize, AllocError>
-    ensures choices { OnOk result (choosing.new.choices.items ≡ choosing.old.choices.items ++ Choice.Scan ∷ []) }
-    ensures leads { choosing.new.leads.items ≡ choosing.old.leads.items }
-    ensures at { IfOk result (λ at. at ≡ length choosing.old.choices.items) }
+fn free_choice(choices: &mut Vec<Choice>) -> Result<usize, AllocError>
+    ensures choices { OnOk result (choices.new.items ≡ choices.old.items ++ Choice.Scan ∷ []) }
+    ensures at { IfOk result (λ at. at ≡ length choices.old.items) }
 {
-    let at = choosing.choices.len();
-    choosing.choices.push(Choice::Scan)?;
+    let at = choices.len();
+    choices.push(Choice::Scan)?;
     Ok(at)
 }
 
 // Puts a choice in its place.
-fn put_choice(choosing: &mut Choosing, at: usize, choice: Choice)
-    requires { at < length choosing.old.choices.items }
-    ensures choices { choosing.new.choices.items ≡ slice_set choosing.old.choices.items at choice }
-    ensures leads { choosing.new.leads.items ≡ choosing.old.leads.items }
+fn put_choice(choices: &mut Vec<Choice>, at: usize, choice: Choice)
+    requires { at < length choices.old.items }
+    ensures { choices.new.items ≡ slice_set choices.old.items at choice }
 {
-    choosing.choices[at] = choice;
-}
-
-// A place for the part that a node takes first, before those of its children.
-fn free_lead(choosing: &mut Choosing) -> Result<usize, AllocError>
-    ensures leads { OnOk result (choosing.new.leads.items ≡ choosing.old.leads.items ++ 0 ∷ []) }
-    ensures choices { choosing.new.choices.items ≡ choosing.old.choices.items }
-    ensures at { IfOk result (λ at. at ≡ length choosing.old.leads.items) }
-{
-    let at = choosing.leads.len();
-    choosing.leads.push(0)?;
-    Ok(at)
-}
-
-// Puts it there.
-fn put_lead(choosing: &mut Choosing, at: usize, lead: u64)
-    requires { at < length choosing.old.leads.items }
-    ensures leads { choosing.new.leads.items ≡ slice_set choosing.old.leads.items at lead }
-    ensures choices { choosing.new.choices.items ≡ choosing.old.choices.items }
-{
-    choosing.leads[at] = lead;
+    choices[at] = choice;
 }
 
 // The first of some choices, if there is one.

@@ -10,6 +10,6 @@ pub use crate::laws::worked_bounds_hold;
 pub use crate::physical::{choose, choose_with, own_bounds};
 pub use plan_bounds::{
     Choice, NodeLimits, PhysicalPlan, PlanFloor, after_first, bound, finds_within_size,
-    first_choice, floor, floor_within_bound, leads_are_least, leaf_limits, members_limits,
-    plan_floor, plan_size, unit_floor, unit_size, units_limits, walk_limits,
+    first_choice, floor, floor_within_bound, leaf_limits, members_limits, plan_floor, plan_size,
+    unit_floor, unit_size, walk_limits,
 };

@@ -2,14 +2,13 @@
 ghost use Rattle.std.specs.Prelude.{◌≡◌, IfOk, length};
 ghost use Rattle.set_algebra.specs.Plan.{plan_of};
 ghost use Rattle.plan_bounds.specs.Bounds.{own_bounds as own_bounds_of};
-ghost use Rattle.plan_bounds.specs.Leads.{leads};
 ghost use Rattle.plan_bounds.specs.Leaves.{leaves};
 ghost use Rattle.plan_bounds.specs.Offered.{AreLeast, AreOffered};
 ghost use Rattle.planner.specs.Asked.{choices_with};
 ghost use Rattle.planner.specs.Chosen.{chosen, least_choices};
 
 use crate::bound_list::list;
-use crate::choosing::{Choosing, nothing_chosen, settle};
+use crate::choosing::settle;
 use plan_bounds::PhysicalPlan;
 use postings::Indexes;
 use set_algebra::{Choice, ConceptPlan};
@@ -26,10 +25,9 @@ pub fn choose(
     ensures plan { IfOk result (λ physical. physical.plan ≡ plan) }
     ensures choices { IfOk result (λ physical. physical.choices ≡ least_choices indexes.now (plan_of plan)) }
     ensures least { IfOk result (λ physical. AreLeast indexes.now physical.choices (plan_of plan)) }
-    ensures leads { IfOk result (λ physical. physical.leads ≡ leads indexes.now physical.choices (plan_of plan)) }
 {
     let chosen = chosen_for(alloc, &plan, &[], &[], indexes)?;
-    Ok(PhysicalPlan::new(plan, chosen.choices, chosen.leads))
+    Ok(PhysicalPlan::new(plan, chosen))
 }
 
 /// A plan with the choices of a list: of each leaf the one at its place, where the list has one and the leaf offers it, and else the one
@@ -42,10 +40,9 @@ pub fn choose_with(
 ) -> Result<PhysicalPlan, AllocError>
     ensures plan { IfOk result (λ physical. physical.plan ≡ plan) }
     ensures choices { IfOk result (λ physical. physical.choices ≡ choices_with indexes.now asked.now (plan_of plan)) }
-    ensures leads { IfOk result (λ physical. physical.leads ≡ leads indexes.now physical.choices (plan_of plan)) }
 {
     let chosen = chosen_with(alloc, &plan, asked, indexes)?;
-    Ok(PhysicalPlan::new(plan, chosen.choices, chosen.leads))
+    Ok(PhysicalPlan::new(plan, chosen))
 }
 
 // The choices of a plan, by those that are asked for and the least in their place.
@@ -54,14 +51,13 @@ fn chosen_with(
     plan: &ConceptPlan,
     asked: &[Choice],
     indexes: &Indexes,
-) -> Result<Choosing, AllocError>
-    ensures choices { IfOk result (λ found. found.choices.items ≡ choices_with indexes.now asked.now (plan_of plan.now)) }
-    ensures count { IfOk result (λ found. length found.choices.items ≡ leaves (plan_of plan.now)) }
-    ensures offered { IfOk result (λ found. AreOffered found.choices.items (plan_of plan.now)) }
-    ensures leads { IfOk result (λ found. found.leads.items ≡ leads indexes.now found.choices.items (plan_of plan.now)) }
+) -> Result<Vec<Choice>, AllocError>
+    ensures choices { IfOk result (λ choices. choices.items ≡ choices_with indexes.now asked.now (plan_of plan.now)) }
+    ensures count { IfOk result (λ choices. length choices.items ≡ leaves (plan_of plan.now)) }
+    ensures offered { IfOk result (λ choices. AreOffered choices.items (plan_of plan.now)) }
 {
     let least = chosen_for(alloc, plan, &[], &[], indexes)?;
-    let chosen = chosen_for(alloc, plan, asked, least.choices.as_slice(), indexes)?;
+    let chosen = chosen_for(alloc, plan, asked, least.as_slice(), indexes)?;
     Ok(chosen)
 }
 
@@ -72,14 +68,12 @@ fn chosen_for(
     asked: &[Choice],
     others: &[Choice],
     indexes: &Indexes,
-) -> Result<Choosing, AllocError>
-    ensures choices { IfOk result (λ found. found.choices.items ≡ chosen indexes.now asked.now others.now (plan_of plan.now)) }
-    ensures leads { IfOk result (λ found. found.leads.items
-        ≡ leads indexes.now (chosen indexes.now asked.now others.now (plan_of plan.now)) (plan_of plan.now)) }
+) -> Result<Vec<Choice>, AllocError>
+    ensures { IfOk result (λ choices. choices.items ≡ chosen indexes.now asked.now others.now (plan_of plan.now)) }
 {
-    let mut found = nothing_chosen(alloc);
-    settle(plan, asked, others, indexes, &mut found)?;
-    Ok(found)
+    let mut choices = Vec::new(alloc);
+    settle(plan, asked, others, indexes, &mut choices)?;
+    Ok(choices)
 }
 
 /// How many items each node of a plan visits at most beside its children, or `u64::MAX` where that is more; a node before its

@@ -10,12 +10,10 @@ use std::alloc::{AllocError, Global};
 use std::process::Abort;
 use std::test::Fail;
 
-// A query; its choices; the places of the parts that its conjunctions take first; its own bounds, a node before its children; the
-// sum of these; and its floor.
+// A query; its choices; its own bounds, a node before its children; the sum of these; and its floor.
 struct Row {
     line: &'static [u8],
     choices: &'static [Choice],
-    leads: &'static [u64],
     own: &'static [u64],
     bound: u64,
     floor: u64,
@@ -25,7 +23,6 @@ const ROWS: [Row; 5] = [
     Row {
         line: b"<100005:104001=106004",
         choices: &[Choice::ByValue],
-        leads: &[1],
         own: &[10, 4, 0, 3, 0, 0],
         bound: 17,
         floor: 5,
@@ -33,7 +30,6 @@ const ROWS: [Row; 5] = [
     Row {
         line: b"*:105000>#2",
         choices: &[Choice::ByType],
-        leads: &[1],
         own: &[32, 0, 7, 0],
         bound: 39,
         floor: 6,
@@ -41,7 +37,6 @@ const ROWS: [Row; 5] = [
     Row {
         line: b"<100005:{104001=<<106004,105000=*}",
         choices: &[Choice::ByType, Choice::ByType],
-        leads: &[0, 0],
         own: &[12, 4, 0, 3, 18, 4, 0, 2, 0, 7, 0, 0],
         bound: 50,
         floor: 13,
@@ -49,7 +44,6 @@ const ROWS: [Row; 5] = [
     Row {
         line: b"100005",
         choices: &[],
-        leads: &[],
         own: &[0],
         bound: 0,
         floor: 0,
@@ -58,7 +52,6 @@ const ROWS: [Row; 5] = [
     Row {
         line: b"((<100005 OR <106004) MINUS ^108003).104001",
         choices: &[],
-        leads: &[],
         own: &[13, 6, 8, 4, 0, 2, 0, 3, 0, 0],
         bound: 36,
         floor: 6,
@@ -89,7 +82,6 @@ fn assert_bounds(
     row: &Row,
 ) -> Result<(), AllocError> {
     assert!(rt; physical.choices() == row.choices);
-    assert!(rt; physical.leads() == row.leads);
     assert_eq!(rt; bound(physical, indexes), row.bound);
     assert_eq!(rt; floor(physical, indexes), row.floor);
     assert!(rt; own_bounds(alloc, physical, indexes)?.as_slice() == row.own);

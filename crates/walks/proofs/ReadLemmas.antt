@@ -1,8 +1,7 @@
 -- How many items the lists of some concepts have together: no more than all lists of their family.
-use Rattle.std.proofs.Common.{ℕ, ◌+◌, ◌∷◌, [], ◌≡◌, ◌≤◌, ◌<◌, ◌∙◌, Bool, true, false, cond, List, length, map, refl, sym, ap, subst, arith}
+use Rattle.std.proofs.Common.{ℕ, ◌+◌, ◌∷◌, [], ◌≡◌, ◌≤◌, ◌∙◌, Bool, true, false, cond, List, length, map, refl, sym, ap, subst, arith}
 use Rattle.std.specs.Prelude.{nat_lt}
 use Rattle.std.specs.List.{concat, range_with_len, sum_by}
-use Rattle.std.proofs.lemmas.Bool.{false≢true, lt-ltb, ltb-false, ltb-true}
 use Rattle.std.proofs.lemmas.List.Concat.{concat_is, length-flat_map}
 use Rattle.std.proofs.lemmas.List.Folds.{flat_map-map}
 use Rattle.std.proofs.lemmas.List.Sums.{length-filter, sum_by-cons}
@@ -15,7 +14,6 @@ use Rattle.constraint_tree.specs.declared.operator.Operator.{Operator}
 use Rattle.ancestor_index.specs.HierarchyLists.{Hierarchy, lists_where}
 use Rattle.postings.specs.Indexed.{Indexed}
 use Rattle.walks.specs.Asked.{asked_lists}
-use Rattle.walks.specs.inside.Joined.{is_whole}
 use Rattle.walks.specs.Families.{all_items_of, items_in, lists_of}
 use Rattle.walks.specs.Led.{IsOver}
 use Rattle.walks.specs.Reads.{asked_items, items_at_most}
@@ -100,13 +98,6 @@ set_items count hierarchy over f concepts rising =
       family_items count hierarchy over f,
     )
 
--- a whole family has all pairs
-pub whole_items : (hierarchy : Hierarchy) (f : Family) → is_whole f ≡ true → all_items_of hierarchy f ≡ length (concat hierarchy.ancestors)
-whole_items hierarchy family.Ancestors whole = refl
-whole_items hierarchy family.Descendants whole = refl
-whole_items hierarchy family.Parents whole = absurd (false≢true whole)
-whole_items hierarchy family.Children whole = absurd (false≢true whole)
-
 -- of one concept its list, of more no more than all lists
 pub items_of_set : (count : ℕ) (hierarchy : Hierarchy) → IsOver count hierarchy → (f : Family) (concepts : List ℕ) → IsRisingBelow count concepts
     → items_in (lists_of hierarchy f) concepts ≤ items_at_most hierarchy f concepts
@@ -125,24 +116,6 @@ at_most_all count hierarchy over f concepts rising = at (nat_lt 1 (length concep
     at : (many : Bool) → cond many (all_items_of hierarchy f) (items_in (lists_of hierarchy f) concepts) ≤ all_items_of hierarchy f
     at true = omega arith
     at false = set_items count hierarchy over f concepts rising
-
--- where there are more than one, all lists stand for them
-pub many_items : (hierarchy : Hierarchy) (f : Family) (concepts : List ℕ) → 1 < length concepts
-    → items_at_most hierarchy f concepts ≡ all_items_of hierarchy f
-many_items hierarchy f concepts many =
-    ap (λ (b : Bool). cond b (all_items_of hierarchy f) (items_in (lists_of hierarchy f) concepts)) (lt-ltb 1 (length concepts) many)
-
--- a number that is that of the lists of at most one concept, and else no more than all lists have, is within what is read at most
-pub within_at_most : (hierarchy : Hierarchy) (f : Family) (concepts : List ℕ) (own items : ℕ) → own ≤ items_at_most hierarchy f concepts
-    → (length concepts ≤ 1 → items ≡ own) → (own ≤ all_items_of hierarchy f → items ≤ all_items_of hierarchy f)
-    → items ≤ items_at_most hierarchy f concepts
-within_at_most hierarchy f concepts own items within one more = at (nat_lt 1 (length concepts)) refl
-  where
-    at : (many : Bool) → nat_lt 1 (length concepts) ≡ many → items ≤ items_at_most hierarchy f concepts
-    at true is =
-        let all = many_items hierarchy f concepts (ltb-true 1 (length concepts) is) in
-        omega (arith, all, more (omega (arith, all, within)))
-    at false is = omega (arith, one (ltb-false 1 (length concepts) is), within)
 
 -- the lists of some concepts have no more items than is told of them
 told_items : (hierarchy : Hierarchy) (concepts : List ℕ) (lists : ListExtent) → AreListed hierarchy concepts lists → (f : Family)

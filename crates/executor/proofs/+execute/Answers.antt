@@ -1,4 +1,4 @@
-use Rattle.std.proofs.Common.{le_of_eq, subst, le_trans, ℕ, List, ◌+◌, ◌*◌, ◌≤◌, ◌∙◌, ◌&&◌, ◌==◌, Bool, false, true, length, get_or, sym, ap, refl, arith, take, le_of_lt, Option, rules, min, ◌-◌, ◌^◌}
+use Rattle.std.proofs.Common.{le_of_eq, subst, le_trans, ℕ, List, ◌+◌, ◌*◌, ◌≤◌, ◌∙◌, ◌&&◌, ◌==◌, Bool, false, true, length, get_or, sym, ap, refl, arith, take, le_of_lt, Option, rules, ◌-◌}
 use Rattle.std.specs.Prelude.{filter, slice_get}
 use Rattle.std.specs.List.{list_all, list_any, range_with_len}
 use Rattle.std.proofs.lemmas.List.{nil_from_length, take_all}
@@ -9,7 +9,7 @@ use Rattle.set_algebra.specs.Meaning.{unit_means, has_groups, has_pairs, leads, 
 use Rattle.candidates.specs.Numbers.{is_one_of, numbers_in}
 use Rattle.candidates.specs.declared.candidates.Candidates.{Candidates}
 use Rattle.pair_sets.proofs.UnitLemmas.{units_found, units_within as units_of_candidates}
-use Rattle.set_algebra.specs.Plan.{PlanOfUnits, Plan, TestPlan, unit_plan_of, unit_plans_of, members_plan, minus_units, minus_plan, pairs_units, pairs_plan, plan_of, plans_of, test_plan_of, values_plan, walk_plan}
+use Rattle.set_algebra.specs.Plan.{PlanOfUnits, Plan, unit_plan_of, unit_plans_of, members_plan, minus_units, minus_plan, pairs_units, pairs_plan, plan_of, plans_of, test_plan_of, values_plan, walk_plan}
 use Rattle.number_lists.specs.Members.{has}
 use Rattle.number_lists.specs.Rising.{IsRisingBelow, numbers_where}
 use Rattle.postings.specs.Groups.{all_groups, groups_in}
@@ -35,7 +35,7 @@ use Rattle.rf2_rows.specs.Pairs.{Pair}
 use Rattle.set_algebra.specs.declared.choice.Choice.{Choice}
 use Rattle.plan_bounds.specs.Bounds.{own_number, values_bound}
 use Rattle.plan_bounds.specs.Floors.{floor_number}
-use Rattle.plan_bounds.specs.Nodes.{group_sum, groups_sum, node_sum, plans_sum, test_sum}
+use Rattle.plan_bounds.specs.Nodes.{group_sum, groups_sum, node_sum, plans_sum}
 use Rattle.plan_bounds.specs.Sizes.{group_sizes, size, sizes, test_size, total}
 use Rattle.plan_bounds.proofs.FloorLemmas.{floor-le-bound, group_floor-le-bound}
 use Rattle.plan_bounds.proofs.LoopLemmas.{of_concepts, of_groups}
@@ -51,7 +51,7 @@ use Rattle.plan_bounds.specs.Counts.{leaf_of, lists_length, one_of}
 use Rattle.executor.proofs.WalkWork.{all_along, not_one, several_bound, several_floor}
 use Rattle.executor.proofs.WithinNodes.{any_done, empty_within, groups_led_again, groups_led_all, groups_same, kept_node, led_again, led_all, minus_groups, minus_node, nothing_within, walk_of_part, within_same}
 use Rattle.executor.proofs.WithinNodes.{and_groups, and_within, or_groups, or_within, units_within as units_as_plan}
-use Rattle.executor.proofs.WorkLemmas.{all_first, all_end, all_most, all_next, all_pass, all_turn, along_le, along_more, first_within, counted_beside, counted_twice, counted_without, joined_reads, lead_inside, lead_is, no_parts, some_end, some_next, some_start, some_turn, times_less, times_more}
+use Rattle.executor.proofs.WorkLemmas.{all_first, all_end, all_most, all_next, all_pass, all_turn, along_le, along_more, first_within, counted_beside, counted_without, joined_reads, lead_inside, lead_is, no_parts, some_end, some_next, some_start, some_turn, times_less, times_more}
 use Rattle.executor.proofs.+execute.Goals as goal
 use Rattle.executor.proofs.+execute.Goals.{joined_plans::in_all-then-place-lead+in_ok-extent+in_ok-next, joined_plans::in_all-else-place-lead, unit_plans::groups_in_all-then-place-lead+in_ok-extent+in_ok-next, unit_plans::groups_in_all-else-place-lead}
 

@@ -6,7 +6,6 @@ abbrev pub physical_in : Inside → Physical
 physical_in inside = record {
   plan = inside.plan;
   choices = inside.choices.items;
-  leads = inside.leads.items;
 }
 
 abbrev pub IsKept : Inside → Type 0

@@ -1,7 +1,6 @@
 use Rattle.std.proofs.Common.{ℕ, ◌≤◌, ◌∙◌, subst, sym, arith}
 use Rattle.number_lists.specs.Rising.{IsRisingBelow}
 use Rattle.set_algebra.specs.Plan.{plan_of}
-use Rattle.plan_bounds.specs.Bounds.{walk_bound}
 use Rattle.plan_bounds.specs.Counts.{one_of}
 use Rattle.plan_bounds.specs.Sizes.{size}
 use Rattle.executor.proofs.CountingLemmas.{walk_more}

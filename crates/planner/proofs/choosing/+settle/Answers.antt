@@ -1,25 +1,22 @@
-use Rattle.std.proofs.Common.{ℕ, ◌++◌, ◌∙◌, append_assoc, IfOk, List, drop, refl, subst, sym, ap}
-use Rattle.set_algebra.specs.declared.choice.Choice.{Choice}
+use Rattle.std.proofs.Common.{ℕ, ◌++◌, ◌∙◌, append_assoc, IfOk, drop, refl, subst, sym, ap}
 use Rattle.set_algebra.specs.Plan.{plan_of, plans_of, test_plan_of, unit_plan_of, unit_plans_of}
 use Rattle.plan_bounds.specs.Alternatives.{choice_of}
 use Rattle.plan_bounds.specs.Counts.{leaf_of}
 use Rattle.planner.specs.Chosen.{chosen, group_chosen, groups_chosen, plans_chosen}
-use Rattle.plan_bounds.specs.Leads.{lead_list, leads}
 use Rattle.plan_bounds.specs.Leaves.{group_leaves, leaves, plan_count}
-use Rattle.plan_bounds.specs.Nodes.{group_list, plans_list}
 use Rattle.plan_bounds.specs.Sizes.{group_sizes, least_of, sizes, total, values_size}
 use Rattle.planner.specs.inside.SettledNodes.{IsNodeSettled}
 use Rattle.planner.proofs.ChoosingLemmas.{chosen_end, chosen_turn}
-use Rattle.planner.proofs.FrontLemmas.{drop_chosen, group_drop_chosen, group_leads_chosen, group_size_chosen, leads_chosen, size_chosen}
-use Rattle.planner.proofs.LeafLemmas.{leaf_choices, leaf_leads, leaf_sized}
-use Rattle.plan_bounds.proofs.ListLemmas.{at_within, at_within_two, capped_least, closed_list}
+use Rattle.planner.proofs.FrontLemmas.{group_size_chosen, size_chosen}
+use Rattle.planner.proofs.LeafLemmas.{leaf_choices, leaf_sized}
+use Rattle.plan_bounds.proofs.ListLemmas.{at_within_two, capped_least}
 use Rattle.plan_bounds.proofs.PartLemmas.{behind_both, behind_leaf, plan_count-parts, values_are}
 use Rattle.planner.proofs.choosing.+settle.Goals as goal
 
 pub settle_parts-loop-place-preserved : goal.settle_parts-loop-place-preserved
 settle_parts-loop-place-preserved t c =
     let part = c.in_ok-part.ensures in
-    chosen_turn c.loop-place.invariant c.loop-place-test.true c.index-parts-place.is part.choices part.leads part.size part.asked
+    chosen_turn c.loop-place.invariant c.loop-place-test.true c.index-parts-place.is part.choices part.size part.asked
     part.others c.with-tally.ensures
 
 pub settle_parts-returns : goal.settle_parts-returns
@@ -27,7 +24,6 @@ settle_parts-returns t c =
     let all = chosen_end c.loop-place.invariant c.loop-place-test.false in
     record {
       choices = all.choices_are;
-      leads = all.leads_are;
       tally = all.tally_is;
       asked = all.asked_is;
       others = all.others_is;
@@ -36,7 +32,7 @@ settle_parts-returns t c =
 pub settle_unit_parts-loop-place-preserved : goal.settle_unit_parts-loop-place-preserved
 settle_unit_parts-loop-place-preserved t c =
     let part = c.in_ok-part.ensures in
-    chosen_turn c.loop-place.invariant c.loop-place-test.true c.index-parts-place.is part.choices part.leads part.size part.asked
+    chosen_turn c.loop-place.invariant c.loop-place-test.true c.index-parts-place.is part.choices part.size part.asked
     part.others c.with-tally.ensures
 
 pub settle_unit_parts-returns : goal.settle_unit_parts-returns
@@ -44,7 +40,6 @@ settle_unit_parts-returns t c =
     let all = chosen_end c.loop-place.invariant c.loop-place-test.false in
     record {
       choices = all.choices_are;
-      leads = all.leads_are;
       tally = all.tally_is;
       asked = all.asked_is;
       others = all.others_is;
@@ -56,7 +51,8 @@ settle_node-returns-in-Values t c =
     let indexed = c.args.indexes.now in
     let is = values_are c.in-Values.start c.in-Values.names c.in-Values.is c.deref-in-Values.ensures c.deref-in-Values-2.ensures.value in
     subst
-    (λ plan. IfOk c.settle_values.result (IsNodeSettled indexed c.args.asked.now c.args.others.now plan c.args.choosing.now c.settle_values.new.choosing))
+    (λ plan. IfOk c.settle_values.result
+    (IsNodeSettled indexed c.args.asked.now c.args.others.now plan c.args.choices.now.items c.settle_values.new.choices.items))
     (sym is) c.settle_values.ensures
 
 pub settle_and-returns : goal.settle_and-returns
@@ -64,36 +60,26 @@ settle_and-returns t c =
     let indexed = c.args.indexes.now in
     let parts = plans_of c.args.parts.now in
     let of_parts = plans_chosen indexed c.args.asked.now c.args.others.now parts in
-    let free = c.in_ok-at.ensures in
     let inner = c.in_ok-inner.ensures in
     record {
-      choices = c.put_lead.ensures.choices ∙ inner.choices ∙ ap (λ (before : List Choice). before ++ of_parts) c.free_lead.ensures.choices;
-      leads = closed_list c.args.choosing.now.leads.items c.put_lead.ensures.leads inner.leads free.leads free.at inner.tally.lead refl;
+      choices = inner.choices;
       size = inner.tally.least ∙ ap (λ (all : ℕ). least_of all (sizes indexed of_parts parts)) c.concepts.ensures;
       asked = inner.asked;
       others = inner.others;
     }
-
-pub settle_and-put_lead-requires : goal.settle_and-put_lead-requires
-settle_and-put_lead-requires t c = at_within _ _ _ c.in_ok-at.ensures.at c.in_ok-at.ensures.leads c.in_ok-inner.ensures.leads
 
 pub settle_units_and-returns : goal.settle_units_and-returns
 settle_units_and-returns t c =
     let indexed = c.args.indexes.now in
     let parts = unit_plans_of c.args.parts.now in
     let of_parts = groups_chosen indexed c.args.asked.now c.args.others.now parts in
-    let free = c.in_ok-at.ensures in
     let inner = c.in_ok-inner.ensures in
     record {
-      choices = c.put_lead.ensures.choices ∙ inner.choices ∙ ap (λ (before : List Choice). before ++ of_parts) c.free_lead.ensures.choices;
-      leads = closed_list c.args.choosing.now.leads.items c.put_lead.ensures.leads inner.leads free.leads free.at inner.tally.lead refl;
+      choices = inner.choices;
       size = inner.tally.least ∙ ap (λ (all : ℕ). least_of all (group_sizes indexed of_parts parts)) c.groups.ensures;
       asked = inner.asked;
       others = inner.others;
     }
-
-pub settle_units_and-put_lead-requires : goal.settle_units_and-put_lead-requires
-settle_units_and-put_lead-requires t c = at_within _ _ _ c.in_ok-at.ensures.at c.in_ok-at.ensures.leads c.in_ok-inner.ensures.leads
 
 pub settle_or-returns : goal.settle_or-returns
 settle_or-returns t c =
@@ -102,7 +88,6 @@ settle_or-returns t c =
     let inner = c.in_ok-inner.ensures in
     record {
       choices = inner.choices;
-      leads = inner.leads;
       size = capped_least (total (sizes indexed (plans_chosen indexed c.args.asked.now c.args.others.now parts) parts)) c.min.ensures
           inner.tally.sum c.concepts-all.ensures c.concepts-all.type_inv;
       asked = inner.asked;
@@ -116,7 +101,6 @@ settle_units_or-returns t c =
     let inner = c.in_ok-inner.ensures in
     record {
       choices = inner.choices;
-      leads = inner.leads;
       size = capped_least (total (group_sizes indexed (groups_chosen indexed c.args.asked.now c.args.others.now parts) parts)) c.min.ensures
           inner.tally.sum c.groups-all.ensures c.groups-all.type_inv;
       asked = inner.asked;
@@ -128,8 +112,7 @@ settle_minus-returns t c =
     let indexed = c.args.indexes.now in
     let asked = c.args.asked.now in
     let others = c.args.others.now in
-    let given = c.args.choosing.now.choices.items in
-    let had = c.args.choosing.now.leads.items in
+    let given = c.args.choices.now.items in
     let first = plan_of c.args.first.now in
     let second = plan_of c.args.second.now in
     let left = c.in_ok-left.ensures in
@@ -140,11 +123,6 @@ settle_minus-returns t c =
       choices = right.choices
           ∙ (λ i. left.choices i ++ chosen indexed (left.asked i) (left.others i) second)
           ∙ append_assoc given of_first of_second;
-      leads = right.leads
-          ∙ (λ i. left.leads i ++ leads indexed (chosen indexed (left.asked i) (left.others i) second) second)
-          ∙ append_assoc had (leads indexed of_first first) (leads indexed of_second second)
-          ∙ (λ i. had ++ (sym (leads_chosen indexed asked others first of_second) i
-          ++ leads indexed (sym (drop_chosen indexed asked others first of_second) i) second));
       size = left.size ∙ sym (size_chosen indexed asked others first of_second);
       asked = behind_both _ _ asked refl left.asked right.asked;
       others = behind_both _ _ others refl left.others right.others;
@@ -155,8 +133,7 @@ settle_units_minus-returns t c =
     let indexed = c.args.indexes.now in
     let asked = c.args.asked.now in
     let others = c.args.others.now in
-    let given = c.args.choosing.now.choices.items in
-    let had = c.args.choosing.now.leads.items in
+    let given = c.args.choices.now.items in
     let first = unit_plan_of c.args.first.now in
     let second = unit_plan_of c.args.second.now in
     let left = c.in_ok-left.ensures in
@@ -167,11 +144,6 @@ settle_units_minus-returns t c =
       choices = right.choices
           ∙ (λ i. left.choices i ++ group_chosen indexed (left.asked i) (left.others i) second)
           ∙ append_assoc given of_first of_second;
-      leads = right.leads
-          ∙ (λ i. left.leads i ++ group_list (lead_list indexed) (group_chosen indexed (left.asked i) (left.others i) second) second)
-          ∙ append_assoc had (group_list (lead_list indexed) of_first first) (group_list (lead_list indexed) of_second second)
-          ∙ (λ i. had ++ (sym (group_leads_chosen indexed asked others first of_second) i
-          ++ group_list (lead_list indexed) (sym (group_drop_chosen indexed asked others first of_second) i) second));
       size = left.size ∙ sym (group_size_chosen indexed asked others first of_second);
       asked = behind_both _ _ asked refl left.asked right.asked;
       others = behind_both _ _ others refl left.others right.others;
@@ -182,8 +154,7 @@ settle_values-returns t c =
     let indexed = c.args.indexes.now in
     let asked = c.args.asked.now in
     let others = c.args.others.now in
-    let given = c.args.choosing.now.choices.items in
-    let had = c.args.choosing.now.leads.items in
+    let given = c.args.choices.now.items in
     let start = plan_of c.args.start.now in
     let names = plans_of c.args.names.now in
     let from = c.in_ok-from.ensures in
@@ -194,11 +165,6 @@ settle_values-returns t c =
       choices = types.choices
           ∙ (λ i. from.choices i ++ plans_chosen indexed (from.asked i) (from.others i) names)
           ∙ append_assoc given of_start of_names;
-      leads = types.leads
-          ∙ (λ i. from.leads i ++ plans_list (lead_list indexed) (plans_chosen indexed (from.asked i) (from.others i) names) names)
-          ∙ append_assoc had (leads indexed of_start start) (plans_list (lead_list indexed) of_names names)
-          ∙ (λ i. had ++ (sym (leads_chosen indexed asked others start of_names) i
-          ++ plans_list (lead_list indexed) (sym (drop_chosen indexed asked others start of_names) i) names));
       size = c.cost_of_values-own.ensures.size
           ∙ (λ i. values_size indexed (sym (plan_count-parts c.args.names.now) i) (from.size i))
           ∙ ap (values_size indexed (plan_count names)) (sym (size_chosen indexed asked others start of_names));
@@ -211,8 +177,7 @@ settle_pairs-returns t c =
     let indexed = c.args.indexes.now in
     let asked = c.args.asked.now in
     let others = c.args.others.now in
-    let given = c.args.choosing.now.choices.items in
-    let had = c.args.choosing.now.leads.items in
+    let given = c.args.choices.now.items in
     let types = plan_of c.args.types.now in
     let test = test_plan_of c.args.test.now in
     let free = c.in_ok-at.ensures in
@@ -225,12 +190,7 @@ settle_pairs-returns t c =
     let choice = c.choice-choice.ensures ∙ (λ i. choice_of c.counts_of_leaf-leaf.result (c.first.ensures i) (c.first-2.ensures i)) in
     record {
       choices = leaf_choices indexed asked others types test c.after_first.ensures c.after_first-2.ensures of_types.asked of_types.others
-          all back count choice leaf given free.choices free.at of_types.choices of_test.choices c.put_choice.ensures.choices;
-      leads = c.put_choice.ensures.leads
-          ∙ leaf_leads indexed asked others types test c.after_first.ensures c.after_first-2.ensures of_types.asked of_types.others had
-          (of_types.leads
-          ∙ ap (λ (had : List ℕ). had ++ leads indexed (chosen indexed c.after_first.result.now c.after_first-2.result.now types) types) free.leads)
-          of_test.leads;
+          all back count choice leaf given free.choices free.at of_types.choices of_test.choices c.put_choice.ensures;
       size = leaf_sized indexed asked others types test c.after_first.ensures c.after_first-2.ensures of_types.asked of_types.others
           all back count choice leaf c.size.ensures;
       asked = behind_leaf _ _ asked refl c.after_first.ensures of_types.asked of_test.asked;

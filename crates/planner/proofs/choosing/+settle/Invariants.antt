@@ -6,22 +6,19 @@ use Rattle.set_algebra.proofs.plan.UnitPlan.TheLaws as unit_plan
 use Rattle.set_algebra.proofs.plan.ValueTest.TheLaws as value_test
 use Rattle.set_algebra.specs.declared.plan.ConceptPlan.{ConceptPlan}
 use Rattle.set_algebra.specs.declared.plan.UnitPlan.{UnitPlan}
-use Rattle.plan_bounds.specs.Leads.{lead_list}
 use Rattle.planner.proofs.ChoosingLemmas.{ChosenLeft, given_concepts, given_groups}
-use Rattle.plan_bounds.proofs.LoopLemmas.{concept_list, concept_sizes, of_concepts, of_groups, unit_list, unit_sizes}
+use Rattle.plan_bounds.proofs.LoopLemmas.{concept_sizes, of_concepts, of_groups, unit_sizes}
 use Rattle.planner.proofs.choosing.+settle.Given as goal
 
 abbrev pub invariant-settle_parts-loop-place : goal.invariant-settle_parts-loop-place
 invariant-settle_parts-loop-place l =
-    ChosenLeft ConceptPlan of_concepts (concept_sizes l.indexes) (concept_list (lead_list l.indexes)) (given_concepts l.indexes) l.all l.asked l.others
-    l.parts l.fn.choosing.choices.items l.fn.choosing.leads.items l.place l.tally l.asked_behind l.others_behind l.choosing.choices.items
-    l.choosing.leads.items
+    ChosenLeft ConceptPlan of_concepts (concept_sizes l.indexes) (given_concepts l.indexes) l.all l.asked l.others l.parts
+    l.fn.choices.items l.place l.tally l.asked_behind l.others_behind l.choices.items
 
 abbrev pub invariant-settle_unit_parts-loop-place : goal.invariant-settle_unit_parts-loop-place
 invariant-settle_unit_parts-loop-place l =
-    ChosenLeft UnitPlan of_groups (unit_sizes l.indexes) (unit_list (lead_list l.indexes)) (given_groups l.indexes) l.all l.asked l.others
-    l.parts l.fn.choosing.choices.items l.fn.choosing.leads.items l.place l.tally l.asked_behind l.others_behind l.choosing.choices.items
-    l.choosing.leads.items
+    ChosenLeft UnitPlan of_groups (unit_sizes l.indexes) (given_groups l.indexes) l.all l.asked l.others l.parts
+    l.fn.choices.items l.place l.tally l.asked_behind l.others_behind l.choices.items
 
 -- the functions go down a plan; what is called for the same plan comes after its caller
 abbrev pub decreases-settle_node : goal.decreases-settle_node

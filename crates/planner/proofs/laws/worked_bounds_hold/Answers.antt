@@ -5,13 +5,13 @@ pub returns-clause-counts : goal.returns-clause-counts
 returns-clause-counts c = refl
 
 pub returns-clause-by_value : goal.returns-clause-by_value
-returns-clause-by_value c = record { choices_are = refl; leads_are = refl; own_bounds_are = refl; bound_is = refl; floor_is = refl }
+returns-clause-by_value c = record { choices_are = refl; own_bounds_are = refl; bound_is = refl; floor_is = refl }
 
 pub returns-clause-by_type : goal.returns-clause-by_type
-returns-clause-by_type c = record { choices_are = refl; leads_are = refl; own_bounds_are = refl; bound_is = refl; floor_is = refl }
+returns-clause-by_type c = record { choices_are = refl; own_bounds_are = refl; bound_is = refl; floor_is = refl }
 
 pub returns-clause-in_braces : goal.returns-clause-in_braces
-returns-clause-in_braces c = record { choices_are = refl; leads_are = refl; own_bounds_are = refl; bound_is = refl; floor_is = refl }
+returns-clause-in_braces c = record { choices_are = refl; own_bounds_are = refl; bound_is = refl; floor_is = refl }
 
 pub returns-clause-of_one : goal.returns-clause-of_one
-returns-clause-of_one c = record { choices_are = refl; leads_are = refl; own_bounds_are = refl; bound_is = refl; floor_is = refl }
+returns-clause-of_one c = record { choices_are = refl; own_bounds_are = refl; bound_is = refl; floor_is = refl }

@@ -1,7 +1,6 @@
 use Rattle.std.proofs.Common.{◌∙◌, [], List, length, ap, subst, sym, arith}
 use Rattle.set_algebra.specs.Plan.{plan_of}
 use Rattle.set_algebra.specs.declared.choice.Choice.{Choice}
-use Rattle.plan_bounds.specs.Leads.{leads}
 use Rattle.plan_bounds.specs.Offered.{AreOffered}
 use Rattle.planner.specs.Chosen.{chosen, least_choices}
 use Rattle.planner.proofs.AskedLemmas.{chosen-asked}
@@ -15,8 +14,8 @@ returns c =
     let plan = plan_of c.args.plan.now in
     let asked = c.args.asked.now in
     let others = c.as_slice.result.now in
-    let given = c.in_ok-chosen.ensures.choices in
-    let others_are = c.as_slice.ensures.value ∙ c.in_ok-least.ensures.choices in
+    let given = c.in_ok-chosen.ensures in
+    let others_are = c.as_slice.ensures.value ∙ c.in_ok-least.ensures in
     let others_offered = subst (λ (choices : List Choice). AreOffered choices plan) (sym others_are)
     (chosen_are_offered indexed [] [] plan (none_refused plan)) in
     record {
@@ -25,5 +24,4 @@ returns c =
           ∙ chosen-asked indexed asked (least_choices indexed plan) plan (omega (arith, length-chosen indexed [] [] plan));
       count = ap (λ (choices : List Choice). length choices) given ∙ length-chosen indexed asked others plan;
       offered = subst (λ (choices : List Choice). AreOffered choices plan) (sym given) (chosen_are_offered indexed asked others plan others_offered);
-      leads = c.in_ok-chosen.ensures.leads ∙ (λ i. leads indexed (sym given i) plan);
     }

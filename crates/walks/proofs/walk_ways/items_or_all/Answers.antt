@@ -1,6 +1,5 @@
-use Rattle.std.proofs.Common.{◌≤◌, arith, length}
+use Rattle.std.proofs.Common.{arith}
 use Rattle.number_lists.proofs.RisingLemmas.{all_below}
-use Rattle.walks.specs.Families.{all_items_of, items_in, lists_of}
 use Rattle.walks.proofs.ReadLemmas.{items_of_set, set_items}
 use Rattle.walks.proofs.walk_ways.items_or_all.Goals as goal
 
