@@ -172,6 +172,32 @@ fn allows_so_many_brackets(rt: HostRuntime) -> Result<(), AllocError> {
     )
 }
 
+// So many times `*`, joined by commas.
+fn joined_stars(alloc: Global, count: usize) -> Result<Vec<u8>, AllocError> {
+    let mut text = Vec::new(alloc);
+    text.push(b'*')?;
+    for _ in 1..count {
+        text.extend_from_slice(b",*")?;
+    }
+    Ok(text)
+}
+
+// How many constraints a text joins by AND.
+fn part_count(alloc: Global, text: &[u8]) -> Option<usize> {
+    match parse(alloc, text) {
+        Ok(Constraint::And(parts)) => Some(parts.len()),
+        _ => None,
+    }
+}
+
+// The longest text has 65,535 tokens of one byte each, and no memory is wanting for them.
+#[test]
+fn answers_the_longest_text(rt: HostRuntime) -> Result<(), AllocError> {
+    let text = joined_stars(rt.alloc(), 32_768)?;
+    assert!(rt; part_count(rt.alloc(), &text) == Some(32_768));
+    Ok(())
+}
+
 fn below_and_another(alloc: Global) -> Result<Constraint, AllocError> {
     let below = walk(alloc, Operator::Descendants, Constraint::Concept(100005))?;
     Ok(Constraint::And(pair_of(alloc, below, Constraint::Concept(101009))?))
