@@ -33,7 +33,7 @@ module _ (xs ys : List ℕ) (low high : ℕ) (xs_rise : IsRisingBelow low xs) (y
       both false true had = refl
       both false false had = refl
 
-  -- so a sum over it is no more
+  -- a sum over the numbers that are among others is no more than the sum over these
   sum_among : (f : ℕ → ℕ) → sum_by f xs ≤ sum_by f ys
   sum_among f =
       omega (

@@ -49,7 +49,7 @@ within_ahead (first ∷ tokens) zero symbol rest is = omega arith
 within_ahead (first ∷ tokens) (suc at) symbol rest is =
     let within = within_ahead tokens at symbol rest is in omega arith
 
--- so many round brackets more
+-- the level of a text behind so many round brackets that open at a level
 abbrev more : ℕ → ℕ → ℕ
 more zero level = level
 more (suc further) level = more further (suc level)

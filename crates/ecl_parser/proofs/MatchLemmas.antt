@@ -102,7 +102,7 @@ module _ (tokens : List Token) (place : ℕ) (found : Matching) (enough : length
         (all_taken (all_matched 0 (symbols tokens) (nothing_matched (length tokens))) matched
         ∙ ap (λ (count : ℕ). all_matched 0 (symbols tokens) (nothing_matched count)) (sym long)) match none
 
-    -- and there is no tree where one doesn't
+    -- a text in which not all brackets match has no tree
     pub no_tree : (found.are_matched ≡ true → found.unclosed ≡ [] → ⊥) → (tree : Tree)
         → IsTreeOf (map spelled tokens) tree → ⊥
     no_tree unmatched tree is =

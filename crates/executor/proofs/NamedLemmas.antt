@@ -18,7 +18,7 @@ adds_named release rising id number at early late adds plan is =
     subst (λ (plan : Plan). AddsNamed release plan early late) (sym is)
     (subst (λ (values : List ℕ). Adds values early late) (one_in release rising id number at) adds)
 
--- and so they are once the plan is known
+-- where rows are added as a plan that names one concept has them, they are the rows of that concept
 pub named_adds : (release : Release) (id : ℕ) (early late : Tally) (plan : Plan) → plan ≡ one_plan id → AddsNamed release plan early late
     → Adds (numbers_in release (λ concept. has_concept release concept && (concept == id))) early late
 named_adds release id early late plan is = subst (λ (plan : Plan). AddsNamed release plan early late) is

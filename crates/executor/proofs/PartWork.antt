@@ -80,7 +80,7 @@ fewer bound may set =
       count_le (λ n. may n && set n) set (range_with_len 0 bound) (λ n passes. (and_parts (may n) (set n) passes).1),
     )
 
--- nor more than there are candidates, and each is one
+-- no more numbers of a set are found of some candidates than there are candidates
 pub few_of_candidates : (bound : ℕ) (candidates : List ℕ) (set : ℕ → Bool) (found : List ℕ)
     → found ≡ numbers_where bound (λ n. has candidates n && set n) → length found ≤ length candidates
 few_of_candidates bound candidates set found is =

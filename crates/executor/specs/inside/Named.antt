@@ -12,8 +12,9 @@ pub record HasNamed (release : Release) (plan : Plan) (items : List ℕ) (bound 
   pub items_are : items ≡ numbers_in release (means release plan)
   pub bound_is : bound ≡ length release.concepts
 
--- what is known of the rows of values before a plan is executed that finds them: those of the one concept that it names are added, a walk
--- and an OR add theirs as they are found, and of any other plan it is not known how many there are
+-- what is known of the rows of values before a plan is executed that finds them. The rows of the one concept that a plan names are
+-- added. Nothing is changed before a walk or an OR, which adds rows as it finds values. Before any other plan it is no longer known
+-- how many there are
 abbrev pub AddsNamed : Release → Plan → Tally → Tally → Type 0
 AddsNamed release (one_plan id) early late = Adds (numbers_in release (λ concept. has_concept release concept && (concept == id))) early late
 AddsNamed release (walk_plan operator operand) early late = late ≡ early
