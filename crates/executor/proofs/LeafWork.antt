@@ -53,14 +53,16 @@ rows_of_one indexed one id alone =
     omega (
       arith,
       kept_rows indexed one,
-      count_le (λ (row : Attribute). (has types row.type_id && one row.type_id) && true) (λ (row : Attribute). row.type_id == id) rows
+      count_le (λ (row : Attribute). (has types row.type_id && one row.type_id) && true)
+          (λ (row : Attribute). row.type_id == id) rows
           (λ row passes. alone row.type_id (and_parts (has types row.type_id) (one row.type_id)
           (and_parts (has types row.type_id && one row.type_id) true passes).0).1),
       length-filter (λ (row : Attribute). row.type_id == id) rows,
       length-places_from (λ (row : Attribute). row.type_id == id) 0 rows,
     )
 
-module _ (release : Release) (indexed : Indexed) (index : IsIndexOf indexed release) (rising : IsStrictlyIncreasing release.concepts)
+module _ (release : Release) (indexed : Indexed) (index : IsIndexOf indexed release)
+    (rising : IsStrictlyIncreasing release.concepts)
     (items : List ℕ) (size : ℕ) (few : length items ≤ size) where
   of_any : type_items indexed items ≤ size + length indexed.rows
   of_any = omega (arith, few, type_rows_few indexed (is_one_of indexed.concepts items))
@@ -74,10 +76,12 @@ module _ (release : Release) (indexed : Indexed) (index : IsIndexOf indexed rele
       let found = concept_number-Some release.concepts id n at in
       let named : get_or indexed.concepts n 0 ≡ id = ap (λ (ids : List ℕ). get_or ids n 0) index.concepts ∙ found.1 in
       let same : (get_or indexed.concepts n 0 == other) ≡ true =
-      sym (or-false (get_or indexed.concepts n 0 == other)) ∙ ap (λ (xs : List ℕ). is_one_of indexed.concepts xs other) (sym is) ∙ told in
+      sym (or-false (get_or indexed.concepts n 0 == other))
+      ∙ ap (λ (xs : List ℕ). is_one_of indexed.concepts xs other) (sym is) ∙ told in
       eq-eqb other id (sym (eqb-true (get_or indexed.concepts n 0) other same) ∙ named)
 
-  pub types_read : (plan : Plan) → items ≡ numbers_in release (means release plan) → type_items indexed items ≤ size + type_rows indexed plan
+  pub types_read : (plan : Plan) → items ≡ numbers_in release (means release plan)
+      → type_items indexed items ≤ size + type_rows indexed plan
   types_read (one_plan id) is =
       let number = concept_number release.concepts id in
       omega (
@@ -93,10 +97,12 @@ module _ (release : Release) (indexed : Indexed) (index : IsIndexOf indexed rele
         arith,
         few,
         kept_rows indexed (is_one_of indexed.concepts items),
-        count_none (λ (row : Attribute). (has (types_of rows) row.type_id && is_one_of indexed.concepts items row.type_id) && true) rows
+        count_none (λ (row : Attribute). (has (types_of rows) row.type_id
+            && is_one_of indexed.concepts items row.type_id) && true) rows
             (λ row there passes. false≢true (ap (λ (xs : List ℕ). is_one_of indexed.concepts xs row.type_id) (sym none)
             ∙ (and_parts (has (types_of rows) row.type_id) (is_one_of indexed.concepts items row.type_id)
-            (and_parts (has (types_of rows) row.type_id && is_one_of indexed.concepts items row.type_id) true passes).0).1)),
+            (and_parts (has (types_of rows) row.type_id && is_one_of indexed.concepts items row.type_id)
+            true passes).0).1)),
       )
   types_read all_plan is = of_any
   types_read (walk_plan operator operand) is = of_any
@@ -115,7 +121,8 @@ module _ (release : Release) (indexed : Indexed) (index : IsIndexOf indexed rele
         rows_few indexed (subst IsStrictlyIncreasing (sym index.concepts) rising) items
         (subst (λ (ids : List ℕ). IsRisingBelow (length ids) items) (sym index.concepts) below) back
 
-    rows_of_number : (number : Option ℕ) → sum_by (row_count_of indexed back) (as_list number) ≤ counted (row_count_of indexed back) number
+    rows_of_number : (number : Option ℕ) → sum_by (row_count_of indexed back) (as_list number)
+        ≤ counted (row_count_of indexed back) number
     rows_of_number None = omega arith
     rows_of_number (Some n) = omega (arith, sum_by-cons (row_count_of indexed back) n [])
 
@@ -141,15 +148,23 @@ module _ (release : Release) (indexed : Indexed) (index : IsIndexOf indexed rele
     values_read (units_plan count units) is = rows_of_any
 
 -- ---- a leaf as a whole has room for its choice, by what its types and its test have found
-pub leaf_room : (release : Release) (indexed : Indexed) → IsIndexOf indexed release → IsStrictlyIncreasing release.concepts
-    → {S : Type 0} (items_of : S → List ℕ) (all : ℕ) (back : Bool) (count : Cardinality) (types : Plan) (test : TestPlan) (found : List ℕ)
+pub leaf_room : (release : Release) (indexed : Indexed) → IsIndexOf indexed release
+    → IsStrictlyIncreasing release.concepts
+    → {S : Type 0} (items_of : S → List ℕ) (all : ℕ) (back : Bool) (count : Cardinality) (types : Plan)
+    (test : TestPlan) (found : List ℕ)
     → found ≡ numbers_in release (means release types) → (tested : Tested S)
-    → ((back : Bool) → value_items items_of indexed back tested ≤ found_for items_of tested + value_rows indexed back test)
-    → (type_count value_count : ℕ) → type_count ≡ length found → value_count ≡ found_for items_of tested → (choice : Choice)
-    → leaf_items items_of indexed back choice found tested ≤ leaf_bound (leaf_of indexed all back count types test type_count value_count) choice
-leaf_room release indexed index rising items_of all back count types test found is tested read type_count value_count typed_is tested_is ByValue =
+    → ((back : Bool) → value_items items_of indexed back tested ≤ found_for items_of tested
+    + value_rows indexed back test)
+    → (type_count value_count : ℕ) → type_count ≡ length found → value_count ≡ found_for items_of tested
+    → (choice : Choice)
+    → leaf_items items_of indexed back choice found tested
+    ≤ leaf_bound (leaf_of indexed all back count types test type_count value_count) choice
+leaf_room release indexed index rising items_of all back count types test found is tested read type_count value_count
+    typed_is tested_is ByValue =
     omega (arith, read back, tested_is)
-leaf_room release indexed index rising items_of all back count types test found is tested read type_count value_count typed_is tested_is ByType =
+leaf_room release indexed index rising items_of all back count types test found is tested read type_count value_count
+    typed_is tested_is ByType =
     omega (arith, types_read release indexed index rising found (length found) (omega arith) types is, typed_is)
-leaf_room release indexed index rising items_of all back count types test found is tested read type_count value_count typed_is tested_is Scan =
+leaf_room release indexed index rising items_of all back count types test found is tested read type_count value_count
+    typed_is tested_is Scan =
     omega arith

@@ -18,7 +18,8 @@ use postings::Indexes;
 use set_algebra::{Choice, ConceptPlan, UnitPlan, ValueTest};
 use std::alloc::AllocError;
 
-/// How much a plan finds at most, and the choices behind its own, both those that are asked for and those in their place.
+/// How much a plan finds at most, and the choices behind its own, both those that are asked for and those in their
+/// place.
 #[derive(Clone, Copy)]
 pub struct Settled<'a> {
     /// In concepts or groups; exact.
@@ -37,8 +38,8 @@ struct SettledParts<'a> {
     others: &'a [Choice],
 }
 
-/// Adds the choices of a plan of concepts: of each leaf the one that is asked for, where it offers it; else another, where there
-/// is one; else the least. It goes through the plan once.
+/// Adds the choices of a plan of concepts: of each leaf the one that is asked for, where it offers it; else another,
+/// where there is one; else the least. It goes through the plan once.
 #[cycle(settle)]
 pub fn settle<'a>(
     plan: &ConceptPlan,
@@ -47,8 +48,10 @@ pub fn settle<'a>(
     indexes: &Indexes,
     choices: &mut Vec<Choice>,
 ) -> Result<Settled<'a>, AllocError>
-    ensures choices { OnOk result (choices.new.items ≡ choices.old.items ++ chosen indexes.now asked.now others.now (plan_of plan.now)) }
-    ensures size { IfOk result (λ found. found.size ≡ size_of indexes.now (chosen indexes.now asked.now others.now (plan_of plan.now)) (plan_of plan.now)) }
+    ensures choices { OnOk result (choices.new.items ≡ choices.old.items
+        ++ chosen indexes.now asked.now others.now (plan_of plan.now)) }
+    ensures size { IfOk result (λ found. found.size
+        ≡ size_of indexes.now (chosen indexes.now asked.now others.now (plan_of plan.now)) (plan_of plan.now)) }
     ensures asked { IfOk result (λ found. found.asked.now ≡ drop (leaves (plan_of plan.now)) asked.now) }
     ensures others { IfOk result (λ found. found.others.now ≡ drop (leaves (plan_of plan.now)) others.now) }
 {
@@ -65,7 +68,8 @@ fn settle_node<'a>(
     indexes: &Indexes,
     choices: &mut Vec<Choice>,
 ) -> Result<Settled<'a>, AllocError>
-    ensures { IfOk result (λ found. IsNodeSettled indexes.now asked.now others.now (plan_of plan.now) choices.old.items choices.new.items found) }
+    ensures { IfOk result (λ found. IsNodeSettled indexes.now asked.now others.now (plan_of plan.now)
+        choices.old.items choices.new.items found) }
 {
     match plan {
         ConceptPlan::Empty => Ok(found_behind(0, asked, others)),
@@ -111,7 +115,8 @@ fn settle_walk<'a>(
     choices: &mut Vec<Choice>,
 ) -> Result<Settled<'a>, AllocError>
     ensures { IfOk result (λ found.
-        IsNodeSettled indexes.now asked.now others.now (walk_plan operator (plan_of operand.now)) choices.old.items choices.new.items found) }
+        IsNodeSettled indexes.now asked.now others.now (walk_plan operator (plan_of operand.now))
+        choices.old.items choices.new.items found) }
 {
     let inner = settle(operand, asked, others, indexes, choices)?;
     let own = cost_of_walk(indexes, operator, operand, inner.size);
@@ -132,7 +137,8 @@ fn settle_members<'a>(
     choices: &mut Vec<Choice>,
 ) -> Result<Settled<'a>, AllocError>
     ensures { IfOk result (λ found.
-        IsNodeSettled indexes.now asked.now others.now (members_plan (plan_of operand.now)) choices.old.items choices.new.items found) }
+        IsNodeSettled indexes.now asked.now others.now (members_plan (plan_of operand.now))
+        choices.old.items choices.new.items found) }
 {
     let inner = settle(operand, asked, others, indexes, choices)?;
     let own = cost_of_members(indexes, operand, inner.size);
@@ -153,7 +159,8 @@ fn settle_and<'a>(
     choices: &mut Vec<Choice>,
 ) -> Result<Settled<'a>, AllocError>
     ensures { IfOk result (λ found.
-        IsNodeSettled indexes.now asked.now others.now (and_plan (plans_of parts.now)) choices.old.items choices.new.items found) }
+        IsNodeSettled indexes.now asked.now others.now (and_plan (plans_of parts.now))
+        choices.old.items choices.new.items found) }
 {
     let inner = settle_parts(parts, concepts(indexes), asked, others, indexes, choices)?;
     Ok(Settled {
@@ -173,7 +180,8 @@ fn settle_or<'a>(
     choices: &mut Vec<Choice>,
 ) -> Result<Settled<'a>, AllocError>
     ensures { IfOk result (λ found.
-        IsNodeSettled indexes.now asked.now others.now (or_plan (plans_of parts.now)) choices.old.items choices.new.items found) }
+        IsNodeSettled indexes.now asked.now others.now (or_plan (plans_of parts.now))
+        choices.old.items choices.new.items found) }
 {
     let all = concepts(indexes);
     let inner = settle_parts(parts, all, asked, others, indexes, choices)?;
@@ -274,7 +282,8 @@ fn settle_of_units<'a>(
     choices: &mut Vec<Choice>,
 ) -> Result<Settled<'a>, AllocError>
     ensures { IfOk result (λ found.
-        IsNodeSettled indexes.now asked.now others.now (units_plan count (unit_plan_of units.now)) choices.old.items choices.new.items found) }
+        IsNodeSettled indexes.now asked.now others.now (units_plan count (unit_plan_of units.now))
+        choices.old.items choices.new.items found) }
 {
     let inner = settle_units(units, asked, others, indexes, choices)?;
     let own = cost_of_units(count, concepts(indexes), inner.size);
@@ -297,7 +306,8 @@ fn settle_units<'a>(
     ensures choices { OnOk result (choices.new.items ≡ choices.old.items
         ++ group_chosen indexes.now asked.now others.now (unit_plan_of plan.now)) }
     ensures size { IfOk result (λ found. found.size
-        ≡ group_size indexes.now (group_chosen indexes.now asked.now others.now (unit_plan_of plan.now)) (unit_plan_of plan.now)) }
+        ≡ group_size indexes.now (group_chosen indexes.now asked.now others.now (unit_plan_of plan.now))
+        (unit_plan_of plan.now)) }
     ensures asked { IfOk result (λ found. found.asked.now ≡ drop (group_leaves (unit_plan_of plan.now)) asked.now) }
     ensures others { IfOk result (λ found. found.others.now ≡ drop (group_leaves (unit_plan_of plan.now)) others.now) }
 {
@@ -315,7 +325,8 @@ fn settle_unit_node<'a>(
     choices: &mut Vec<Choice>,
 ) -> Result<Settled<'a>, AllocError>
     ensures { IfOk result (λ found.
-        IsGroupSettled indexes.now asked.now others.now (unit_plan_of plan.now) choices.old.items choices.new.items found) }
+        IsGroupSettled indexes.now asked.now others.now (unit_plan_of plan.now)
+        choices.old.items choices.new.items found) }
 {
     match plan {
         UnitPlan::Nothing => Ok(found_behind(0, asked, others)),
@@ -344,7 +355,8 @@ fn settle_units_and<'a>(
     choices: &mut Vec<Choice>,
 ) -> Result<Settled<'a>, AllocError>
     ensures { IfOk result (λ found.
-        IsGroupSettled indexes.now asked.now others.now (and_units (unit_plans_of parts.now)) choices.old.items choices.new.items found) }
+        IsGroupSettled indexes.now asked.now others.now (and_units (unit_plans_of parts.now))
+        choices.old.items choices.new.items found) }
 {
     let inner = settle_unit_parts(parts, groups(indexes), asked, others, indexes, choices)?;
     Ok(Settled {
@@ -364,7 +376,8 @@ fn settle_units_or<'a>(
     choices: &mut Vec<Choice>,
 ) -> Result<Settled<'a>, AllocError>
     ensures { IfOk result (λ found.
-        IsGroupSettled indexes.now asked.now others.now (or_units (unit_plans_of parts.now)) choices.old.items choices.new.items found) }
+        IsGroupSettled indexes.now asked.now others.now (or_units (unit_plans_of parts.now))
+        choices.old.items choices.new.items found) }
 {
     let all = groups(indexes);
     let inner = settle_unit_parts(parts, all, asked, others, indexes, choices)?;
@@ -410,7 +423,8 @@ fn settle_test<'a>(
     ensures choices { OnOk result (choices.new.items ≡ choices.old.items
         ++ test_chosen indexes.now asked.now others.now (test_plan_of test.now)) }
     ensures size { IfOk result (λ found. found.size
-        ≡ test_size indexes.now (test_chosen indexes.now asked.now others.now (test_plan_of test.now)) (test_plan_of test.now)) }
+        ≡ test_size indexes.now (test_chosen indexes.now asked.now others.now (test_plan_of test.now))
+        (test_plan_of test.now)) }
     ensures asked { IfOk result (λ found. found.asked.now ≡ drop (test_leaves (test_plan_of test.now)) asked.now) }
     ensures others { IfOk result (λ found. found.others.now ≡ drop (test_leaves (test_plan_of test.now)) others.now) }
 {
@@ -435,7 +449,8 @@ fn settle_parts<'a>(
     ensures choices { OnOk result (choices.new.items ≡ choices.old.items
         ++ plans_chosen indexes.now asked.now others.now (plans_of parts.now)) }
     ensures tally { IfOk result (λ found.
-        IsTallyOf all (sizes indexes.now (plans_chosen indexes.now asked.now others.now (plans_of parts.now)) (plans_of parts.now)) found.tally) }
+        IsTallyOf all (sizes indexes.now (plans_chosen indexes.now asked.now others.now (plans_of parts.now))
+        (plans_of parts.now)) found.tally) }
     ensures asked { IfOk result (λ found. found.asked.now ≡ drop (plans_leaves (plans_of parts.now)) asked.now) }
     ensures others { IfOk result (λ found. found.others.now ≡ drop (plans_leaves (plans_of parts.now)) others.now) }
 {
@@ -468,10 +483,12 @@ fn settle_unit_parts<'a>(
     ensures choices { OnOk result (choices.new.items ≡ choices.old.items
         ++ groups_chosen indexes.now asked.now others.now (unit_plans_of parts.now)) }
     ensures tally { IfOk result (λ found.
-        IsTallyOf all (group_sizes indexes.now (groups_chosen indexes.now asked.now others.now (unit_plans_of parts.now))
+        IsTallyOf all (group_sizes indexes.now (groups_chosen indexes.now asked.now others.now
+        (unit_plans_of parts.now))
         (unit_plans_of parts.now)) found.tally) }
     ensures asked { IfOk result (λ found. found.asked.now ≡ drop (groups_leaves (unit_plans_of parts.now)) asked.now) }
-    ensures others { IfOk result (λ found. found.others.now ≡ drop (groups_leaves (unit_plans_of parts.now)) others.now) }
+    ensures others { IfOk result (λ found. found.others.now
+        ≡ drop (groups_leaves (unit_plans_of parts.now)) others.now) }
 {
     let mut tally = Tally::none(all);
     let mut asked_behind = asked;

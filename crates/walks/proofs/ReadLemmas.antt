@@ -32,11 +32,13 @@ all_one_by_one : (lists : List (List ℕ)) → length (concat lists) ≡ items_i
 all_one_by_one lists =
     let all = range_with_len 0 (length lists) in
     ap (λ (xs : List (List ℕ)). length (concat xs)) (items_by_place lists [])
-    ∙ ap (λ (xs : List ℕ). length xs) (concat_is (map (list_of lists) all) ∙ flat_map-map (λ xs. xs) (list_of lists) all)
+    ∙ ap (λ (xs : List ℕ). length xs)
+    (concat_is (map (list_of lists) all) ∙ flat_map-map (λ xs. xs) (list_of lists) all)
     ∙ length-flat_map (list_of lists) all
 
 -- the lists of distinct keys have no more items than all lists
-pub items_of_some : (lists : List (List ℕ)) (keys : List ℕ) → IsRisingBelow (length lists) keys → items_in lists keys ≤ length (concat lists)
+pub items_of_some : (lists : List (List ℕ)) (keys : List ℕ) → IsRisingBelow (length lists) keys
+    → items_in lists keys ≤ length (concat lists)
 items_of_some lists keys rising =
     omega (
       arith,
@@ -46,7 +48,8 @@ items_of_some lists keys rising =
     )
 
 -- ---- lists turned round have as many items
-turned_sums : (f : ℕ → ℕ → ℕ) (xs ys : List ℕ) → sum_by (λ x. sum_by (f x) ys) xs ≡ sum_by (λ y. sum_by (λ x. f x y) xs) ys
+turned_sums : (f : ℕ → ℕ → ℕ) (xs ys : List ℕ)
+    → sum_by (λ x. sum_by (f x) ys) xs ≡ sum_by (λ y. sum_by (λ x. f x y) xs) ys
 turned_sums f [] ys = sym (no_sum ys)
 turned_sums f (x ∷ xs) ys =
     sum_by-cons (λ x. sum_by (f x) ys) x xs
@@ -55,7 +58,8 @@ turned_sums f (x ∷ xs) ys =
     ∙ (λ i. sum_by (λ y. sym (sum_by-cons (λ x. f x y) x xs) i) ys)
 
 length-all_where : (count : ℕ) (test : ℕ → ℕ → Bool)
-    → length (concat (lists_where count test)) ≡ sum_by (λ a. length (numbers_where count (test a))) (range_with_len 0 count)
+    → length (concat (lists_where count test))
+    ≡ sum_by (λ a. length (numbers_where count (test a))) (range_with_len 0 count)
 length-all_where count test =
     let all = range_with_len 0 count in
     let list : ℕ → List ℕ = λ a. numbers_where count (test a) in
@@ -88,7 +92,8 @@ family_items count hierarchy over family.Children =
     ∙ ap (λ (xs : List (List ℕ)). length (concat xs)) (sym (over_lists count hierarchy over family.Parents))
 
 -- so the lists of concepts of a set have no more
-pub set_items : (count : ℕ) (hierarchy : Hierarchy) → IsOver count hierarchy → (f : Family) (concepts : List ℕ) → IsRisingBelow count concepts
+pub set_items : (count : ℕ) (hierarchy : Hierarchy) → IsOver count hierarchy → (f : Family) (concepts : List ℕ)
+    → IsRisingBelow count concepts
     → items_in (lists_of hierarchy f) concepts ≤ all_items_of hierarchy f
 set_items count hierarchy over f concepts rising =
     omega (
@@ -99,7 +104,8 @@ set_items count hierarchy over f concepts rising =
     )
 
 -- of one concept its list, of more no more than all lists
-pub items_of_set : (count : ℕ) (hierarchy : Hierarchy) → IsOver count hierarchy → (f : Family) (concepts : List ℕ) → IsRisingBelow count concepts
+pub items_of_set : (count : ℕ) (hierarchy : Hierarchy) → IsOver count hierarchy → (f : Family) (concepts : List ℕ)
+    → IsRisingBelow count concepts
     → items_in (lists_of hierarchy f) concepts ≤ items_at_most hierarchy f concepts
 items_of_set count hierarchy over f concepts rising = at (nat_lt 1 (length concepts))
   where
@@ -109,16 +115,19 @@ items_of_set count hierarchy over f concepts rising = at (nat_lt 1 (length conce
     at false = omega arith
 
 -- which is no more than all lists either way
-pub at_most_all : (count : ℕ) (hierarchy : Hierarchy) → IsOver count hierarchy → (f : Family) (concepts : List ℕ) → IsRisingBelow count concepts
+pub at_most_all : (count : ℕ) (hierarchy : Hierarchy) → IsOver count hierarchy → (f : Family) (concepts : List ℕ)
+    → IsRisingBelow count concepts
     → items_at_most hierarchy f concepts ≤ all_items_of hierarchy f
 at_most_all count hierarchy over f concepts rising = at (nat_lt 1 (length concepts))
   where
-    at : (many : Bool) → cond many (all_items_of hierarchy f) (items_in (lists_of hierarchy f) concepts) ≤ all_items_of hierarchy f
+    at : (many : Bool) → cond many (all_items_of hierarchy f) (items_in (lists_of hierarchy f) concepts)
+        ≤ all_items_of hierarchy f
     at true = omega arith
     at false = set_items count hierarchy over f concepts rising
 
 -- the lists of some concepts have no more items than is told of them
-told_items : (hierarchy : Hierarchy) (concepts : List ℕ) (lists : ListExtent) → AreListed hierarchy concepts lists → (f : Family)
+told_items : (hierarchy : Hierarchy) (concepts : List ℕ) (lists : ListExtent) → AreListed hierarchy concepts lists
+    → (f : Family)
     → full (items_in (lists_of hierarchy f) concepts) ≤ told_of f lists
 told_items hierarchy concepts lists listed family.Ancestors = listed.ancestors
 told_items hierarchy concepts lists listed family.Descendants = listed.descendants
@@ -126,7 +135,8 @@ told_items hierarchy concepts lists listed family.Parents = listed.parents
 told_items hierarchy concepts lists listed family.Children = listed.children
 
 -- to ask concepts takes no more items than there are of them and of their lists
-pub asked_within : (indexed : Indexed) (operator : Operator) (f : Family) (concepts : List ℕ) (extent : Extent) → IsExtentOf indexed concepts extent
+pub asked_within : (indexed : Indexed) (operator : Operator) (f : Family) (concepts : List ℕ) (extent : Extent)
+    → IsExtentOf indexed concepts extent
     → lists_of indexed.hierarchy f ≡ asked_lists indexed.hierarchy operator
     → full (asked_items indexed.hierarchy operator concepts) ≤ full (extent.items + told_of f extent.lists)
 asked_within indexed operator f concepts extent is asked =

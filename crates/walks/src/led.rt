@@ -27,9 +27,9 @@ use postings::Indexes;
 use std::alloc::{AllocError, Global};
 
 /// The candidates among the concepts that an operator leads to from those of a set (Expression Constraint Language,
-/// "Simple Expression Constraints"). They are found in the way that reads the fewest items, and these are counted: the set, where it
-/// is gone through, and of one concept no more than its list, of more no more than all lists of the operator. The rows are added of
-/// what is found from one concept, if the tally asks for them.
+/// "Simple Expression Constraints"). They are found in the way that reads the fewest items, and these are counted: the
+/// set, where it is gone through, and of one concept no more than its list, of more no more than all lists of the
+/// operator. The rows are added of what is found from one concept, if the tally asks for them.
 pub fn walk_within<S: ConceptSet>(
     alloc: Global,
     snapshot: &Snapshot,
@@ -43,9 +43,11 @@ pub fn walk_within<S: ConceptSet>(
     requires index { IsIndexOf indexes.now snapshot.now.release }
     requires bound { S.bound_of from.now ≡ length snapshot.now.release.concepts }
     requires candidates { AreConcepts S.ConceptSet snapshot.now.release indexes.now candidates.now }
-    ensures counted { CountsWithin (length (S.items_of from.now) + walk_items indexes.now.hierarchy operator (S.items_of from.now)) visits.old visits.new }
+    ensures counted { CountsWithin (length (S.items_of from.now)
+        + walk_items indexes.now.hierarchy operator (S.items_of from.now)) visits.old visits.new }
     ensures found { IfOk result (IsFound S.ConceptSet (length snapshot.now.release.concepts)
-        (filter (may_be S.items_of candidates.now) (led_to indexes.now.hierarchy (S.bound_of from.now) operator (S.items_of from.now)))
+        (filter (may_be S.items_of candidates.now)
+        (led_to indexes.now.hierarchy (S.bound_of from.now) operator (S.items_of from.now)))
         0 visits.old visits.new) }
     ensures adds { IfOk result (λ found. Adds (S.items_of found) tally.old tally.new) }
 {
@@ -81,8 +83,11 @@ fn walk_from_all<S: ConceptSet>(
     requires many { 1 < length (S.items_of from.now) }
     requires all { length (S.items_of from.now) ≡ S.bound_of from.now }
     ensures read { full (visits.old.count + length (S.items_of from.now)) ≤ visits.new.count }
-    ensures counted { CountsWithin (length (S.items_of from.now) + walk_items index.now operator (S.items_of from.now)) visits.old visits.new }
-    ensures items { IfOk result (λ found. S.items_of found ≡ filter (may_be S.items_of candidates.now) (led_to index.now (S.bound_of from.now) operator (S.items_of from.now))) }
+    ensures counted { CountsWithin (length (S.items_of from.now) + walk_items index.now operator (S.items_of from.now))
+        visits.old visits.new }
+    ensures items { IfOk result (λ found. S.items_of found
+        ≡ filter (may_be S.items_of candidates.now)
+        (led_to index.now (S.bound_of from.now) operator (S.items_of from.now))) }
     ensures bound { IfOk result (λ found. S.bound_of found ≡ S.bound_of from.now) }
 {
     let all = u64::from(from.count());
@@ -107,8 +112,11 @@ fn walk_listed<S: ConceptSet>(
     requires over { IsOf snapshot.now.release (S.bound_of from.now) indexes.now.hierarchy }
     requires candidates { AreBelow S.bound_of (S.bound_of from.now) candidates.now }
     requires listed { HaveExtent S.items_of (IsExtentOf indexes.now) candidates.now }
-    ensures counted { CountsWithin (length (S.items_of from.now) + walk_items indexes.now.hierarchy operator (S.items_of from.now)) visits.old visits.new }
-    ensures items { IfOk result (λ found. S.items_of found ≡ filter (may_be S.items_of candidates.now) (led_to indexes.now.hierarchy (S.bound_of from.now) operator (S.items_of from.now))) }
+    ensures counted { CountsWithin (length (S.items_of from.now)
+        + walk_items indexes.now.hierarchy operator (S.items_of from.now)) visits.old visits.new }
+    ensures items { IfOk result (λ found. S.items_of found
+        ≡ filter (may_be S.items_of candidates.now)
+        (led_to indexes.now.hierarchy (S.bound_of from.now) operator (S.items_of from.now))) }
     ensures bound { IfOk result (λ found. S.bound_of found ≡ S.bound_of from.now) }
     ensures adds { IfOk result (λ found. Adds (S.items_of found) tally.old tally.new) }
 {
@@ -153,7 +161,9 @@ fn walk_by<S: ConceptSet>(
     requires over { IsOf snapshot.now.release (S.bound_of from.now) index.now }
     requires concepts { concepts.now ≡ S.items_of from.now }
     requires candidates { AreBelow S.bound_of (S.bound_of from.now) candidates.now }
-    ensures items { IfOk result (λ found. S.items_of found ≡ filter (may_be S.items_of candidates.now) (led_to index.now (S.bound_of from.now) operator (S.items_of from.now))) }
+    ensures items { IfOk result (λ found. S.items_of found
+        ≡ filter (may_be S.items_of candidates.now)
+        (led_to index.now (S.bound_of from.now) operator (S.items_of from.now))) }
     ensures bound { IfOk result (λ found. S.bound_of found ≡ S.bound_of from.now) }
     ensures adds { IfOk result (λ found. Adds (S.items_of found) tally.old tally.new) }
 {
@@ -179,8 +189,8 @@ fn walk_by<S: ConceptSet>(
     Ok(found)
 }
 
-/// The concepts of a set that an operator leads to from another, each asked by its own lists. So many items are read, the concepts
-/// of the set and their lists.
+/// The concepts of a set that an operator leads to from another, each asked by its own lists. So many items are read,
+/// the concepts of the set and their lists.
 pub fn led_among<S: ConceptSet>(
     alloc: Global,
     index: &AncestorIndex,
@@ -195,7 +205,8 @@ pub fn led_among<S: ConceptSet>(
     requires read { full (asked_items index.now operator (S.items_of wanted.now)) ≤ items }
     ensures counted { CountsWithin items visits.old visits.new }
     ensures found { IfOk result (IsFound S.ConceptSet (S.bound_of operand.now)
-        (filter (has (S.items_of wanted.now)) (led_to index.now (S.bound_of operand.now) operator (S.items_of operand.now)))
+        (filter (has (S.items_of wanted.now)) (led_to index.now (S.bound_of operand.now) operator
+        (S.items_of operand.now)))
         items visits.old visits.new) }
 {
     visits.add(items);
@@ -213,7 +224,9 @@ fn those_of_set_led_to<S: ConceptSet>(
 ) -> Result<S, AllocError>
     requires over { IsOver (S.bound_of operand.now) index.now }
     requires wanted { S.bound_of wanted.now ≡ S.bound_of operand.now }
-    ensures items { IfOk result (λ found. S.items_of found ≡ filter (has (S.items_of wanted.now)) (led_to index.now (S.bound_of operand.now) operator (S.items_of operand.now))) }
+    ensures items { IfOk result (λ found. S.items_of found
+        ≡ filter (has (S.items_of wanted.now)) (led_to index.now (S.bound_of operand.now) operator
+        (S.items_of operand.now))) }
     ensures bound { IfOk result (λ found. S.bound_of found ≡ S.bound_of operand.now) }
 {
     let step = Step::of(operator);
@@ -222,8 +235,8 @@ fn those_of_set_led_to<S: ConceptSet>(
     S::from_items(alloc, kept.as_slice(), operand.bound())
 }
 
-/// The concepts of a set, and those in the lists by which it is asked whether an operator leads to them. So many items are read, the
-/// concepts and their lists.
+/// The concepts of a set, and those in the lists by which it is asked whether an operator leads to them. So many items
+/// are read, the concepts and their lists.
 pub fn enough_for<S: ConceptSet>(
     alloc: Global,
     index: &AncestorIndex,
@@ -236,7 +249,8 @@ pub fn enough_for<S: ConceptSet>(
     requires read { full (asked_items index.now operator (S.items_of wanted.now)) ≤ items }
     ensures counted { CountsWithin items visits.old visits.new }
     ensures floor { IfOk result (λ _. full (visits.old.count + items) ≤ visits.new.count) }
-    ensures enough { IfOk result (λ enough. AreEnough (asked_lists index.now operator) (has (S.items_of wanted.now)) (has (S.items_of enough))) }
+    ensures enough { IfOk result (λ enough. AreEnough (asked_lists index.now operator) (has (S.items_of wanted.now))
+        (has (S.items_of enough))) }
     ensures bound { IfOk result (λ enough. S.bound_of enough ≡ S.bound_of wanted.now) }
 {
     visits.add(items);
@@ -256,7 +270,8 @@ fn with_lists(
 ) -> Result<Vec<u32>, AllocError>
     requires over { IsOver _count index.now }
     requires below { All (λ concept. concept < _count) concepts.now }
-    ensures { IfOk result (λ numbers. numbers.items ≡ flat_map (λ concept. concept ∷ list_of (lists_of index.now family) concept) concepts.now) }
+    ensures { IfOk result (λ numbers. numbers.items
+        ≡ flat_map (λ concept. concept ∷ list_of (lists_of index.now family) concept) concepts.now) }
 {
     let mut numbers = Vec::new(alloc);
     for concept in concepts {
@@ -276,7 +291,9 @@ fn those_led_to<S: ConceptSet>(
 ) -> Result<Vec<u32>, AllocError>
     requires over { IsOver (S.bound_of operand.now) index.now }
     requires below { All (λ concept. concept < S.bound_of operand.now) concepts.now }
-    ensures { IfOk result (λ kept. kept.items ≡ filter (has (stepped (lists_of index.now step.family) (S.bound_of operand.now) step.reach (S.items_of operand.now))) concepts.now) }
+    ensures { IfOk result (λ kept. kept.items
+        ≡ filter (has (stepped (lists_of index.now step.family) (S.bound_of operand.now) step.reach
+        (S.items_of operand.now))) concepts.now) }
 {
     let mut kept = Vec::new(alloc);
     for concept in concepts {
@@ -291,7 +308,8 @@ fn those_led_to<S: ConceptSet>(
 fn is_led_to<S: ConceptSet>(index: &AncestorIndex, step: Step, operand: &S, concept: u32) -> bool
     requires over { IsOver (S.bound_of operand.now) index.now }
     requires below { concept < S.bound_of operand.now }
-    ensures { result ≡ has (stepped (lists_of index.now step.family) (S.bound_of operand.now) step.reach (S.items_of operand.now)) concept }
+    ensures { result ≡ has (stepped (lists_of index.now step.family) (S.bound_of operand.now) step.reach
+        (S.items_of operand.now)) concept }
 {
     let family = step.family;
     match step.reach {
@@ -310,7 +328,8 @@ fn is_listed<S: ConceptSet>(
 ) -> bool
     requires over { IsOver (S.bound_of operand.now) index.now }
     requires below { concept < S.bound_of operand.now }
-    ensures { result ≡ has (joined (S.bound_of operand.now) (lists_of index.now family) (S.items_of operand.now)) concept }
+    ensures { result ≡ has (joined (S.bound_of operand.now) (lists_of index.now family) (S.items_of operand.now))
+        concept }
 {
     meets(family.back().list(index, concept), operand)
 }
@@ -324,7 +343,8 @@ fn is_listed_or_self<S: ConceptSet>(
 ) -> bool
     requires over { IsOver (S.bound_of operand.now) index.now }
     requires below { concept < S.bound_of operand.now }
-    ensures { result ≡ has (all_items (S.bound_of operand.now) (S.items_of operand.now) (joined (S.bound_of operand.now) (lists_of index.now family) (S.items_of operand.now))) concept }
+    ensures { result ≡ has (all_items (S.bound_of operand.now) (S.items_of operand.now)
+        (joined (S.bound_of operand.now) (lists_of index.now family) (S.items_of operand.now))) concept }
 {
     operand.has(concept) || is_listed(index, family, operand, concept)
 }
