@@ -1,16 +1,22 @@
 -- Where the bounds that are listed are those of the nodes of a plan, its lines are those of the definition.
-use Rattle.std.proofs.Common.{ℕ, suc, ◌+◌, ◌++◌, ◌∷◌, [], ◌≡◌, ◌∙◌, List, drop, length, refl, sym, ap, append-nil, append_assoc, length-append}
+use Rattle.std.proofs.Common.{ℕ, suc, ◌+◌, ◌++◌, ◌∷◌, [], ◌≡◌, ◌∙◌, List, length, refl, sym, ap, append-nil}
+use Rattle.std.proofs.Common.{append_assoc, length-append}
 use Rattle.std.specs.List.{flat_map}
 use Rattle.std.proofs.lemmas.List.{drop_at}
 use Rattle.std.proofs.lemmas.List.Concat.{flat_map-append}
-use Rattle.set_algebra.specs.Plan.{Plan, empty_plan, all_plan, one_plan, walk_plan, members_plan, and_plan, or_plan, minus_plan, values_plan, pairs_plan, units_plan, Plans, no_plans, plan_then, PlanOfUnits, nothing_unit, every_unit, and_units, or_units, minus_units, pairs_units, PlansOfUnits, no_unit_plans, unit_plan_then, TestPlan, within_plan, outside_plan, number_plan}
+use Rattle.set_algebra.specs.Physical.{Physical, physical_empty, physical_all, physical_one, physical_walk}
+use Rattle.set_algebra.specs.Physical.{physical_members, physical_and, physical_or, physical_minus, physical_values}
+use Rattle.set_algebra.specs.Physical.{physical_pairs, physical_units, Physicals, no_physicals, physical_then}
+use Rattle.set_algebra.specs.Physical.{PhysicalUnits, physical_nothing, physical_every, physical_units_and}
+use Rattle.set_algebra.specs.Physical.{physical_units_or, physical_units_minus, physical_units_pairs}
+use Rattle.set_algebra.specs.Physical.{PhysicalUnitsList, no_physical_units, physical_units_then, PhysicalTest}
+use Rattle.set_algebra.specs.Physical.{physical_within, physical_outside, physical_number}
 use Rattle.postings.specs.Indexed.{Indexed}
-use Rattle.set_algebra.specs.declared.choice.Choice.{Choice}
 use Rattle.plan_bounds.specs.Bounds.{capped, group_own_bound, own_bound, own_bounds, own_list}
-use Rattle.plan_bounds.specs.Leaves.{group_leaves, leaves, test_choices, type_choices}
 use Rattle.plan_bounds.specs.Nodes.{group_list, groups_list, node_list, plans_list, test_list}
 use Rattle.answer_printer.specs.inside.PlanLines.{before_bound, with_bounds}
-use Rattle.answer_printer.specs.PlanText.{bound_line, group_outline, group_words, groups_outline, node_line, node_words, outline, plan_lines, plans_outline, test_outline}
+use Rattle.answer_printer.specs.PlanText.{bound_line, group_outline, group_words, groups_outline, node_line}
+use Rattle.answer_printer.specs.PlanText.{node_words, outline, plan_lines, plans_outline, test_outline}
 use Rattle.answer_printer.proofs.LineLemmas.{with_bounds-append}
 
 -- there are as many bounds as lines, and with them, whatever bounds follow, the lines are these
@@ -47,79 +53,79 @@ both_lined {one} {other} {bounds} {more_bounds} {lines} {more_lines} first secon
 }
 
 module _ (indexed : Indexed) where
-  plan_lined : (spaces : List ℕ) (choices : List Choice) (plan : Plan) {others : List (List ℕ)} {bounds : List ℕ} {lines : List (List ℕ)}
+  plan_lined : (spaces : List ℕ) (plan : Physical) {others : List (List ℕ)} {bounds : List ℕ} {lines : List (List ℕ)}
       → AreLined others bounds lines
-      → AreLined ((spaces ++ node_words choices plan) ∷ others) (capped (own_bound indexed choices plan) ∷ bounds)
-      (bound_line (spaces ++ node_words choices plan) (capped (own_bound indexed choices plan)) ∷ lines)
-  plan_lined spaces choices plan inner = node_lined (spaces ++ node_words choices plan) (capped (own_bound indexed choices plan)) inner
+      → AreLined ((spaces ++ node_words plan) ∷ others) (capped (own_bound indexed plan) ∷ bounds)
+      (bound_line (spaces ++ node_words plan) (capped (own_bound indexed plan)) ∷ lines)
+  plan_lined spaces plan inner = node_lined (spaces ++ node_words plan) (capped (own_bound indexed plan)) inner
 
-  unit_lined : (spaces : List ℕ) (choices : List Choice) (plan : PlanOfUnits) {others : List (List ℕ)} {bounds : List ℕ} {lines : List (List ℕ)}
+  unit_lined : (spaces : List ℕ) (plan : PhysicalUnits) {others : List (List ℕ)} {bounds : List ℕ} {lines : List (List ℕ)}
       → AreLined others bounds lines
-      → AreLined ((spaces ++ group_words choices plan) ∷ others) (capped (group_own_bound indexed choices plan) ∷ bounds)
-      (bound_line (spaces ++ group_words choices plan) (capped (group_own_bound indexed choices plan)) ∷ lines)
-  unit_lined spaces choices plan inner = node_lined (spaces ++ group_words choices plan) (capped (group_own_bound indexed choices plan)) inner
+      → AreLined ((spaces ++ group_words plan) ∷ others) (capped (group_own_bound indexed plan) ∷ bounds)
+      (bound_line (spaces ++ group_words plan) (capped (group_own_bound indexed plan)) ∷ lines)
+  unit_lined spaces plan inner = node_lined (spaces ++ group_words plan) (capped (group_own_bound indexed plan)) inner
 
   mutual
-    pub lined : (spaces : List ℕ) (choices : List Choice) (plan : Plan)
-        → AreLined (outline before_bound spaces choices plan) (node_list (own_list indexed) choices plan) (outline (node_line indexed) spaces choices plan)
-    lined spaces choices empty_plan = plan_lined spaces choices empty_plan none_lined
-    lined spaces choices all_plan = plan_lined spaces choices all_plan none_lined
-    lined spaces choices (one_plan number) = plan_lined spaces choices (one_plan number) none_lined
-    lined spaces choices (walk_plan operator operand) =
-        plan_lined spaces choices (walk_plan operator operand) (lined (32 ∷ spaces) choices operand)
-    lined spaces choices (members_plan operand) = plan_lined spaces choices (members_plan operand) (lined (32 ∷ spaces) choices operand)
-    lined spaces choices (and_plan parts) = plan_lined spaces choices (and_plan parts) (plans_lined (32 ∷ spaces) choices parts)
-    lined spaces choices (or_plan parts) = plan_lined spaces choices (or_plan parts) (plans_lined (32 ∷ spaces) choices parts)
-    lined spaces choices (minus_plan first second) =
-        plan_lined spaces choices (minus_plan first second)
-        (both_lined (lined (32 ∷ spaces) choices first) (lined (32 ∷ spaces) (drop (leaves first) choices) second))
-    lined spaces choices (values_plan start names) =
-        plan_lined spaces choices (values_plan start names)
-        (both_lined (lined (32 ∷ spaces) choices start) (plans_lined (32 ∷ spaces) (drop (leaves start) choices) names))
-    lined spaces choices (pairs_plan back count types test) =
-        plan_lined spaces choices (pairs_plan back count types test)
-        (both_lined (lined (32 ∷ spaces) (type_choices choices) types) (test_lined (32 ∷ spaces) (test_choices choices types) test))
-    lined spaces choices (units_plan count units) =
-        plan_lined spaces choices (units_plan count units) (group_lined (32 ∷ spaces) choices units)
+    pub lined : (spaces : List ℕ) (plan : Physical)
+        → AreLined (outline before_bound spaces plan) (node_list (own_list indexed) plan) (outline (node_line indexed) spaces plan)
+    lined spaces physical_empty = plan_lined spaces physical_empty none_lined
+    lined spaces physical_all = plan_lined spaces physical_all none_lined
+    lined spaces (physical_one number) = plan_lined spaces (physical_one number) none_lined
+    lined spaces (physical_walk operator operand) =
+        plan_lined spaces (physical_walk operator operand) (lined (32 ∷ spaces) operand)
+    lined spaces (physical_members operand) = plan_lined spaces (physical_members operand) (lined (32 ∷ spaces) operand)
+    lined spaces (physical_and parts) = plan_lined spaces (physical_and parts) (plans_lined (32 ∷ spaces) parts)
+    lined spaces (physical_or parts) = plan_lined spaces (physical_or parts) (plans_lined (32 ∷ spaces) parts)
+    lined spaces (physical_minus first second) =
+        plan_lined spaces (physical_minus first second)
+        (both_lined (lined (32 ∷ spaces) first) (lined (32 ∷ spaces) second))
+    lined spaces (physical_values start names) =
+        plan_lined spaces (physical_values start names)
+        (both_lined (lined (32 ∷ spaces) start) (plans_lined (32 ∷ spaces) names))
+    lined spaces (physical_pairs back count types test choice) =
+        plan_lined spaces (physical_pairs back count types test choice)
+        (both_lined (lined (32 ∷ spaces) types) (test_lined (32 ∷ spaces) test))
+    lined spaces (physical_units count units) =
+        plan_lined spaces (physical_units count units) (group_lined (32 ∷ spaces) units)
 
-    plans_lined : (spaces : List ℕ) (choices : List Choice) (parts : Plans)
-        → AreLined (plans_outline before_bound spaces choices parts) (plans_list (own_list indexed) choices parts)
-        (plans_outline (node_line indexed) spaces choices parts)
-    plans_lined spaces choices no_plans = none_lined
-    plans_lined spaces choices (plan_then first rest) =
-        both_lined (lined spaces choices first) (plans_lined spaces (drop (leaves first) choices) rest)
+    plans_lined : (spaces : List ℕ) (parts : Physicals)
+        → AreLined (plans_outline before_bound spaces parts) (plans_list (own_list indexed) parts)
+        (plans_outline (node_line indexed) spaces parts)
+    plans_lined spaces no_physicals = none_lined
+    plans_lined spaces (physical_then first rest) =
+        both_lined (lined spaces first) (plans_lined spaces rest)
 
-    group_lined : (spaces : List ℕ) (choices : List Choice) (plan : PlanOfUnits)
-        → AreLined (group_outline before_bound spaces choices plan) (group_list (own_list indexed) choices plan)
-        (group_outline (node_line indexed) spaces choices plan)
-    group_lined spaces choices nothing_unit = unit_lined spaces choices nothing_unit none_lined
-    group_lined spaces choices every_unit = unit_lined spaces choices every_unit none_lined
-    group_lined spaces choices (and_units parts) = unit_lined spaces choices (and_units parts) (groups_lined (32 ∷ spaces) choices parts)
-    group_lined spaces choices (or_units parts) = unit_lined spaces choices (or_units parts) (groups_lined (32 ∷ spaces) choices parts)
-    group_lined spaces choices (minus_units first second) =
-        unit_lined spaces choices (minus_units first second)
-        (both_lined (group_lined (32 ∷ spaces) choices first) (group_lined (32 ∷ spaces) (drop (group_leaves first) choices) second))
-    group_lined spaces choices (pairs_units count types test) =
-        unit_lined spaces choices (pairs_units count types test)
-        (both_lined (lined (32 ∷ spaces) (type_choices choices) types) (test_lined (32 ∷ spaces) (test_choices choices types) test))
+    group_lined : (spaces : List ℕ) (plan : PhysicalUnits)
+        → AreLined (group_outline before_bound spaces plan) (group_list (own_list indexed) plan)
+        (group_outline (node_line indexed) spaces plan)
+    group_lined spaces physical_nothing = unit_lined spaces physical_nothing none_lined
+    group_lined spaces physical_every = unit_lined spaces physical_every none_lined
+    group_lined spaces (physical_units_and parts) = unit_lined spaces (physical_units_and parts) (groups_lined (32 ∷ spaces) parts)
+    group_lined spaces (physical_units_or parts) = unit_lined spaces (physical_units_or parts) (groups_lined (32 ∷ spaces) parts)
+    group_lined spaces (physical_units_minus first second) =
+        unit_lined spaces (physical_units_minus first second)
+        (both_lined (group_lined (32 ∷ spaces) first) (group_lined (32 ∷ spaces) second))
+    group_lined spaces (physical_units_pairs count types test choice) =
+        unit_lined spaces (physical_units_pairs count types test choice)
+        (both_lined (lined (32 ∷ spaces) types) (test_lined (32 ∷ spaces) test))
 
-    groups_lined : (spaces : List ℕ) (choices : List Choice) (parts : PlansOfUnits)
-        → AreLined (groups_outline before_bound spaces choices parts) (groups_list (own_list indexed) choices parts)
-        (groups_outline (node_line indexed) spaces choices parts)
-    groups_lined spaces choices no_unit_plans = none_lined
-    groups_lined spaces choices (unit_plan_then first rest) =
-        both_lined (group_lined spaces choices first) (groups_lined spaces (drop (group_leaves first) choices) rest)
+    groups_lined : (spaces : List ℕ) (parts : PhysicalUnitsList)
+        → AreLined (groups_outline before_bound spaces parts) (groups_list (own_list indexed) parts)
+        (groups_outline (node_line indexed) spaces parts)
+    groups_lined spaces no_physical_units = none_lined
+    groups_lined spaces (physical_units_then first rest) =
+        both_lined (group_lined spaces first) (groups_lined spaces rest)
 
-    test_lined : (spaces : List ℕ) (choices : List Choice) (test : TestPlan)
-        → AreLined (test_outline before_bound spaces choices test) (test_list (own_list indexed) choices test)
-        (test_outline (node_line indexed) spaces choices test)
-    test_lined spaces choices (within_plan operand) = lined spaces choices operand
-    test_lined spaces choices (outside_plan operand) = lined spaces choices operand
-    test_lined spaces choices (number_plan compare number) = none_lined
+    test_lined : (spaces : List ℕ) (test : PhysicalTest)
+        → AreLined (test_outline before_bound spaces test) (test_list (own_list indexed) test)
+        (test_outline (node_line indexed) spaces test)
+    test_lined spaces (physical_within operand) = lined spaces operand
+    test_lined spaces (physical_outside operand) = lined spaces operand
+    test_lined spaces (physical_number compare number) = none_lined
 
 -- with the own bounds of a plan its lines are those of the definition
-pub lines_are : (indexed : Indexed) (choices : List Choice) (plan : Plan) (bounds : List ℕ) → bounds ≡ own_bounds indexed choices plan
-    → with_bounds (outline before_bound [] choices plan) bounds ≡ plan_lines indexed choices plan
-lines_are indexed choices plan bounds is =
-    ap (with_bounds (outline before_bound [] choices plan)) (is ∙ sym (append-nil (own_bounds indexed choices plan)))
-    ∙ (lined indexed [] choices plan).same []
+pub lines_are : (indexed : Indexed) (plan : Physical) (bounds : List ℕ) → bounds ≡ own_bounds indexed plan
+    → with_bounds (outline before_bound [] plan) bounds ≡ plan_lines indexed plan
+lines_are indexed plan bounds is =
+    ap (with_bounds (outline before_bound [] plan)) (is ∙ sym (append-nil (own_bounds indexed plan)))
+    ∙ (lined indexed [] plan).same []

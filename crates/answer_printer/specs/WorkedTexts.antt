@@ -5,15 +5,16 @@ use Rattle.constraint_tree.specs.declared.operator.Compare.TheVariants.{Greater}
 use Rattle.constraint_tree.specs.Sample.{alpha, type_t, type_u, value_x}
 use Rattle.constraint_tree.specs.WorkedQueries.{at_least, two}
 use Rattle.set_algebra.specs.Lowering.{both_plan}
-use Rattle.set_algebra.specs.Plan.{Plan, all_plan, and_units, units_from, number_plan, one_plan, pairs_plan, units_plan, within_plan}
+use Rattle.set_algebra.specs.Plan.{Plan, all_plan, and_units, units_from, number_plan, one_plan, pairs_plan}
+use Rattle.set_algebra.specs.Plan.{units_plan, within_plan}
 use Rattle.set_algebra.specs.WorkedPlans.{below_alpha_plan, u_group, x_group}
-use Rattle.planner.specs.Chosen.{least_choices}
+use Rattle.planner.specs.Chosen.{chosen}
 use Rattle.planner.specs.WorkedBounds.{indexed_sample}
 use Rattle.answer_printer.specs.PlanText.{plan_text}
 
 -- a plan has this text
 abbrev pub HasText : Plan → List ℕ → Type 0
-HasText plan text = plan_text indexed_sample (least_choices indexed_sample plan) plan ≡ text
+HasText plan text = plan_text indexed_sample (chosen indexed_sample plan) ≡ text
 
 -- <100005:104001=106004
 abbrev pub TextByValue : Type 0

@@ -2,23 +2,19 @@
 ghost use Rattle.std.specs.Prelude.{◌≡◌, ◌++◌, OnOk};
 ghost use Rattle.std.specs.Fmt.{signed_decimal};
 ghost use Rattle.constraint_tree.specs.Text.{compare_text, most_text};
-ghost use Rattle.set_algebra.specs.Plan.{unit_plan_of, plan_of, test_plan_of};
+ghost use Rattle.set_algebra.specs.Physical.{physical_units_of, physical_of, physical_test_of};
 ghost use Rattle.answer_printer.specs.PlanText.{choice_words, count_words, group_words, leaf_words, node_words, operator_word as word_of_operator, pairs_words, test_words};
 
 use crate::numbers::append_number;
 use constraint_tree::{Cardinality, Compare, Operator};
-use planner::{Choice, first_choice};
+use planner::Choice;
 use rf2_rows::Decimal;
 use set_algebra::{ConceptPlan, UnitPlan, ValueTest};
 use std::alloc::AllocError;
 
-/// Adds what a node of a plan of concepts is, by the choices from its own first leaf on.
-pub fn write_node(
-    plan: &ConceptPlan,
-    choices: &[Choice],
-    text: &mut Vec<u8>,
-) -> Result<(), AllocError>
-    ensures { OnOk result (text.new.items ≡ text.old.items ++ node_words choices.now (plan_of plan.now)) }
+/// Adds what a node of a plan of concepts is.
+pub fn write_node(plan: &ConceptPlan, text: &mut Vec<u8>) -> Result<(), AllocError>
+    ensures { OnOk result (text.new.items ≡ text.old.items ++ node_words (physical_of plan.now)) }
 {
     match plan {
         ConceptPlan::Empty => text.extend_from_slice(b"empty"),
@@ -37,10 +33,11 @@ pub fn write_node(
             back,
             count,
             test,
+            choice,
             ..
         } => {
             text.extend_from_slice(direction(*back))?;
-            write_leaf(*count, test, first_choice(choices), text)
+            write_leaf(*count, test, *choice, text)
         }
         ConceptPlan::Units { count, .. } => {
             text.extend_from_slice(b"units ")?;
@@ -50,12 +47,8 @@ pub fn write_node(
 }
 
 /// Adds what a node of a plan of groups is.
-pub fn write_unit_node(
-    plan: &UnitPlan,
-    choices: &[Choice],
-    text: &mut Vec<u8>,
-) -> Result<(), AllocError>
-    ensures { OnOk result (text.new.items ≡ text.old.items ++ group_words choices.now (unit_plan_of plan.now)) }
+pub fn write_unit_node(plan: &UnitPlan, text: &mut Vec<u8>) -> Result<(), AllocError>
+    ensures { OnOk result (text.new.items ≡ text.old.items ++ group_words (physical_units_of plan.now)) }
 {
     match plan {
         UnitPlan::Nothing => text.extend_from_slice(b"no-units"),
@@ -63,9 +56,14 @@ pub fn write_unit_node(
         UnitPlan::And(_) => text.extend_from_slice(b"unit-and"),
         UnitPlan::Or(_) => text.extend_from_slice(b"unit-or"),
         UnitPlan::Minus(_, _) => text.extend_from_slice(b"unit-minus"),
-        UnitPlan::Pairs { count, test, .. } => {
+        UnitPlan::Pairs {
+            count,
+            test,
+            choice,
+            ..
+        } => {
             text.extend_from_slice(b"unit-pairs ")?;
-            write_leaf(*count, test, first_choice(choices), text)
+            write_leaf(*count, test, *choice, text)
         }
     }
 }
@@ -77,7 +75,7 @@ fn write_leaf(
     choice: Choice,
     text: &mut Vec<u8>,
 ) -> Result<(), AllocError>
-    ensures { OnOk result (text.new.items ≡ text.old.items ++ leaf_words count (test_plan_of test.now) choice) }
+    ensures { OnOk result (text.new.items ≡ text.old.items ++ leaf_words count (physical_test_of test.now) choice) }
 {
     write_count(count, text)?;
     text.push(b' ')?;
@@ -98,7 +96,7 @@ fn write_count(count: Cardinality, text: &mut Vec<u8>) -> Result<(), AllocError>
 }
 
 fn write_test(test: &ValueTest, text: &mut Vec<u8>) -> Result<(), AllocError>
-    ensures { OnOk result (text.new.items ≡ text.old.items ++ test_words (test_plan_of test.now)) }
+    ensures { OnOk result (text.new.items ≡ text.old.items ++ test_words (physical_test_of test.now)) }
 {
     match test {
         ValueTest::Within(_) => text.extend_from_slice(b"within"),

@@ -9,7 +9,7 @@ use Rattle.number_lists.specs.Rising.{IsRisingBelow}
 use Rattle.number_lists.proofs.MemberLemmas.{contains_had}
 use Rattle.number_lists.proofs.RisingLemmas.{rises_within-filter, rises_within-wider, same_rising}
 use Rattle.postings.specs.Indexed.{Indexed}
-use Rattle.candidates.specs.Counted.{full_sum}
+use Rattle.reading.specs.Counted.{full_sum}
 use Rattle.candidates.specs.Extents.{IsExtentOf, IsGroupExtentOf}
 use Rattle.candidates.specs.declared.candidates.Extent.{Extent}
 use Rattle.candidates.proofs.WithinLemmas.{has_kept}

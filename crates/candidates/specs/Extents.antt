@@ -4,7 +4,7 @@ use Rattle.number_lists.specs.KeyedLists.{list_of}
 use Rattle.ancestor_index.specs.HierarchyLists.{Hierarchy}
 use Rattle.postings.specs.Groups.{ConceptGroup, groups_before, groups_in, rows_of_group}
 use Rattle.postings.specs.Indexed.{Indexed}
-use Rattle.candidates.specs.Counted.{full_sum}
+use Rattle.reading.specs.Counted.{full_sum}
 use Rattle.candidates.specs.RowCounts.{row_count_of}
 use Rattle.candidates.specs.declared.candidates.Extent.{Extent}
 use Rattle.candidates.specs.declared.candidates.ListExtent.{ListExtent}

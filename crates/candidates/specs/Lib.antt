@@ -1,4 +1,3 @@
-pub mod Counted
 pub mod Extents
 pub mod Groups
 pub mod inside

@@ -1,7 +1,7 @@
 -- How many rows have a concept as their value or as their source.
 use Rattle.std.specs.Prelude.{ℕ, ◌+◌, Bool, if◌then◌else◌, Option, Some, None, length}
 use Rattle.postings.specs.Indexed.{Indexed, rows_by_source, rows_by_value}
-use Rattle.candidates.specs.Counted.{full}
+use Rattle.reading.specs.Counted.{full}
 use Rattle.candidates.specs.declared.candidates.Extent.{Extent}
 
 -- how many rows have a concept as their value, or, read backwards, as their source

@@ -2,7 +2,7 @@
 use Rattle.std.specs.Prelude.{ℕ, ◌≡◌, ◌≤◌, ◌+◌, Bool, List, Option, Some, None}
 use Rattle.std.specs.List.{sum_by}
 use Rattle.postings.specs.Indexed.{Indexed}
-use Rattle.candidates.specs.Counted.{full}
+use Rattle.reading.specs.Counted.{full}
 use Rattle.candidates.specs.RowCounts.{row_count_of}
 
 -- whose rows are asked for, if any, and in which direction; and how many there are, where that is known

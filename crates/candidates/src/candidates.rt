@@ -1,15 +1,14 @@
 //! Of which concepts or groups it is asked whether they are in a set.
 ghost use Rattle.std.specs.Prelude.{ℕ, ◌≡◌, ◌≤◌, ◌<◌, ◌+◌, All, Bool, false, true, filter, IfOk, List, length, min};
 ghost use Rattle.postings.specs.Groups.{all_groups, groups_in};
-ghost use Rattle.postings.specs.Indexed.{Indexed, IsIndexOf};
-ghost use Rattle.candidates.specs.Counted.{full};
+ghost use Rattle.postings.specs.Indexed.{Indexed};
+ghost use Rattle.reading.specs.Counted.{full};
 ghost use Rattle.candidates.specs.Extents.{AreListed, IsExtentOf, IsGroupExtentOf};
 ghost use Rattle.candidates.specs.Within.{AreBelow, AreConcepts, AreGroups, HaveExtent, extent_told, may_be};
 
-use held_release::Snapshot;
 use idset::ConceptSet;
-use postings::Indexes;
-use std::alloc::{AllocError, Global};
+use reading::{Answer, Reader};
+use std::alloc::AllocError;
 
 // To ask a concept by its own list takes about as long as to go through so many concepts, and to ask so few takes no longer
 // than to copy one list.
@@ -32,7 +31,7 @@ pub enum Candidates<'a, S> {
     /// All.
     All,
     /// Those in a set, and what there is of them.
-    Within(&'a S, Extent),
+    Within(&'a Answer<S>, Extent),
 }
 
 /// How much there is of some concepts or groups. It tells which way is the shorter, and how many items are counted that are read of
@@ -134,10 +133,10 @@ pub fn extent_for<S>(candidates: &Candidates<'_, S>, back: bool) -> Option<Exten
 
 /// The candidates among some numbers.
 pub fn restricted<S: ConceptSet>(
-    alloc: Global,
-    found: S,
+    reader: Reader<'_>,
+    found: Answer<S>,
     candidates: &Candidates<'_, S>,
-) -> Result<S, AllocError>
+) -> Result<Answer<S>, AllocError>
     requires bound { AreBelow S.bound_of (S.bound_of found) candidates.now }
     ensures items { IfOk result (λ left. S.items_of left ≡ filter (may_be S.items_of candidates.now) (S.items_of found)) }
     ensures bound { IfOk result (λ left. S.bound_of left ≡ S.bound_of found) }
@@ -145,7 +144,7 @@ pub fn restricted<S: ConceptSet>(
     match candidates {
         Candidates::All => Ok(found),
         Candidates::Within(set, _) => {
-            let left = found.and(alloc, *set)?;
+            let left = found.and(reader.alloc, *set)?;
             Ok(left)
         }
     }
@@ -154,22 +153,19 @@ pub fn restricted<S: ConceptSet>(
 /// How much there is of the concepts of a set, for what reads so many rows without it. It is looked up only where they are few beside
 /// these, or so few that their lists are counted. The items of the set are read once, their lists are not.
 pub fn extent_of<S: ConceptSet>(
-    alloc: Global,
-    snapshot: &Snapshot,
-    indexes: &Indexes,
-    concepts: &S,
+    reader: Reader<'_>,
+    concepts: &Answer<S>,
     rows: u64,
 ) -> Result<Extent, AllocError>
-    requires index { IsIndexOf indexes.now snapshot.now.release }
-    requires bound { S.bound_of concepts.now ≡ length snapshot.now.release.concepts }
-    ensures { IfOk result (IsExtentOf indexes.now (S.items_of concepts.now)) }
+    requires bound { S.bound_of concepts.now ≡ length reader.snapshot.now.release.concepts }
+    ensures { IfOk result (IsExtentOf reader.entry.indexes.now (S.items_of concepts.now)) }
 {
     let count = concepts.count();
     if are_many_beside(count, rows / WIDE) {
         return Ok(uncounted(count));
     }
-    let own = concepts.items(alloc)?;
-    Ok(extent_among(indexes, own.as_slice()))
+    let own = concepts.items_uncounted(reader.alloc)?;
+    Ok(extent_among(reader, own.as_slice()))
 }
 
 // Whether so many candidates are more than those that are always looked up, and than so many.
@@ -179,50 +175,38 @@ fn are_many_beside(candidates: u32, most: u64) -> bool {
 
 /// The same of the groups of a set.
 pub fn group_extent_of<S: ConceptSet>(
-    alloc: Global,
-    snapshot: &Snapshot,
-    indexes: &Indexes,
-    groups: &S,
+    reader: Reader<'_>,
+    groups: &Answer<S>,
     rows: u64,
 ) -> Result<Extent, AllocError>
-    requires index { IsIndexOf indexes.now snapshot.now.release }
-    requires bound { S.bound_of groups.now ≡ length (all_groups snapshot.now.release) }
-    ensures { IfOk result (IsGroupExtentOf indexes.now (S.items_of groups.now)) }
+    requires bound { S.bound_of groups.now ≡ length (all_groups reader.snapshot.now.release) }
+    ensures { IfOk result (IsGroupExtentOf reader.entry.indexes.now (S.items_of groups.now)) }
 {
     let count = groups.count();
     if are_many_beside(count, rows / WIDE_GROUPS) {
         return Ok(uncounted(count));
     }
     // the concepts rise, so that each has its groups once
-    snapshot.concept_count();
-    let own = groups.items(alloc)?;
-    Ok(group_extent_among(indexes, own.as_slice()))
+    reader.concept_count();
+    let own = groups.items_uncounted(reader.alloc)?;
+    Ok(group_extent_among(reader, own.as_slice()))
 }
 
 /// How much there is of a set of some candidates, from which something is to be taken. Its rows are counted where the set may be read
 /// thrice, by what both parts of MINUS find at most; else it has no more than the candidates.
 pub fn extent_to_take<S: ConceptSet>(
-    alloc: Global,
-    snapshot: &Snapshot,
-    indexes: &Indexes,
+    reader: Reader<'_>,
     candidates: &Candidates<'_, S>,
-    concepts: &S,
+    concepts: &Answer<S>,
     sizes: (u64, u64),
 ) -> Result<Extent, AllocError>
-    requires index { IsIndexOf indexes.now snapshot.now.release }
-    requires bound { S.bound_of concepts.now ≡ length snapshot.now.release.concepts }
-    requires candidates { AreConcepts S.ConceptSet snapshot.now.release indexes.now candidates.now }
+    requires bound { S.bound_of concepts.now ≡ length reader.snapshot.now.release.concepts }
+    requires candidates { AreConcepts S.ConceptSet reader.snapshot.now.release reader.indexes.now candidates.now }
     requires among { All (λ number. may_be S.items_of candidates.now number ≡ true) (S.items_of concepts.now) }
-    ensures { IfOk result (IsExtentOf indexes.now (S.items_of concepts.now)) }
+    ensures { IfOk result (IsExtentOf reader.entry.indexes.now (S.items_of concepts.now)) }
 {
     if may_be_read_thrice(concepts.count(), sizes) {
-        extent_of(
-            alloc,
-            snapshot,
-            indexes,
-            concepts,
-            u64::from(indexes.row_count()),
-        )
+        extent_of(reader, concepts, u64::from(reader.row_count()))
     } else {
         Ok(extent_left(candidates, concepts))
     }
@@ -230,27 +214,18 @@ pub fn extent_to_take<S: ConceptSet>(
 
 /// The same of groups.
 pub fn group_extent_to_take<S: ConceptSet>(
-    alloc: Global,
-    snapshot: &Snapshot,
-    indexes: &Indexes,
+    reader: Reader<'_>,
     candidates: &Candidates<'_, S>,
-    groups: &S,
+    groups: &Answer<S>,
     sizes: (u64, u64),
 ) -> Result<Extent, AllocError>
-    requires index { IsIndexOf indexes.now snapshot.now.release }
-    requires bound { S.bound_of groups.now ≡ length (all_groups snapshot.now.release) }
-    requires candidates { AreGroups S.ConceptSet snapshot.now.release indexes.now candidates.now }
+    requires bound { S.bound_of groups.now ≡ length (all_groups reader.snapshot.now.release) }
+    requires candidates { AreGroups S.ConceptSet reader.snapshot.now.release reader.indexes.now candidates.now }
     requires among { All (λ number. may_be S.items_of candidates.now number ≡ true) (S.items_of groups.now) }
-    ensures { IfOk result (IsGroupExtentOf indexes.now (S.items_of groups.now)) }
+    ensures { IfOk result (IsGroupExtentOf reader.entry.indexes.now (S.items_of groups.now)) }
 {
     if may_be_read_thrice(groups.count(), sizes) {
-        group_extent_of(
-            alloc,
-            snapshot,
-            indexes,
-            groups,
-            u64::from(indexes.row_count()),
-        )
+        group_extent_of(reader, groups, u64::from(reader.row_count()))
     } else {
         Ok(extent_left(candidates, groups))
     }
@@ -262,7 +237,7 @@ fn may_be_read_thrice(items: u32, sizes: (u64, u64)) -> bool {
 }
 
 // How much there is of a set of some candidates: of rows and groups no more than these have.
-fn extent_left<S: ConceptSet>(candidates: &Candidates<'_, S>, left: &S) -> Extent
+fn extent_left<S: ConceptSet>(candidates: &Candidates<'_, S>, left: &Answer<S>) -> Extent
     requires { All (λ number. may_be S.items_of candidates.now number ≡ true) (S.items_of left.now) }
     ensures concepts { (indexed : Indexed) → HaveExtent S.items_of (IsExtentOf indexed) candidates.now
         → IsExtentOf indexed (S.items_of left.now) result }
@@ -293,17 +268,17 @@ fn uncounted(items: u32) -> Extent
 }
 
 // How much there is of some concepts.
-fn extent_among(indexes: &Indexes, concepts: &[u32]) -> Extent
-    requires { All (λ concept. concept < length indexes.now.concepts) concepts.now }
-    ensures { IsExtentOf indexes.now concepts.now result }
+fn extent_among(reader: Reader<'_>, concepts: &[u32]) -> Extent
+    requires { All (λ concept. concept < length reader.indexes.now.concepts) concepts.now }
+    ensures { IsExtentOf reader.entry.indexes.now concepts.now result }
 {
     let mut rows = 0u64;
     let mut back_rows = 0u64;
     let mut groups = 0u64;
     for concept in concepts {
-        let units = indexes.units_of(*concept);
-        rows = rows.saturating_add(indexes.rows_of(*concept).len() as u64);
-        back_rows = back_rows.saturating_add(indexes.by_value(*concept).len() as u64);
+        let units = reader.units_of(*concept);
+        rows = rows.saturating_add(reader.source_row_count(*concept));
+        back_rows = back_rows.saturating_add(reader.value_row_count(*concept));
         groups = groups.saturating_add(u64::from(units.end.saturating_sub(units.start)));
     }
     Extent {
@@ -311,21 +286,18 @@ fn extent_among(indexes: &Indexes, concepts: &[u32]) -> Extent
         rows,
         back_rows,
         groups,
-        lists: lists_among(indexes, concepts),
+        lists: lists_among(reader, concepts),
     }
 }
 
 // How many items the lists of some concepts have, if these are few.
-fn lists_among(indexes: &Indexes, concepts: &[u32]) -> ListExtent
-    requires { All (λ concept. concept < length indexes.now.concepts) concepts.now }
-    ensures { AreListed indexes.now.hierarchy concepts.now result }
+fn lists_among(reader: Reader<'_>, concepts: &[u32]) -> ListExtent
+    requires { All (λ concept. concept < length reader.indexes.now.concepts) concepts.now }
+    ensures { AreListed reader.entry.indexes.now.hierarchy concepts.now result }
 {
     if concepts.len() > LISTED {
         return UNLISTED;
     }
-    // each concept has its lists
-    indexes.stats();
-    let hierarchy = indexes.hierarchy();
     let mut lists = ListExtent {
         ancestors: 0,
         descendants: 0,
@@ -333,26 +305,26 @@ fn lists_among(indexes: &Indexes, concepts: &[u32]) -> ListExtent
         children: 0,
     };
     for concept in concepts {
-        let ancestors = hierarchy.ancestors(*concept).len() as u64;
+        let ancestors = reader.ancestor_count_of(*concept);
         lists.ancestors = lists.ancestors.saturating_add(ancestors);
-        let descendants = hierarchy.descendants(*concept).len() as u64;
+        let descendants = reader.descendant_count_of(*concept);
         lists.descendants = lists.descendants.saturating_add(descendants);
-        let parents = hierarchy.parents(*concept).len() as u64;
+        let parents = reader.parent_count_of(*concept);
         lists.parents = lists.parents.saturating_add(parents);
-        let children = hierarchy.children(*concept).len() as u64;
+        let children = reader.child_count_of(*concept);
         lists.children = lists.children.saturating_add(children);
     }
     lists
 }
 
 // How much there is of some groups.
-fn group_extent_among(indexes: &Indexes, groups: &[u32]) -> Extent
-    requires { All (λ group. group < length (groups_in indexes.now)) groups.now }
-    ensures { IsGroupExtentOf indexes.now groups.now result }
+fn group_extent_among(reader: Reader<'_>, groups: &[u32]) -> Extent
+    requires { All (λ group. group < length (groups_in reader.indexes.now)) groups.now }
+    ensures { IsGroupExtentOf reader.entry.indexes.now groups.now result }
 {
     let mut rows = 0u64;
     for group in groups {
-        rows = rows.saturating_add(indexes.unit_rows(*group).len() as u64);
+        rows = rows.saturating_add(reader.unit_row_count(*group));
     }
     let items = groups.len() as u64;
     Extent {

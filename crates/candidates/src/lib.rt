@@ -1,5 +1,4 @@
-//! The concepts and the groups of which it is asked whether they are in a set, how much there is of them, and the count of what
-//! is read.
+//! The concepts and the groups of which it is asked whether they are in a set, and how much there is of them.
 //!
 //! How much there is of them tells which way is the shorter; no answer depends on it.
 #![tactic(auto)]
@@ -7,7 +6,6 @@
 mod candidates;
 mod rows;
 mod tally;
-mod visits;
 
 pub use crate::candidates::{
     Candidates, Extent, ListExtent, extent_for, extent_of, extent_to_take, group_extent_of,
@@ -15,4 +13,3 @@ pub use crate::candidates::{
 };
 pub use crate::rows::{are_read_before, look_ups, rows_of_value};
 pub use crate::tally::RowTally;
-pub use crate::visits::Visits;

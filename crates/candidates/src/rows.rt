@@ -3,17 +3,17 @@ ghost use Rattle.std.specs.Prelude.{◌≡◌, ◌≤◌, ◌<◌, true, length}
 ghost use Rattle.candidates.specs.RowCounts.{extent_items, row_count_of};
 
 use crate::candidates::Extent;
-use postings::Indexes;
+use reading::Reader;
 
 /// How many rows have a concept as their value, or, read backwards, as their source.
-pub fn rows_of_value(indexes: &Indexes, back: bool, concept: u32) -> u64
-    requires { concept < length indexes.now.concepts }
-    ensures { result ≡ row_count_of indexes.now back concept }
+pub fn rows_of_value(reader: Reader<'_>, back: bool, concept: u32) -> u64
+    requires { concept < length reader.indexes.now.concepts }
+    ensures { result ≡ row_count_of reader.entry.indexes.now back concept }
 {
     if back {
-        indexes.rows_of(concept).len() as u64
+        reader.source_row_count(concept)
     } else {
-        indexes.by_value(concept).len() as u64
+        reader.value_row_count(concept)
     }
 }
 

@@ -1,14 +1,14 @@
 //! How many rows values have, as these are found.
 ghost use Rattle.std.specs.Prelude.{◌≡◌, ◌+◌, IfOk, IfSome, None, Some};
 ghost use Rattle.std.specs.List.{sum_by};
-ghost use Rattle.candidates.specs.Counted.{full};
+ghost use Rattle.reading.specs.Counted.{full};
 ghost use Rattle.candidates.specs.RowCounts.{row_count_of};
 ghost use Rattle.candidates.specs.Tallies.{Adds};
 
 use crate::candidates::{Candidates, extent_for};
 use crate::rows::{are_read_before, rows_of_value};
 use idset::ConceptSet;
-use postings::Indexes;
+use reading::{Answer, Reader};
 use set_algebra::Choice;
 use std::alloc::{AllocError, Global};
 use std::marker::Model;
@@ -24,7 +24,7 @@ const TESTED: u64 = 512;
 #[derive(Drop)]
 pub struct RowTally<'a> {
     // whose rows, where they are asked for
-    indexes: Option<&'a Indexes>,
+    reader: Option<Reader<'a>>,
     back: bool,
     // how many items a list may have whose rows are added up
     most: u64,
@@ -50,7 +50,7 @@ impl<'a> RowTally<'a> {
         ensures { result.rows ≡ None }
     {
         RowTally {
-            indexes: None,
+            reader: None,
             back: false,
             most: 0,
             rows: None,
@@ -61,20 +61,20 @@ impl<'a> RowTally<'a> {
     /// Of the rows of the indexes, to be read in place of so many others if they are fewer. What is found tests these others, but
     /// where the choice, or the candidates, say that they are not read.
     pub fn of<S>(
-        indexes: &'a Indexes,
+        reader: Reader<'a>,
         choice: Choice,
         back: bool,
         others: u64,
         candidates: &Candidates<'_, S>,
     ) -> RowTally<'a>
-        ensures indexed { result.indexed ≡ Some indexes.now }
+        ensures indexed { result.indexed ≡ Some reader.entry.indexes.now }
         ensures back { result.back ≡ back }
         ensures none { result.rows ≡ Some 0 }
     {
         let asks_others = choice != Choice::ByValue
             && !are_read_before(extent_for(candidates, back), others);
         RowTally {
-            indexes: Some(indexes),
+            reader: Some(reader),
             back,
             most: others / VALUE,
             rows: Some(0),
@@ -97,12 +97,16 @@ impl<'a> RowTally<'a> {
     }
 
     /// What was found, for a test of many rows in the form in which it is asked soonest.
-    pub fn prepared<S: ConceptSet>(&self, alloc: Global, found: S) -> Result<S, AllocError>
+    pub fn prepared<S: ConceptSet>(
+        &self,
+        reader: Reader<'_>,
+        found: Answer<S>,
+    ) -> Result<Answer<S>, AllocError>
         ensures items { IfOk result (λ set. S.items_of set ≡ S.items_of found) }
         ensures bound { IfOk result (λ set. S.bound_of set ≡ S.bound_of found) }
     {
         if self.tested > TESTED {
-            found.for_asking(alloc)
+            found.for_asking(reader.alloc)
         } else {
             Ok(found)
         }
@@ -127,23 +131,23 @@ impl<'a> RowTally<'a> {
     pub fn add(&mut self, concepts: &[u32])
         ensures { Adds concepts.now self.old self.new }
     {
-        self.rows = match (self.indexes, self.rows) {
-            (Some(indexes), Some(before)) => rows_after(indexes, self.back, before, concepts),
+        self.rows = match (self.reader, self.rows) {
+            (Some(reader), Some(before)) => rows_after(reader, self.back, before, concepts),
             _ => None,
         };
     }
 }
 
 // How many rows there are with those of some concepts, if all of these are concepts of the indexes.
-fn rows_after(indexes: &Indexes, back: bool, before: u64, concepts: &[u32]) -> Option<u64>
-    ensures { IfSome result (λ all. full (before + sum_by (row_count_of indexes.now back) concepts.now) ≡ all) }
+fn rows_after(reader: Reader<'_>, back: bool, before: u64, concepts: &[u32]) -> Option<u64>
+    ensures { IfSome result (λ all. full (before + sum_by (row_count_of reader.entry.indexes.now back) concepts.now) ≡ all) }
 {
     let mut rows = before;
     for concept in concepts {
-        if *concept >= indexes.concept_count() {
+        if *concept >= reader.concept_count() {
             return None;
         }
-        rows = rows.saturating_add(rows_of_value(indexes, back, *concept));
+        rows = rows.saturating_add(rows_of_value(reader, back, *concept));
     }
     Some(rows)
 }

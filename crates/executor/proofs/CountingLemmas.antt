@@ -3,7 +3,7 @@ use Rattle.std.proofs.Common.{ℕ, ◌≤◌, Bool, Option, Some, None, arith}
 use Rattle.constraint_tree.specs.declared.operator.Cardinality.{Cardinality}
 use Rattle.constraint_tree.specs.declared.operator.Operator.{Operator}
 use Rattle.postings.specs.Indexed.{Indexed}
-use Rattle.set_algebra.specs.Plan.{Plan, TestPlan}
+use Rattle.set_algebra.specs.Physical.{Physical, PhysicalTest}
 use Rattle.set_algebra.specs.declared.choice.Choice.{Choice}
 use Rattle.set_algebra.specs.declared.choice.Choice.TheVariants.{ByValue, ByType, Scan}
 use Rattle.plan_bounds.specs.Alternatives.{leaf_bound}
@@ -20,12 +20,15 @@ pub members_more : (indexed : Indexed) (one : Option ℕ) (few many : ℕ) → f
 members_more indexed (Some id) few many more = omega arith
 members_more indexed None few many more = omega (arith, more)
 
-pub leaf_more : (indexed : Indexed) (all : ℕ) (back : Bool) (count : Cardinality) (types : Plan) (test : TestPlan)
-    (few_types many_types few_values many_values : ℕ) (choice : Choice) → few_types ≤ many_types → few_values ≤ many_values
+pub leaf_more : (indexed : Indexed) (all : ℕ) (back : Bool) (count : Cardinality) (types : Physical)
+    (test : PhysicalTest)
+    (few_types many_types few_values many_values : ℕ) (choice : Choice) → few_types ≤ many_types → few_values
+    ≤ many_values
     → leaf_bound (leaf_of indexed all back count types test few_types few_values) choice
     ≤ leaf_bound (leaf_of indexed all back count types test many_types many_values) choice
 leaf_more indexed all back count types test few_types many_types few_values many_values ByValue more_types more_values =
     omega (arith, more_values)
 leaf_more indexed all back count types test few_types many_types few_values many_values ByType more_types more_values =
     omega (arith, more_types)
-leaf_more indexed all back count types test few_types many_types few_values many_values Scan more_types more_values = omega arith
+leaf_more indexed all back count types test few_types many_types few_values many_values Scan more_types more_values =
+    omega arith

@@ -1,5 +1,6 @@
 -- What each kind of plan of groups means, from what its parts mean.
-use Rattle.std.proofs.Common.{ℕ, ◌≡◌, ◌<◌, ◌∙◌, ◌∷◌, [], Bool, true, ◌&&◌, ◌||◌, List, Option, None, Some, length, refl, sym, ap}
+use Rattle.std.proofs.Common.{ℕ, ◌≡◌, ◌<◌, ◌∙◌, ◌∷◌, [], Bool, true, ◌&&◌, ◌||◌, List, Option, None, Some, length}
+use Rattle.std.proofs.Common.{refl, sym, ap}
 use Rattle.std.specs.Prelude.{slice_get}
 use Rattle.std.specs.List.{list_all, list_any, range_with_len}
 use Rattle.rf2_rows.specs.Pairs.{Pair}
@@ -9,10 +10,11 @@ use Rattle.number_lists.proofs.WhereLemmas.{numbers_where-agree, numbers_where-a
 use Rattle.postings.specs.Groups.{ConceptGroup, all_groups}
 use Rattle.set_algebra.specs.declared.plan.UnitPlan.{UnitPlan}
 use Rattle.set_algebra.specs.Meaning.{all_units_mean, unit_means, has_pairs, means, some_unit_means, value_passes}
-use Rattle.set_algebra.specs.Plan.{PlanOfUnits, Plan, TestPlan, and_units, every_unit, unit_plan_of, unit_plans_of, or_units, pairs_units}
+use Rattle.set_algebra.specs.Plan.{PlanOfUnits, Plan, TestPlan, and_units, every_unit, or_units, pairs_units}
 use Rattle.candidates.specs.Groups.{groups_where, some_group_in}
 use Rattle.candidates.specs.Numbers.{is_one_of, numbers_in}
 use Rattle.pair_sets.proofs.LeafLemmas.{none_within}
+use Rattle.executor.specs.inside.Logical.{logical_units_list_of, logical_units_of}
 use Rattle.executor.proofs.NodeLemmas.{one_meant}
 
 module _ (release : Release) where
@@ -26,46 +28,60 @@ module _ (release : Release) where
   -- each group
   pub each_where : range_with_len 0 (length all) ≡ groups_where release (λ pairs. true)
   each_where = sym (numbers_where-all (length all))
-      ∙ numbers_where-agree (length all) (λ n. true) (by_number (λ pairs. true)) (λ n within. at n within (slice_get all n) refl)
+      ∙ numbers_where-agree (length all) (λ n. true) (by_number (λ pairs. true))
+      (λ n within. at n within (slice_get all n) refl)
     where
-      at : (n : ℕ) → n < length all → (found : Option ConceptGroup) → slice_get all n ≡ found → true ≡ some_group_in release (λ pairs. true) found
+      at : (n : ℕ) → n < length all → (found : Option ConceptGroup) → slice_get all n ≡ found → true
+          ≡ some_group_in release (λ pairs. true) found
       at n within None is = absurd (none_within all n within is)
       at n within (Some group) is = refl
 
-  meant : (plan other : PlanOfUnits) → plan ≡ other → groups_where release (unit_means release other) ≡ groups_where release (unit_means release plan)
+  meant : (plan other : PlanOfUnits) → plan ≡ other → groups_where release (unit_means release other)
+      ≡ groups_where release (unit_means release plan)
   meant plan other is = ap (λ (p : PlanOfUnits). groups_where release (unit_means release p)) (sym is)
 
   module _ (plan : PlanOfUnits) (found : List ℕ) where
-    pub every_node : plan ≡ every_unit → found ≡ range_with_len 0 (length all) → found ≡ groups_where release (unit_means release plan)
+    pub every_node : plan ≡ every_unit → found ≡ range_with_len 0 (length all) → found
+        ≡ groups_where release (unit_means release plan)
     every_node is found_is = found_is ∙ each_where ∙ meant plan every_unit is
 
-    pub and_node : (parts : List UnitPlan) → plan ≡ and_units (unit_plans_of parts)
-        → found ≡ groups_where release (λ pairs. list_all (λ part. unit_means release (unit_plan_of part) pairs) parts)
+    pub and_node : (parts : List UnitPlan) → plan ≡ and_units (logical_units_list_of parts)
+        → found ≡ groups_where release (λ pairs. list_all (λ part. unit_means release (logical_units_of part) pairs)
+        parts)
         → found ≡ groups_where release (unit_means release plan)
     and_node parts is found_is =
-        found_is ∙ (λ i. groups_where release (λ pairs. all_listed parts pairs i)) ∙ meant plan (and_units (unit_plans_of parts)) is
+        found_is ∙ (λ i. groups_where release (λ pairs. all_listed parts pairs i))
+        ∙ meant plan (and_units (logical_units_list_of parts)) is
       where
         all_listed : (some : List UnitPlan) (pairs : List Pair)
-            → list_all (λ part. unit_means release (unit_plan_of part) pairs) some ≡ all_units_mean release (unit_plans_of some) pairs
+            → list_all (λ part. unit_means release (logical_units_of part) pairs) some
+            ≡ all_units_mean release (logical_units_list_of some) pairs
         all_listed [] pairs = refl
-        all_listed (part ∷ some) pairs = ap (λ (b : Bool). unit_means release (unit_plan_of part) pairs && b) (all_listed some pairs)
+        all_listed (part ∷ some) pairs = ap (λ (b : Bool). unit_means release (logical_units_of part) pairs && b)
+            (all_listed some pairs)
 
-    pub or_node : (parts : List UnitPlan) → plan ≡ or_units (unit_plans_of parts)
-        → found ≡ groups_where release (λ pairs. list_any (λ part. unit_means release (unit_plan_of part) pairs) parts)
+    pub or_node : (parts : List UnitPlan) → plan ≡ or_units (logical_units_list_of parts)
+        → found ≡ groups_where release (λ pairs. list_any (λ part. unit_means release (logical_units_of part) pairs)
+        parts)
         → found ≡ groups_where release (unit_means release plan)
     or_node parts is found_is =
-        found_is ∙ (λ i. groups_where release (λ pairs. some_listed parts pairs i)) ∙ meant plan (or_units (unit_plans_of parts)) is
+        found_is ∙ (λ i. groups_where release (λ pairs. some_listed parts pairs i))
+        ∙ meant plan (or_units (logical_units_list_of parts)) is
       where
         some_listed : (some : List UnitPlan) (pairs : List Pair)
-            → list_any (λ part. unit_means release (unit_plan_of part) pairs) some ≡ some_unit_means release (unit_plans_of some) pairs
+            → list_any (λ part. unit_means release (logical_units_of part) pairs) some
+            ≡ some_unit_means release (logical_units_list_of some) pairs
         some_listed [] pairs = refl
-        some_listed (part ∷ some) pairs = ap (λ (b : Bool). unit_means release (unit_plan_of part) pairs || b) (some_listed some pairs)
+        some_listed (part ∷ some) pairs = ap (λ (b : Bool). unit_means release (logical_units_of part) pairs || b)
+            (some_listed some pairs)
 
-    pub pairs_node : (count : Cardinality) (types : Plan) (test : TestPlan) (concepts items : List ℕ) → plan ≡ pairs_units count types test
+    pub pairs_node : (count : Cardinality) (types : Plan) (test : TestPlan) (concepts items : List ℕ) → plan
+        ≡ pairs_units count types test
         → concepts ≡ release.concepts → items ≡ numbers_in release (means release types)
         → found ≡ groups_where release (has_pairs count (is_one_of concepts items) (value_passes release test))
         → found ≡ groups_where release (unit_means release plan)
     pairs_node count types test concepts items is are items_are found_is =
         found_is
-        ∙ ap (λ (set : ℕ → Bool). groups_where release (has_pairs count set (value_passes release test))) (one_meant release types concepts items are items_are)
+        ∙ ap (λ (set : ℕ → Bool). groups_where release (has_pairs count set (value_passes release test)))
+        (one_meant release types concepts items are items_are)
         ∙ meant plan (pairs_units count types test) is

@@ -1,5 +1,6 @@
 -- What a leaf reads is within its bound, under each choice.
-use Rattle.std.proofs.Common.{ℕ, ◌+◌, [], ◌≡◌, ◌≤◌, ◌∙◌, Bool, true, false, List, Option, Some, None, length, get_or, refl, sym, ap, subst, arith}
+use Rattle.std.proofs.Common.{ℕ, ◌+◌, [], ◌≡◌, ◌≤◌, ◌∙◌, Bool, true, false, List, Option, Some, None, length, get_or}
+use Rattle.std.proofs.Common.{refl, sym, ap, subst, arith}
 use Rattle.std.specs.Prelude.{◌&&◌, ◌==◌, count_by, filter}
 use Rattle.std.specs.List.{flat_map, sum_by}
 use Rattle.std.specs.List.Sorted.{IsStrictlyIncreasing}
@@ -12,7 +13,9 @@ use Rattle.number_lists.specs.Members.{has}
 use Rattle.number_lists.specs.Rising.{IsRisingBelow}
 use Rattle.held_release.specs.Numbering.{concept_number}
 use Rattle.set_algebra.specs.Meaning.{means}
-use Rattle.set_algebra.specs.Plan.{Plan, TestPlan, empty_plan, all_plan, one_plan, walk_plan, members_plan, and_plan, or_plan, minus_plan, values_plan, pairs_plan, units_plan}
+use Rattle.set_algebra.specs.Physical.{Physical, PhysicalTest, logical, physical_empty, physical_all, physical_one}
+use Rattle.set_algebra.specs.Physical.{physical_walk, physical_members, physical_and, physical_or, physical_minus}
+use Rattle.set_algebra.specs.Physical.{physical_values, physical_pairs, physical_units}
 use Rattle.postings.specs.Indexed.{Indexed, IsIndexOf, types_of}
 use Rattle.postings.specs.Stats.{type_row_count}
 use Rattle.postings.proofs.PlaceLemmas.{length-places_from}
@@ -80,9 +83,9 @@ module _ (release : Release) (indexed : Indexed) (index : IsIndexOf indexed rele
       ∙ ap (λ (xs : List ℕ). is_one_of indexed.concepts xs other) (sym is) ∙ told in
       eq-eqb other id (sym (eqb-true (get_or indexed.concepts n 0) other same) ∙ named)
 
-  pub types_read : (plan : Plan) → items ≡ numbers_in release (means release plan)
+  pub types_read : (plan : Physical) → items ≡ numbers_in release (means release (logical plan))
       → type_items indexed items ≤ size + type_rows indexed plan
-  types_read (one_plan id) is =
+  types_read (physical_one id) is =
       let number = concept_number release.concepts id in
       omega (
         arith,
@@ -90,7 +93,7 @@ module _ (release : Release) (indexed : Indexed) (index : IsIndexOf indexed rele
         rows_of_one indexed (is_one_of indexed.concepts items) id
             (one_alone id number refl (is ∙ sym (one_in release rising id number refl))),
       )
-  types_read empty_plan is =
+  types_read physical_empty is =
       let rows = indexed.rows in
       let none : items ≡ [] = is ∙ sym (none_in release) in
       omega (
@@ -104,15 +107,15 @@ module _ (release : Release) (indexed : Indexed) (index : IsIndexOf indexed rele
             (and_parts (has (types_of rows) row.type_id && is_one_of indexed.concepts items row.type_id)
             true passes).0).1)),
       )
-  types_read all_plan is = of_any
-  types_read (walk_plan operator operand) is = of_any
-  types_read (members_plan operand) is = of_any
-  types_read (and_plan parts) is = of_any
-  types_read (or_plan parts) is = of_any
-  types_read (minus_plan first second) is = of_any
-  types_read (values_plan start names) is = of_any
-  types_read (pairs_plan back count types test) is = of_any
-  types_read (units_plan count units) is = of_any
+  types_read physical_all is = of_any
+  types_read (physical_walk operator operand) is = of_any
+  types_read (physical_members operand) is = of_any
+  types_read (physical_and parts) is = of_any
+  types_read (physical_or parts) is = of_any
+  types_read (physical_minus first second) is = of_any
+  types_read (physical_values start names) is = of_any
+  types_read (physical_pairs back count types test choice) is = of_any
+  types_read (physical_units count units) is = of_any
 
   -- ---- by value: the values that are found, and their rows
   module _ (back : Bool) (below : IsRisingBelow (length release.concepts) items) where
@@ -126,9 +129,9 @@ module _ (release : Release) (indexed : Indexed) (index : IsIndexOf indexed rele
     rows_of_number None = omega arith
     rows_of_number (Some n) = omega (arith, sum_by-cons (row_count_of indexed back) n [])
 
-    pub values_read : (plan : Plan) → items ≡ numbers_in release (means release plan)
+    pub values_read : (plan : Physical) → items ≡ numbers_in release (means release (logical plan))
         → sum_by (row_count_of indexed back) items ≤ rows_left (value_row_count indexed back) (length indexed.rows) plan
-    values_read (one_plan id) is =
+    values_read (physical_one id) is =
         let number = concept_number release.concepts id in
         omega (
           arith,
@@ -136,23 +139,23 @@ module _ (release : Release) (indexed : Indexed) (index : IsIndexOf indexed rele
           rows_of_number number,
           ap (λ (ids : List ℕ). counted (row_count_of indexed back) (concept_number ids id)) index.concepts,
         )
-    values_read empty_plan is = omega (arith, ap (sum_by (row_count_of indexed back)) (is ∙ sym (none_in release)))
-    values_read all_plan is = rows_of_any
-    values_read (walk_plan operator operand) is = rows_of_any
-    values_read (members_plan operand) is = rows_of_any
-    values_read (and_plan parts) is = rows_of_any
-    values_read (or_plan parts) is = rows_of_any
-    values_read (minus_plan first second) is = rows_of_any
-    values_read (values_plan start names) is = rows_of_any
-    values_read (pairs_plan other count types test) is = rows_of_any
-    values_read (units_plan count units) is = rows_of_any
+    values_read physical_empty is = omega (arith, ap (sum_by (row_count_of indexed back)) (is ∙ sym (none_in release)))
+    values_read physical_all is = rows_of_any
+    values_read (physical_walk operator operand) is = rows_of_any
+    values_read (physical_members operand) is = rows_of_any
+    values_read (physical_and parts) is = rows_of_any
+    values_read (physical_or parts) is = rows_of_any
+    values_read (physical_minus first second) is = rows_of_any
+    values_read (physical_values start names) is = rows_of_any
+    values_read (physical_pairs other count types test choice) is = rows_of_any
+    values_read (physical_units count units) is = rows_of_any
 
 -- ---- a leaf as a whole has room for its choice, by what its types and its test have found
 pub leaf_room : (release : Release) (indexed : Indexed) → IsIndexOf indexed release
     → IsStrictlyIncreasing release.concepts
-    → {S : Type 0} (items_of : S → List ℕ) (all : ℕ) (back : Bool) (count : Cardinality) (types : Plan)
-    (test : TestPlan) (found : List ℕ)
-    → found ≡ numbers_in release (means release types) → (tested : Tested S)
+    → {S : Type 0} (items_of : S → List ℕ) (all : ℕ) (back : Bool) (count : Cardinality) (types : Physical)
+    (test : PhysicalTest) (found : List ℕ)
+    → found ≡ numbers_in release (means release (logical types)) → (tested : Tested S)
     → ((back : Bool) → value_items items_of indexed back tested ≤ found_for items_of tested
     + value_rows indexed back test)
     → (type_count value_count : ℕ) → type_count ≡ length found → value_count ≡ found_for items_of tested

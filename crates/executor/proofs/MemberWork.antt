@@ -8,7 +8,9 @@ use Rattle.number_lists.specs.KeyedLists.{list_of}
 use Rattle.number_lists.specs.Rising.{IsRisingBelow}
 use Rattle.held_release.specs.Numbering.{concept_number}
 use Rattle.set_algebra.specs.Meaning.{means}
-use Rattle.set_algebra.specs.Plan.{Plan, empty_plan, all_plan, one_plan, walk_plan, members_plan, and_plan, or_plan, minus_plan, values_plan, pairs_plan, units_plan}
+use Rattle.set_algebra.specs.Physical.{Physical, logical, physical_empty, physical_all, physical_one, physical_walk}
+use Rattle.set_algebra.specs.Physical.{physical_members, physical_and, physical_or, physical_minus, physical_values}
+use Rattle.set_algebra.specs.Physical.{physical_pairs, physical_units}
 use Rattle.postings.specs.Indexed.{Indexed, IsIndexOf}
 use Rattle.plan_bounds.specs.Bounds.{members_bound}
 use Rattle.plan_bounds.specs.Counts.{counted, one_of}
@@ -19,12 +21,15 @@ use Rattle.walks.proofs.ReadLemmas.{items_of_some}
 
 -- those of one concept, or of none
 of_one : (indexed : Indexed) (number : Option ℕ)
-    → length (as_list number) + items_in indexed.members (as_list number) ≤ 1 + counted (λ n. length (list_of indexed.members n)) number
+    → length (as_list number) + items_in indexed.members (as_list number)
+    ≤ 1 + counted (λ n. length (list_of indexed.members n)) number
 of_one indexed None = omega arith
 of_one indexed (Some n) = omega (arith, sum_by-cons (λ key. length (list_of indexed.members key)) n [])
 
-module _ (release : Release) (indexed : Indexed) (index : IsIndexOf indexed release) (rising : IsStrictlyIncreasing release.concepts)
-    (lists : length indexed.members ≡ length indexed.concepts) (items : List ℕ) (below : IsRisingBelow (length release.concepts) items)
+module _ (release : Release) (indexed : Indexed) (index : IsIndexOf indexed release)
+    (rising : IsStrictlyIncreasing release.concepts)
+    (lists : length indexed.members ≡ length indexed.concepts) (items : List ℕ)
+    (below : IsRisingBelow (length release.concepts) items)
     (size : ℕ) (few : length items ≤ size) where
   -- those of any
   of_any : length items + items_in indexed.members items ≤ size + length (concat indexed.members)
@@ -33,9 +38,9 @@ module _ (release : Release) (indexed : Indexed) (index : IsIndexOf indexed rele
       subst (λ (n : ℕ). IsRisingBelow n items) (sym (lists ∙ ap (λ (xs : List ℕ). length xs) index.concepts)) below in
       omega (arith, few, items_of_some indexed.members items rises)
 
-  pub members_read : (plan : Plan) → items ≡ numbers_in release (means release plan)
+  pub members_read : (plan : Physical) → items ≡ numbers_in release (means release (logical plan))
       → length items + items_in indexed.members items ≤ members_bound indexed (one_of plan) size
-  members_read (one_plan id) is =
+  members_read (physical_one id) is =
       let number = concept_number release.concepts id in
       let one : items ≡ as_list number = is ∙ sym (one_in release rising id number refl) in
       omega (
@@ -44,13 +49,13 @@ module _ (release : Release) (indexed : Indexed) (index : IsIndexOf indexed rele
         ap (λ (xs : List ℕ). length xs + items_in indexed.members xs) one,
         ap (λ (ids : List ℕ). counted (λ n. length (list_of indexed.members n)) (concept_number ids id)) index.concepts,
       )
-  members_read empty_plan is = of_any
-  members_read all_plan is = of_any
-  members_read (walk_plan operator operand) is = of_any
-  members_read (members_plan operand) is = of_any
-  members_read (and_plan parts) is = of_any
-  members_read (or_plan parts) is = of_any
-  members_read (minus_plan first second) is = of_any
-  members_read (values_plan start names) is = of_any
-  members_read (pairs_plan back count types test) is = of_any
-  members_read (units_plan count units) is = of_any
+  members_read physical_empty is = of_any
+  members_read physical_all is = of_any
+  members_read (physical_walk operator operand) is = of_any
+  members_read (physical_members operand) is = of_any
+  members_read (physical_and parts) is = of_any
+  members_read (physical_or parts) is = of_any
+  members_read (physical_minus first second) is = of_any
+  members_read (physical_values start names) is = of_any
+  members_read (physical_pairs back count types test choice) is = of_any
+  members_read (physical_units count units) is = of_any

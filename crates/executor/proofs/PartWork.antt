@@ -1,6 +1,7 @@
--- What the parts of a node of either sort find at most, and what they visit with what is read of that; and how many a set has of
--- those that a plan means.
-use Rattle.std.proofs.Common.{ℕ, ◌+◌, ◌*◌, ◌≡◌, ◌≤◌, ◌∙◌, ◌&&◌, Bool, true, List, length, get_or, min, refl, sym, ap, subst, arith}
+-- What the parts of a node of either sort find at most, and what they visit with what is read of that; and how many a
+-- set has of those that a plan means.
+use Rattle.std.proofs.Common.{ℕ, ◌+◌, ◌*◌, ◌≡◌, ◌≤◌, ◌∙◌, ◌&&◌, Bool, true, List, length, get_or, min, refl, sym, ap}
+use Rattle.std.proofs.Common.{subst, arith}
 use Rattle.std.specs.Prelude.{All, slice_get}
 use Rattle.std.specs.List.{list_any, range_with_len}
 use Rattle.std.specs.List.Sorted.{IsStrictlyIncreasing}
@@ -20,58 +21,65 @@ use Rattle.postings.specs.Indexed.{Indexed, IsIndexOf}
 use Rattle.set_algebra.specs.declared.plan.ConceptPlan.{ConceptPlan}
 use Rattle.set_algebra.specs.declared.plan.UnitPlan.{UnitPlan}
 use Rattle.set_algebra.specs.Meaning.{unit_means, means}
-use Rattle.set_algebra.specs.Plan.{PlanOfUnits, Plan, unit_plan_of, unit_plans_of, or_units, or_plan, plan_of, plans_of}
-use Rattle.set_algebra.specs.declared.choice.Choice.{Choice}
+use Rattle.set_algebra.specs.Plan.{Plan, PlanOfUnits, or_plan, or_units}
+use Rattle.set_algebra.specs.Physical.{Physical, PhysicalUnits, logical, logical_units, physical_of, physical_or}
+use Rattle.set_algebra.specs.Physical.{physical_units_list_of}
+use Rattle.set_algebra.specs.Physical.{physical_units_of, physical_units_or, physicals_of}
 use Rattle.plan_bounds.specs.Bounds.{own_number}
 use Rattle.plan_bounds.specs.Nodes.{group_sum, groups_sum, node_sum, plans_sum}
 use Rattle.plan_bounds.specs.Sizes.{group_size, group_sizes, size, sizes, total}
 use Rattle.plan_bounds.proofs.FewLemmas.{count_le, length-places}
 use Rattle.plan_bounds.proofs.FoundLemmas.{many-all, many-values}
-use Rattle.plan_bounds.proofs.LoopLemmas.{Sum, of_concepts, of_groups}
+use Rattle.plan_bounds.proofs.LoopLemmas.{Sum}
 use Rattle.plan_bounds.proofs.SizeLemmas.{group_numbers-le, numbers-le}
 use Rattle.candidates.specs.Groups.{groups_where, some_group_in}
 use Rattle.candidates.specs.Numbers.{numbers_in}
 use Rattle.candidates.specs.Within.{groups_within, numbers_within}
 use Rattle.pair_sets.proofs.OwnedLemmas.{listed_few}
+use Rattle.executor.specs.inside.Logical.{logical_of, logical_units_list_of, logical_units_of, logicals_of}
 use Rattle.executor.proofs.GroupNodeLemmas as groups
 use Rattle.executor.proofs.NodeLemmas.{or_node}
 use Rattle.executor.proofs.WithinNodes.{groups_same, within_same}
 
-abbrev pub concepts_found : Indexed → Sum ConceptPlan of_concepts
+abbrev pub concepts_found : Indexed → Sum ConceptPlan
 concepts_found indexed = record {
-  of_part = λ choices part. size indexed choices (plan_of part);
-  of_parts = λ choices parts. total (sizes indexed choices (plans_of parts));
-  none = λ choices. refl;
-  more = λ choices part parts. refl;
+  of_part = λ part. size indexed (physical_of part);
+  of_parts = λ parts. total (sizes indexed (physicals_of parts));
+  none = refl;
+  more = λ part parts. refl;
 }
 
-abbrev pub concepts_read : Indexed → Sum ConceptPlan of_concepts
+abbrev pub concepts_read : Indexed → Sum ConceptPlan
 concepts_read indexed = record {
-  of_part = λ choices part. 2 * size indexed choices (plan_of part) + node_sum (own_number indexed) choices (plan_of part);
-  of_parts = λ choices parts. 2 * total (sizes indexed choices (plans_of parts)) + plans_sum (own_number indexed) choices (plans_of parts);
-  none = λ choices. refl;
-  more = λ choices part parts. omega arith;
+  of_part = λ part. 2 * size indexed (physical_of part) + node_sum (own_number indexed) (physical_of part);
+  of_parts = λ parts. 2 * total (sizes indexed (physicals_of parts)) + plans_sum (own_number indexed)
+      (physicals_of parts);
+  none = refl;
+  more = λ part parts. omega arith;
 }
 
-abbrev pub groups_found : Indexed → Sum UnitPlan of_groups
+abbrev pub groups_found : Indexed → Sum UnitPlan
 groups_found indexed = record {
-  of_part = λ choices part. group_size indexed choices (unit_plan_of part);
-  of_parts = λ choices parts. total (group_sizes indexed choices (unit_plans_of parts));
-  none = λ choices. refl;
-  more = λ choices part parts. refl;
+  of_part = λ part. group_size indexed (physical_units_of part);
+  of_parts = λ parts. total (group_sizes indexed (physical_units_list_of parts));
+  none = refl;
+  more = λ part parts. refl;
 }
 
-abbrev pub groups_read : Indexed → Sum UnitPlan of_groups
+abbrev pub groups_read : Indexed → Sum UnitPlan
 groups_read indexed = record {
-  of_part = λ choices part. 2 * group_size indexed choices (unit_plan_of part) + group_sum (own_number indexed) choices (unit_plan_of part);
-  of_parts = λ choices parts.
-      2 * total (group_sizes indexed choices (unit_plans_of parts)) + groups_sum (own_number indexed) choices (unit_plans_of parts);
-  none = λ choices. refl;
-  more = λ choices part parts. omega arith;
+  of_part = λ part. 2 * group_size indexed (physical_units_of part) + group_sum (own_number indexed)
+      (physical_units_of part);
+  of_parts = λ parts.
+      2 * total (group_sizes indexed (physical_units_list_of parts)) + groups_sum (own_number indexed)
+      (physical_units_list_of parts);
+  none = refl;
+  more = λ part parts. omega arith;
 }
 
 -- ---- no more is found than a plan means, of whichever candidates
-fewer : (bound : ℕ) (may set : ℕ → Bool) → length (numbers_where bound (λ n. may n && set n)) ≤ length (numbers_where bound set)
+fewer : (bound : ℕ) (may set : ℕ → Bool) → length (numbers_where bound (λ n. may n && set n))
+    ≤ length (numbers_where bound set)
 fewer bound may set =
     omega (
       arith,
@@ -94,7 +102,8 @@ few_of_candidates bound candidates set found is =
       listed_few bound candidates,
     )
 
-pub are_candidates : (bound : ℕ) (may set : ℕ → Bool) (found : List ℕ) → found ≡ numbers_where bound (λ n. may n && set n)
+pub are_candidates : (bound : ℕ) (may set : ℕ → Bool) (found : List ℕ) → found
+    ≡ numbers_where bound (λ n. may n && set n)
     → All (λ n. may n ≡ true) found
 are_candidates bound may set found is =
     subst (All (λ n. may n ≡ true)) (sym is)
@@ -103,47 +112,55 @@ are_candidates bound may set found is =
     (and_parts (may n) (set n) (there_where bound (λ n. may n && set n) n
     (Contains-get_or (numbers_where bound (λ n. may n && set n)) k d within)).1).0)
 
-module _ (release : Release) (indexed : Indexed) (is : IsIndexOf indexed release) (rising : IsStrictlyIncreasing release.concepts)
+module _ (release : Release) (indexed : Indexed) (is : IsIndexOf indexed release)
+    (rising : IsStrictlyIncreasing release.concepts)
     (known : All (λ (row : Attribute). has release.concepts row.source ≡ true) release.attributes) where
-  pub few_found : (choices : List Choice) (plan : Plan) (may : ℕ → Bool) (found : List ℕ)
-      → found ≡ numbers_within release may (means release plan) → length found ≤ size indexed choices plan
-  few_found choices plan may found found_is =
+  pub few_found : (plan : Physical) (may : ℕ → Bool) (found : List ℕ) → found
+      ≡ numbers_within release may (means release (logical plan))
+      → length found ≤ size indexed plan
+  few_found plan may found found_is =
       omega (
         arith,
         ap (λ (numbers : List ℕ). length numbers) found_is,
-        fewer (length release.concepts) may (λ n. means release plan (get_or release.concepts n 0)),
-        numbers-le release indexed is rising known choices plan,
+        fewer (length release.concepts) may (λ n. means release (logical plan) (get_or release.concepts n 0)),
+        numbers-le release indexed is rising known plan,
       )
 
-  pub few_groups : (choices : List Choice) (plan : PlanOfUnits) (may : ℕ → Bool) (found : List ℕ)
-      → found ≡ groups_within release may (unit_means release plan) → length found ≤ group_size indexed choices plan
-  few_groups choices plan may found found_is =
+  pub few_groups : (plan : PhysicalUnits) (may : ℕ → Bool) (found : List ℕ)
+      → found ≡ groups_within release may (unit_means release (logical_units plan)) → length found
+      ≤ group_size indexed plan
+  few_groups plan may found found_is =
+      let set : List Pair → Bool = unit_means release (logical_units plan) in
       omega (
         arith,
         ap (λ (numbers : List ℕ). length numbers) found_is,
-        fewer (length (all_groups release)) may (λ n. some_group_in release (unit_means release plan) (slice_get (all_groups release) n)),
-        group_numbers-le release indexed is rising known choices plan (some_group_in release (unit_means release plan)) (λ group. refl),
+        fewer (length (all_groups release)) may (λ n. some_group_in release set (slice_get (all_groups release) n)),
+        group_numbers-le release indexed is rising known plan (some_group_in release set) (λ group. refl),
       )
 
   -- nor than some parts find together
-  pub few_joined : (choices : List Choice) (parts : List ConceptPlan) (may : ℕ → Bool) (found : List ℕ)
-      → found ≡ numbers_within release may (λ concept. list_any (λ part. means release (plan_of part) concept) parts)
-      → length found ≤ total (sizes indexed choices (plans_of parts))
-  few_joined choices parts may found found_is =
-      let some : ℕ → Bool = λ concept. list_any (λ part. means release (plan_of part) concept) parts in
-      let few = few_found choices (or_plan (plans_of parts)) may found
-      (found_is ∙ within_same release may some (means release (or_plan (plans_of parts)))
-      (or_node release (or_plan (plans_of parts)) (numbers_in release some) parts refl refl)) in
+  pub few_joined : (parts : List ConceptPlan) (may : ℕ → Bool) (found : List ℕ)
+      → found ≡ numbers_within release may (λ concept. list_any (λ part. means release (logical_of part) concept) parts)
+      → length found ≤ total (sizes indexed (physicals_of parts))
+  few_joined parts may found found_is =
+      let some : ℕ → Bool = λ concept. list_any (λ part. means release (logical_of part) concept) parts in
+      let plan : Plan = or_plan (logicals_of parts) in
+      let few = few_found (physical_or (physicals_of parts)) may found
+      (found_is ∙ within_same release may some (means release plan)
+      (or_node release plan (numbers_in release some) parts refl refl)) in
       omega (arith, few)
 
-  pub few_joined_groups : (choices : List Choice) (parts : List UnitPlan) (may : ℕ → Bool) (found : List ℕ)
-      → found ≡ groups_within release may (λ pairs. list_any (λ part. unit_means release (unit_plan_of part) pairs) parts)
-      → length found ≤ total (group_sizes indexed choices (unit_plans_of parts))
-  few_joined_groups choices parts may found found_is =
-      let some : List Pair → Bool = λ pairs. list_any (λ part. unit_means release (unit_plan_of part) pairs) parts in
-      let few = few_groups choices (or_units (unit_plans_of parts)) may found
-      (found_is ∙ groups_same release may some (unit_means release (or_units (unit_plans_of parts)))
-      (groups.or_node release (or_units (unit_plans_of parts)) (groups_where release some) parts refl refl)) in
+  pub few_joined_groups : (parts : List UnitPlan) (may : ℕ → Bool) (found : List ℕ)
+      → found ≡ groups_within release may (λ pairs. list_any (λ part. unit_means release (logical_units_of part) pairs)
+      parts)
+      → length found ≤ total (group_sizes indexed (physical_units_list_of parts))
+  few_joined_groups parts may found found_is =
+      let some : List Pair → Bool = λ pairs. list_any (λ part. unit_means release (logical_units_of part) pairs)
+      parts in
+      let plan : PlanOfUnits = or_units (logical_units_list_of parts) in
+      let few = few_groups (physical_units_or (physical_units_list_of parts)) may found
+      (found_is ∙ groups_same release may some (unit_means release plan)
+      (groups.or_node release plan (groups_where release some) parts refl refl)) in
       omega (arith, few)
 
   -- nor are there more values of attributes than rows
@@ -159,5 +176,6 @@ module _ (release : Release) (indexed : Indexed) (is : IsIndexOf indexed release
             (λ row there passes.
             (tells_in_force release row.source).1
             (contains_had release.concepts row.source
-            (All-contains (λ (row : Attribute). has release.concepts row.source ≡ true) release.attributes row known there))),
+            (All-contains (λ (row : Attribute). has release.concepts row.source ≡ true) release.attributes row known
+            there))),
       )

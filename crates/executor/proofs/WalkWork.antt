@@ -1,16 +1,21 @@
 -- What is read where an operator leads from what a plan has found is within the bound of the node.
-use Rattle.std.proofs.Common.{ℕ, ◌+◌, [], ◌≡◌, ◌≤◌, ◌<◌, ◌∙◌, Bool, true, false, cond, List, Option, None, Some, length, refl, sym, ap, arith, rules}
+use Rattle.std.proofs.Common.{ℕ, ◌+◌, [], ◌≡◌, ◌≤◌, ◌<◌, ◌∙◌, Bool, true, false, cond, List, Option, None, Some}
+use Rattle.std.proofs.Common.{length, refl, sym, ap, arith, rules}
 use Rattle.std.specs.Prelude.{IsSome, if◌then◌else◌}
 use Rattle.std.specs.List.Sorted.{IsStrictlyIncreasing}
 use Rattle.std.proofs.lemmas.List.Sums.{sum_by-cons}
 use Rattle.constraint_tree.specs.declared.operator.Operator.{Operator}
-use Rattle.constraint_tree.specs.declared.operator.Operator.TheVariants.{Descendants, DescendantsOrSelf, Children, ChildrenOrSelf, Ancestors, AncestorsOrSelf, Parents, ParentsOrSelf, Top, Bottom}
+use Rattle.constraint_tree.specs.declared.operator.Operator.TheVariants.{Descendants, DescendantsOrSelf, Children}
+use Rattle.constraint_tree.specs.declared.operator.Operator.TheVariants.{ChildrenOrSelf, Ancestors, AncestorsOrSelf}
+use Rattle.constraint_tree.specs.declared.operator.Operator.TheVariants.{Parents, ParentsOrSelf, Top, Bottom}
 use Rattle.rf2_rows.specs.Release.{Release}
 use Rattle.number_lists.specs.KeyedLists.{list_of}
 use Rattle.number_lists.specs.Rising.{IsRisingBelow}
 use Rattle.held_release.specs.Numbering.{concept_number}
 use Rattle.set_algebra.specs.Meaning.{means}
-use Rattle.set_algebra.specs.Plan.{Plan, empty_plan, all_plan, one_plan, walk_plan, members_plan, and_plan, or_plan, minus_plan, values_plan, pairs_plan, units_plan}
+use Rattle.set_algebra.specs.Physical.{Physical, logical, physical_empty, physical_all, physical_one, physical_walk}
+use Rattle.set_algebra.specs.Physical.{physical_members, physical_and, physical_or, physical_minus, physical_values}
+use Rattle.set_algebra.specs.Physical.{physical_pairs, physical_units}
 use Rattle.ancestor_index.specs.HierarchyLists.{Hierarchy}
 use Rattle.postings.specs.Indexed.{Indexed, IsIndexOf}
 use Rattle.plan_bounds.specs.Bounds.{walk_bound}
@@ -24,10 +29,12 @@ use Rattle.walks.proofs.ReadLemmas.{at_most_all}
 
 -- what is counted of a walk at least
 abbrev walk_floor : Indexed → Operator → Option ℕ → ℕ
-walk_floor indexed operator one = if is_extreme operator then 0 else of_one_concept indexed one (list_length indexed operator)
+walk_floor indexed operator one = if is_extreme operator then 0 else of_one_concept indexed one
+    (list_length indexed operator)
 
 -- the lists of a node are those of the operator's family
-along : (hierarchy : Hierarchy) (operator : Operator) → lists_of hierarchy (family_of operator) ≡ lists_along hierarchy operator
+along : (hierarchy : Hierarchy) (operator : Operator) → lists_of hierarchy (family_of operator)
+    ≡ lists_along hierarchy operator
 along hierarchy Descendants = refl
 along hierarchy DescendantsOrSelf = refl
 along hierarchy Children = refl
@@ -39,7 +46,8 @@ along hierarchy ParentsOrSelf = refl
 along hierarchy Top = refl
 along hierarchy Bottom = refl
 
-pub all_along : (indexed : Indexed) (operator : Operator) → all_items_of indexed.hierarchy (family_of operator) ≡ lists_length indexed operator
+pub all_along : (indexed : Indexed) (operator : Operator) → all_items_of indexed.hierarchy (family_of operator)
+    ≡ lists_length indexed operator
 all_along indexed Descendants = refl
 all_along indexed DescendantsOrSelf = refl
 all_along indexed Children = refl
@@ -63,8 +71,10 @@ of_one indexed operator (Some n) =
       ap (λ (lists : List (List ℕ)). length (list_of lists n)) (along indexed.hierarchy operator),
     )
 
-module _ (release : Release) (indexed : Indexed) (index : IsIndexOf indexed release) (rising : IsStrictlyIncreasing release.concepts)
-    (items : List ℕ) (below : IsRisingBelow (length release.concepts) items) (operator : Operator) (size : ℕ) (few : length items ≤ size) where
+module _ (release : Release) (indexed : Indexed) (index : IsIndexOf indexed release)
+    (rising : IsStrictlyIncreasing release.concepts)
+    (items : List ℕ) (below : IsRisingBelow (length release.concepts) items) (operator : Operator) (size : ℕ)
+    (few : length items ≤ size) where
   -- from any
   of_any : length items + walk_items indexed.hierarchy operator items ≤ size + lists_length indexed operator
   of_any =
@@ -72,38 +82,41 @@ module _ (release : Release) (indexed : Indexed) (index : IsIndexOf indexed rele
         arith,
         few,
         at_most_all (length release.concepts) indexed.hierarchy
-            (record { release = release; hierarchy_is = index.hierarchy; count_is = refl }) (family_of operator) items below,
+            (record { release = release; hierarchy_is = index.hierarchy; count_is = refl }) (family_of operator) items
+            below,
         all_along indexed operator,
       )
 
-  pub walk_read : (plan : Plan) → items ≡ numbers_in release (means release plan)
+  pub walk_read : (plan : Physical) → items ≡ numbers_in release (means release (logical plan))
       → length items + walk_items indexed.hierarchy operator items ≤ walk_bound indexed operator (one_of plan) size
-  walk_read (one_plan id) is =
+  walk_read (physical_one id) is =
       let number = concept_number release.concepts id in
       let one : items ≡ as_list number = is ∙ sym (one_in release rising id number refl) in
       omega (
         arith,
         of_one indexed operator number,
         ap (λ (xs : List ℕ). length xs + walk_items indexed.hierarchy operator xs) one,
-        ap (λ (ids : List ℕ). counted (λ n. length (list_of (lists_along indexed.hierarchy operator) n)) (concept_number ids id)) index.concepts,
+        ap (λ (ids : List ℕ). counted (λ n. length (list_of (lists_along indexed.hierarchy operator) n))
+            (concept_number ids id)) index.concepts,
       )
-  walk_read empty_plan is = of_any
-  walk_read all_plan is = of_any
-  walk_read (walk_plan other operand) is = of_any
-  walk_read (members_plan operand) is = of_any
-  walk_read (and_plan parts) is = of_any
-  walk_read (or_plan parts) is = of_any
-  walk_read (minus_plan first second) is = of_any
-  walk_read (values_plan start names) is = of_any
-  walk_read (pairs_plan back count types test) is = of_any
-  walk_read (units_plan count units) is = of_any
+  walk_read physical_empty is = of_any
+  walk_read physical_all is = of_any
+  walk_read (physical_walk other operand) is = of_any
+  walk_read (physical_members operand) is = of_any
+  walk_read (physical_and parts) is = of_any
+  walk_read (physical_or parts) is = of_any
+  walk_read (physical_minus first second) is = of_any
+  walk_read (physical_values start names) is = of_any
+  walk_read (physical_pairs back count types test choice) is = of_any
+  walk_read (physical_units count units) is = of_any
 
 -- from what is no one concept any list may be read, and nothing has to be counted
 pub several_bound : (indexed : Indexed) (operator : Operator) (one : Option ℕ) (size : ℕ) → one ≡ None
     → walk_bound indexed operator one size ≡ size + lists_length indexed operator
 several_bound indexed operator one size none = ap (λ (one : Option ℕ). walk_bound indexed operator one size) none
 
-pub several_floor : (indexed : Indexed) (operator : Operator) (one : Option ℕ) → one ≡ None → walk_floor indexed operator one ≡ 0
+pub several_floor : (indexed : Indexed) (operator : Operator) (one : Option ℕ) → one
+    ≡ None → walk_floor indexed operator one ≡ 0
 several_floor indexed operator one none = ap (walk_floor indexed operator) none ∙ at (is_extreme operator)
   where
     at : (extreme : Bool) → cond {A = ℕ} extreme 0 0 ≡ 0

@@ -13,18 +13,21 @@ use Rattle.constraint_tree.specs.declared.operator.Operator.{Operator}
 use Rattle.number_lists.specs.Rising.{IsRisingBelow, numbers_where}
 use Rattle.number_lists.specs.Members.{has}
 use Rattle.idset.specs.Sets.{other_items}
-use Rattle.number_lists.proofs.WhereLemmas.{has-numbers_where, has-numbers_where_past, numbers_where-agree, numbers_where-all}
+use Rattle.number_lists.proofs.WhereLemmas.{has-numbers_where, has-numbers_where_past, numbers_where-agree}
+use Rattle.number_lists.proofs.WhereLemmas.{numbers_where-all}
 use Rattle.number_lists.proofs.RisingLemmas.{numbers_where-rising}
 use Rattle.ancestor_index.specs.HierarchyLists.{Hierarchy, hierarchy_of}
 use Rattle.postings.specs.Groups.{ConceptGroup, all_groups}
 use Rattle.set_algebra.specs.declared.plan.ConceptPlan.{ConceptPlan}
 use Rattle.set_algebra.specs.declared.plan.UnitPlan.{UnitPlan}
 use Rattle.set_algebra.specs.Meaning.{has_groups, means, unit_means}
-use Rattle.set_algebra.specs.Plan.{PlanOfUnits, Plan, and_plan, and_units, empty_plan, minus_plan, minus_units, nothing_unit, or_plan, or_units, plan_of, plans_of, unit_plan_of, unit_plans_of, units_plan, walk_plan}
+use Rattle.set_algebra.specs.Plan.{PlanOfUnits, Plan, and_plan, and_units, empty_plan, minus_plan, minus_units}
+use Rattle.set_algebra.specs.Plan.{nothing_unit, or_plan, or_units, units_plan, walk_plan}
 use Rattle.candidates.specs.Groups.{groups_where, some_group_in}
 use Rattle.candidates.specs.Numbers.{numbers_in}
 use Rattle.walks.specs.Asked.{AreEnough, asked_lists}
 use Rattle.walks.specs.Led.{led_to}
+use Rattle.executor.specs.inside.Logical.{logical_of, logical_units_list_of, logical_units_of, logicals_of}
 use Rattle.executor.specs.inside.Lead.{leads_off, leads_off_groups}
 use Rattle.candidates.specs.Within.{groups_within, numbers_within}
 use Rattle.walks.proofs.AskedLemmas.{led_from_part}
@@ -34,7 +37,8 @@ use Rattle.pair_sets.proofs.LeafLemmas as leaf
 use Rattle.candidates.proofs.WithinLemmas.{all_again, all_done, kept_groups, minus_within, restricted_to, some_of_none}
 
 -- what all of a list pass, one of them passes
-pub passed_by : {X : Type 0} (test : X → Bool) (xs : List X) (k : ℕ) (x : X) → list_all test xs ≡ true → slice_get xs k ≡ Some x → test x ≡ true
+pub passed_by : {X : Type 0} (test : X → Bool) (xs : List X) (k : ℕ) (x : X) → list_all test xs ≡ true → slice_get xs k
+    ≡ Some x → test x ≡ true
 passed_by test [] k x all at = absurd cc
 passed_by test (y ∷ ys) zero x all at =
     let same : y ≡ x = cc in
@@ -44,7 +48,8 @@ passed_by test (y ∷ ys) (suc k) x all at = passed_by test ys k x (and_parts (t
 
 -- what a call finds, where its items are told otherwise
 pub found_for : {T E : Type 0} (items_of : T → List ℕ) (result : Result T E) {own other : List ℕ → Type 0}
-    → ((found : List ℕ) → own found → other found) → IfOk result (λ found. own (items_of found)) → IfOk result (λ found. other (items_of found))
+    → ((found : List ℕ) → own found → other found) → IfOk result (λ found. own (items_of found)) → IfOk result
+    (λ found. other (items_of found))
 found_for items_of result {own} {other} next found =
     IfOk-weaker result (λ x. own (items_of x)) (λ x. other (items_of x)) (λ x. next (items_of x)) found
 
@@ -53,45 +58,56 @@ module _ (release : Release) (may : ℕ → Bool) where
   by_number set n = set (get_or release.concepts n 0)
 
   -- sets that are the same are so of candidates
-  pub within_same : (p q : ℕ → Bool) → numbers_in release p ≡ numbers_in release q → numbers_within release may p ≡ numbers_within release may q
+  pub within_same : (p q : ℕ → Bool) → numbers_in release p ≡ numbers_in release q → numbers_within release may p
+      ≡ numbers_within release may q
   within_same p q same =
-      sym (restricted_to (length release.concepts) may (by_number p) (numbers_in release p) (filter may (numbers_in release p)) refl refl)
+      sym (restricted_to (length release.concepts) may (by_number p) (numbers_in release p)
+      (filter may (numbers_in release p)) refl refl)
       ∙ ap (filter may) same
-      ∙ restricted_to (length release.concepts) may (by_number q) (numbers_in release q) (filter may (numbers_in release q)) refl refl
+      ∙ restricted_to (length release.concepts) may (by_number q) (numbers_in release q)
+      (filter may (numbers_in release q)) refl refl
 
-  pub kept_node : (plan : Plan) (some found : List ℕ) → some ≡ numbers_in release (means release plan) → found ≡ filter may some
+  pub kept_node : (plan : Plan) (some found : List ℕ) → some ≡ numbers_in release (means release plan) → found
+      ≡ filter may some
       → found ≡ numbers_within release may (means release plan)
-  kept_node plan some found some_is found_is = restricted_to (length release.concepts) may (by_number (means release plan)) some found some_is found_is
+  kept_node plan some found some_is found_is = restricted_to (length release.concepts) may
+      (by_number (means release plan)) some found some_is found_is
 
-  pub meant_within : (plan other : Plan) → plan ≡ other → numbers_within release may (means release other) ≡ numbers_within release may (means release plan)
+  pub meant_within : (plan other : Plan) → plan ≡ other → numbers_within release may (means release other)
+      ≡ numbers_within release may (means release plan)
   meant_within plan other is = ap (λ (p : Plan). numbers_within release may (means release p)) (sym is)
 
-  pub empty_within : (plan : Plan) (found : List ℕ) → plan ≡ empty_plan → found ≡ [] → found ≡ numbers_within release may (means release plan)
-  empty_within plan found is found_is = some_of_none (length release.concepts) may found found_is ∙ meant_within plan empty_plan is
+  pub empty_within : (plan : Plan) (found : List ℕ) → plan ≡ empty_plan → found ≡ [] → found
+      ≡ numbers_within release may (means release plan)
+  empty_within plan found is found_is = some_of_none (length release.concepts) may found found_is
+      ∙ meant_within plan empty_plan is
 
   pub minus_node : (plan first second : Plan) (left right found : List ℕ) → plan ≡ minus_plan first second
       → left ≡ numbers_within release may (means release first)
       → right ≡ numbers_within release (has left) (means release second)
       → found ≡ other_items left right → found ≡ numbers_within release may (means release plan)
   minus_node plan first second left right found is left_is right_is found_is =
-      minus_within (length release.concepts) may (by_number (means release first)) (by_number (means release second)) left right found left_is right_is found_is
+      minus_within (length release.concepts) may (by_number (means release first)) (by_number (means release second))
+      left right found left_is right_is found_is
       ∙ meant_within plan (minus_plan first second) is
 
   -- all parts, where that at a place was executed first
   pub led_all : (parts : List ConceptPlan) (lead : ℕ) (found : List ℕ)
       → found ≡ numbers_where (length release.concepts)
       (λ n. (may n && leads_off release (slice_get parts lead) (get_or release.concepts n 0))
-      && list_all (λ part. means release (plan_of part) (get_or release.concepts n 0)) parts)
-      → found ≡ numbers_within release may (λ concept. list_all (λ part. means release (plan_of part) concept) parts)
+      && list_all (λ part. means release (logical_of part) (get_or release.concepts n 0)) parts)
+      → found ≡ numbers_within release may (λ concept. list_all (λ part. means release (logical_of part) concept) parts)
   led_all parts lead found found_is =
-      all_done (length release.concepts) may (λ n. leads_off release (slice_get parts lead) (get_or release.concepts n 0))
-      (λ n. list_all (λ part. means release (plan_of part) (get_or release.concepts n 0)) parts)
+      all_done (length release.concepts) may
+      (λ n. leads_off release (slice_get parts lead) (get_or release.concepts n 0))
+      (λ n. list_all (λ part. means release (logical_of part) (get_or release.concepts n 0)) parts)
       found (λ n within all. had (get_or release.concepts n 0) (slice_get parts lead) refl all) found_is
     where
       had : (concept : ℕ) (at : Option ConceptPlan) → slice_get parts lead ≡ at
-          → list_all (λ part. means release (plan_of part) concept) parts ≡ true → leads_off release at concept ≡ true
+          → list_all (λ part. means release (logical_of part) concept) parts ≡ true → leads_off release at concept
+          ≡ true
       had concept None is all = refl
-      had concept (Some part) is all = passed_by (λ p. means release (plan_of p) concept) parts lead part all is
+      had concept (Some part) is all = passed_by (λ p. means release (logical_of p) concept) parts lead part all is
 
   -- where no part is executed first
   pub led_none : (parts : List ConceptPlan) (lead : ℕ) (every found : List ℕ) → length parts ≤ lead
@@ -99,7 +115,8 @@ module _ (release : Release) (may : ℕ → Bool) where
       → found ≡ numbers_within release may (leads_off release (slice_get parts lead))
   led_none parts lead every found past every_is found_is =
       restricted_to (length release.concepts) may (λ n. true) every found (every_is ∙ each) found_is
-      ∙ ap (λ (at : Option ConceptPlan). numbers_within release may (leads_off release at)) (sym (slice_get_past parts lead past))
+      ∙ ap (λ (at : Option ConceptPlan). numbers_within release may (leads_off release at))
+      (sym (slice_get_past parts lead past))
     where
       each : range_with_len 0 (length release.concepts) ≡ numbers_where (length release.concepts) (λ n. true)
       each = sym (numbers_where-all (length release.concepts))
@@ -108,17 +125,19 @@ module _ (release : Release) (may : ℕ → Bool) where
   pub led_again : (parts : List ConceptPlan) (lead k : ℕ) → k ≡ lead → k < length parts → (found : List ℕ)
       → found ≡ numbers_where (length release.concepts)
       (λ n. (may n && leads_off release (slice_get parts lead) (get_or release.concepts n 0))
-      && list_all (λ part. means release (plan_of part) (get_or release.concepts n 0)) (take k parts))
+      && list_all (λ part. means release (logical_of part) (get_or release.concepts n 0)) (take k parts))
       → found ≡ numbers_where (length release.concepts)
       (λ n. (may n && leads_off release (slice_get parts lead) (get_or release.concepts n 0))
-      && list_all (λ part. means release (plan_of part) (get_or release.concepts n 0)) (take (k + 1) parts))
+      && list_all (λ part. means release (logical_of part) (get_or release.concepts n 0)) (take (k + 1) parts))
   led_again parts lead k here within found found_is = elim (slice_get_cases parts k).1 [
     | inl (x, inside, at, is) ↦
-        all_again (length release.concepts) (λ (part : ConceptPlan) n. means release (plan_of part) (get_or release.concepts n 0)) parts k x within
+        all_again (length release.concepts) (λ (part : ConceptPlan) n. means release (logical_of part)
+        (get_or release.concepts n 0)) parts k x within
         (λ n. may n && leads_off release (slice_get parts lead) (get_or release.concepts n 0)) found
         (λ n below holds.
-        ap (λ (part : ConceptPlan). means release (plan_of part) (get_or release.concepts n 0)) is
-        ∙ ap (λ (found : Option ConceptPlan). leads_off release found (get_or release.concepts n 0)) (sym at ∙ ap (slice_get parts) here)
+        ap (λ (part : ConceptPlan). means release (logical_of part) (get_or release.concepts n 0)) is
+        ∙ ap (λ (found : Option ConceptPlan). leads_off release found (get_or release.concepts n 0)) (sym at
+        ∙ ap (slice_get parts) here)
         ∙ (and_parts (may n) _ holds).1)
         found_is
     | inr (past, at) ↦ absurd (omega (arith, past, within))
@@ -132,11 +151,14 @@ module _ (release : Release) (may : ℕ → Bool) where
   abbrev group_by_number : (List Pair → Bool) → ℕ → Bool
   group_by_number set n = some_group_in release set (slice_get all n)
 
-  pub groups_same : (p q : List Pair → Bool) → groups_where release p ≡ groups_where release q → groups_within release may p ≡ groups_within release may q
+  pub groups_same : (p q : List Pair → Bool) → groups_where release p
+      ≡ groups_where release q → groups_within release may p ≡ groups_within release may q
   groups_same p q same =
-      sym (restricted_to (length all) may (group_by_number p) (groups_where release p) (filter may (groups_where release p)) refl refl)
+      sym (restricted_to (length all) may (group_by_number p) (groups_where release p)
+      (filter may (groups_where release p)) refl refl)
       ∙ ap (filter may) same
-      ∙ restricted_to (length all) may (group_by_number q) (groups_where release q) (filter may (groups_where release q)) refl refl
+      ∙ restricted_to (length all) may (group_by_number q) (groups_where release q)
+      (filter may (groups_where release q)) refl refl
 
   pub groups_meant : (plan other : PlanOfUnits) → plan ≡ other
       → groups_within release may (unit_means release other) ≡ groups_within release may (unit_means release plan)
@@ -146,14 +168,16 @@ module _ (release : Release) (may : ℕ → Bool) where
   nothing_in None = refl
   nothing_in (Some group) = refl
 
-  pub nothing_within : (plan : PlanOfUnits) (found : List ℕ) → plan ≡ nothing_unit → found ≡ [] → found ≡ groups_within release may (unit_means release plan)
+  pub nothing_within : (plan : PlanOfUnits) (found : List ℕ) → plan ≡ nothing_unit → found ≡ [] → found
+      ≡ groups_within release may (unit_means release plan)
   nothing_within plan found is found_is =
       some_of_none (length all) may found found_is
       ∙ (λ i. numbers_where (length all) (λ n. may n && nothing_in (slice_get all n) i))
       ∙ groups_meant plan nothing_unit is
 
   minus_in : (p q : List Pair → Bool) (at : Option ConceptGroup)
-      → (some_group_in release p at && not (some_group_in release q at)) ≡ some_group_in release (λ pairs. p pairs && not (q pairs)) at
+      → (some_group_in release p at && not (some_group_in release q at))
+      ≡ some_group_in release (λ pairs. p pairs && not (q pairs)) at
   minus_in p q None = refl
   minus_in p q (Some group) = refl
 
@@ -164,7 +188,8 @@ module _ (release : Release) (may : ℕ → Bool) where
   minus_groups plan first second left right found is left_is right_is found_is =
       minus_within (length all) may (group_by_number (unit_means release first))
       (group_by_number (unit_means release second)) left right found left_is right_is found_is
-      ∙ (λ i. numbers_where (length all) (λ n. may n && minus_in (unit_means release first) (unit_means release second) (slice_get all n) i))
+      ∙ (λ i. numbers_where (length all) (λ n. may n && minus_in (unit_means release first) (unit_means release second)
+      (slice_get all n) i))
       ∙ groups_meant plan (minus_units first second) is
 
   -- each group that there is has its pairs
@@ -174,52 +199,64 @@ module _ (release : Release) (may : ℕ → Bool) where
   there n within (Some group) is set each = each _
 
   all_in : (parts : List UnitPlan) (n : ℕ) → n < length all → (at : Option ConceptGroup) → slice_get all n ≡ at
-      → list_all (λ part. some_group_in release (unit_means release (unit_plan_of part)) at) parts
-      ≡ some_group_in release (λ pairs. list_all (λ part. unit_means release (unit_plan_of part) pairs) parts) at
+      → list_all (λ part. some_group_in release (unit_means release (logical_units_of part)) at) parts
+      ≡ some_group_in release (λ pairs. list_all (λ part. unit_means release (logical_units_of part) pairs) parts) at
   all_in parts n within None is = absurd (leaf.none_within all n within is)
   all_in parts n within (Some group) is = refl
 
   any_in : (parts : List UnitPlan) (at : Option ConceptGroup)
-      → list_any (λ part. some_group_in release (unit_means release (unit_plan_of part)) at) parts
-      ≡ some_group_in release (λ pairs. list_any (λ part. unit_means release (unit_plan_of part) pairs) parts) at
+      → list_any (λ part. some_group_in release (unit_means release (logical_units_of part)) at) parts
+      ≡ some_group_in release (λ pairs. list_any (λ part. unit_means release (logical_units_of part) pairs) parts) at
   any_in [] None = refl
   any_in (part ∷ parts) None = any_in parts None
   any_in parts (Some group) = refl
 
   pub groups_led_all : (parts : List UnitPlan) (lead : ℕ) (found : List ℕ)
-      → found ≡ numbers_where (length all) (λ n. (may n && some_group_in release (leads_off_groups release (slice_get parts lead)) (slice_get all n))
-      && list_all (λ part. some_group_in release (unit_means release (unit_plan_of part)) (slice_get all n)) parts)
-      → found ≡ groups_within release may (λ pairs. list_all (λ part. unit_means release (unit_plan_of part) pairs) parts)
+      → found ≡ numbers_where (length all)
+      (λ n. (may n && some_group_in release (leads_off_groups release (slice_get parts lead)) (slice_get all n))
+      && list_all (λ part. some_group_in release (unit_means release (logical_units_of part)) (slice_get all n)) parts)
+      → found ≡ groups_within release may (λ pairs. list_all (λ part. unit_means release (logical_units_of part) pairs)
+      parts)
   groups_led_all parts lead found found_is =
-      all_done (length all) may (λ n. some_group_in release (leads_off_groups release (slice_get parts lead)) (slice_get all n))
-      (λ n. list_all (λ part. some_group_in release (unit_means release (unit_plan_of part)) (slice_get all n)) parts)
+      all_done (length all) may (λ n. some_group_in release (leads_off_groups release (slice_get parts lead))
+      (slice_get all n))
+      (λ n. list_all (λ part. some_group_in release (unit_means release (logical_units_of part)) (slice_get all n))
+      parts)
       found (λ n within each. had n within (slice_get parts lead) refl each) found_is
       ∙ numbers_where-agree (length all) (λ n. may n && list_all
-      (λ part. some_group_in release (unit_means release (unit_plan_of part)) (slice_get all n)) parts)
-      (λ n. may n && some_group_in release (λ pairs. list_all (λ part. unit_means release (unit_plan_of part) pairs) parts) (slice_get all n))
+      (λ part. some_group_in release (unit_means release (logical_units_of part)) (slice_get all n)) parts)
+      (λ n. may n && some_group_in release (λ pairs. list_all (λ part. unit_means release (logical_units_of part) pairs)
+      parts) (slice_get all n))
       (λ n within. ap (λ (b : Bool). may n && b) (all_in parts n within (slice_get all n) refl))
     where
       had : (n : ℕ) → n < length all → (at : Option UnitPlan) → slice_get parts lead ≡ at
-          → list_all (λ part. some_group_in release (unit_means release (unit_plan_of part)) (slice_get all n)) parts ≡ true
+          → list_all (λ part. some_group_in release (unit_means release (logical_units_of part)) (slice_get all n))
+          parts ≡ true
           → some_group_in release (leads_off_groups release at) (slice_get all n) ≡ true
       had n within None is each = there n within (slice_get all n) refl (λ pairs. true) (λ pairs. refl)
-      had n within (Some part) is each = passed_by (λ p. some_group_in release (unit_means release (unit_plan_of p))
+      had n within (Some part) is each = passed_by (λ p. some_group_in release (unit_means release (logical_units_of p))
           (slice_get all n)) parts lead part each is
 
   pub groups_led_again : (parts : List UnitPlan) (lead k : ℕ) → k ≡ lead → k < length parts → (found : List ℕ)
       → found ≡ numbers_where (length all) (λ n. (may n && some_group_in release
       (leads_off_groups release (slice_get parts lead)) (slice_get all n))
-      && list_all (λ part. some_group_in release (unit_means release (unit_plan_of part)) (slice_get all n)) (take k parts))
+      && list_all (λ part. some_group_in release (unit_means release (logical_units_of part)) (slice_get all n))
+      (take k parts))
       → found ≡ numbers_where (length all) (λ n. (may n && some_group_in release
       (leads_off_groups release (slice_get parts lead)) (slice_get all n))
-      && list_all (λ part. some_group_in release (unit_means release (unit_plan_of part)) (slice_get all n)) (take (k + 1) parts))
+      && list_all (λ part. some_group_in release (unit_means release (logical_units_of part)) (slice_get all n))
+      (take (k + 1) parts))
   groups_led_again parts lead k here within found found_is = elim (slice_get_cases parts k).1 [
     | inl (x, inside, at, is) ↦
-        all_again (length all) (λ (part : UnitPlan) n. some_group_in release (unit_means release (unit_plan_of part)) (slice_get all n)) parts k x within
+        all_again (length all)
+        (λ (part : UnitPlan) n. some_group_in release (unit_means release (logical_units_of part)) (slice_get all n))
+        parts k x within
         (λ n. may n && some_group_in release (leads_off_groups release (slice_get parts lead)) (slice_get all n)) found
         (λ n below holds.
-        ap (λ (part : UnitPlan). some_group_in release (unit_means release (unit_plan_of part)) (slice_get all n)) is
-        ∙ ap (λ (found : Option UnitPlan). some_group_in release (leads_off_groups release found) (slice_get all n)) (sym at ∙ ap (slice_get parts) here)
+        ap (λ (part : UnitPlan). some_group_in release (unit_means release (logical_units_of part)) (slice_get all n))
+        is
+        ∙ ap (λ (found : Option UnitPlan). some_group_in release (leads_off_groups release found) (slice_get all n))
+        (sym at ∙ ap (slice_get parts) here)
         ∙ (and_parts (may n) _ holds).1)
         found_is
     | inr (past, at) ↦ absurd (omega (arith, past, within))
@@ -230,16 +267,20 @@ module _ (release : Release) (may : ℕ → Bool) where
       → found ≡ groups_within release may (leads_off_groups release (slice_get parts lead))
   groups_led_none parts lead every found past every_is found_is =
       kept_groups release may (λ pairs. true) every found every_is found_is
-      ∙ ap (λ (at : Option UnitPlan). groups_within release may (leads_off_groups release at)) (sym (slice_get_past parts lead past))
+      ∙ ap (λ (at : Option UnitPlan). groups_within release may (leads_off_groups release at))
+      (sym (slice_get_past parts lead past))
 
   pub any_done : (parts : List UnitPlan) (found : List ℕ)
       → found ≡ numbers_where (length all) (λ n. may n && list_any
-      (λ part. some_group_in release (unit_means release (unit_plan_of part)) (slice_get all n)) parts)
-      → found ≡ groups_within release may (λ pairs. list_any (λ part. unit_means release (unit_plan_of part) pairs) parts)
-  any_done parts found found_is = found_is ∙ (λ i. numbers_where (length all) (λ n. may n && any_in parts (slice_get all n) i))
+      (λ part. some_group_in release (unit_means release (logical_units_of part)) (slice_get all n)) parts)
+      → found ≡ groups_within release may (λ pairs. list_any (λ part. unit_means release (logical_units_of part) pairs)
+      parts)
+  any_done parts found found_is = found_is
+      ∙ (λ i. numbers_where (length all) (λ n. may n && any_in parts (slice_get all n) i))
 
 -- where an operator leads, of candidates, from what a plan means of concepts that are enough for them
-pub walk_of_part : (release : Release) (child : Plan) (operator : Operator) (hierarchy : Hierarchy) (count : ℕ) (may enough : ℕ → Bool) (part found : List ℕ)
+pub walk_of_part : (release : Release) (child : Plan) (operator : Operator) (hierarchy : Hierarchy) (count : ℕ)
+    (may enough : ℕ → Bool) (part found : List ℕ)
     → hierarchy ≡ hierarchy_of release → count ≡ length release.concepts
     → AreEnough (asked_lists hierarchy operator) may enough
     → part ≡ numbers_within release enough (means release child)
@@ -247,9 +288,11 @@ pub walk_of_part : (release : Release) (child : Plan) (operator : Operator) (hie
     → found ≡ numbers_within release may (means release (walk_plan operator child))
 walk_of_part release child operator hierarchy count may enough part found over counted are_enough part_is found_is =
     kept_node release may (walk_plan operator child) (led_to hierarchy count operator set) found
-    (walk_node release (walk_plan operator child) (led_to hierarchy count operator set) child operator hierarchy count set refl over counted refl refl)
+    (walk_node release (walk_plan operator child) (led_to hierarchy count operator set) child operator hierarchy count
+    set refl over counted refl refl)
     (found_is ∙ led_from_part count hierarchy (record { release = release; hierarchy_is = over; count_is = counted })
-    set part (rises holds) (subst (IsRisingBelow count) (sym part_is) (rises (λ n. enough n && holds n))) enough same operator may are_enough)
+    set part (rises holds) (subst (IsRisingBelow count) (sym part_is) (rises (λ n. enough n && holds n))) enough same
+    operator may are_enough)
   where
     holds : ℕ → Bool
     holds n = means release child (get_or release.concepts n 0)
@@ -278,19 +321,19 @@ walk_of_part release child operator hierarchy count may enough part found over c
 -- ---- parts that are joined, and concepts with groups, as the plan of their node
 module _ (release : Release) (may : ℕ → Bool) where
   pub and_within : (parts : List ConceptPlan)
-      → numbers_within release may (λ concept. list_all (λ part. means release (plan_of part) concept) parts)
-      ≡ numbers_within release may (means release (and_plan (plans_of parts)))
+      → numbers_within release may (λ concept. list_all (λ part. means release (logical_of part) concept) parts)
+      ≡ numbers_within release may (means release (and_plan (logicals_of parts)))
   and_within parts =
-      let set : ℕ → Bool = λ concept. list_all (λ part. means release (plan_of part) concept) parts in
-      let plan : Plan = and_plan (plans_of parts) in
+      let set : ℕ → Bool = λ concept. list_all (λ part. means release (logical_of part) concept) parts in
+      let plan : Plan = and_plan (logicals_of parts) in
       within_same release may set (means release plan) (and_node release plan (numbers_in release set) parts refl refl)
 
   pub or_within : (parts : List ConceptPlan)
-      → numbers_within release may (λ concept. list_any (λ part. means release (plan_of part) concept) parts)
-      ≡ numbers_within release may (means release (or_plan (plans_of parts)))
+      → numbers_within release may (λ concept. list_any (λ part. means release (logical_of part) concept) parts)
+      ≡ numbers_within release may (means release (or_plan (logicals_of parts)))
   or_within parts =
-      let set : ℕ → Bool = λ concept. list_any (λ part. means release (plan_of part) concept) parts in
-      let plan : Plan = or_plan (plans_of parts) in
+      let set : ℕ → Bool = λ concept. list_any (λ part. means release (logical_of part) concept) parts in
+      let plan : Plan = or_plan (logicals_of parts) in
       within_same release may set (means release plan) (or_node release plan (numbers_in release set) parts refl refl)
 
   pub units_within : (count : Cardinality) (units : PlanOfUnits)
@@ -299,20 +342,23 @@ module _ (release : Release) (may : ℕ → Bool) where
   units_within count units =
       let set : ℕ → Bool = has_groups release count (unit_means release units) in
       let plan : Plan = units_plan count units in
-      within_same release may set (means release plan) (units_node release plan (numbers_in release set) count units refl refl)
+      within_same release may set (means release plan) (units_node release plan (numbers_in release set) count units
+      refl refl)
 
   pub and_groups : (parts : List UnitPlan)
-      → groups_within release may (λ pairs. list_all (λ part. unit_means release (unit_plan_of part) pairs) parts)
-      ≡ groups_within release may (unit_means release (and_units (unit_plans_of parts)))
+      → groups_within release may (λ pairs. list_all (λ part. unit_means release (logical_units_of part) pairs) parts)
+      ≡ groups_within release may (unit_means release (and_units (logical_units_list_of parts)))
   and_groups parts =
-      let set : List Pair → Bool = λ pairs. list_all (λ part. unit_means release (unit_plan_of part) pairs) parts in
-      let plan : PlanOfUnits = and_units (unit_plans_of parts) in
-      groups_same release may set (unit_means release plan) (groups.and_node release plan (groups_where release set) parts refl refl)
+      let set : List Pair → Bool = λ pairs. list_all (λ part. unit_means release (logical_units_of part) pairs) parts in
+      let plan : PlanOfUnits = and_units (logical_units_list_of parts) in
+      groups_same release may set (unit_means release plan) (groups.and_node release plan (groups_where release set)
+      parts refl refl)
 
   pub or_groups : (parts : List UnitPlan)
-      → groups_within release may (λ pairs. list_any (λ part. unit_means release (unit_plan_of part) pairs) parts)
-      ≡ groups_within release may (unit_means release (or_units (unit_plans_of parts)))
+      → groups_within release may (λ pairs. list_any (λ part. unit_means release (logical_units_of part) pairs) parts)
+      ≡ groups_within release may (unit_means release (or_units (logical_units_list_of parts)))
   or_groups parts =
-      let set : List Pair → Bool = λ pairs. list_any (λ part. unit_means release (unit_plan_of part) pairs) parts in
-      let plan : PlanOfUnits = or_units (unit_plans_of parts) in
-      groups_same release may set (unit_means release plan) (groups.or_node release plan (groups_where release set) parts refl refl)
+      let set : List Pair → Bool = λ pairs. list_any (λ part. unit_means release (logical_units_of part) pairs) parts in
+      let plan : PlanOfUnits = or_units (logical_units_list_of parts) in
+      groups_same release may set (unit_means release plan) (groups.or_node release plan (groups_where release set)
+      parts refl refl)

@@ -1,139 +1,90 @@
--- What is counted of the parts of a node, of either sort, one part after the other: each has the choices from its own first leaf on.
-use Rattle.std.proofs.Common.{ℕ, zero, suc, ◌+◌, ◌*◌, ◌-◌, ◌==◌, ◌∷◌, [], ◌≡◌, ◌≢◌, ◌≤◌, ◌<◌, ◌^◌, ◌∙◌, Bool, true, false, cond, List, drop, length, get_or, take, refl, sym, ap, arith, inl, inr, mul-le-mul_right, suc-mul, zero-mul}
+-- What is counted of the parts of a node, of either sort, one part after the other.
+use Rattle.std.proofs.Common.{ℕ, zero, suc, ◌+◌, ◌*◌, ◌-◌, ◌==◌, ◌∷◌, [], ◌≡◌, ◌≢◌, ◌≤◌, ◌<◌, ◌^◌, ◌∙◌, Bool, true}
+use Rattle.std.proofs.Common.{false, cond, List}
+use Rattle.std.proofs.Common.{length, get_or, take, refl, sym, ap, arith, inl, inr, mul-le-mul_right, suc-mul, zero-mul}
 use Rattle.std.specs.Prelude.{min, slice_get}
 use Rattle.std.proofs.lemmas.Bool.{both_ways, cases_lt, eq-eqb, eqb-true, ne_eqb}
-use Rattle.std.proofs.lemmas.List.{take_all, drop-drop}
+use Rattle.std.proofs.lemmas.List.{take_all}
 use Rattle.std.proofs.lemmas.Option.{slice_get_cases, slice_get_read}
-use Rattle.postings.specs.Indexed.{Indexed}
-use Rattle.set_algebra.specs.declared.choice.Choice.{Choice}
-use Rattle.plan_bounds.specs.Bounds.{values_bound}
-use Rattle.plan_bounds.proofs.LoopLemmas.{Sort, Sum}
-use Rattle.executor.specs.inside.Lead.{of_lead}
 use Rattle.number_lists.proofs.ListLemmas.{next_place}
+use Rattle.postings.specs.Indexed.{Indexed}
+use Rattle.plan_bounds.specs.Bounds.{values_bound}
+use Rattle.plan_bounds.proofs.LoopLemmas.{Sum}
+use Rattle.executor.specs.inside.Lead.{of_lead}
 
 -- ---- parts in front of a place, and the one at it
-module _ {Part : Type 0} (sort : Sort Part) where
-  -- the choices of the part at a place
-  abbrev pub choices_before : List Choice → List Part → ℕ → List Choice
-  choices_before choices parts place = drop (sort.leaves_in (take place parts)) choices
-
-  -- the leaves of one part more
-  leaves_more : (parts : List Part) (place : ℕ) (part : Part) → place < length parts → part ≡ get_or parts place part
-      → sort.leaves_in (take (suc place) parts) ≡ sort.leaves_in (take place parts) + sort.leaves_of part
-  leaves_more [] place part within is = absurd (omega (arith, within))
-  leaves_more (first ∷ parts) zero part within is =
-      omega (arith, sort.more first [], sort.none, ap sort.leaves_of is)
-  leaves_more (first ∷ parts) (suc place) part within is =
+module _ {Part : Type 0} (sum : Sum Part) where
+  -- the sum of one part more
+  more : (parts : List Part) (place : ℕ) (part : Part) → place < length parts → part ≡ get_or parts place part
+      → sum.of_parts (take (suc place) parts) ≡ sum.of_parts (take place parts) + sum.of_part part
+  more [] place part within is = absurd (omega (arith, within))
+  more (first ∷ parts) zero part within is = omega (arith, sum.more first [], sum.none, ap sum.of_part is)
+  more (first ∷ parts) (suc place) part within is =
       omega (
         arith,
-        sort.more first (take (suc place) parts),
-        sort.more first (take place parts),
-        leaves_more parts place part (omega (arith, within)) is,
+        sum.more first (take (suc place) parts),
+        sum.more first (take place parts),
+        more parts place part (omega (arith, within)) is,
       )
 
-  pub choices_more : (choices : List Choice) (parts : List Part) (place : ℕ) (part : Part) {rest behind : List Choice}
-      → place < length parts → part ≡ get_or parts place part
-      → rest ≡ choices_before choices parts place → behind ≡ drop (sort.leaves_of part) rest
-      → behind ≡ choices_before choices parts (place + 1)
-  choices_more choices parts place part {rest} {behind} within is rest_is behind_is =
-      behind_is
-      ∙ ap (drop (sort.leaves_of part)) rest_is
-      ∙ drop-drop (sort.leaves_of part) (sort.leaves_in (take place parts)) choices
-      ∙ (λ i. drop (sym (leaves_more parts place part within is) i) choices)
-      ∙ (λ i. choices_before choices parts (sym (next_place place) i))
+  pub sum_more : (parts : List Part) (place : ℕ) (part : Part) → place < length parts → part ≡ get_or parts place part
+      → sum.of_parts (take (place + 1) parts) ≡ sum.of_parts (take place parts) + sum.of_part part
+  sum_more parts place part within is = (λ i. sum.of_parts (take (next_place place i) parts))
+      ∙ more parts place part within is
 
-  module _ (sum : Sum Part sort) where
-    -- the sum of one part more
-    more : (choices : List Choice) (parts : List Part) (place : ℕ) (part : Part) → place < length parts → part ≡ get_or parts place part
-        → sum.of_parts choices (take (suc place) parts)
-        ≡ sum.of_parts choices (take place parts) + sum.of_part (choices_before choices parts place) part
-    more choices [] place part within is = absurd (omega (arith, within))
-    more choices (first ∷ parts) zero part within is =
-        let at : sum.of_part choices first ≡ sum.of_part (choices_before choices (first ∷ parts) 0) part =
-        (λ i. sum.of_part (drop (sym sort.none i) choices) (sym is i)) in
+  -- fewer parts have no more
+  pub sum_le : (parts : List Part) (place further : ℕ) → place ≤ further
+      → sum.of_parts (take place parts) ≤ sum.of_parts (take further parts)
+  sum_le parts zero further before = omega (arith, sum.none)
+  sum_le [] (suc place) further before = omega (arith, sum.none)
+  sum_le (first ∷ parts) (suc place) zero before = absurd (omega (arith, before))
+  sum_le (first ∷ parts) (suc place) (suc further) before =
+      omega (
+        arith,
+        sum.more first (take place parts),
+        sum.more first (take further parts),
+        sum_le parts place further (omega (arith, before)),
+      )
+
+  pub sum_all : (parts : List Part) (place : ℕ) → length parts ≤ place → sum.of_parts (take place parts)
+      ≡ sum.of_parts parts
+  sum_all parts place past = ap sum.of_parts (take_all place parts past)
+
+  sum_most : (parts : List Part) (place : ℕ) → sum.of_parts (take place parts) ≤ sum.of_parts parts
+  sum_most parts place = elim (cases_lt place (length parts)) [
+    | inl before ↦ omega (
+      arith,
+      sum_le parts place (length parts) (omega (arith, before)),
+      sum_all parts (length parts) (omega arith),
+    )
+    | inr past ↦ omega (arith, sum_all parts place past)
+  ]
+
+  -- what the part has that is executed first
+  abbrev pub of_first : List Part → ℕ → ℕ
+  of_first parts lead = of_lead sum.of_part (slice_get parts lead)
+
+  -- beside the parts in front of a place that is not past it, there is room for it
+  first_room : (parts : List Part) (lead place : ℕ) → place ≤ lead → lead < length parts
+      → sum.of_parts (take place parts) + of_first parts lead ≤ sum.of_parts parts
+  first_room parts lead place before inside = elim (slice_get_cases parts lead).1 [
+    | inl (part, within, at, is) ↦
         omega (
           arith,
-          sum.more choices first [],
-          sum.none (drop (sort.leaves_of first) choices),
-          sum.none choices,
-          at,
+          ap (of_lead sum.of_part) at,
+          sum_le parts place lead before,
+          sum_more parts lead part within (sym is),
+          sum_most parts (lead + 1),
         )
-    more choices (first ∷ parts) (suc place) part within is =
-        let behind = drop (sort.leaves_of first) choices in
-        omega (
-          arith,
-          sum.more choices first (take (suc place) parts),
-          sum.more choices first (take place parts),
-          more behind parts place part (omega (arith, within)) is,
-          ap (λ (rest : List Choice). sum.of_part rest part)
-              (drop-drop (sort.leaves_in (take place parts)) (sort.leaves_of first) choices
-              ∙ (λ i. drop (sym (sort.more first (take place parts)) i) choices)),
-        )
+    | inr (past, at) ↦ absurd (omega (arith, past, inside))
+  ]
 
-    pub sum_more : (choices : List Choice) (parts : List Part) (place : ℕ) (part : Part) {rest : List Choice}
-        → place < length parts → part ≡ get_or parts place part → rest ≡ choices_before choices parts place
-        → sum.of_parts choices (take (place + 1) parts) ≡ sum.of_parts choices (take place parts) + sum.of_part rest part
-    sum_more choices parts place part {rest} within is rest_is =
-        (λ i. sum.of_parts choices (take (next_place place i) parts))
-        ∙ more choices parts place part within is
-        ∙ ap (λ (rest : List Choice). sum.of_parts choices (take place parts) + sum.of_part rest part) (sym rest_is)
-
-    -- fewer parts have no more
-    pub sum_le : (choices : List Choice) (parts : List Part) (place further : ℕ) → place ≤ further
-        → sum.of_parts choices (take place parts) ≤ sum.of_parts choices (take further parts)
-    sum_le choices parts zero further before = omega (arith, sum.none choices)
-    sum_le choices [] (suc place) further before = omega (arith, sum.none choices)
-    sum_le choices (first ∷ parts) (suc place) zero before = absurd (omega (arith, before))
-    sum_le choices (first ∷ parts) (suc place) (suc further) before =
-        omega (
-          arith,
-          sum.more choices first (take place parts),
-          sum.more choices first (take further parts),
-          sum_le (drop (sort.leaves_of first) choices) parts place further (omega (arith, before)),
-        )
-
-    pub sum_all : (choices : List Choice) (parts : List Part) (place : ℕ) → length parts ≤ place
-        → sum.of_parts choices (take place parts) ≡ sum.of_parts choices parts
-    sum_all choices parts place past = ap (sum.of_parts choices) (take_all place parts past)
-
-    sum_most : (choices : List Choice) (parts : List Part) (place : ℕ)
-        → sum.of_parts choices (take place parts) ≤ sum.of_parts choices parts
-    sum_most choices parts place = elim (cases_lt place (length parts)) [
-      | inl before ↦
-          omega (arith, sum_le choices parts place (length parts) (omega (arith, before)), sum_all choices parts (length parts) (omega arith))
-      | inr past ↦ omega (arith, sum_all choices parts place past)
-    ]
-
-    -- what the part has that is executed first
-    abbrev pub of_first : List Choice → List Part → ℕ → ℕ
-    of_first choices parts lead = of_lead (sum.of_part (choices_before choices parts lead)) (slice_get parts lead)
-
-    -- beside the parts in front of a place that is not past it, there is room for it
-    first_room : (choices : List Choice) (parts : List Part) (lead place : ℕ) → place ≤ lead → lead < length parts
-        → sum.of_parts choices (take place parts) + of_first choices parts lead ≤ sum.of_parts choices parts
-    first_room choices parts lead place before inside = elim (slice_get_cases parts lead).1 [
-      | inl (part, within, at, is) ↦
-          omega (
-            arith,
-            ap (of_lead (sum.of_part (choices_before choices parts lead))) at,
-            sum_le choices parts place lead before,
-            sum_more choices parts lead part within (sym is) refl,
-            sum_most choices parts (lead + 1),
-          )
-      | inr (past, at) ↦ absurd (omega (arith, past, inside))
-    ]
-
-    pub first_within : {choices at : List Choice} (parts : List Part) (lead : ℕ) → at ≡ choices_before choices parts lead → lead < length parts
-        → of_lead (sum.of_part at) (slice_get parts lead) ≤ sum.of_parts choices parts
-    first_within {choices} parts lead at_is inside =
-        omega (
-          arith,
-          ap (λ (own : List Choice). of_lead (sum.of_part own) (slice_get parts lead)) at_is,
-          first_room choices parts lead 0 (omega arith) inside,
-        )
+  pub first_within : (parts : List Part) (lead : ℕ) → lead < length parts → of_first parts lead ≤ sum.of_parts parts
+  first_within parts lead inside = omega (arith, first_room parts lead 0 (omega arith) inside)
 
 -- ---- the part that comes first is one of the parts, where there are some
-pub lead_inside : {empty : Bool} {count lead : ℕ} (place : ℕ) → empty ≡ (count == 0) → empty ≡ false → lead ≡ min place (count - 1) → lead < count
+pub lead_inside : {empty : Bool} {count lead : ℕ} (place : ℕ) → empty ≡ (count == 0) → empty ≡ false → lead
+    ≡ min place (count - 1) → lead < count
 lead_inside {empty} {count} {lead} place told not_empty lead_is = elim (cases_lt 0 count) [
   | inl some ↦ omega (arith, some, lead_is)
   | inr none ↦ absurd (both_ways empty not_empty (told ∙ eq-eqb count 0 (omega (arith, none))))
@@ -149,69 +100,59 @@ pub record Counts (before least most after : ℕ) : Type 0 where
   pub floor : min (before + least) (2 ^ 64 - 1) ≤ after
 
 -- all parts, one of which comes first: until its place is passed it is counted beside those in front of the place
-pub record AllSoFar (Part : Type 0) (sort : Sort Part) (least most : Sum Part sort) (choices : List Choice) (parts : List Part)
-    (lead place before after : ℕ) (left : List Choice) : Type 0 where
-  pub rest : left ≡ choices_before sort choices parts place
-  pub grows : before ≤ after
-  pub early : place ≤ lead → Counts before
-      (least.of_parts choices (take place parts) + of_first sort least choices parts lead)
-      (most.of_parts choices (take place parts) + of_first sort most choices parts lead) after
-  pub late : lead < place → Counts before (least.of_parts choices (take place parts)) (most.of_parts choices (take place parts)) after
+pub record AllSoFar {Part : Type 0} (least most : Sum Part) (parts : List Part) (lead place before after : ℕ) : Type 0
+  where
+    pub grows : before ≤ after
+    pub early : place ≤ lead → Counts before
+        (least.of_parts (take place parts) + of_first least parts lead)
+        (most.of_parts (take place parts) + of_first most parts lead) after
+    pub late : lead < place → Counts before (least.of_parts (take place parts)) (most.of_parts (take place parts)) after
 
 -- parts in their order, beside which the node reads so much up to each place
-pub record SomeSoFar (Part : Type 0) (sort : Sort Part) (least most : Sum Part sort) (own : ℕ → ℕ) (choices : List Choice) (parts : List Part)
-    (place before after : ℕ) (left : List Choice) : Type 0 where
-  pub rest : left ≡ choices_before sort choices parts place
+pub record SomeSoFar {Part : Type 0} (least most : Sum Part) (own : ℕ → ℕ) (parts : List Part)
+    (place before after : ℕ) : Type 0 where
   pub grows : before ≤ after
-  pub counts : Counts before (least.of_parts choices (take place parts)) (own place + most.of_parts choices (take place parts)) after
+  pub counts : Counts before (least.of_parts (take place parts)) (own place + most.of_parts (take place parts)) after
 
 -- what the part at a place has
-pub lead_is : {Part : Type 0} (number : Part → ℕ) (parts : List Part) (lead : ℕ) (part : Part) → lead < length parts → part ≡ get_or parts lead part
+pub lead_is : {Part : Type 0} (number : Part → ℕ) (parts : List Part) (lead : ℕ) (part : Part) → lead < length parts →
+    part ≡ get_or parts lead part
     → of_lead number (slice_get parts lead) ≡ number part
 lead_is number parts lead part within is =
     ap (of_lead number) (slice_get_read parts (length parts) lead part refl within is)
 
-module _ {Part : Type 0} {sort : Sort Part} {least most : Sum Part sort} {choices : List Choice} {parts : List Part} {lead : ℕ} where
-  pub all_start : {before after : ℕ} {at : List Choice} → at ≡ choices_before sort choices parts lead → before ≤ after
-      → after ≤ before + of_lead (most.of_part at) (slice_get parts lead)
-      → min (before + of_lead (least.of_part at) (slice_get parts lead)) (2 ^ 64 - 1) ≤ after
-      → AllSoFar Part sort least most choices parts lead 0 before after choices
-  all_start {before} {after} {at} at_is grows within floor =
-      let first_is : (sum : Sum Part sort) → of_lead (sum.of_part at) (slice_get parts lead) ≡ of_first sort sum choices parts lead =
-      λ sum. ap (λ (own : List Choice). of_lead (sum.of_part own) (slice_get parts lead)) at_is in
+module _ {Part : Type 0} {least most : Sum Part} {parts : List Part} {lead : ℕ} where
+  -- the part that comes first has been counted
+  pub all_first : {before after : ℕ} (part : Part) → lead < length parts → part ≡ get_or parts lead part → before
+      ≤ after
+      → after ≤ before + most.of_part part → min (before + least.of_part part) (2 ^ 64 - 1) ≤ after
+      → AllSoFar least most parts lead 0 before after
+  all_first part inside is grows within floor =
+      let first_is : (sum : Sum Part) → of_first sum parts lead ≡ sum.of_part part =
+      λ sum. lead_is sum.of_part parts lead part inside is in
       record {
-        rest = (λ i. drop (sym sort.none i) choices);
         grows = grows;
         early = λ from. record {
           within = omega (arith, within, first_is most);
-          floor = omega (arith, floor, least.none choices, first_is least);
+          floor = omega (arith, floor, least.none, first_is least);
         };
         late = λ past. absurd (omega (arith, past));
       }
 
-  -- the same, by the part itself
-  pub all_first : {before after : ℕ} {at : List Choice} → at ≡ choices_before sort choices parts lead
-      → (part : Part) → lead < length parts → part ≡ get_or parts lead part → before ≤ after
-      → after ≤ before + most.of_part at part → min (before + least.of_part at part) (2 ^ 64 - 1) ≤ after
-      → AllSoFar Part sort least most choices parts lead 0 before after choices
-  all_first {at = at} at_is part inside is grows within floor =
-      all_start at_is grows (omega (arith, within, lead_is (most.of_part at) parts lead part inside is))
-      (omega (arith, floor, lead_is (least.of_part at) parts lead part inside is))
-
   -- what has been counted is no more than all parts have
-  pub all_most : {place before after : ℕ} {rest : List Choice} → AllSoFar Part sort least most choices parts lead place before after rest
-      → lead < length parts → after ≤ before + most.of_parts choices parts
+  pub all_most : {place before after : ℕ} → AllSoFar least most parts lead place before after → lead < length parts
+      → after ≤ before + most.of_parts parts
   all_most {place} so_far inside = elim (cases_lt lead place) [
-    | inl past ↦ omega (arith, (so_far.late past).within, sum_most sort most choices parts place)
-    | inr before ↦ omega (arith, (so_far.early before).within, first_room sort most choices parts lead place before inside)
+    | inl past ↦ omega (arith, (so_far.late past).within, sum_most most parts place)
+    | inr before ↦ omega (arith, (so_far.early before).within, first_room most parts lead place before inside)
   ]
 
   -- nor is it with what a part has that is executed next
-  pub all_next : {place before after next : ℕ} {rest : List Choice} → AllSoFar Part sort least most choices parts lead place before after rest
-      → lead < length parts → (part : Part) → place < length parts → part ≡ get_or parts place part → place ≢ lead
-      → next ≤ after + most.of_part rest part → next ≤ before + most.of_parts choices parts
+  pub all_next : {place before after next : ℕ} → AllSoFar least most parts lead place before after → lead < length parts
+      → (part : Part) → place < length parts → part ≡ get_or parts place part → place ≢ lead
+      → next ≤ after + most.of_part part → next ≤ before + most.of_parts parts
   all_next {place} so_far inside part within is other counted =
-      let more = sum_more sort most choices parts place part within is so_far.rest in
+      let more = sum_more most parts place part within is in
       elim (cases_lt place lead) [
         | inl less ↦
             omega (
@@ -219,16 +160,9 @@ module _ {Part : Type 0} {sort : Sort Part} {least most : Sum Part sort} {choice
               counted,
               (so_far.early (omega (arith, less))).within,
               more,
-              first_room sort most choices parts lead (place + 1) (omega (arith, less)) inside,
+              first_room most parts lead (place + 1) (omega (arith, less)) inside,
             )
-        | inr past ↦
-            omega (
-              arith,
-              counted,
-              (so_far.late (behind past)).within,
-              more,
-              sum_most sort most choices parts (place + 1),
-            )
+        | inr past ↦ omega (arith, counted, (so_far.late (behind past)).within, more, sum_most most parts (place + 1))
       ]
     where
       behind : lead ≤ place → lead < place
@@ -238,23 +172,37 @@ module _ {Part : Type 0} {sort : Sort Part} {least most : Sum Part sort} {choice
       ]
 
   -- a part that is executed
-  pub all_turn : {place before after next : ℕ} {rest behind : List Choice}
-      → AllSoFar Part sort least most choices parts lead place before after rest
-      → (part : Part) → place < length parts → part ≡ get_or parts place part → place ≢ lead → behind ≡ drop (sort.leaves_of part) rest
-      → after ≤ next → next ≤ after + most.of_part rest part → min (after + least.of_part rest part) (2 ^ 64 - 1) ≤ next
-      → AllSoFar Part sort least most choices parts lead (place + 1) before next behind
-  all_turn {place} {before} {after} {next} {rest} so_far part inside is other behind_is grows within floor =
-      let more = sum_more sort most choices parts place part inside is so_far.rest in
-      let less = sum_more sort least choices parts place part inside is so_far.rest in
+  pub all_turn : {place before after next : ℕ} → AllSoFar least most parts lead place before after
+      → (part : Part) → place < length parts → part ≡ get_or parts place part → place ≢ lead
+      → after ≤ next → next ≤ after + most.of_part part → min (after + least.of_part part) (2 ^ 64 - 1) ≤ next
+      → AllSoFar least most parts lead (place + 1) before next
+  all_turn {place} so_far part inside is other grows within floor =
+      let more = sum_more most parts place part inside is in
+      let less = sum_more least parts place part inside is in
       record {
-        rest = choices_more sort choices parts place part inside is so_far.rest behind_is;
         grows = omega (arith, so_far.grows, grows);
         early = λ from.
             let counts = so_far.early (omega (arith, from)) in
-            record { within = omega (arith, counts.within, within, more); floor = omega (arith, counts.floor, floor, less) };
+            record {
+              within = omega (arith, counts.within, within, more);
+              floor = omega (
+                arith,
+                counts.floor,
+                floor,
+                less,
+              );
+            };
         late = λ past.
             let counts = so_far.late (before_or_behind past) in
-            record { within = omega (arith, counts.within, within, more); floor = omega (arith, counts.floor, floor, less) };
+            record {
+              within = omega (arith, counts.within, within, more);
+              floor = omega (
+                arith,
+                counts.floor,
+                floor,
+                less,
+              );
+            };
       }
     where
       before_or_behind : lead < place + 1 → lead < place
@@ -264,99 +212,87 @@ module _ {Part : Type 0} {sort : Sort Part} {least most : Sum Part sort} {choice
       ]
 
   -- the part that came first
-  pub all_pass : {place before after next : ℕ} {rest behind : List Choice}
-      → AllSoFar Part sort least most choices parts lead place before after rest
-      → (part : Part) → place < length parts → part ≡ get_or parts place part → place ≡ lead → behind ≡ drop (sort.leaves_of part) rest
-      → next ≡ after → AllSoFar Part sort least most choices parts lead (place + 1) before next behind
-  all_pass {place} {before} {after} {next} {rest} so_far part inside is here behind_is same =
+  pub all_pass : {place before after next : ℕ} → AllSoFar least most parts lead place before after
+      → (part : Part) → place < length parts → part ≡ get_or parts place part → place ≡ lead
+      → next ≡ after → AllSoFar least most parts lead (place + 1) before next
+  all_pass {place} so_far part inside is here same =
       let counts = so_far.early (omega (arith, here)) in
-      let first_is : (sum : Sum Part sort) → of_first sort sum choices parts lead ≡ sum.of_part rest part =
-      λ sum.
-      (λ i. of_lead (sum.of_part (choices_before sort choices parts (sym here i))) (slice_get parts (sym here i)))
-      ∙ (λ i. of_lead (sum.of_part (sym so_far.rest i)) (slice_get parts place))
-      ∙ lead_is (sum.of_part rest) parts place part inside is in
+      let first_is : (sum : Sum Part) → of_first sum parts lead ≡ sum.of_part part =
+      λ sum. (λ i. of_first sum parts (sym here i)) ∙ lead_is sum.of_part parts place part inside is in
       record {
-        rest = choices_more sort choices parts place part inside is so_far.rest behind_is;
         grows = omega (arith, so_far.grows, same);
         early = λ from. absurd (omega (arith, from, here));
         late = λ past. record {
-          within = omega (arith, counts.within, same, first_is most, sum_more sort most choices parts place part inside is so_far.rest);
-          floor = omega (arith, counts.floor, same, first_is least, sum_more sort least choices parts place part inside is so_far.rest);
+          within = omega (arith, counts.within, same, first_is most, sum_more most parts place part inside is);
+          floor = omega (arith, counts.floor, same, first_is least, sum_more least parts place part inside is);
         };
       }
 
-  pub all_end : {place before after : ℕ} {rest : List Choice} → AllSoFar Part sort least most choices parts lead place before after rest
-      → length parts ≤ place → lead < length parts
-      → Counts before (least.of_parts choices parts) (most.of_parts choices parts) after
+  pub all_end : {place before after : ℕ} → AllSoFar least most parts lead place before after → length parts
+      ≤ place → lead < length parts
+      → Counts before (least.of_parts parts) (most.of_parts parts) after
   all_end {place} so_far past inside =
       let counts = so_far.late (omega (arith, past, inside)) in
       record {
-        within = omega (arith, counts.within, sum_all sort most choices parts place past);
-        floor = omega (arith, counts.floor, sum_all sort least choices parts place past);
+        within = omega (arith, counts.within, sum_all most parts place past);
+        floor = omega (arith, counts.floor, sum_all least parts place past);
       }
 
-module _ {Part : Type 0} {sort : Sort Part} {least most : Sum Part sort} {own : ℕ → ℕ} {choices : List Choice} {parts : List Part} where
-  pub some_start : (visits : ℕ) → SomeSoFar Part sort least most own choices parts 0 visits visits choices
+module _ {Part : Type 0} {least most : Sum Part} {own : ℕ → ℕ} {parts : List Part} where
+  pub some_start : (visits : ℕ) → SomeSoFar least most own parts 0 visits visits
   some_start visits = record {
-    rest = (λ i. drop (sym sort.none i) choices);
     grows = omega arith;
-    counts = record { within = omega arith; floor = omega (arith, least.none choices) };
+    counts = record { within = omega arith; floor = omega (arith, least.none) };
   }
 
-  pub some_turn : {place before after next : ℕ} {rest behind : List Choice}
-      → SomeSoFar Part sort least most own choices parts place before after rest
-      → (part : Part) → place < length parts → part ≡ get_or parts place part → behind ≡ drop (sort.leaves_of part) rest
+  pub some_turn : {place before after next : ℕ} → SomeSoFar least most own parts place before after
+      → (part : Part) → place < length parts → part ≡ get_or parts place part
       → (read : ℕ) → own place + read ≤ own (place + 1)
-      → after ≤ next → next ≤ after + (most.of_part rest part + read) → min (after + least.of_part rest part) (2 ^ 64 - 1) ≤ next
-      → SomeSoFar Part sort least most own choices parts (place + 1) before next behind
-  some_turn {place} {before} {after} {next} {rest} so_far part inside is behind_is read paid grows within floor =
+      → after ≤ next → next ≤ after + (most.of_part part + read) → min (after + least.of_part part) (2 ^ 64 - 1) ≤ next
+      → SomeSoFar least most own parts (place + 1) before next
+  some_turn {place} so_far part inside is read paid grows within floor =
       record {
-        rest = choices_more sort choices parts place part inside is so_far.rest behind_is;
         grows = omega (arith, so_far.grows, grows);
         counts = record {
-          within = omega (arith, so_far.counts.within, within, paid, sum_more sort most choices parts place part inside is so_far.rest);
-          floor = omega (arith, so_far.counts.floor, floor, sum_more sort least choices parts place part inside is so_far.rest);
+          within = omega (arith, so_far.counts.within, within, paid, sum_more most parts place part inside is);
+          floor = omega (arith, so_far.counts.floor, floor, sum_more least parts place part inside is);
         };
       }
 
   -- what is counted of a part, or of a front of it, is within what all parts have
-  pub some_next : {place before after next : ℕ} {rest : List Choice} → SomeSoFar Part sort least most own choices parts place before after rest
+  pub some_next : {place before after next : ℕ} → SomeSoFar least most own parts place before after
       → (part : Part) → place < length parts → part ≡ get_or parts place part
-      → (read : ℕ) → own place + read ≤ own (length parts) → next ≤ after + (most.of_part rest part + read)
-      → next ≤ before + (own (length parts) + most.of_parts choices parts)
+      → (read : ℕ) → own place + read ≤ own (length parts) → next ≤ after + (most.of_part part + read)
+      → next ≤ before + (own (length parts) + most.of_parts parts)
   some_next {place} so_far part inside is read paid counted =
       omega (
         arith,
         so_far.counts.within,
         counted,
         paid,
-        sum_more sort most choices parts place part inside is so_far.rest,
-        sum_most sort most choices parts (place + 1),
+        sum_more most parts place part inside is,
+        sum_most most parts (place + 1),
       )
 
-  pub some_end : {place before after : ℕ} {rest : List Choice} → SomeSoFar Part sort least most own choices parts place before after rest
-      → length parts ≡ place → Counts before (least.of_parts choices parts) (own (length parts) + most.of_parts choices parts) after
+  pub some_end : {place before after : ℕ} → SomeSoFar least most own parts place before after → length parts ≡ place
+      → Counts before (least.of_parts parts) (own (length parts) + most.of_parts parts) after
   some_end {place} so_far end =
       record {
-        within = omega (
-          arith,
-          so_far.counts.within,
-          sum_all sort most choices parts place (omega (arith, end)),
-          ap own end,
-        );
-        floor = omega (arith, so_far.counts.floor, sum_all sort least choices parts place (omega (arith, end)));
+        within = omega (arith, so_far.counts.within, sum_all most parts place (omega (arith, end)), ap own end);
+        floor = omega (arith, so_far.counts.floor, sum_all least parts place (omega (arith, end)));
       }
 
 -- where parts are joined, what was found so far and what the next has found are no more than what all find
-pub joined_reads : {Part : Type 0} (sort : Sort Part) (sizes : Sum Part sort) (choices : List Choice) (parts : List Part) (place : ℕ) (part : Part)
-    {rest : List Choice} → place < length parts → part ≡ get_or parts place part → rest ≡ choices_before sort choices parts place
-    → (found also : ℕ) → found ≤ sizes.of_parts choices (take place parts) → also ≤ sizes.of_part rest part
-    → place * sizes.of_parts choices parts + (found + also) ≤ (place + 1) * sizes.of_parts choices parts
-joined_reads sort sizes choices parts place part inside is rest_is found also few fewer =
-    let all : ℕ = sizes.of_parts choices parts in
-    let times : (place + 1) * all ≡ place * all + all = ap (λ (n : ℕ). n * all) (next_place place) ∙ suc-mul place all in
-    let most : sizes.of_parts choices (take (place + 1) parts) ≤ all = sum_most sort sizes choices parts (place + 1) in
-    omega (arith, few, fewer, sum_more sort sizes choices parts place part inside is rest_is, most, times)
+pub joined_reads : {Part : Type 0} (sizes : Sum Part) (parts : List Part) (place : ℕ) (part : Part)
+    → place < length parts → part ≡ get_or parts place part
+    → (found also : ℕ) → found ≤ sizes.of_parts (take place parts) → also ≤ sizes.of_part part
+    → place * sizes.of_parts parts + (found + also) ≤ (place + 1) * sizes.of_parts parts
+joined_reads sizes parts place part inside is found also few fewer =
+    let all : ℕ = sizes.of_parts parts in
+    let times : (place + 1) * all ≡ place * all + all = ap (λ (n : ℕ). n * all) (next_place place)
+    ∙ suc-mul place all in
+    let most : sizes.of_parts (take (place + 1) parts) ≤ all = sum_most sizes parts (place + 1) in
+    omega (arith, few, fewer, sum_more sizes parts place part inside is, most, times)
 
 -- so many times a number, for one place more, and for a place before the last
 pub times_more : {place count : ℕ} (all : ℕ) → place < count → (place + 1) * all ≤ count * all
@@ -378,7 +314,8 @@ counted_without before sum within = omega (arith, within)
 -- the first type, and those behind it
 pub along_one : (indexed : Indexed) (place first : ℕ)
     → values_bound indexed (suc place) first
-    ≡ (first + length indexed.rows) + place * (min (length indexed.concepts) (length indexed.rows) + length indexed.rows)
+    ≡ (first + length indexed.rows) + place * (min (length indexed.concepts) (length indexed.rows) + length
+    indexed.rows)
 along_one indexed place first =
     let step = min (length indexed.concepts) (length indexed.rows) + length indexed.rows in
     let some : (suc place == 0) ≡ false = ne_eqb (suc place) 0 (λ same. omega (arith, same)) in
@@ -391,7 +328,12 @@ pub along_more : (indexed : Indexed) (place first found : ℕ) → (place ≡ 0 
     → (0 < place → found ≤ min (length indexed.concepts) (length indexed.rows))
     → values_bound indexed place first + (found + length indexed.rows) ≤ values_bound indexed (place + 1) first
 along_more indexed zero first found start few =
-    omega (arith, start refl, along_one indexed 0 first, zero-mul (min (length indexed.concepts) (length indexed.rows) + length indexed.rows))
+    omega (
+      arith,
+      start refl,
+      along_one indexed 0 first,
+      zero-mul (min (length indexed.concepts) (length indexed.rows) + length indexed.rows),
+    )
 along_more indexed (suc place) first found start few =
     let step = min (length indexed.concepts) (length indexed.rows) + length indexed.rows in
     omega (
@@ -404,7 +346,8 @@ along_more indexed (suc place) first found start few =
     )
 
 -- more types, or more to start from, read no less
-pub along_le : (indexed : Indexed) (place further first : ℕ) → place ≤ further → values_bound indexed place first ≤ values_bound indexed further first
+pub along_le : (indexed : Indexed) (place further first : ℕ) → place ≤ further → values_bound indexed place first
+    ≤ values_bound indexed further first
 along_le indexed zero further first before = omega arith
 along_le indexed (suc place) zero first before = absurd (omega (arith, before))
 along_le indexed (suc place) (suc further) first before =
@@ -416,6 +359,12 @@ along_le indexed (suc place) (suc further) first before =
       mul-le-mul_right {m = place} {n = further} step (omega (arith, before)),
     )
 
-pub along_from : (indexed : Indexed) (place few many : ℕ) → few ≤ many → values_bound indexed place few ≤ values_bound indexed place many
+pub along_from : (indexed : Indexed) (place few many : ℕ) → few ≤ many → values_bound indexed place few
+    ≤ values_bound indexed place many
 along_from indexed zero few many more = omega arith
-along_from indexed (suc place) few many more = omega (arith, more, along_one indexed place few, along_one indexed place many)
+along_from indexed (suc place) few many more = omega (
+  arith,
+  more,
+  along_one indexed place few,
+  along_one indexed place many,
+)

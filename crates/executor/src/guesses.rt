@@ -3,7 +3,7 @@
 //! A guess reads the lengths of a few lists. It tells which of several parts is executed first, so that a bad one costs
 //! time, and no answer depends on it.
 ghost use Rattle.std.specs.Prelude.{◌≡◌, IsSome};
-ghost use Rattle.set_algebra.specs.Plan.{plan_of};
+ghost use Rattle.set_algebra.specs.Physical.{physical_of};
 ghost use Rattle.plan_bounds.specs.Counts.{one_of};
 
 use constraint_tree::{Cardinality, Operator};
@@ -75,6 +75,7 @@ fn guess(plan: &ConceptPlan, indexes: &Indexes, depth: u32) -> u64 {
             count,
             types,
             test,
+            ..
         } => unless_none_is_asked(*count, all, guess_of_rows(*back, types, test, indexes)),
         ConceptPlan::Units { count, units } => {
             let groups = group_guess(units, indexes, depth - 1);
@@ -118,9 +119,12 @@ fn group_guess(plan: &UnitPlan, indexes: &Indexes, depth: u32) -> u64 {
         UnitPlan::And(parts) => least_group_guess(parts, indexes, depth - 1),
         UnitPlan::Or(parts) => sum_of_group_guesses(parts, indexes, depth - 1),
         UnitPlan::Minus(first, _) => group_guess(first, indexes, depth - 1),
-        UnitPlan::Pairs { count, types, test } => {
-            unless_none_is_asked(*count, all, guess_of_rows(false, types, test, indexes))
-        }
+        UnitPlan::Pairs {
+            count,
+            types,
+            test,
+            ..
+        } => { unless_none_is_asked(*count, all, guess_of_rows(false, types, test, indexes)) }
     }
 }
 
@@ -202,7 +206,7 @@ pub fn rows_of_types(types: &ConceptPlan, indexes: &Indexes) -> u64 {
 
 /// How many rows a plan reads where it reads none of candidates; none where it never does.
 pub fn rows_without(plan: &ConceptPlan, indexes: &Indexes) -> u64
-    ensures { IsSome (one_of (plan_of plan.now)) → result ≡ 0 }
+    ensures { IsSome (one_of (physical_of plan.now)) → result ≡ 0 }
 {
     match plan {
         ConceptPlan::Empty

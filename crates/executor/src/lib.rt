@@ -16,4 +16,4 @@ mod unit_plans;
 mod walk_plans;
 
 pub use crate::plans::execute;
-pub use candidates::Visits;
+pub use reading::Visits;

@@ -1,98 +1,68 @@
 //! What MINUS does between its two parts: it counts what it reads of what they find, and sees how much there is of what the first has
 //! found, for which alone the second is executed.
-ghost use Rattle.std.specs.Prelude.{◌≡◌, ◌≤◌, All, IfOk, drop, length, true};
+ghost use Rattle.std.specs.Prelude.{◌≡◌, ◌≤◌, All, IfOk, length, true};
 ghost use Rattle.postings.specs.Groups.{all_groups};
-ghost use Rattle.postings.specs.Indexed.{IsIndexOf};
-ghost use Rattle.set_algebra.specs.Plan.{minus_plan, minus_units, plan_of, unit_plan_of};
+ghost use Rattle.set_algebra.specs.Physical.{physical_minus, physical_units_minus, physical_of, physical_units_of};
 ghost use Rattle.plan_bounds.specs.Bounds.{group_own_bound, own_bound};
-ghost use Rattle.plan_bounds.specs.Leaves.{group_leaves, leaves};
 ghost use Rattle.plan_bounds.specs.Sizes.{group_size, size as size_of};
-ghost use Rattle.candidates.specs.Counted.{CountsWithin};
+ghost use Rattle.reading.specs.Counted.{CountsWithin};
 ghost use Rattle.candidates.specs.Extents.{IsExtentOf, IsGroupExtentOf};
 ghost use Rattle.candidates.specs.Within.{AreConcepts, AreGroups, may_be};
 
 use crate::counting::minus_reads;
-use candidates::{Candidates, Extent, Visits, extent_to_take, group_extent_to_take};
-use held_release::Snapshot;
+use candidates::{Candidates, Extent, extent_to_take, group_extent_to_take};
 use idset::ConceptSet;
-use plan_bounds::{Choice, plan_floor, plan_size, unit_floor, unit_size};
-use postings::Indexes;
+use plan_bounds::{plan_size, unit_size};
+use reading::{Answer, Counter, Reader};
 use set_algebra::{ConceptPlan, UnitPlan};
-use std::alloc::{AllocError, Global};
+use std::alloc::AllocError;
 
-/// With what the second part is executed.
-#[derive(Clone, Copy)]
-pub struct SecondPart<'a> {
-    /// The choices of its leaves, and of those behind them.
-    pub choices: &'a [Choice],
-    /// How much there is of what the first part has found.
-    pub extent: Extent,
-}
-
-/// Behind the first part of a plan of concepts, which has found a set.
-pub fn second_part<'a, S: ConceptSet>(
-    alloc: Global,
+/// How much there is of what the first part of a plan of concepts has found.
+pub fn second_part<S: ConceptSet>(
+    reader: Reader<'_>,
     first: &ConceptPlan,
     second: &ConceptPlan,
-    choices: &'a [Choice],
-    left: &S,
+    left: &Answer<S>,
     candidates: &Candidates<'_, S>,
-    snapshot: &Snapshot,
-    indexes: &Indexes,
-    visits: &mut Visits,
-) -> Result<SecondPart<'a>, AllocError>
-    requires index { IsIndexOf indexes.now snapshot.now.release }
-    requires bound { S.bound_of left.now ≡ length snapshot.now.release.concepts }
-    requires candidates { AreConcepts S.ConceptSet snapshot.now.release indexes.now candidates.now }
+    visits: &mut Counter,
+) -> Result<Extent, AllocError>
+    requires bound { S.bound_of left.now ≡ length reader.snapshot.now.release.concepts }
+    requires candidates { AreConcepts S.ConceptSet reader.snapshot.now.release reader.indexes.now candidates.now }
     requires among { All (λ number. may_be S.items_of candidates.now number ≡ true) (S.items_of left.now) }
-    requires size { length (S.items_of left.now) ≤ size_of indexes.now choices.now (plan_of first.now) }
-    ensures choices { IfOk result (λ part. part.choices.now ≡ drop (leaves (plan_of first.now)) choices.now) }
-    ensures extent { IfOk result (λ part. IsExtentOf indexes.now (S.items_of left.now) part.extent) }
-    ensures counted { CountsWithin (own_bound indexes.now choices.now (minus_plan (plan_of first.now) (plan_of second.now))) visits.old visits.new }
+    requires size { length (S.items_of left.now) ≤ size_of reader.indexes.now (physical_of first.now) }
+    ensures extent { IfOk result (λ extent. IsExtentOf reader.entry.indexes.now (S.items_of left.now) extent) }
+    ensures counted { CountsWithin (own_bound reader.entry.indexes.now (physical_minus (physical_of first.now) (physical_of second.now))) visits.old visits.new }
 {
-    let rest = plan_floor(first, choices, indexes).rest;
     let sizes = (
-        plan_size(first, choices, indexes),
-        plan_size(second, rest, indexes),
+        plan_size(first, reader.indexes),
+        plan_size(second, reader.indexes),
     );
     visits.add(minus_reads(left.count(), sizes));
-    let extent = extent_to_take(alloc, snapshot, indexes, candidates, left, sizes)?;
-    Ok(SecondPart {
-        choices: rest,
-        extent,
-    })
+    let extent = extent_to_take(reader, candidates, left, sizes)?;
+    Ok(extent)
 }
 
-/// Behind the first part of a plan of groups.
-pub fn second_unit_part<'a, S: ConceptSet>(
-    alloc: Global,
+/// How much there is of what the first part of a plan of groups has found.
+pub fn second_unit_part<S: ConceptSet>(
+    reader: Reader<'_>,
     first: &UnitPlan,
     second: &UnitPlan,
-    choices: &'a [Choice],
-    left: &S,
+    left: &Answer<S>,
     candidates: &Candidates<'_, S>,
-    snapshot: &Snapshot,
-    indexes: &Indexes,
-    visits: &mut Visits,
-) -> Result<SecondPart<'a>, AllocError>
-    requires index { IsIndexOf indexes.now snapshot.now.release }
-    requires bound { S.bound_of left.now ≡ length (all_groups snapshot.now.release) }
-    requires candidates { AreGroups S.ConceptSet snapshot.now.release indexes.now candidates.now }
+    visits: &mut Counter,
+) -> Result<Extent, AllocError>
+    requires bound { S.bound_of left.now ≡ length (all_groups reader.snapshot.now.release) }
+    requires candidates { AreGroups S.ConceptSet reader.snapshot.now.release reader.indexes.now candidates.now }
     requires among { All (λ number. may_be S.items_of candidates.now number ≡ true) (S.items_of left.now) }
-    requires size { length (S.items_of left.now) ≤ group_size indexes.now choices.now (unit_plan_of first.now) }
-    ensures choices { IfOk result (λ part. part.choices.now ≡ drop (group_leaves (unit_plan_of first.now)) choices.now) }
-    ensures extent { IfOk result (λ part. IsGroupExtentOf indexes.now (S.items_of left.now) part.extent) }
-    ensures counted { CountsWithin (group_own_bound indexes.now choices.now (minus_units (unit_plan_of first.now) (unit_plan_of second.now))) visits.old visits.new }
+    requires size { length (S.items_of left.now) ≤ group_size reader.indexes.now (physical_units_of first.now) }
+    ensures extent { IfOk result (λ extent. IsGroupExtentOf reader.entry.indexes.now (S.items_of left.now) extent) }
+    ensures counted { CountsWithin (group_own_bound reader.entry.indexes.now (physical_units_minus (physical_units_of first.now) (physical_units_of second.now))) visits.old visits.new }
 {
-    let rest = unit_floor(first, choices, indexes).rest;
     let sizes = (
-        unit_size(first, choices, indexes),
-        unit_size(second, rest, indexes),
+        unit_size(first, reader.indexes),
+        unit_size(second, reader.indexes),
     );
     visits.add(minus_reads(left.count(), sizes));
-    let extent = group_extent_to_take(alloc, snapshot, indexes, candidates, left, sizes)?;
-    Ok(SecondPart {
-        choices: rest,
-        extent,
-    })
+    let extent = group_extent_to_take(reader, candidates, left, sizes)?;
+    Ok(extent)
 }

@@ -1,14 +1,13 @@
 //! Walks of a plan.
 ghost use Rattle.std.specs.Prelude.{◌≡◌, ◌≤◌, ◌*◌, IfOk, None, length};
-ghost use Rattle.postings.specs.Indexed.{IsIndexOf};
 ghost use Rattle.number_lists.specs.Members.{has};
 ghost use Rattle.set_algebra.specs.Meaning.{means};
-ghost use Rattle.set_algebra.specs.Plan.{plan_of, walk_plan};
+ghost use Rattle.set_algebra.specs.Physical.{logical, physical_of, physical_walk};
 ghost use Rattle.plan_bounds.specs.Counts.{lists_length, one_of};
 ghost use Rattle.plan_bounds.specs.Floors.{floor_number};
 ghost use Rattle.plan_bounds.specs.Nodes.{node_sum};
 ghost use Rattle.walks.specs.Reads.{asked_items};
-ghost use Rattle.candidates.specs.Counted.{IsFound, full};
+ghost use Rattle.reading.specs.Counted.{IsFound, full};
 ghost use Rattle.candidates.specs.Tallies.{Adds};
 ghost use Rattle.candidates.specs.Within.{AreConcepts, numbers_within};
 ghost use Rattle.executor.specs.inside.Executed.{AnswersPlan, CountsPlan};
@@ -16,14 +15,12 @@ ghost use Rattle.executor.specs.inside.Executed.{AnswersPlan, CountsPlan};
 use crate::found::walk_found;
 use crate::guesses::rows_without;
 use crate::plans::execute_within;
-use candidates::{Candidates, RowTally, Visits, extent_of};
+use candidates::{Candidates, RowTally, extent_of};
 use constraint_tree::Operator;
-use held_release::Snapshot;
 use idset::ConceptSet;
-use plan_bounds::Choice;
-use postings::Indexes;
+use reading::{Answer, Counter, Reader};
 use set_algebra::ConceptPlan;
-use std::alloc::{AllocError, Global};
+use std::alloc::AllocError;
 use walks::{enough_for, items_enough, led_among};
 
 /// The candidates among the concepts that an operator leads to from those that a plan means. Where few candidates are asked, it is
@@ -31,39 +28,31 @@ use walks::{enough_for, items_enough, led_among};
 /// asks for them.
 #[cycle(execute)]
 pub fn walk_from<S: ConceptSet>(
-    alloc: Global,
+    reader: Reader<'_>,
     operator: Operator,
     operand: &ConceptPlan,
-    choices: &[Choice],
     candidates: &Candidates<'_, S>,
-    snapshot: &Snapshot,
-    indexes: &Indexes,
-    visits: &mut Visits,
+    visits: &mut Counter,
     tally: &mut RowTally<'_>,
-) -> Result<S, AllocError>
-    requires index { IsIndexOf indexes.now snapshot.now.release }
-    requires candidates { AreConcepts S.ConceptSet snapshot.now.release indexes.now candidates.now }
-    ensures counted { CountsPlan indexes.now choices.now (walk_plan operator (plan_of operand.now)) visits.old visits.new }
-    ensures found { IfOk result (AnswersPlan S.ConceptSet snapshot.now.release indexes.now choices.now candidates.now
-        (walk_plan operator (plan_of operand.now)) visits.old visits.new) }
+) -> Result<Answer<S>, AllocError>
+    requires candidates { AreConcepts S.ConceptSet reader.snapshot.now.release reader.indexes.now candidates.now }
+    ensures counted { CountsPlan reader.entry.indexes.now (physical_walk operator (physical_of operand.now)) visits.old visits.new }
+    ensures found { IfOk result (AnswersPlan S.ConceptSet reader.entry.snapshot.now.release reader.entry.indexes.now candidates.now
+        (physical_walk operator (physical_of operand.now)) visits.old visits.new) }
     ensures adds { IfOk result (λ found. Adds (S.items_of found) tally.old tally.new) }
 {
-    let count = snapshot.concept_count();
+    let count = reader.concept_count();
     if let Candidates::Within(wanted, _) = candidates {
-        let rows = rows_without(operand, indexes);
-        if let Some(items) = items_enough(indexes, operator, count, rows, candidates) {
+        let rows = rows_without(operand, reader.indexes);
+        if let Some(items) = items_enough(reader, operator, count, rows, candidates) {
             tally.forget();
-            let found = walk_to_few(
-                alloc, operator, operand, choices, *wanted, items, rows, snapshot, indexes, visits,
-            )?;
+            let found = walk_to_few(reader, operator, operand, *wanted, items, rows, visits)?;
             return Ok(found);
         }
     }
     let all = Candidates::All;
-    let from: S = execute_within(alloc, operand, choices, &all, snapshot, indexes, visits)?;
-    let found = walk_found(
-        alloc, operator, operand, choices, &from, candidates, snapshot, indexes, visits, tally,
-    )?;
+    let from: Answer<S> = execute_within(reader, operand, &all, visits)?;
+    let found = walk_found(reader, operator, operand, &from, candidates, visits, tally)?;
     Ok(found)
 }
 
@@ -71,32 +60,27 @@ pub fn walk_from<S: ConceptSet>(
 // which are enough for them, and to ask them.
 #[cycle(execute)]
 fn walk_to_few<S: ConceptSet>(
-    alloc: Global,
+    reader: Reader<'_>,
     operator: Operator,
     operand: &ConceptPlan,
-    choices: &[Choice],
-    wanted: &S,
+    wanted: &Answer<S>,
     items: u64,
     rows: u64,
-    snapshot: &Snapshot,
-    indexes: &Indexes,
-    visits: &mut Visits,
-) -> Result<S, AllocError>
-    requires index { IsIndexOf indexes.now snapshot.now.release }
-    requires bound { S.bound_of wanted.now ≡ length snapshot.now.release.concepts }
-    requires several { one_of (plan_of operand.now) ≡ None }
-    requires read { full (asked_items indexes.now.hierarchy operator (S.items_of wanted.now)) ≤ items }
-    requires room { 2 * items ≤ lists_length indexes.now operator }
-    ensures counted { CountsPlan indexes.now choices.now (walk_plan operator (plan_of operand.now)) visits.old visits.new }
-    ensures found { IfOk result (IsFound S.ConceptSet (length snapshot.now.release.concepts)
-        (numbers_within snapshot.now.release (has (S.items_of wanted.now)) (means snapshot.now.release (walk_plan operator (plan_of operand.now))))
-        (node_sum (floor_number indexes.now) choices.now (walk_plan operator (plan_of operand.now))) visits.old visits.new) }
+    visits: &mut Counter,
+) -> Result<Answer<S>, AllocError>
+    requires bound { S.bound_of wanted.now ≡ length reader.snapshot.now.release.concepts }
+    requires several { one_of (physical_of operand.now) ≡ None }
+    requires read { full (asked_items reader.indexes.now.hierarchy operator (S.items_of wanted.now)) ≤ items }
+    requires room { 2 * items ≤ lists_length reader.indexes.now operator }
+    ensures counted { CountsPlan reader.entry.indexes.now (physical_walk operator (physical_of operand.now)) visits.old visits.new }
+    ensures found { IfOk result (IsFound S.ConceptSet (length reader.entry.snapshot.now.release.concepts)
+        (numbers_within reader.entry.snapshot.now.release (has (S.items_of wanted.now)) (means reader.entry.snapshot.now.release (logical (physical_walk operator (physical_of operand.now)))))
+        (node_sum (floor_number reader.entry.indexes.now) (physical_walk operator (physical_of operand.now))) visits.old visits.new) }
 {
-    let index = indexes.hierarchy();
-    let enough: S = enough_for(alloc, index, operator, wanted, items, visits)?;
-    let extent = extent_of(alloc, snapshot, indexes, &enough, rows)?;
+    let enough: Answer<S> = enough_for(reader, operator, wanted, items, visits)?;
+    let extent = extent_of(reader, &enough, rows)?;
     let theirs = Candidates::Within(&enough, extent);
-    let from: S = execute_within(alloc, operand, choices, &theirs, snapshot, indexes, visits)?;
-    let found = led_among(alloc, index, operator, &from, wanted, items, visits)?;
+    let from: Answer<S> = execute_within(reader, operand, &theirs, visits)?;
+    let found = led_among(reader, operator, &from, wanted, items, visits)?;
     Ok(found)
 }

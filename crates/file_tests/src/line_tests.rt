@@ -242,6 +242,14 @@ fn reads_a_line_longer_than_a_piece(rt: HostRuntime) -> Result<(), AllocError> {
     check_long(&rt, alloc, text.as_slice())
 }
 
+// A line of 16 MiB has its memory, where there is some.
+#[test]
+fn reads_a_line_of_many_pieces(rt: HostRuntime) -> Result<(), AllocError> {
+    let alloc = rt.alloc();
+    let text = long_text(alloc, 16_777_216)?;
+    check_long(&rt, alloc, text.as_slice())
+}
+
 fn check_long(rt: &impl Abort, alloc: Global, bytes: &[u8]) -> Result<(), AllocError> {
     let files = [NamedBytes { name: NAME, bytes }];
     check_pieces(rt, alloc, &files, 4_096, bytes)?;

@@ -7,7 +7,7 @@ use constraint_tree::{
     Attribute, AttributeSet, Cardinality, Compare, Constraint, Operator, Refinement, Test,
 };
 use numerals::Decimal;
-use set_algebra::{ConceptPlan, UnitPlan, ValueTest, lower};
+use set_algebra::{Choice, ConceptPlan, UnitPlan, ValueTest, lower};
 use std::alloc::{AllocError, Global};
 
 const THREE: Cardinality = Cardinality {
@@ -74,6 +74,7 @@ fn by_value(alloc: Global) -> Result<ConceptPlan, AllocError> {
         count: SOME,
         types,
         test: ValueTest::Within(one(alloc, 106004)?),
+        choice: Choice::ByType,
     };
     below_and(alloc, pairs)
 }
@@ -95,6 +96,7 @@ fn by_type(alloc: Global) -> Result<ConceptPlan, AllocError> {
         count: SOME,
         types: one(alloc, 105000)?,
         test: ValueTest::Number(Compare::Greater, TWO),
+        choice: Choice::ByType,
     };
     Ok(ConceptPlan::And(plans_of(alloc, ConceptPlan::All, pairs)?))
 }
@@ -110,6 +112,7 @@ fn valued(alloc: Global, type_id: u64, values: ConceptPlan) -> Result<UnitPlan, 
         count: SOME,
         types: one(alloc, type_id)?,
         test: ValueTest::Within(values),
+        choice: Choice::ByType,
     })
 }
 
@@ -229,6 +232,7 @@ fn pairs_back(alloc: Global) -> Result<ConceptPlan, AllocError> {
         count: THREE,
         types: one(alloc, 105000)?,
         test: ValueTest::Outside(members),
+        choice: Choice::ByType,
     })
 }
 

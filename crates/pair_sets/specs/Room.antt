@@ -2,7 +2,7 @@
 use Rattle.std.specs.Prelude.{ℕ, ◌≤◌, ◌+◌, Bool, List, Option, Some, None, filter, length, min, sum_by}
 use Rattle.postings.specs.Indexed.{Indexed, types_of}
 use Rattle.postings.specs.Stats.{type_row_count}
-use Rattle.candidates.specs.Counted.{full_sum}
+use Rattle.reading.specs.Counted.{full_sum}
 use Rattle.candidates.specs.Numbers.{is_one_of}
 use Rattle.candidates.specs.RowCounts.{row_count_of}
 use Rattle.set_algebra.specs.declared.choice.Choice.{Choice}

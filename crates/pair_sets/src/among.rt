@@ -15,8 +15,9 @@ use crate::tested::Tested;
 use crate::types::is_typed;
 use constraint_tree::Cardinality;
 use idset::ConceptSet;
-use postings::{FlaggedNumber, Indexes, RowCells};
-use std::alloc::{AllocError, Global};
+use postings::{FlaggedNumber, RowCells};
+use reading::{Answer, Reader};
+use std::alloc::AllocError;
 
 // Whether a number lies in a cardinality.
 fn lies_in(count: Cardinality, pairs: u64) -> bool
@@ -32,21 +33,21 @@ fn lies_in(count: Cardinality, pairs: u64) -> bool
 // How many of some rows are the first with their pair, in their group or in their concept, and have a type that is one of
 // some and a value that passes.
 fn pairs_among<S: ConceptSet>(
-    indexes: &Indexes,
+    reader: Reader<'_>,
     rows: &[u32],
     grouped: bool,
-    types: &S,
+    types: &Answer<S>,
     tested: &Tested<S>,
 ) -> u64
-    requires rows { All (λ n. n < length indexes.now.rows) rows.now }
-    requires types { S.bound_of types.now ≡ length indexes.now.concepts }
-    requires tested { IsTestBelow S.bound_of (length indexes.now.concepts) tested.now }
-    ensures { result ≡ pairs_among_of indexes.now grouped (is_one_of indexes.now.concepts (S.items_of types.now)) (passes_of S.items_of indexes.now.concepts tested.now) rows.now }
+    requires rows { All (λ n. n < length reader.indexes.now.rows) rows.now }
+    requires types { S.bound_of types.now ≡ length reader.indexes.now.concepts }
+    requires tested { IsTestBelow S.bound_of (length reader.indexes.now.concepts) tested.now }
+    ensures { result ≡ pairs_among_of reader.entry.indexes.now grouped (is_one_of reader.entry.indexes.now.concepts (S.items_of types.now)) (passes_of S.items_of reader.entry.indexes.now.concepts tested.now) rows.now }
 {
     let mut pairs = 0u64;
     for n in rows {
-        let row = indexes.cells(*n);
-        if counts(indexes, row, grouped, types, tested) {
+        let row = reader.cells(*n);
+        if counts(reader, row, grouped, types, tested) {
             pairs += 1;
         }
     }
@@ -55,46 +56,46 @@ fn pairs_among<S: ConceptSet>(
 
 // Whether a row is the first with its pair, its type is in a set and its value passes.
 fn counts<S: ConceptSet>(
-    indexes: &Indexes,
+    reader: Reader<'_>,
     row: RowCells,
     grouped: bool,
-    types: &S,
+    types: &Answer<S>,
     tested: &Tested<S>,
 ) -> bool
-    requires types { S.bound_of types.now ≡ length indexes.now.concepts }
-    requires tested { IsTestBelow S.bound_of (length indexes.now.concepts) tested.now }
+    requires types { S.bound_of types.now ≡ length reader.indexes.now.concepts }
+    requires tested { IsTestBelow S.bound_of (length reader.indexes.now.concepts) tested.now }
     ensures { result ≡ (cond grouped row.is_first_in_group row.is_first
-        && (is_type_in indexes.now (S.items_of types.now) row.type_place && passes_of S.items_of indexes.now.concepts tested.now (value_of indexes.now row.value))) }
+        && (is_type_in reader.entry.indexes.now (S.items_of types.now) row.type_place && passes_of S.items_of reader.entry.indexes.now.concepts tested.now (value_of reader.entry.indexes.now row.value))) }
 {
     let first = if grouped {
         row.is_first_in_group
     } else {
         row.is_first
     };
-    first && is_typed(indexes, types, row.type_place) && passes(indexes, tested, row.value)
+    first && is_typed(reader, types, row.type_place) && passes(reader, tested, row.value)
 }
 
 // How many of some rows, by their columns, are the first with their pair, and have a type that is one of some and a source that
 // passes.
 fn back_pairs_among<S: ConceptSet>(
-    indexes: &Indexes,
+    reader: Reader<'_>,
     sources: &[FlaggedNumber],
     cells: &[u32],
-    types: &S,
+    types: &Answer<S>,
     tested: &Tested<S>,
 ) -> u64
     requires long { length sources.now ≡ length cells.now }
-    requires types { S.bound_of types.now ≡ length indexes.now.concepts }
-    requires tested { IsTestBelow S.bound_of (length indexes.now.concepts) tested.now }
-    ensures { (entries : List Entry) → AreSources indexes.now.concepts entries sources.now → AreTypes (types_of indexes.now.rows) entries cells.now
-        → result ≡ count_by (λ entry. entry.is_first && has_source_in (is_one_of indexes.now.concepts (S.items_of types.now)) (passes_of S.items_of indexes.now.concepts tested.now) entry.row) entries }
+    requires types { S.bound_of types.now ≡ length reader.indexes.now.concepts }
+    requires tested { IsTestBelow S.bound_of (length reader.indexes.now.concepts) tested.now }
+    ensures { (entries : List Entry) → AreSources reader.entry.indexes.now.concepts entries sources.now → AreTypes (types_of reader.entry.indexes.now.rows) entries cells.now
+        → result ≡ count_by (λ entry. entry.is_first && has_source_in (is_one_of reader.entry.indexes.now.concepts (S.items_of types.now)) (passes_of S.items_of reader.entry.indexes.now.concepts tested.now) entry.row) entries }
 {
     // the concepts rise, so that none has two numbers
-    indexes.concept_count();
+    reader.concept_count();
     let mut pairs = 0u64;
     for place in 0..sources.len() {
         let source = sources[place];
-        if counts_back(indexes, source, cells[place], types, tested) {
+        if counts_back(reader, source, cells[place], types, tested) {
             pairs += 1;
         }
     }
@@ -103,63 +104,62 @@ fn back_pairs_among<S: ConceptSet>(
 
 // Whether a row is the first with its pair, its type is in a set and its source passes.
 fn counts_back<S: ConceptSet>(
-    indexes: &Indexes,
+    reader: Reader<'_>,
     source: FlaggedNumber,
     type_place: u32,
-    types: &S,
+    types: &Answer<S>,
     tested: &Tested<S>,
 ) -> bool
-    requires types { S.bound_of types.now ≡ length indexes.now.concepts }
-    requires tested { IsTestBelow S.bound_of (length indexes.now.concepts) tested.now }
+    requires types { S.bound_of types.now ≡ length reader.indexes.now.concepts }
+    requires tested { IsTestBelow S.bound_of (length reader.indexes.now.concepts) tested.now }
     ensures { result ≡ (source.is_first
-        && (is_type_in indexes.now (S.items_of types.now) type_place && passes_of S.items_of indexes.now.concepts tested.now (value_of indexes.now source.number))) }
+        && (is_type_in reader.entry.indexes.now (S.items_of types.now) type_place && passes_of S.items_of reader.entry.indexes.now.concepts tested.now (value_of reader.entry.indexes.now source.number))) }
 {
     let first = source.is_first();
-    first && is_typed(indexes, types, type_place) && passes(indexes, tested, source.number())
+    first && is_typed(reader, types, type_place) && passes(reader, tested, source.number())
 }
 
 // How many pairs of a concept, of its own or read backwards, have a type that is one of some and a value that passes.
 fn pairs_of_concept<S: ConceptSet>(
-    indexes: &Indexes,
+    reader: Reader<'_>,
     back: bool,
     concept: u32,
-    types: &S,
+    types: &Answer<S>,
     tested: &Tested<S>,
 ) -> u64
-    requires concept { concept < length indexes.now.concepts }
-    requires types { S.bound_of types.now ≡ length indexes.now.concepts }
-    requires tested { IsTestBelow S.bound_of (length indexes.now.concepts) tested.now }
-    ensures { result ≡ pairs_of_concept_of indexes.now back (is_one_of indexes.now.concepts (S.items_of types.now)) (passes_of S.items_of indexes.now.concepts tested.now) concept }
+    requires concept { concept < length reader.indexes.now.concepts }
+    requires types { S.bound_of types.now ≡ length reader.indexes.now.concepts }
+    requires tested { IsTestBelow S.bound_of (length reader.indexes.now.concepts) tested.now }
+    ensures { result ≡ pairs_of_concept_of reader.entry.indexes.now back (is_one_of reader.entry.indexes.now.concepts (S.items_of types.now)) (passes_of S.items_of reader.entry.indexes.now.concepts tested.now) concept }
 {
     if back {
-        let columns = indexes.value_columns(concept);
-        back_pairs_among(indexes, columns.sources, columns.types, types, tested)
+        let columns = reader.value_columns(concept);
+        back_pairs_among(reader, columns.sources, columns.types, types, tested)
     } else {
-        pairs_among(indexes, indexes.rows_of(concept), false, types, tested)
+        pairs_among(reader, reader.rows_of(concept), false, types, tested)
     }
 }
 
 /// Of some concepts those so many of whose pairs, of their own or read backwards, have a type that is one of some and a value
 /// that passes.
 pub fn concepts_among<S: ConceptSet>(
-    alloc: Global,
-    indexes: &Indexes,
+    reader: Reader<'_>,
     back: bool,
     count: Cardinality,
     concepts: &[u32],
-    types: &S,
+    types: &Answer<S>,
     tested: &Tested<S>,
 ) -> Result<Vec<u32>, AllocError>
-    requires concepts { All (λ number. number < length indexes.now.concepts) concepts.now }
-    requires types { S.bound_of types.now ≡ length indexes.now.concepts }
-    requires tested { IsTestBelow S.bound_of (length indexes.now.concepts) tested.now }
-    ensures within { IfOk result (λ kept. All (λ number. number < length indexes.now.concepts) kept.items) }
+    requires concepts { All (λ number. number < length reader.indexes.now.concepts) concepts.now }
+    requires types { S.bound_of types.now ≡ length reader.indexes.now.concepts }
+    requires tested { IsTestBelow S.bound_of (length reader.indexes.now.concepts) tested.now }
+    ensures within { IfOk result (λ kept. All (λ number. number < length reader.entry.indexes.now.concepts) kept.items) }
     ensures kept { IfOk result (λ kept. kept.items ≡ filter
-        (λ number. lies_in_of count (pairs_of_concept_of indexes.now back (is_one_of indexes.now.concepts (S.items_of types.now)) (passes_of S.items_of indexes.now.concepts tested.now) number)) concepts.now) }
+        (λ number. lies_in_of count (pairs_of_concept_of reader.entry.indexes.now back (is_one_of reader.entry.indexes.now.concepts (S.items_of types.now)) (passes_of S.items_of reader.entry.indexes.now.concepts tested.now) number)) concepts.now) }
 {
-    let mut kept = Vec::new(alloc);
+    let mut kept = Vec::new(reader.alloc);
     for concept in concepts {
-        let pairs = pairs_of_concept(indexes, back, *concept, types, tested);
+        let pairs = pairs_of_concept(reader, back, *concept, types, tested);
         if lies_in(count, pairs) {
             kept.push(*concept)?;
         }
@@ -169,23 +169,22 @@ pub fn concepts_among<S: ConceptSet>(
 
 /// Of some groups those so many of whose pairs have a type that is one of some and a value that passes.
 pub fn groups_among<S: ConceptSet>(
-    alloc: Global,
-    indexes: &Indexes,
+    reader: Reader<'_>,
     count: Cardinality,
     groups: &[u32],
-    types: &S,
+    types: &Answer<S>,
     tested: &Tested<S>,
 ) -> Result<Vec<u32>, AllocError>
-    requires groups { All (λ number. number < length (groups_in indexes.now)) groups.now }
-    requires types { S.bound_of types.now ≡ length indexes.now.concepts }
-    requires tested { IsTestBelow S.bound_of (length indexes.now.concepts) tested.now }
-    ensures within { IfOk result (λ kept. All (λ number. number < length (groups_in indexes.now)) kept.items) }
+    requires groups { All (λ number. number < length (groups_in reader.indexes.now)) groups.now }
+    requires types { S.bound_of types.now ≡ length reader.indexes.now.concepts }
+    requires tested { IsTestBelow S.bound_of (length reader.indexes.now.concepts) tested.now }
+    ensures within { IfOk result (λ kept. All (λ number. number < length (groups_in reader.entry.indexes.now)) kept.items) }
     ensures kept { IfOk result (λ kept. kept.items ≡ filter
-        (λ number. lies_in_of count (pairs_among_of indexes.now true (is_one_of indexes.now.concepts (S.items_of types.now)) (passes_of S.items_of indexes.now.concepts tested.now) (rows_of_unit indexes.now (slice_get (groups_in indexes.now) number)))) groups.now) }
+        (λ number. lies_in_of count (pairs_among_of reader.entry.indexes.now true (is_one_of reader.entry.indexes.now.concepts (S.items_of types.now)) (passes_of S.items_of reader.entry.indexes.now.concepts tested.now) (rows_of_unit reader.entry.indexes.now (slice_get (groups_in reader.entry.indexes.now) number)))) groups.now) }
 {
-    let mut kept = Vec::new(alloc);
+    let mut kept = Vec::new(reader.alloc);
     for group in groups {
-        let pairs = pairs_among(indexes, indexes.unit_rows(*group), true, types, tested);
+        let pairs = pairs_among(reader, reader.unit_rows(*group), true, types, tested);
         if lies_in(count, pairs) {
             kept.push(*group)?;
         }

@@ -7,6 +7,7 @@ ghost use Rattle.number_lists.specs.Members.{times};
 use crate::difference::without;
 use constraint_tree::Cardinality;
 use idset::{ConceptSet, is_marked, mark, marks_of};
+use reading::Answer;
 use std::alloc::{AllocError, Global};
 
 /// The numbers below a bound that stand in a list as often as a cardinality asks (Expression Constraint Language,
@@ -16,7 +17,7 @@ pub fn as_often<S: ConceptSet>(
     numbers: &[u32],
     bound: u32,
     count: Cardinality,
-) -> Result<S, AllocError>
+) -> Result<Answer<S>, AllocError>
     requires { All (λ number. number < bound) numbers.now }
     ensures items { IfOk result (λ found. S.items_of found ≡ numbers_where bound (λ number. lies_in count (times number numbers.now))) }
     ensures bound { IfOk result (λ found. S.bound_of found ≡ bound) }
@@ -25,9 +26,10 @@ pub fn as_often<S: ConceptSet>(
     match count.max {
         Some(most) if most < numbers.len() as u64 => {
             let more: S = at_least(alloc, numbers, bound, most + 1)?;
-            without(alloc, &enough, &more)
+            let left = without(alloc, &enough, &more)?;
+            Ok(Answer::of(left))
         }
-        _ => Ok(enough),
+        _ => Ok(Answer::of(enough)),
     }
 }
 

@@ -3,10 +3,10 @@ ghost use Rattle.std.specs.Prelude.{ℕ, false, ◌≡◌, ◌≤◌, ◌+◌, B
 ghost use Rattle.constraint_tree.specs.Denotation.{is_value};
 ghost use Rattle.number_lists.specs.Rising.{IsRisingBelow};
 ghost use Rattle.postings.specs.Groups.{all_groups};
-ghost use Rattle.postings.specs.Indexed.{IsIndexOf, types_of};
+ghost use Rattle.postings.specs.Indexed.{types_of};
 ghost use Rattle.set_algebra.specs.Meaning.{has_pairs, pairs_of};
 ghost use Rattle.candidates.specs.Numbers.{is_one_of, numbers_in};
-ghost use Rattle.candidates.specs.Counted.{CountsWithin, IsFound, full};
+ghost use Rattle.reading.specs.Counted.{CountsWithin, IsFound, full};
 ghost use Rattle.pair_sets.specs.Room.{AreTold, leaf_items};
 ghost use Rattle.pair_sets.specs.Tested.{IsTestBelow, passes_of};
 ghost use Rattle.pair_sets.specs.inside.Ways.{HasTypes, IsValuesWay, IsWayBelow, passes_by, values_way_items, way_items};
@@ -19,44 +19,40 @@ use crate::by_rows::{
 use crate::choice::{ValuesWay, leaf_way, values_way};
 use crate::tested::Tested;
 use crate::ways::{LeafReads, Way};
-use candidates::{Candidates, Visits, restricted};
+use candidates::{Candidates, restricted};
 use constraint_tree::Cardinality;
-use held_release::Snapshot;
 use idset::ConceptSet;
-use postings::Indexes;
+use reading::{Answer, Counter, Reader};
 use set_algebra::{Choice, NodeLimits};
-use std::alloc::{AllocError, Global};
+use std::alloc::AllocError;
 
 /// The candidates so many of whose distinct pairs, their own or those read backwards, have a type in a set and a value
 /// that passes (Expression Constraint Language, "Refinements", "Cardinality" and "Reverse attributes"). What is read is counted,
 /// within the bound of the node, which has room for its choice, and where that is less than its floor, so much. If it is known how
 /// many rows the values have at most that pass, that is told.
 pub fn with_pairs_within<S: ConceptSet>(
-    alloc: Global,
-    snapshot: &Snapshot,
-    indexes: &Indexes,
+    reader: Reader<'_>,
     choice: Choice,
     limits: NodeLimits,
     back: bool,
     count: Cardinality,
-    types: &S,
+    types: &Answer<S>,
     tested: Tested<S>,
     value_rows: Option<u64>,
     candidates: &Candidates<'_, S>,
-    visits: &mut Visits,
-) -> Result<S, AllocError>
-    requires index { IsIndexOf indexes.now snapshot.now.release }
-    requires bound { S.bound_of types.now ≡ length indexes.now.concepts }
+    visits: &mut Counter,
+) -> Result<Answer<S>, AllocError>
+    requires bound { S.bound_of types.now ≡ length reader.indexes.now.concepts }
     requires limits { limits.floor ≤ limits.bound }
-    requires room { full (leaf_items S.items_of indexes.now back choice (S.items_of types.now) tested) ≤ limits.bound }
-    requires tested { IsTestBelow S.bound_of (length indexes.now.concepts) tested }
-    requires told { AreTold S.items_of indexes.now back tested value_rows }
-    requires candidates { AreConcepts S.ConceptSet snapshot.now.release indexes.now candidates.now }
+    requires room { full (leaf_items S.items_of reader.indexes.now back choice (S.items_of types.now) tested) ≤ limits.bound }
+    requires tested { IsTestBelow S.bound_of (length reader.indexes.now.concepts) tested }
+    requires told { AreTold S.items_of reader.indexes.now back tested value_rows }
+    requires candidates { AreConcepts S.ConceptSet reader.snapshot.now.release reader.indexes.now candidates.now }
     ensures counted { CountsWithin limits.bound visits.old visits.new }
-    ensures found { IfOk result (IsFound S.ConceptSet (length snapshot.now.release.concepts)
-        (numbers_within snapshot.now.release (may_be S.items_of candidates.now)
-        (λ concept. has_pairs count (is_one_of indexes.now.concepts (S.items_of types.now))
-        (passes_of S.items_of indexes.now.concepts tested) (pairs_of snapshot.now.release back concept)))
+    ensures found { IfOk result (IsFound S.ConceptSet (length reader.entry.snapshot.now.release.concepts)
+        (numbers_within reader.entry.snapshot.now.release (may_be S.items_of candidates.now)
+        (λ concept. has_pairs count (is_one_of reader.entry.indexes.now.concepts (S.items_of types.now))
+        (passes_of S.items_of reader.entry.indexes.now.concepts tested) (pairs_of reader.entry.snapshot.now.release back concept)))
         limits.floor visits.old visits.new) }
 {
     let reads = LeafReads {
@@ -65,9 +61,9 @@ pub fn with_pairs_within<S: ConceptSet>(
         bound: limits.bound,
         value_rows,
     };
-    let (way, read) = leaf_way(alloc, snapshot, indexes, reads, types, tested, candidates)?;
+    let (way, read) = leaf_way(reader, reads, types, tested, candidates)?;
     let found = with_pairs_by(
-        alloc, snapshot, indexes, &way, back, count, types, candidates, read, limits, visits,
+        reader, &way, back, count, types, candidates, read, limits, visits,
     )?;
     Ok(found)
 }
@@ -76,30 +72,27 @@ pub fn with_pairs_within<S: ConceptSet>(
 /// (Expression Constraint Language, "Attribute groups" and "Cardinality"). What is read is counted, within the bound of the node,
 /// which has room for its choice, and where that is less than its floor, so much.
 pub fn groups_with_pairs_within<S: ConceptSet>(
-    alloc: Global,
-    snapshot: &Snapshot,
-    indexes: &Indexes,
+    reader: Reader<'_>,
     choice: Choice,
     limits: NodeLimits,
     count: Cardinality,
-    types: &S,
+    types: &Answer<S>,
     tested: Tested<S>,
     value_rows: Option<u64>,
     candidates: &Candidates<'_, S>,
-    visits: &mut Visits,
-) -> Result<S, AllocError>
-    requires index { IsIndexOf indexes.now snapshot.now.release }
-    requires bound { S.bound_of types.now ≡ length indexes.now.concepts }
+    visits: &mut Counter,
+) -> Result<Answer<S>, AllocError>
+    requires bound { S.bound_of types.now ≡ length reader.indexes.now.concepts }
     requires limits { limits.floor ≤ limits.bound }
-    requires room { full (leaf_items S.items_of indexes.now false choice (S.items_of types.now) tested) ≤ limits.bound }
-    requires tested { IsTestBelow S.bound_of (length indexes.now.concepts) tested }
-    requires told { AreTold S.items_of indexes.now false tested value_rows }
-    requires candidates { AreGroups S.ConceptSet snapshot.now.release indexes.now candidates.now }
+    requires room { full (leaf_items S.items_of reader.indexes.now false choice (S.items_of types.now) tested) ≤ limits.bound }
+    requires tested { IsTestBelow S.bound_of (length reader.indexes.now.concepts) tested }
+    requires told { AreTold S.items_of reader.indexes.now false tested value_rows }
+    requires candidates { AreGroups S.ConceptSet reader.snapshot.now.release reader.indexes.now candidates.now }
     ensures counted { CountsWithin limits.bound visits.old visits.new }
-    ensures found { IfOk result (IsFound S.ConceptSet (length (all_groups snapshot.now.release))
-        (groups_within snapshot.now.release (may_be S.items_of candidates.now)
-        (has_pairs count (is_one_of indexes.now.concepts (S.items_of types.now))
-        (passes_of S.items_of indexes.now.concepts tested)))
+    ensures found { IfOk result (IsFound S.ConceptSet (length (all_groups reader.entry.snapshot.now.release))
+        (groups_within reader.entry.snapshot.now.release (may_be S.items_of candidates.now)
+        (has_pairs count (is_one_of reader.entry.indexes.now.concepts (S.items_of types.now))
+        (passes_of S.items_of reader.entry.indexes.now.concepts tested)))
         limits.floor visits.old visits.new) }
 {
     let reads = LeafReads {
@@ -108,9 +101,9 @@ pub fn groups_with_pairs_within<S: ConceptSet>(
         bound: limits.bound,
         value_rows,
     };
-    let (way, items) = leaf_way(alloc, snapshot, indexes, reads, types, tested, candidates)?;
+    let (way, items) = leaf_way(reader, reads, types, tested, candidates)?;
     let found = groups_with_pairs_by(
-        alloc, snapshot, indexes, &way, count, types, candidates, items, limits, visits,
+        reader, &way, count, types, candidates, items, limits, visits,
     )?;
     Ok(found)
 }
@@ -119,59 +112,53 @@ pub fn groups_with_pairs_within<S: ConceptSet>(
 /// "Refinements", dotted attributes). The rows of the sources are read where there are no more sources than types, or
 /// where these are fewer than those of the types. What is read is counted: no more items than there are sources and rows.
 pub fn values_along<S: ConceptSet>(
-    alloc: Global,
-    snapshot: &Snapshot,
-    indexes: &Indexes,
-    sources: S,
-    types: &S,
-    visits: &mut Visits,
-) -> Result<S, AllocError>
-    requires index { IsIndexOf indexes.now snapshot.now.release }
-    requires sources { S.bound_of sources ≡ length indexes.now.concepts }
-    requires types { S.bound_of types.now ≡ length indexes.now.concepts }
-    ensures counted { CountsWithin (length (S.items_of sources) + length indexes.now.rows) visits.old visits.new }
-    ensures found { IfOk result (IsFound S.ConceptSet (length snapshot.now.release.concepts)
-        (numbers_in snapshot.now.release (is_value snapshot.now.release (is_one_of indexes.now.concepts (S.items_of sources))
-        (is_one_of indexes.now.concepts (S.items_of types.now))))
+    reader: Reader<'_>,
+    sources: Answer<S>,
+    types: &Answer<S>,
+    visits: &mut Counter,
+) -> Result<Answer<S>, AllocError>
+    requires sources { S.bound_of sources ≡ length reader.indexes.now.concepts }
+    requires types { S.bound_of types.now ≡ length reader.indexes.now.concepts }
+    ensures counted { CountsWithin (length (S.items_of sources) + length reader.entry.indexes.now.rows) visits.old visits.new }
+    ensures found { IfOk result (IsFound S.ConceptSet (length reader.entry.snapshot.now.release.concepts)
+        (numbers_in reader.entry.snapshot.now.release (is_value reader.entry.snapshot.now.release (is_one_of reader.entry.indexes.now.concepts (S.items_of sources))
+        (is_one_of reader.entry.indexes.now.concepts (S.items_of types.now))))
         0 visits.old visits.new) }
 {
-    let (way, items) = values_way(alloc, snapshot, indexes, &sources, types)?;
-    let found = values_by(alloc, snapshot, indexes, way, sources, types, items, visits)?;
+    let (way, items) = values_way(reader, &sources, types)?;
+    let found = values_by(reader, way, sources, types, items, visits)?;
     Ok(found)
 }
 
 // By the rows of the sources or by those of the types. First so many items are counted: no fewer than are read in this way.
 fn values_by<S: ConceptSet>(
-    alloc: Global,
-    snapshot: &Snapshot,
-    indexes: &Indexes,
+    reader: Reader<'_>,
     way: ValuesWay,
-    sources: S,
-    types: &S,
+    sources: Answer<S>,
+    types: &Answer<S>,
     items: u64,
-    visits: &mut Visits,
-) -> Result<S, AllocError>
-    requires index { IsIndexOf indexes.now snapshot.now.release }
-    requires sources { S.bound_of sources ≡ length indexes.now.concepts }
-    requires types { S.bound_of types.now ≡ length indexes.now.concepts }
-    requires way { IsValuesWay (types_of indexes.now.rows) (S.items_of sources)
-        (is_one_of indexes.now.concepts (S.items_of types.now)) way }
-    requires reads { full (values_way_items indexes.now (S.items_of types.now) way) ≤ items }
-    ensures items { IfOk result (λ found. S.items_of found ≡ numbers_in snapshot.now.release
-        (is_value snapshot.now.release (is_one_of indexes.now.concepts (S.items_of sources))
-        (is_one_of indexes.now.concepts (S.items_of types.now)))) }
-    ensures bound { IfOk result (λ found. S.bound_of found ≡ length snapshot.now.release.concepts) }
+    visits: &mut Counter,
+) -> Result<Answer<S>, AllocError>
+    requires sources { S.bound_of sources ≡ length reader.indexes.now.concepts }
+    requires types { S.bound_of types.now ≡ length reader.indexes.now.concepts }
+    requires way { IsValuesWay (types_of reader.indexes.now.rows) (S.items_of sources)
+        (is_one_of reader.indexes.now.concepts (S.items_of types.now)) way }
+    requires reads { full (values_way_items reader.indexes.now (S.items_of types.now) way) ≤ items }
+    ensures items { IfOk result (λ found. S.items_of found ≡ numbers_in reader.entry.snapshot.now.release
+        (is_value reader.entry.snapshot.now.release (is_one_of reader.entry.indexes.now.concepts (S.items_of sources))
+        (is_one_of reader.entry.indexes.now.concepts (S.items_of types.now)))) }
+    ensures bound { IfOk result (λ found. S.bound_of found ≡ length reader.entry.snapshot.now.release.concepts) }
     ensures counted { visits.new.count ≡ full (visits.old.count + items) }
     ensures grows { visits.old.count ≤ visits.new.count }
 {
     visits.add(items);
     match way {
         ValuesWay::BySource(own) => {
-            let found = values_by_source(alloc, snapshot, indexes, own.as_slice(), types)?;
+            let found = values_by_source(reader, own.as_slice(), types)?;
             Ok(found)
         }
         ValuesWay::ByType(ids) => {
-            let found = values_by_type(alloc, snapshot, indexes, sources, ids.as_slice())?;
+            let found = values_by_type(reader, sources, ids.as_slice())?;
             Ok(found)
         }
     }
@@ -179,96 +166,83 @@ fn values_by<S: ConceptSet>(
 
 // By the rows of some types.
 fn values_by_type<S: ConceptSet>(
-    alloc: Global,
-    snapshot: &Snapshot,
-    indexes: &Indexes,
-    sources: S,
+    reader: Reader<'_>,
+    sources: Answer<S>,
     ids: &[u64],
-) -> Result<S, AllocError>
-    requires index { IsIndexOf indexes.now snapshot.now.release }
-    requires sources { S.bound_of sources ≡ length indexes.now.concepts }
-    ensures items { IfOk result (λ found. (one : ℕ → Bool) → ids.now ≡ filter one (types_of indexes.now.rows)
-        → S.items_of found ≡ numbers_in snapshot.now.release (is_value snapshot.now.release (is_one_of indexes.now.concepts (S.items_of sources)) one)) }
-    ensures bound { IfOk result (λ found. S.bound_of found ≡ length snapshot.now.release.concepts) }
+) -> Result<Answer<S>, AllocError>
+    requires sources { S.bound_of sources ≡ length reader.indexes.now.concepts }
+    ensures items { IfOk result (λ found. (one : ℕ → Bool) → ids.now ≡ filter one (types_of reader.entry.indexes.now.rows)
+        → S.items_of found ≡ numbers_in reader.entry.snapshot.now.release (is_value reader.entry.snapshot.now.release (is_one_of reader.entry.indexes.now.concepts (S.items_of sources)) one)) }
+    ensures bound { IfOk result (λ found. S.bound_of found ≡ length reader.entry.snapshot.now.release.concepts) }
 {
     let some = Cardinality { min: 1, max: None };
     let tested = Tested::Within(sources);
-    with_pairs_by_type(alloc, snapshot, indexes, true, some, ids, &tested)
+    with_pairs_by_type(reader, true, some, ids, &tested)
 }
 
 // By the rows of some sources.
 fn values_by_source<S: ConceptSet>(
-    alloc: Global,
-    snapshot: &Snapshot,
-    indexes: &Indexes,
+    reader: Reader<'_>,
     sources: &[u32],
-    types: &S,
-) -> Result<S, AllocError>
-    requires index { IsIndexOf indexes.now snapshot.now.release }
-    requires sources { IsRisingBelow (length indexes.now.concepts) sources.now }
-    requires types { S.bound_of types.now ≡ length indexes.now.concepts }
-    ensures items { IfOk result (λ found. S.items_of found ≡ numbers_in snapshot.now.release
-        (is_value snapshot.now.release (is_one_of indexes.now.concepts sources.now) (is_one_of indexes.now.concepts (S.items_of types.now)))) }
-    ensures bound { IfOk result (λ found. S.bound_of found ≡ length snapshot.now.release.concepts) }
+    types: &Answer<S>,
+) -> Result<Answer<S>, AllocError>
+    requires sources { IsRisingBelow (length reader.indexes.now.concepts) sources.now }
+    requires types { S.bound_of types.now ≡ length reader.indexes.now.concepts }
+    ensures items { IfOk result (λ found. S.items_of found ≡ numbers_in reader.entry.snapshot.now.release
+        (is_value reader.entry.snapshot.now.release (is_one_of reader.entry.indexes.now.concepts sources.now) (is_one_of reader.entry.indexes.now.concepts (S.items_of types.now)))) }
+    ensures bound { IfOk result (λ found. S.bound_of found ≡ length reader.entry.snapshot.now.release.concepts) }
 {
     let some = Cardinality { min: 1, max: None };
-    with_pairs_by_value(alloc, snapshot, indexes, true, some, types, sources)
+    with_pairs_by_value(reader, true, some, types, sources)
 }
 
 /// The candidates so many of whose distinct pairs, their own or those read backwards, have a type that is one of some and a
 /// value that passes, read in a way. First `read` items are counted, or the floor: no fewer than are read in this way.
 pub fn with_pairs_by<S: ConceptSet>(
-    alloc: Global,
-    snapshot: &Snapshot,
-    indexes: &Indexes,
+    reader: Reader<'_>,
     way: &Way<S>,
     back: bool,
     count: Cardinality,
-    types: &S,
+    types: &Answer<S>,
     candidates: &Candidates<'_, S>,
     read: u64,
     limits: NodeLimits,
-    visits: &mut Visits,
-) -> Result<S, AllocError>
-    requires index { IsIndexOf indexes.now snapshot.now.release }
-    requires way { IsWayBelow S.bound_of (length indexes.now.concepts) way.now }
-    requires ids { HasTypes (types_of indexes.now.rows) (is_one_of indexes.now.concepts (S.items_of types.now)) way.now }
-    requires types { S.bound_of types.now ≡ length indexes.now.concepts }
-    requires candidates { AreBelow S.bound_of (length snapshot.now.release.concepts) candidates.now }
+    visits: &mut Counter,
+) -> Result<Answer<S>, AllocError>
+    requires way { IsWayBelow S.bound_of (length reader.indexes.now.concepts) way.now }
+    requires ids { HasTypes (types_of reader.indexes.now.rows) (is_one_of reader.indexes.now.concepts (S.items_of types.now)) way.now }
+    requires types { S.bound_of types.now ≡ length reader.indexes.now.concepts }
+    requires candidates { AreBelow S.bound_of (length reader.snapshot.now.release.concepts) candidates.now }
     requires limits { limits.floor ≤ limits.bound }
-    requires reads { full (way_items indexes.now back (S.items_of types.now) (extent_told back candidates.now) way.now) ≤ read }
+    requires reads { full (way_items reader.indexes.now back (S.items_of types.now) (extent_told back candidates.now) way.now) ≤ read }
     requires within { read ≤ limits.bound }
-    ensures items { IfOk result (λ found. S.items_of found ≡ numbers_within snapshot.now.release (may_be S.items_of candidates.now)
-        (λ concept. has_pairs count (is_one_of indexes.now.concepts (S.items_of types.now))
-        (passes_by S.items_of indexes.now.concepts way.now) (pairs_of snapshot.now.release back concept))) }
-    ensures bound { IfOk result (λ found. S.bound_of found ≡ length snapshot.now.release.concepts) }
+    ensures items { IfOk result (λ found. S.items_of found ≡ numbers_within reader.entry.snapshot.now.release (may_be S.items_of candidates.now)
+        (λ concept. has_pairs count (is_one_of reader.entry.indexes.now.concepts (S.items_of types.now))
+        (passes_by S.items_of reader.entry.indexes.now.concepts way.now) (pairs_of reader.entry.snapshot.now.release back concept))) }
+    ensures bound { IfOk result (λ found. S.bound_of found ≡ length reader.entry.snapshot.now.release.concepts) }
     ensures counted { visits.new.count ≡ full (visits.old.count + max read limits.floor) }
     ensures grows { visits.old.count ≤ visits.new.count }
 {
-    visits.add_node(read, limits);
+    count_node(visits, read, limits);
     match way {
         Way::ByCandidates(tested) => {
-            let found = with_pairs_among(
-                alloc, snapshot, indexes, back, count, types, tested, candidates,
-            )?;
+            let found = with_pairs_among(reader, back, count, types, tested, candidates)?;
             Ok(found)
         }
         Way::ByValue(values) => {
-            let some = with_pairs_by_value(alloc, snapshot, indexes, back, count, types, values)?;
-            let found = restricted(alloc, some, candidates)?;
+            let some = with_pairs_by_value(reader, back, count, types, values)?;
+            let found = restricted(reader, some, candidates)?;
             Ok(found)
         }
         Way::ByType(ids, tested) => {
-            let some = with_pairs_by_type(alloc, snapshot, indexes, back, count, ids, tested)?;
-            let found = restricted(alloc, some, candidates)?;
+            let some = with_pairs_by_type(reader, back, count, ids, tested)?;
+            let found = restricted(reader, some, candidates)?;
             Ok(found)
         }
         Way::Scan(tested) => {
             let all = Candidates::All;
-            let some: S = with_pairs_among(
-                alloc, snapshot, indexes, back, count, types, tested, &all,
-            )?;
-            let found = restricted(alloc, some, candidates)?;
+            let some: Answer<S> = with_pairs_among(reader, back, count, types, tested, &all)?;
+            let found = restricted(reader, some, candidates)?;
             Ok(found)
         }
     }
@@ -277,56 +251,59 @@ pub fn with_pairs_by<S: ConceptSet>(
 /// The candidates among the groups so many of whose distinct pairs have a type that is one of some and a value that passes,
 /// read in a way. First so many items are counted, or the floor: no fewer than are read in this way.
 pub fn groups_with_pairs_by<S: ConceptSet>(
-    alloc: Global,
-    snapshot: &Snapshot,
-    indexes: &Indexes,
+    reader: Reader<'_>,
     way: &Way<S>,
     count: Cardinality,
-    types: &S,
+    types: &Answer<S>,
     candidates: &Candidates<'_, S>,
     items: u64,
     limits: NodeLimits,
-    visits: &mut Visits,
-) -> Result<S, AllocError>
-    requires index { IsIndexOf indexes.now snapshot.now.release }
-    requires way { IsWayBelow S.bound_of (length indexes.now.concepts) way.now }
-    requires ids { HasTypes (types_of indexes.now.rows) (is_one_of indexes.now.concepts (S.items_of types.now)) way.now }
-    requires types { S.bound_of types.now ≡ length indexes.now.concepts }
-    requires candidates { AreBelow S.bound_of (length (all_groups snapshot.now.release)) candidates.now }
+    visits: &mut Counter,
+) -> Result<Answer<S>, AllocError>
+    requires way { IsWayBelow S.bound_of (length reader.indexes.now.concepts) way.now }
+    requires ids { HasTypes (types_of reader.indexes.now.rows) (is_one_of reader.indexes.now.concepts (S.items_of types.now)) way.now }
+    requires types { S.bound_of types.now ≡ length reader.indexes.now.concepts }
+    requires candidates { AreBelow S.bound_of (length (all_groups reader.snapshot.now.release)) candidates.now }
     requires limits { limits.floor ≤ limits.bound }
-    requires reads { full (way_items indexes.now false (S.items_of types.now) (extent_told false candidates.now) way.now) ≤ items }
+    requires reads { full (way_items reader.indexes.now false (S.items_of types.now) (extent_told false candidates.now) way.now) ≤ items }
     requires within { items ≤ limits.bound }
-    ensures items { IfOk result (λ found. S.items_of found ≡ groups_within snapshot.now.release (may_be S.items_of candidates.now)
-        (has_pairs count (is_one_of indexes.now.concepts (S.items_of types.now)) (passes_by S.items_of indexes.now.concepts way.now))) }
-    ensures bound { IfOk result (λ found. S.bound_of found ≡ length (all_groups snapshot.now.release)) }
+    ensures items { IfOk result (λ found. S.items_of found ≡ groups_within reader.entry.snapshot.now.release (may_be S.items_of candidates.now)
+        (has_pairs count (is_one_of reader.entry.indexes.now.concepts (S.items_of types.now)) (passes_by S.items_of reader.entry.indexes.now.concepts way.now))) }
+    ensures bound { IfOk result (λ found. S.bound_of found ≡ length (all_groups reader.entry.snapshot.now.release)) }
     ensures counted { visits.new.count ≡ full (visits.old.count + max items limits.floor) }
     ensures grows { visits.old.count ≤ visits.new.count }
 {
-    visits.add_node(items, limits);
+    count_node(visits, items, limits);
     match way {
         Way::ByCandidates(tested) => {
-            let found = groups_with_pairs_among(
-                alloc, snapshot, indexes, count, types, tested, candidates,
-            )?;
+            let found = groups_with_pairs_among(reader, count, types, tested, candidates)?;
             Ok(found)
         }
         Way::ByValue(values) => {
-            let some = groups_with_pairs_by_value(alloc, snapshot, indexes, count, types, values)?;
-            let found = restricted(alloc, some, candidates)?;
+            let some = groups_with_pairs_by_value(reader, count, types, values)?;
+            let found = restricted(reader, some, candidates)?;
             Ok(found)
         }
         Way::ByType(ids, tested) => {
-            let some = groups_with_pairs_by_type(alloc, snapshot, indexes, count, ids, tested)?;
-            let found = restricted(alloc, some, candidates)?;
+            let some = groups_with_pairs_by_type(reader, count, ids, tested)?;
+            let found = restricted(reader, some, candidates)?;
             Ok(found)
         }
         Way::Scan(tested) => {
             let all = Candidates::All;
-            let some: S = groups_with_pairs_among(
-                alloc, snapshot, indexes, count, types, tested, &all,
-            )?;
-            let found = restricted(alloc, some, candidates)?;
+            let some: Answer<S> = groups_with_pairs_among(reader, count, types, tested, &all)?;
+            let found = restricted(reader, some, candidates)?;
             Ok(found)
         }
     }
+}
+
+// Counts the items that a node reads, which are no more than its bound; and where they are fewer than its floor, so many.
+fn count_node(visits: &mut Counter, items: u64, limits: NodeLimits)
+    requires ordered { limits.floor ≤ limits.bound }
+    requires within { items ≤ limits.bound }
+    ensures count { visits.new.count ≡ full (visits.old.count + max items limits.floor) }
+    ensures grows { visits.old.count ≤ visits.new.count }
+{
+    visits.add(items.max(limits.floor));
 }

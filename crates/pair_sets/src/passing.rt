@@ -7,35 +7,35 @@ ghost use Rattle.pair_sets.specs.Tested.{IsTestBelow, meets as meets_of, passes_
 use crate::tested::Tested;
 use constraint_tree::Compare;
 use idset::ConceptSet;
-use postings::Indexes;
+use reading::Reader;
 use rf2_rows::Decimal;
 use std::cmp::Ordering;
 
 /// Whether a value passes a test (Expression Constraint Language, "Refinements"). Of the set of a test nothing is read:
 /// it is asked for the one concept. Any number may be asked for.
-pub fn passes<S: ConceptSet>(indexes: &Indexes, tested: &Tested<S>, value: u32) -> bool
-    requires { IsTestBelow S.bound_of (length indexes.now.concepts) tested.now }
-    ensures { result ≡ passes_of S.items_of indexes.now.concepts tested.now (value_of indexes.now value) }
+pub fn passes<S: ConceptSet>(reader: Reader<'_>, tested: &Tested<S>, value: u32) -> bool
+    requires { IsTestBelow S.bound_of (length reader.indexes.now.concepts) tested.now }
+    ensures { result ≡ passes_of S.items_of reader.entry.indexes.now.concepts tested.now (value_of reader.entry.indexes.now value) }
 {
     // the concepts rise, so that none has two numbers
-    let concepts = indexes.concept_count();
+    let concepts = reader.concept_count();
     match tested {
         Tested::Within(set) => set.has(value),
         Tested::Outside(set) => value < concepts && !set.has(value),
-        Tested::Number(compare, number) => is_number(indexes, *compare, *number, value),
+        Tested::Number(compare, number) => is_number(reader, *compare, *number, value),
     }
 }
 
 // Whether a value is a number that compares so with another.
-fn is_number(indexes: &Indexes, compare: Compare, number: Decimal, value: u32) -> bool
-    ensures { result ≡ is_number_that compare number.0 (value_of indexes.now value) }
+fn is_number(reader: Reader<'_>, compare: Compare, number: Decimal, value: u32) -> bool
+    ensures { result ≡ is_number_that compare number.0 (value_of reader.entry.indexes.now value) }
 {
-    let concepts = indexes.concept_count();
+    let concepts = reader.concept_count();
     if value < concepts {
         return false;
     }
     // the decimals follow the concepts
-    let decimals = indexes.decimals();
+    let decimals = reader.decimals();
     let place = (value - concepts) as usize;
     if place >= decimals.len() {
         return false;

@@ -4,15 +4,16 @@ ghost use Rattle.pair_sets.specs.Tested.{found_for};
 
 use constraint_tree::Compare;
 use idset::ConceptSet;
+use reading::Answer;
 use rf2_rows::Decimal;
 
 /// Which values pass (Expression Constraint Language, "Refinements").
 #[derive(Drop)]
 pub enum Tested<S> {
     /// The concepts of a set.
-    Within(S),
+    Within(Answer<S>),
     /// The concepts that are not in a set.
-    Outside(S),
+    Outside(Answer<S>),
     /// The numbers that compare so with a number.
     Number(Compare, Decimal),
 }

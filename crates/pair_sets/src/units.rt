@@ -12,80 +12,69 @@ ghost use Rattle.std.specs.List.{range_with_len, sum_by};
 
 use crate::counts::as_often;
 use constraint_tree::Cardinality;
-use held_release::Snapshot;
 use idset::ConceptSet;
-use postings::Indexes;
-use std::alloc::{AllocError, Global};
+use reading::{Answer, Reader};
+use std::alloc::AllocError;
 
 /// The concepts so many of whose groups are among some (Release File Specification, "Relationship file",
 /// relationshipGroup; Expression Constraint Language, "Cardinality").
 pub fn with_groups<S: ConceptSet>(
-    alloc: Global,
-    snapshot: &Snapshot,
-    indexes: &Indexes,
+    reader: Reader<'_>,
     count: Cardinality,
-    groups: &S,
-) -> Result<S, AllocError>
-    requires index { IsIndexOf indexes.now snapshot.now.release }
-    requires bound { S.bound_of groups.now ≡ length (all_groups snapshot.now.release) }
-    ensures items { IfOk result (λ found. S.items_of found ≡ numbers_where (length snapshot.now.release.concepts) (λ number. lies_in count (groups_owned snapshot.now.release (S.items_of groups.now) number))) }
-    ensures bound { IfOk result (λ found. S.bound_of found ≡ length snapshot.now.release.concepts) }
+    groups: &Answer<S>,
+) -> Result<Answer<S>, AllocError>
+    requires bound { S.bound_of groups.now ≡ length (all_groups reader.snapshot.now.release) }
+    ensures items { IfOk result (λ found. S.items_of found ≡ numbers_where (length reader.entry.snapshot.now.release.concepts) (λ number. lies_in count (groups_owned reader.entry.snapshot.now.release (S.items_of groups.now) number))) }
+    ensures bound { IfOk result (λ found. S.bound_of found ≡ length reader.entry.snapshot.now.release.concepts) }
 {
     // the concepts rise, so that each has its groups once
-    let concept_count = snapshot.concept_count();
-    let numbers = groups.items(alloc)?;
-    let concepts = concepts_of(alloc, indexes, numbers.as_slice())?;
-    as_often(alloc, concepts.as_slice(), concept_count, count)
+    let concept_count = reader.concept_count();
+    let numbers = groups.items_uncounted(reader.alloc)?;
+    let concepts = concepts_of(reader, numbers.as_slice())?;
+    as_often(reader.alloc, concepts.as_slice(), concept_count, count)
 }
 
 // The concept of each of some groups.
-fn concepts_of(alloc: Global, indexes: &Indexes, groups: &[u32]) -> Result<Vec<u32>, AllocError>
-    requires { All (λ group. group < length (groups_in indexes.now)) groups.now }
-    ensures within { IfOk result (λ found. All (λ concept. concept < length indexes.now.concepts) found.items) }
-    ensures concepts { IfOk result (λ found. map (slice_index indexes.now.concepts) found.items ≡ map (λ group. concept_in (slice_get (groups_in indexes.now) group)) groups.now) }
+fn concepts_of(reader: Reader<'_>, groups: &[u32]) -> Result<Vec<u32>, AllocError>
+    requires { All (λ group. group < length (groups_in reader.indexes.now)) groups.now }
+    ensures within { IfOk result (λ found. All (λ concept. concept < length reader.entry.indexes.now.concepts) found.items) }
+    ensures concepts { IfOk result (λ found. map (slice_index reader.entry.indexes.now.concepts) found.items ≡ map (λ group. concept_in (slice_get (groups_in reader.entry.indexes.now) group)) groups.now) }
 {
-    let mut found = Vec::new(alloc);
+    let mut found = Vec::new(reader.alloc);
     for group in groups {
-        found.push(indexes.unit_concept(*group))?;
+        found.push(reader.unit_concept(*group))?;
     }
     Ok(found)
 }
 
 /// The groups of some concepts.
 pub fn groups_of<S: ConceptSet>(
-    alloc: Global,
-    snapshot: &Snapshot,
-    indexes: &Indexes,
-    concepts: &S,
-) -> Result<S, AllocError>
-    requires index { IsIndexOf indexes.now snapshot.now.release }
-    requires bound { S.bound_of concepts.now ≡ length snapshot.now.release.concepts }
-    ensures groups { IfOk result (λ groups. HaveGroupsOf snapshot.now.release (S.items_of concepts.now) (S.items_of groups)) }
-    ensures few { IfOk result (λ groups. length (S.items_of groups) ≤ sum_by (group_count_of indexes.now) (S.items_of concepts.now)) }
-    ensures bound { IfOk result (λ groups. S.bound_of groups ≡ length (all_groups snapshot.now.release)) }
+    reader: Reader<'_>,
+    concepts: &Answer<S>,
+) -> Result<Answer<S>, AllocError>
+    requires bound { S.bound_of concepts.now ≡ length reader.snapshot.now.release.concepts }
+    ensures groups { IfOk result (λ groups. HaveGroupsOf reader.entry.snapshot.now.release (S.items_of concepts.now) (S.items_of groups)) }
+    ensures few { IfOk result (λ groups. length (S.items_of groups) ≤ sum_by (group_count_of reader.entry.indexes.now) (S.items_of concepts.now)) }
+    ensures bound { IfOk result (λ groups. S.bound_of groups ≡ length (all_groups reader.entry.snapshot.now.release)) }
 {
     // the concepts rise, so that each has its groups once
-    snapshot.concept_count();
-    let own = concepts.items(alloc)?;
-    let numbers = numbers_of_groups(alloc, indexes, own.as_slice())?;
-    S::from_numbers(alloc, numbers.as_slice(), indexes.group_count())
+    reader.concept_count();
+    let own = concepts.items_uncounted(reader.alloc)?;
+    let numbers = numbers_of_groups(reader, own.as_slice())?;
+    Answer::from_numbers(reader.alloc, numbers.as_slice(), reader.group_count())
 }
 
 // The numbers of the groups of some concepts.
-fn numbers_of_groups(
-    alloc: Global,
-    indexes: &Indexes,
-    concepts: &[u32],
-) -> Result<Vec<u32>, AllocError>
-    requires { All (λ concept. concept < length indexes.now.concepts) concepts.now }
-    ensures within { IfOk result (λ found. All (λ group. group < length (groups_in indexes.now)) found.items) }
-    ensures few { IfOk result (λ found. length found.items ≡ sum_by (group_count_of indexes.now) concepts.now) }
-    ensures all { IfOk result (λ found. (concept group : ℕ) → has concepts.now concept ≡ true → length (groups_before indexes.now concept) ≤ group
-        → group < length (groups_before indexes.now (concept + 1)) → has found.items group ≡ true) }
+fn numbers_of_groups(reader: Reader<'_>, concepts: &[u32]) -> Result<Vec<u32>, AllocError>
+    requires { All (λ concept. concept < length reader.indexes.now.concepts) concepts.now }
+    ensures within { IfOk result (λ found. All (λ group. group < length (groups_in reader.entry.indexes.now)) found.items) }
+    ensures few { IfOk result (λ found. length found.items ≡ sum_by (group_count_of reader.entry.indexes.now) concepts.now) }
+    ensures all { IfOk result (λ found. (concept group : ℕ) → has concepts.now concept ≡ true → length (groups_before reader.entry.indexes.now concept) ≤ group
+        → group < length (groups_before reader.entry.indexes.now (concept + 1)) → has found.items group ≡ true) }
 {
-    let mut found = Vec::new(alloc);
+    let mut found = Vec::new(reader.alloc);
     for concept in concepts {
-        let units = indexes.units_of(*concept);
+        let units = reader.units_of(*concept);
         push_range(&mut found, units.start, units.end)?;
     }
     Ok(found)

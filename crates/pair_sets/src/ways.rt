@@ -3,7 +3,7 @@
 //! A choice names the rows that are read: those of the values that pass, those of the types, or all. Where the candidates, or
 //! a few values, have fewer, their rows are read in place of these. Each way finds the same, so a bad one costs time alone.
 ghost use Rattle.std.specs.Prelude.{true, ◌≡◌, ◌<◌, ◌+◌, ◌-◌, length};
-ghost use Rattle.candidates.specs.Counted.{full};
+ghost use Rattle.reading.specs.Counted.{full};
 ghost use Rattle.candidates.specs.RowCounts.{extent_items};
 
 use crate::tested::Tested;

@@ -1,6 +1,12 @@
 -- No plan has a floor above its bound.
-use Rattle.std.proofs.Common.{ℕ, ◌≤◌, Bool, true, false, cond, List, Option, None, Some, drop, length, arith}
-use Rattle.set_algebra.specs.Plan.{Plan, empty_plan, all_plan, one_plan, walk_plan, members_plan, and_plan, or_plan, minus_plan, values_plan, pairs_plan, units_plan, Plans, no_plans, plan_then, PlanOfUnits, nothing_unit, every_unit, and_units, or_units, minus_units, pairs_units, PlansOfUnits, no_unit_plans, unit_plan_then, TestPlan, within_plan, outside_plan, number_plan}
+use Rattle.std.proofs.Common.{ℕ, ◌≤◌, Bool, true, false, cond, Option, None, Some, length, arith}
+use Rattle.set_algebra.specs.Physical.{Physical, physical_empty, physical_all, physical_one, physical_walk}
+use Rattle.set_algebra.specs.Physical.{physical_members, physical_and, physical_or, physical_minus, physical_values}
+use Rattle.set_algebra.specs.Physical.{physical_pairs, physical_units, Physicals, no_physicals, physical_then}
+use Rattle.set_algebra.specs.Physical.{PhysicalUnits, physical_nothing, physical_every, physical_units_and}
+use Rattle.set_algebra.specs.Physical.{physical_units_or, physical_units_minus, physical_units_pairs}
+use Rattle.set_algebra.specs.Physical.{PhysicalUnitsList, no_physical_units, physical_units_then, PhysicalTest}
+use Rattle.set_algebra.specs.Physical.{physical_within, physical_outside, physical_number}
 use Rattle.constraint_tree.specs.declared.operator.Operator.{Operator}
 use Rattle.held_release.specs.Numbering.{concept_number}
 use Rattle.postings.specs.Groups.{groups_in}
@@ -12,70 +18,69 @@ use Rattle.plan_bounds.specs.Alternatives.{leaf_bound}
 use Rattle.plan_bounds.specs.Bounds.{bound, group_own_bound, members_bound, own_bound, own_number, walk_bound}
 use Rattle.plan_bounds.specs.Counts.{is_extreme, leaf_of, list_length, member_count, one_of, rows_left, value_row_count}
 use Rattle.plan_bounds.specs.Floors.{floor, floor_number, group_own_floor, if_in_force, leaf_floor, of_one, own_floor}
-use Rattle.plan_bounds.specs.Leaves.{first_choice, group_leaves, leaves, test_choices, type_choices}
 use Rattle.plan_bounds.specs.Nodes.{NodeNumber, group_sum, groups_sum, node_sum, plans_sum, test_sum}
 use Rattle.plan_bounds.specs.Sizes.{size, test_size}
 
 -- ---- node by node, and so in sum
-module _ (one other : NodeNumber) (plans : (choices : List Choice) (plan : Plan) → one.of_plan choices plan ≤ other.of_plan choices plan)
-    (groups : (choices : List Choice) (plan : PlanOfUnits) → one.of_group choices plan ≤ other.of_group choices plan) where
+module _ (one other : NodeNumber) (plans : (plan : Physical) → one.of_plan plan ≤ other.of_plan plan)
+    (groups : (plan : PhysicalUnits) → one.of_group plan ≤ other.of_group plan) where
   mutual
-    pub node_sum-le : (choices : List Choice) (plan : Plan) → node_sum one choices plan ≤ node_sum other choices plan
-    node_sum-le choices empty_plan = plans choices empty_plan
-    node_sum-le choices all_plan = plans choices all_plan
-    node_sum-le choices (one_plan number) = plans choices (one_plan number)
-    node_sum-le choices (walk_plan operator operand) =
-        omega (arith, plans choices (walk_plan operator operand), node_sum-le choices operand)
-    node_sum-le choices (members_plan operand) = omega (arith, plans choices (members_plan operand), node_sum-le choices operand)
-    node_sum-le choices (and_plan parts) = omega (arith, plans choices (and_plan parts), plans_sum-le choices parts)
-    node_sum-le choices (or_plan parts) = omega (arith, plans choices (or_plan parts), plans_sum-le choices parts)
-    node_sum-le choices (minus_plan first second) =
-        omega (arith, plans choices (minus_plan first second), node_sum-le choices first, node_sum-le (drop (leaves first) choices) second)
-    node_sum-le choices (values_plan start names) =
-        omega (arith, plans choices (values_plan start names), node_sum-le choices start, plans_sum-le (drop (leaves start) choices) names)
-    node_sum-le choices (pairs_plan back count types test) =
+    pub node_sum-le : (plan : Physical) → node_sum one plan ≤ node_sum other plan
+    node_sum-le physical_empty = plans physical_empty
+    node_sum-le physical_all = plans physical_all
+    node_sum-le (physical_one number) = plans (physical_one number)
+    node_sum-le (physical_walk operator operand) =
+        omega (arith, plans (physical_walk operator operand), node_sum-le operand)
+    node_sum-le (physical_members operand) = omega (arith, plans (physical_members operand), node_sum-le operand)
+    node_sum-le (physical_and parts) = omega (arith, plans (physical_and parts), plans_sum-le parts)
+    node_sum-le (physical_or parts) = omega (arith, plans (physical_or parts), plans_sum-le parts)
+    node_sum-le (physical_minus first second) =
+        omega (arith, plans (physical_minus first second), node_sum-le first, node_sum-le second)
+    node_sum-le (physical_values start names) =
+        omega (arith, plans (physical_values start names), node_sum-le start, plans_sum-le names)
+    node_sum-le (physical_pairs back count types test choice) =
         omega (
           arith,
-          plans choices (pairs_plan back count types test),
-          node_sum-le (type_choices choices) types,
-          test_sum-le (test_choices choices types) test,
+          plans (physical_pairs back count types test choice),
+          node_sum-le types,
+          test_sum-le test,
         )
-    node_sum-le choices (units_plan count units) = omega (arith, plans choices (units_plan count units), group_sum-le choices units)
+    node_sum-le (physical_units count units) = omega (arith, plans (physical_units count units), group_sum-le units)
 
-    plans_sum-le : (choices : List Choice) (parts : Plans) → plans_sum one choices parts ≤ plans_sum other choices parts
-    plans_sum-le choices no_plans = omega arith
-    plans_sum-le choices (plan_then first rest) =
-        omega (arith, node_sum-le choices first, plans_sum-le (drop (leaves first) choices) rest)
+    plans_sum-le : (parts : Physicals) → plans_sum one parts ≤ plans_sum other parts
+    plans_sum-le no_physicals = omega arith
+    plans_sum-le (physical_then first rest) =
+        omega (arith, node_sum-le first, plans_sum-le rest)
 
-    pub group_sum-le : (choices : List Choice) (plan : PlanOfUnits) → group_sum one choices plan ≤ group_sum other choices plan
-    group_sum-le choices nothing_unit = groups choices nothing_unit
-    group_sum-le choices every_unit = groups choices every_unit
-    group_sum-le choices (and_units parts) = omega (arith, groups choices (and_units parts), groups_sum-le choices parts)
-    group_sum-le choices (or_units parts) = omega (arith, groups choices (or_units parts), groups_sum-le choices parts)
-    group_sum-le choices (minus_units first second) =
+    pub group_sum-le : (plan : PhysicalUnits) → group_sum one plan ≤ group_sum other plan
+    group_sum-le physical_nothing = groups physical_nothing
+    group_sum-le physical_every = groups physical_every
+    group_sum-le (physical_units_and parts) = omega (arith, groups (physical_units_and parts), groups_sum-le parts)
+    group_sum-le (physical_units_or parts) = omega (arith, groups (physical_units_or parts), groups_sum-le parts)
+    group_sum-le (physical_units_minus first second) =
         omega (
           arith,
-          groups choices (minus_units first second),
-          group_sum-le choices first,
-          group_sum-le (drop (group_leaves first) choices) second,
+          groups (physical_units_minus first second),
+          group_sum-le first,
+          group_sum-le second,
         )
-    group_sum-le choices (pairs_units count types test) =
+    group_sum-le (physical_units_pairs count types test choice) =
         omega (
           arith,
-          groups choices (pairs_units count types test),
-          node_sum-le (type_choices choices) types,
-          test_sum-le (test_choices choices types) test,
+          groups (physical_units_pairs count types test choice),
+          node_sum-le types,
+          test_sum-le test,
         )
 
-    groups_sum-le : (choices : List Choice) (parts : PlansOfUnits) → groups_sum one choices parts ≤ groups_sum other choices parts
-    groups_sum-le choices no_unit_plans = omega arith
-    groups_sum-le choices (unit_plan_then first rest) =
-        omega (arith, group_sum-le choices first, groups_sum-le (drop (group_leaves first) choices) rest)
+    groups_sum-le : (parts : PhysicalUnitsList) → groups_sum one parts ≤ groups_sum other parts
+    groups_sum-le no_physical_units = omega arith
+    groups_sum-le (physical_units_then first rest) =
+        omega (arith, group_sum-le first, groups_sum-le rest)
 
-    test_sum-le : (choices : List Choice) (test : TestPlan) → test_sum one choices test ≤ test_sum other choices test
-    test_sum-le choices (within_plan operand) = node_sum-le choices operand
-    test_sum-le choices (outside_plan operand) = node_sum-le choices operand
-    test_sum-le choices (number_plan compare number) = omega arith
+    test_sum-le : (test : PhysicalTest) → test_sum one test ≤ test_sum other test
+    test_sum-le (physical_within operand) = node_sum-le operand
+    test_sum-le (physical_outside operand) = node_sum-le operand
+    test_sum-le (physical_number compare number) = omega arith
 
 -- ---- the nodes
 -- what is counted of one concept if it is in force is no more than what is counted of it
@@ -84,25 +89,25 @@ in_force-le (Some number) count = omega arith
 in_force-le None count = omega arith
 
 -- the rows of one concept are no more than those that a set leaves
-one-le-rows_left : (indexed : Indexed) (count : ℕ → ℕ) (all : ℕ) (plan : Plan) → of_one indexed (one_of plan) count ≤ rows_left count all plan
-one-le-rows_left indexed count all empty_plan = omega arith
-one-le-rows_left indexed count all all_plan = omega arith
-one-le-rows_left indexed count all (one_plan id) = in_force-le (concept_number indexed.concepts id) (count id)
-one-le-rows_left indexed count all (walk_plan operator operand) = omega arith
-one-le-rows_left indexed count all (members_plan operand) = omega arith
-one-le-rows_left indexed count all (and_plan parts) = omega arith
-one-le-rows_left indexed count all (or_plan parts) = omega arith
-one-le-rows_left indexed count all (minus_plan first second) = omega arith
-one-le-rows_left indexed count all (values_plan start names) = omega arith
-one-le-rows_left indexed count all (pairs_plan back pairs types test) = omega arith
-one-le-rows_left indexed count all (units_plan pairs units) = omega arith
+one-le-rows_left : (indexed : Indexed) (count : ℕ → ℕ) (all : ℕ) (plan : Physical) → of_one indexed (one_of plan) count ≤ rows_left count all plan
+one-le-rows_left indexed count all physical_empty = omega arith
+one-le-rows_left indexed count all physical_all = omega arith
+one-le-rows_left indexed count all (physical_one id) = in_force-le (concept_number indexed.concepts id) (count id)
+one-le-rows_left indexed count all (physical_walk operator operand) = omega arith
+one-le-rows_left indexed count all (physical_members operand) = omega arith
+one-le-rows_left indexed count all (physical_and parts) = omega arith
+one-le-rows_left indexed count all (physical_or parts) = omega arith
+one-le-rows_left indexed count all (physical_minus first second) = omega arith
+one-le-rows_left indexed count all (physical_values start names) = omega arith
+one-le-rows_left indexed count all (physical_pairs back pairs types test choice) = omega arith
+one-le-rows_left indexed count all (physical_units pairs units) = omega arith
 
-pub leaf-le : (indexed : Indexed) (all : ℕ) (back : Bool) (count : _) (types : Plan) (test : TestPlan) (type_size value_size : ℕ) (choice : Choice)
+pub leaf-le : (indexed : Indexed) (all : ℕ) (back : Bool) (count : _) (types : Physical) (test : PhysicalTest) (type_size value_size : ℕ) (choice : Choice)
     → leaf_floor indexed back types test choice ≤ leaf_bound (leaf_of indexed all back count types test type_size value_size) choice
-leaf-le indexed all back count types (within_plan values) type_size value_size ByValue =
+leaf-le indexed all back count types (physical_within values) type_size value_size ByValue =
     omega (arith, one-le-rows_left indexed (value_row_count indexed back) (length indexed.rows) values)
-leaf-le indexed all back count types (outside_plan values) type_size value_size ByValue = omega arith
-leaf-le indexed all back count types (number_plan compare number) type_size value_size ByValue = omega arith
+leaf-le indexed all back count types (physical_outside values) type_size value_size ByValue = omega arith
+leaf-le indexed all back count types (physical_number compare number) type_size value_size ByValue = omega arith
 leaf-le indexed all back count types test type_size value_size ByType =
     omega (arith, one-le-rows_left indexed (type_row_count indexed) (length indexed.rows) types)
 leaf-le indexed all back count types test type_size value_size Scan = omega arith
@@ -120,38 +125,38 @@ pub members-le : (indexed : Indexed) (one : Option ℕ) (size : ℕ) → of_one 
 members-le indexed (Some id) size = omega (arith, in_force-le (concept_number indexed.concepts id) (member_count indexed id))
 members-le indexed None size = omega arith
 
-own-le : (indexed : Indexed) (choices : List Choice) (plan : Plan) → own_floor indexed choices plan ≤ own_bound indexed choices plan
-own-le indexed choices empty_plan = omega arith
-own-le indexed choices all_plan = omega arith
-own-le indexed choices (one_plan number) = omega arith
-own-le indexed choices (walk_plan operator operand) = walk-le indexed operator (one_of operand) (size indexed choices operand)
-own-le indexed choices (members_plan operand) = members-le indexed (one_of operand) (size indexed choices operand)
-own-le indexed choices (and_plan parts) = omega arith
-own-le indexed choices (or_plan parts) = omega arith
-own-le indexed choices (minus_plan first second) = omega arith
-own-le indexed choices (values_plan start names) = omega arith
-own-le indexed choices (pairs_plan back count types test) =
-    leaf-le indexed (length indexed.concepts) back count types test (size indexed (type_choices choices) types)
-    (test_size indexed (test_choices choices types) test) (first_choice choices)
-own-le indexed choices (units_plan count units) = omega arith
+own-le : (indexed : Indexed) (plan : Physical) → own_floor indexed plan ≤ own_bound indexed plan
+own-le indexed physical_empty = omega arith
+own-le indexed physical_all = omega arith
+own-le indexed (physical_one number) = omega arith
+own-le indexed (physical_walk operator operand) = walk-le indexed operator (one_of operand) (size indexed operand)
+own-le indexed (physical_members operand) = members-le indexed (one_of operand) (size indexed operand)
+own-le indexed (physical_and parts) = omega arith
+own-le indexed (physical_or parts) = omega arith
+own-le indexed (physical_minus first second) = omega arith
+own-le indexed (physical_values start names) = omega arith
+own-le indexed (physical_pairs back count types test choice) =
+    leaf-le indexed (length indexed.concepts) back count types test (size indexed types)
+    (test_size indexed test) choice
+own-le indexed (physical_units count units) = omega arith
 
-group_own-le : (indexed : Indexed) (choices : List Choice) (plan : PlanOfUnits)
-    → group_own_floor indexed choices plan ≤ group_own_bound indexed choices plan
-group_own-le indexed choices nothing_unit = omega arith
-group_own-le indexed choices every_unit = omega arith
-group_own-le indexed choices (and_units parts) = omega arith
-group_own-le indexed choices (or_units parts) = omega arith
-group_own-le indexed choices (minus_units first second) = omega arith
-group_own-le indexed choices (pairs_units count types test) =
-    leaf-le indexed (length (groups_in indexed)) false count types test (size indexed (type_choices choices) types)
-    (test_size indexed (test_choices choices types) test) (first_choice choices)
+group_own-le : (indexed : Indexed) (plan : PhysicalUnits)
+    → group_own_floor indexed plan ≤ group_own_bound indexed plan
+group_own-le indexed physical_nothing = omega arith
+group_own-le indexed physical_every = omega arith
+group_own-le indexed (physical_units_and parts) = omega arith
+group_own-le indexed (physical_units_or parts) = omega arith
+group_own-le indexed (physical_units_minus first second) = omega arith
+group_own-le indexed (physical_units_pairs count types test choice) =
+    leaf-le indexed (length (groups_in indexed)) false count types test (size indexed types)
+    (test_size indexed test) choice
 
-pub floor-le-bound : (indexed : Indexed) (choices : List Choice) (plan : Plan) → floor indexed choices plan ≤ bound indexed choices plan
-floor-le-bound indexed choices plan =
-    node_sum-le (floor_number indexed) (own_number indexed) (own-le indexed) (group_own-le indexed) choices plan
+pub floor-le-bound : (indexed : Indexed) (plan : Physical) → floor indexed plan ≤ bound indexed plan
+floor-le-bound indexed plan =
+    node_sum-le (floor_number indexed) (own_number indexed) (own-le indexed) (group_own-le indexed) plan
 
 -- the same of groups
-pub group_floor-le-bound : (indexed : Indexed) (choices : List Choice) (plan : PlanOfUnits)
-    → group_sum (floor_number indexed) choices plan ≤ group_sum (own_number indexed) choices plan
-group_floor-le-bound indexed choices plan =
-    group_sum-le (floor_number indexed) (own_number indexed) (own-le indexed) (group_own-le indexed) choices plan
+pub group_floor-le-bound : (indexed : Indexed) (plan : PhysicalUnits)
+    → group_sum (floor_number indexed) plan ≤ group_sum (own_number indexed) plan
+group_floor-le-bound indexed plan =
+    group_sum-le (floor_number indexed) (own_number indexed) (own-le indexed) (group_own-le indexed) plan

@@ -24,6 +24,7 @@ use Rattle.constraint_tree.specs.Walks.{has_concept, is_above, is_below, is_chil
 use Rattle.number_lists.proofs.ListLemmas.{passing_item, some_item_passes, IsOnce}
 use Rattle.constraint_tree.proofs.WalkLemmas.{tells_in_force}
 use Rattle.set_algebra.specs.Meaning.{unit_means, has_groups, means, value_passes}
+use Rattle.set_algebra.specs.Physical.{Physical, PhysicalTest, logical, logical_test, physical_empty, physical_one, physical_within}
 use Rattle.set_algebra.specs.Plan.{Plan, empty_plan, one_plan, walk_plan, members_plan, pairs_plan, pairs_units, TestPlan, within_plan}
 use Rattle.held_release.specs.AttributesBySource.{attributes_by_source}
 use Rattle.held_release.specs.Numbering.{concept_number}
@@ -416,20 +417,24 @@ module _ (release : Release) (indexed : Indexed) (is : IsIndexOf indexed release
     pair_rows known true some = back_rows known some
     pair_rows known false some = forward_rows some
 
+  -- the rows that pass are those of the logical plans
+  abbrev leaf_passes : Bool → Physical → PhysicalTest → Attribute → Bool
+  leaf_passes back types test = row_passes release back (logical types) (logical_test test)
+
   -- rows that pass are no more than those of the types
-  rows_typed : (back : Bool) (types : Plan) (test : TestPlan)
-      → count_by (row_passes release back types test) indexed.rows ≤ type_rows indexed types
-  rows_typed back empty_plan test =
-      omega (arith, count_none (row_passes release back empty_plan test) indexed.rows (λ row there passes. false≢true passes))
-  rows_typed back (one_plan one) test =
+  rows_typed : (back : Bool) (types : Physical) (test : PhysicalTest)
+      → count_by (leaf_passes back types test) indexed.rows ≤ type_rows indexed types
+  rows_typed back physical_empty test =
+      omega (arith, count_none (leaf_passes back physical_empty test) indexed.rows (λ row there holds. false≢true holds))
+  rows_typed back (physical_one one) test =
       omega (
         arith,
         length-places_where (λ (row : Attribute). row.type_id == one) indexed.rows,
-        count_le (row_passes release back (one_plan one) test) (λ (row : Attribute). row.type_id == one) indexed.rows
-            (λ row passes. (and_parts (has_concept release row.type_id) (row.type_id == one)
-            (and_parts (means release (one_plan one) row.type_id) (value_passes release test (value_on back row)) passes).0).1),
+        count_le (leaf_passes back (physical_one one) test) (λ (row : Attribute). row.type_id == one) indexed.rows
+            (λ row holds. (and_parts (has_concept release row.type_id) (row.type_id == one)
+            (and_parts (means release (one_plan one) row.type_id) (value_passes release (logical_test test) (value_on back row)) holds).0).1),
       )
-  rows_typed back types test = count_by-le-length (row_passes release back types test) indexed.rows
+  rows_typed back types test = count_by-le-length (leaf_passes back types test) indexed.rows
 
   -- nor than those of the values that the test is within
   rows_of_value : (back : Bool) (types : Plan) (one : ℕ)
@@ -487,34 +492,34 @@ module _ (release : Release) (indexed : Indexed) (is : IsIndexOf indexed release
                 (value_is false row passes ∙ ap concept_value (in_index number same))),
           )
 
-  rows_valued : (back : Bool) (types : Plan) (test : TestPlan)
-      → count_by (row_passes release back types test) indexed.rows ≤ value_rows indexed back test
-  rows_valued back types (within_plan empty_plan) =
+  rows_valued : (back : Bool) (types : Physical) (test : PhysicalTest)
+      → count_by (leaf_passes back types test) indexed.rows ≤ value_rows indexed back test
+  rows_valued back types (physical_within physical_empty) =
       omega (
         arith,
-        count_none (row_passes release back types (within_plan empty_plan)) indexed.rows
-            (λ row there passes.
+        count_none (leaf_passes back types (physical_within physical_empty)) indexed.rows
+            (λ row there holds.
             let found = within_value (means release empty_plan) (value_on back row)
-            (and_parts (means release types row.type_id) (is_within (means release empty_plan) (value_on back row)) passes).1 in
+            (and_parts (means release (logical types) row.type_id) (is_within (means release empty_plan) (value_on back row)) holds).1 in
             false≢true found.2),
       )
-  rows_valued back types (within_plan (one_plan one)) = rows_of_value back types one
-  rows_valued back types test = count_by-le-length (row_passes release back types test) indexed.rows
+  rows_valued back types (physical_within (physical_one one)) = rows_of_value back (logical types) one
+  rows_valued back types test = count_by-le-length (leaf_passes back types test) indexed.rows
 
   -- so what a leaf finds is no more than its size, of concepts as of groups
-  pub leaf-le : (all : ℕ) (back : Bool) (count : Cardinality) (types : Plan) (test : TestPlan) (type_size value_size : ℕ) (choice : Choice)
-      (n : ℕ) → n ≤ all → (1 ≤ count.min → n ≤ count_by (row_passes release back types test) indexed.rows)
+  pub leaf-le : (all : ℕ) (back : Bool) (count : Cardinality) (types : Physical) (test : PhysicalTest) (type_size value_size : ℕ) (choice : Choice)
+      (n : ℕ) → n ≤ all → (1 ≤ count.min → n ≤ count_by (leaf_passes back types test) indexed.rows)
       → n ≤ leaf_size (leaf_of indexed all back count types test type_size value_size) choice
   leaf-le all back count types test type_size value_size choice n within few =
       found-le count.min all (leaf_rows (leaf_of indexed all back count types test type_size value_size) choice) n within
       (λ some. omega (arith, few some, rows choice))
     where
       rows : (choice : Choice)
-          → count_by (row_passes release back types test) indexed.rows
+          → count_by (leaf_passes back types test) indexed.rows
           ≤ leaf_rows (leaf_of indexed all back count types test type_size value_size) choice
       rows ByValue = rows_valued back types test
       rows ByType = rows_typed back types test
-      rows Scan = count_by-le-length (row_passes release back types test) indexed.rows
+      rows Scan = count_by-le-length (leaf_passes back types test) indexed.rows
 
   -- ---- groups
   -- there are no more than all

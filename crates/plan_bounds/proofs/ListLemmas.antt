@@ -1,4 +1,4 @@
--- Lists that are read from a place on, and lists in which a place is written later; numbers that stand still.
+-- Lists in which a place is written later; numbers that stand still.
 use Rattle.std.proofs.Common.{ℕ, zero, suc, ◌+◌, ◌-◌, ◌*◌, ◌∷◌, ◌++◌, [], ◌≡◌, ◌≤◌, ◌<◌, ◌^◌, ◌∙◌, List, length, length-append, drop, min, sym, ap, arith, append_assoc, inl, inr}
 use Rattle.std.specs.List.{slice_set}
 use Rattle.std.proofs.Math.Nat.{mul-suc, mul_comm}
@@ -7,20 +7,10 @@ use Rattle.std.proofs.lemmas.Bool.{cases_lt}
 use Rattle.std.proofs.lemmas.List.{drop-drop}
 use Rattle.plan_bounds.specs.Bounds.{capped}
 
--- behind the first, the choices of its types, and those of its test
-pub drop_leaf : {X : Type 0} (a b : ℕ) (xs : List X) → drop b (drop a (drop 1 xs)) ≡ drop (suc (a + b)) xs
-drop_leaf a b [] = ap (drop b) (drop-nil a) ∙ drop-nil b ∙ sym (drop-nil (suc (a + b)))
-drop_leaf a b (x ∷ xs) = drop-drop b a xs
-
 -- what is written at a place that was kept free
 pub put_seam : {X : Type 0} (xs ys : List X) (free x : X) → slice_set ((xs ++ free ∷ []) ++ ys) (length xs) x ≡ xs ++ (x ∷ ys)
 put_seam xs ys free x =
     ap (λ (all : List _). slice_set all (length xs) x) (append_assoc xs (free ∷ []) ys) ∙ set-append_seam xs free ys x
-
-pub put_seam_two : {X : Type 0} (xs ys zs : List X) (free x : X)
-    → slice_set (((xs ++ free ∷ []) ++ ys) ++ zs) (length xs) x ≡ xs ++ (x ∷ (ys ++ zs))
-put_seam_two xs ys zs free x =
-    ap (λ (all : List _). slice_set all (length xs) x) (append_assoc (xs ++ free ∷ []) ys zs) ∙ put_seam xs (ys ++ zs) free x
 
 -- what a node lists whose place was kept free, once its children have added theirs and its own number is put there
 pub closed_list : (given : List ℕ) {opened grown listed behind all : List ℕ} {at own number : ℕ} → listed ≡ slice_set grown at own
@@ -36,11 +26,6 @@ pub at_within : {X : Type 0} (given behind : List X) (free : X) {opened grown : 
     → opened ≡ given ++ free ∷ [] → grown ≡ opened ++ behind → at < length grown
 at_within given behind free {opened = opened} at_is opened_is grown_is =
     omega (arith, at_is, ap length opened_is, length-append given (free ∷ []), ap length grown_is, length-append opened behind)
-
-pub at_within_two : {X : Type 0} (given first last : List X) (free : X) {opened between grown : List X} {at : ℕ} → at ≡ length given
-    → opened ≡ given ++ free ∷ [] → between ≡ opened ++ first → grown ≡ between ++ last → at < length grown
-at_within_two given first last free {between = between} at_is opened_is between_is grown_is =
-    omega (arith, at_within given first free at_is opened_is between_is, ap length grown_is, length-append between last)
 
 -- what two children have added
 pub two_behind : (opened first last : List ℕ) {between grown : List ℕ} → grown ≡ between ++ last → between ≡ opened ++ first

@@ -1,5 +1,5 @@
--- A plan finds no more than its size, whatever its choices.
-use Rattle.std.proofs.Common.{ℕ, suc, ◌+◌, ◌==◌, ◌≡◌, ◌≤◌, ◌∙◌, ◌∷◌, [], ◌||◌, Bool, true, false, cond, List, Option, Some, drop, length, get_or, min, sym, subst, arith}
+-- A physical plan finds no more than its size, whatever its choices.
+use Rattle.std.proofs.Common.{ℕ, suc, ◌+◌, ◌==◌, ◌≡◌, ◌≤◌, ◌∙◌, ◌∷◌, [], ◌||◌, Bool, true, false, cond, List, Option, Some, length, get_or, min, sym, subst, arith}
 use Rattle.std.specs.Prelude.{All, count_by, slice_get}
 use Rattle.std.specs.List.Sorted.{IsStrictlyIncreasing}
 use Rattle.std.proofs.lemmas.Bool.{and_parts, false≢true, ne_eqb}
@@ -12,14 +12,19 @@ use Rattle.constraint_tree.specs.declared.operator.Operator.{Operator}
 use Rattle.constraint_tree.specs.Denotation.{is_value}
 use Rattle.constraint_tree.specs.Walks.{has_concept}
 use Rattle.set_algebra.specs.Meaning.{all_units_mean, all_mean, unit_means, leads, means, some_unit_means, some_means}
-use Rattle.set_algebra.specs.Plan.{Plan, empty_plan, all_plan, one_plan, walk_plan, members_plan, and_plan, or_plan, minus_plan, values_plan, pairs_plan, units_plan, Plans, no_plans, plan_then, PlanOfUnits, nothing_unit, every_unit, and_units, or_units, minus_units, pairs_units, PlansOfUnits, no_unit_plans, unit_plan_then}
+use Rattle.set_algebra.specs.Plan.{Plan, members_plan, no_plans, no_unit_plans, plan_then, Plans, walk_plan}
+use Rattle.set_algebra.specs.Physical.{Physical, physical_empty, physical_all, physical_one, physical_walk, physical_members, physical_and}
+use Rattle.set_algebra.specs.Physical.{physical_or, physical_minus, physical_values, physical_pairs, physical_units}
+use Rattle.set_algebra.specs.Physical.{Physicals, no_physicals, physical_then, PhysicalUnits, physical_nothing, physical_every}
+use Rattle.set_algebra.specs.Physical.{physical_units_and, physical_units_or, physical_units_minus, physical_units_pairs}
+use Rattle.set_algebra.specs.Physical.{PhysicalUnitsList, no_physical_units, physical_units_then}
+use Rattle.set_algebra.specs.Physical.{logical, logical_test, logical_units, logical_units_list, logicals}
 use Rattle.set_algebra.proofs.MeaningLemmas.{in_force_if_meant}
 use Rattle.postings.specs.Groups.{ConceptGroup, all_groups, groups_in, pairs_of_group}
 use Rattle.postings.specs.Indexed.{Indexed, IsIndexOf}
-use Rattle.set_algebra.specs.declared.choice.Choice.{Choice}
 use Rattle.plan_bounds.specs.Counts.{one_of}
 use Rattle.plan_bounds.specs.Found.{FindsWithinSize}
-use Rattle.plan_bounds.specs.Leaves.{first_choice, group_leaves, leaves, plan_count, test_choices, type_choices}
+use Rattle.plan_bounds.specs.Leaves.{plan_count}
 use Rattle.plan_bounds.specs.Sizes.{group_size, group_sizes, least_from, least_of, members_size, size, sizes, test_size, total, walk_size}
 use Rattle.plan_bounds.proofs.FewLemmas.{count_either, count_le, count_none, length-places, length-places_got}
 use Rattle.plan_bounds.proofs.FoundLemmas.{found-le, group_rows, groups-all, leaf-le, many-all, many-groups, many-one, many-values, members_of_any, members_of_one, pair_rows, walk_from_any, walk_from_one}
@@ -61,59 +66,61 @@ module _ (release : Release) (indexed : Indexed) (is : IsIndexOf indexed release
   meant set group = set (pairs_of_group release group)
 
   -- ---- groups
+  abbrev in_groups : PhysicalUnits → ConceptGroup → Bool
+  in_groups plan = meant (unit_means release (logical_units plan))
+
   mutual
-    pub group_size-le : (choices : List Choice) (plan : PlanOfUnits)
-        → count_by (meant (unit_means release plan)) (all_groups release) ≤ group_size indexed choices plan
-    group_size-le choices nothing_unit =
-        omega (arith, count_none (meant (unit_means release nothing_unit)) (all_groups release) (λ group there passes. false≢true passes))
-    group_size-le choices every_unit = groups-all release indexed is rising (meant (unit_means release every_unit))
-    group_size-le choices (and_units parts) =
-        least_of-from _ (length (groups_in indexed)) (group_sizes indexed choices parts)
-        (all_groups-le choices parts (meant (unit_means release (and_units parts))) (length (groups_in indexed)) (λ group passes. passes)
-        (groups-all release indexed is rising (meant (unit_means release (and_units parts)))))
-    group_size-le choices (or_units parts) =
-        omega (arith, groups-all release indexed is rising (meant (unit_means release (or_units parts))), some_groups-le choices parts)
-    group_size-le choices (minus_units first second) =
+    pub group_size-le : (plan : PhysicalUnits) → count_by (in_groups plan) (all_groups release) ≤ group_size indexed plan
+    group_size-le physical_nothing =
+        omega (arith, count_none (in_groups physical_nothing) (all_groups release) (λ group there passes. false≢true passes))
+    group_size-le physical_every = groups-all release indexed is rising (in_groups physical_every)
+    group_size-le (physical_units_and parts) =
+        least_of-from _ (length (groups_in indexed)) (group_sizes indexed parts)
+        (all_groups-le parts (in_groups (physical_units_and parts)) (length (groups_in indexed)) (λ group passes. passes)
+        (groups-all release indexed is rising (in_groups (physical_units_and parts))))
+    group_size-le (physical_units_or parts) =
+        omega (arith, groups-all release indexed is rising (in_groups (physical_units_or parts)), some_groups-le parts)
+    group_size-le (physical_units_minus first second) =
         omega (
           arith,
-          group_size-le choices first,
-          count_le (meant (unit_means release (minus_units first second))) (meant (unit_means release first)) (all_groups release)
-              (λ group passes. (and_parts (meant (unit_means release first) group) _ passes).0),
+          group_size-le first,
+          count_le (in_groups (physical_units_minus first second)) (in_groups first) (all_groups release)
+              (λ group passes. (and_parts (in_groups first group) _ passes).0),
         )
-    group_size-le choices (pairs_units count types test) =
-        leaf-le release indexed is rising (length (groups_in indexed)) false count types test (size indexed (type_choices choices) types)
-        (test_size indexed (test_choices choices types) test) (first_choice choices) _
-        (groups-all release indexed is rising (meant (unit_means release (pairs_units count types test))))
-        (group_rows release indexed is rising count types test)
+    group_size-le (physical_units_pairs count types test choice) =
+        leaf-le release indexed is rising (length (groups_in indexed)) false count types test (size indexed types) (test_size indexed test)
+        choice _
+        (groups-all release indexed is rising (in_groups (physical_units_pairs count types test choice)))
+        (group_rows release indexed is rising count (logical types) (logical_test test))
 
-    all_groups-le : (choices : List Choice) (parts : PlansOfUnits) (set : ConceptGroup → Bool) (most : ℕ)
-        → ((group : ConceptGroup) → set group ≡ true → meant (all_units_mean release parts) group ≡ true)
-        → count_by set (all_groups release) ≤ most → count_by set (all_groups release) ≤ least_from most (group_sizes indexed choices parts)
-    all_groups-le choices no_unit_plans set most each within = within
-    all_groups-le choices (unit_plan_then first rest) set most each within =
-        all_groups-le (drop (group_leaves first) choices) rest set (min most (group_size indexed choices first))
-        (λ group passes. (and_parts (meant (unit_means release first) group) _ (each group passes)).1)
-        (with_part (all_groups release) set (meant (unit_means release first)) most (group_size indexed choices first)
-        (λ group passes. (and_parts (meant (unit_means release first) group) _ (each group passes)).0) within (group_size-le choices first))
+    all_groups-le : (parts : PhysicalUnitsList) (set : ConceptGroup → Bool) (most : ℕ)
+        → ((group : ConceptGroup) → set group ≡ true → meant (all_units_mean release (logical_units_list parts)) group ≡ true)
+        → count_by set (all_groups release) ≤ most → count_by set (all_groups release) ≤ least_from most (group_sizes indexed parts)
+    all_groups-le no_physical_units set most each within = within
+    all_groups-le (physical_units_then first rest) set most each within =
+        all_groups-le rest set (min most (group_size indexed first))
+        (λ group passes. (and_parts (in_groups first group) _ (each group passes)).1)
+        (with_part (all_groups release) set (in_groups first) most (group_size indexed first)
+        (λ group passes. (and_parts (in_groups first group) _ (each group passes)).0) within (group_size-le first))
 
-    some_groups-le : (choices : List Choice) (parts : PlansOfUnits)
-        → count_by (meant (some_unit_means release parts)) (all_groups release) ≤ total (group_sizes indexed choices parts)
-    some_groups-le choices no_unit_plans =
+    some_groups-le : (parts : PhysicalUnitsList)
+        → count_by (meant (some_unit_means release (logical_units_list parts))) (all_groups release) ≤ total (group_sizes indexed parts)
+    some_groups-le no_physical_units =
         omega (arith, count_none (meant (some_unit_means release no_unit_plans)) (all_groups release) (λ group there passes. false≢true passes))
-    some_groups-le choices (unit_plan_then first rest) =
-        or_part (all_groups release) (meant (unit_means release first)) (meant (some_unit_means release rest)) _ _
-        (group_size-le choices first) (some_groups-le (drop (group_leaves first) choices) rest)
+    some_groups-le (physical_units_then first rest) =
+        or_part (all_groups release) (in_groups first) (meant (some_unit_means release (logical_units_list rest))) _ _
+        (group_size-le first) (some_groups-le rest)
 
   -- ---- concepts
   -- from one concept, and from any set
-  walk-le : (operator : Operator) (operand : Plan) (n : ℕ) → many (means release operand) ≤ n
-      → many (means release (walk_plan operator operand)) ≤ walk_size indexed operator (one_of operand) n
-  walk-le operator (one_plan one) n few = walk_from_one release indexed is rising operator one n
-  walk-le operator operand n few = walk_from_any release indexed is rising operator operand n few
+  walk-le : (operator : Operator) (operand : Physical) (n : ℕ) → many (means release (logical operand)) ≤ n
+      → many (means release (walk_plan operator (logical operand))) ≤ walk_size indexed operator (one_of operand) n
+  walk-le operator (physical_one one) n few = walk_from_one release indexed is rising operator one n
+  walk-le operator operand n few = walk_from_any release indexed is rising operator (logical operand) n few
 
-  members-le : (operand : Plan) → many (means release (members_plan operand)) ≤ members_size indexed (one_of operand)
-  members-le (one_plan one) = members_of_one release indexed is rising one
-  members-le operand = members_of_any release indexed is rising (means release operand) (in_force_if_meant release operand)
+  members-le : (operand : Physical) → many (means release (members_plan (logical operand))) ≤ members_size indexed (one_of operand)
+  members-le (physical_one one) = members_of_one release indexed is rising one
+  members-le operand = members_of_any release indexed is rising (means release (logical operand)) (in_force_if_meant release (logical operand))
 
   -- along types, of which there is one at least
   values-le : (names : Plans) (types : Plan) (set : ℕ → Bool) → ((concept : ℕ) → set concept ≡ true → has_concept release concept ≡ true)
@@ -124,84 +131,86 @@ module _ (release : Release) (indexed : Indexed) (is : IsIndexOf indexed release
       values-le names others (is_value release set (means release types))
       (λ concept passes. (and_parts (has_concept release concept) _ passes).0)
 
+  abbrev in_set : Physical → ℕ → Bool
+  in_set plan = means release (logical plan)
+
   mutual
-    pub size-le : (choices : List Choice) (plan : Plan) → many (means release plan) ≤ size indexed choices plan
-    size-le choices empty_plan =
-        omega (arith, count_none (means release empty_plan) release.concepts (λ concept there passes. false≢true passes))
-    size-le choices all_plan = many-all release indexed is rising (means release all_plan)
-    size-le choices (one_plan one) = many-one release indexed is rising one
-    size-le choices (walk_plan operator operand) = walk-le operator operand (size indexed choices operand) (size-le choices operand)
-    size-le choices (members_plan operand) = members-le operand
-    size-le choices (and_plan parts) =
-        least_of-from _ (length indexed.concepts) (sizes indexed choices parts)
-        (all-le choices parts (means release (and_plan parts)) (length indexed.concepts)
+    pub size-le : (plan : Physical) → many (in_set plan) ≤ size indexed plan
+    size-le physical_empty = omega (arith, count_none (in_set physical_empty) release.concepts (λ concept there passes. false≢true passes))
+    size-le physical_all = many-all release indexed is rising (in_set physical_all)
+    size-le (physical_one one) = many-one release indexed is rising one
+    size-le (physical_walk operator operand) = walk-le operator operand (size indexed operand) (size-le operand)
+    size-le (physical_members operand) = members-le operand
+    size-le (physical_and parts) =
+        least_of-from _ (length indexed.concepts) (sizes indexed parts)
+        (all-le parts (in_set (physical_and parts)) (length indexed.concepts)
         (λ concept passes. (and_parts (has_concept release concept) _ passes).1)
-        (many-all release indexed is rising (means release (and_plan parts))))
-    size-le choices (or_plan parts) =
-        omega (arith, many-all release indexed is rising (means release (or_plan parts)), some-le choices parts)
-    size-le choices (minus_plan first second) =
+        (many-all release indexed is rising (in_set (physical_and parts))))
+    size-le (physical_or parts) = omega (arith, many-all release indexed is rising (in_set (physical_or parts)), some-le parts)
+    size-le (physical_minus first second) =
         omega (
           arith,
-          size-le choices first,
-          count_le (means release (minus_plan first second)) (means release first) release.concepts
-              (λ concept passes. (and_parts (means release first concept) _ passes).0),
+          size-le first,
+          count_le (in_set (physical_minus first second)) (in_set first) release.concepts
+              (λ concept passes. (and_parts (in_set first concept) _ passes).0),
         )
-    size-le choices (values_plan start no_plans) = size-le choices start
-    size-le choices (values_plan start (plan_then types names)) =
-        along-le (plan_count names) (length indexed.concepts) (length indexed.rows) (size indexed choices start) _
-        (many-all release indexed is rising (means release (values_plan start (plan_then types names))))
-        (values-le names types (means release start) (in_force_if_meant release start))
-    size-le choices (pairs_plan back count types test) =
-        leaf-le release indexed is rising (length indexed.concepts) back count types test (size indexed (type_choices choices) types)
-        (test_size indexed (test_choices choices types) test) (first_choice choices) _
-        (many-all release indexed is rising (means release (pairs_plan back count types test)))
-        (pair_rows release indexed is rising count types test known back)
-    size-le choices (units_plan count units) =
-        found-le count.min (length indexed.concepts) (group_size indexed choices units) _
-        (many-all release indexed is rising (means release (units_plan count units)))
-        (λ some. omega (arith, many-groups release indexed is rising count (unit_means release units) some, group_size-le choices units))
+    size-le (physical_values start no_physicals) = size-le start
+    size-le (physical_values start (physical_then types names)) =
+        along-le (plan_count names) (length indexed.concepts) (length indexed.rows) (size indexed start) _
+        (many-all release indexed is rising (in_set (physical_values start (physical_then types names))))
+        (values-le (logicals names) (logical types) (in_set start) (in_force_if_meant release (logical start)))
+    size-le (physical_pairs back count types test choice) =
+        leaf-le release indexed is rising (length indexed.concepts) back count types test (size indexed types) (test_size indexed test)
+        choice _
+        (many-all release indexed is rising (in_set (physical_pairs back count types test choice)))
+        (pair_rows release indexed is rising count (logical types) (logical_test test) known back)
+    size-le (physical_units count units) =
+        found-le count.min (length indexed.concepts) (group_size indexed units) _
+        (many-all release indexed is rising (in_set (physical_units count units)))
+        (λ some. omega (
+          arith,
+          many-groups release indexed is rising count (unit_means release (logical_units units)) some,
+          group_size-le units,
+        ))
 
-    all-le : (choices : List Choice) (parts : Plans) (set : ℕ → Bool) (most : ℕ)
-        → ((concept : ℕ) → set concept ≡ true → all_mean release parts concept ≡ true)
-        → many set ≤ most → many set ≤ least_from most (sizes indexed choices parts)
-    all-le choices no_plans set most each within = within
-    all-le choices (plan_then first rest) set most each within =
-        all-le (drop (leaves first) choices) rest set (min most (size indexed choices first))
-        (λ concept passes. (and_parts (means release first concept) _ (each concept passes)).1)
-        (with_part release.concepts set (means release first) most (size indexed choices first)
-        (λ concept passes. (and_parts (means release first concept) _ (each concept passes)).0) within (size-le choices first))
+    all-le : (parts : Physicals) (set : ℕ → Bool) (most : ℕ)
+        → ((concept : ℕ) → set concept ≡ true → all_mean release (logicals parts) concept ≡ true)
+        → many set ≤ most → many set ≤ least_from most (sizes indexed parts)
+    all-le no_physicals set most each within = within
+    all-le (physical_then first rest) set most each within =
+        all-le rest set (min most (size indexed first))
+        (λ concept passes. (and_parts (in_set first concept) _ (each concept passes)).1)
+        (with_part release.concepts set (in_set first) most (size indexed first)
+        (λ concept passes. (and_parts (in_set first concept) _ (each concept passes)).0) within (size-le first))
 
-    some-le : (choices : List Choice) (parts : Plans) → many (some_means release parts) ≤ total (sizes indexed choices parts)
-    some-le choices no_plans =
+    some-le : (parts : Physicals) → many (some_means release (logicals parts)) ≤ total (sizes indexed parts)
+    some-le no_physicals =
         omega (arith, count_none (some_means release no_plans) release.concepts (λ concept there passes. false≢true passes))
-    some-le choices (plan_then first rest) =
-        or_part release.concepts (means release first) (some_means release rest) _ _
-        (size-le choices first) (some-le (drop (leaves first) choices) rest)
+    some-le (physical_then first rest) =
+        or_part release.concepts (in_set first) (some_means release (logicals rest)) _ _ (size-le first) (some-le rest)
 
   -- ---- by the numbers of concepts, and of groups
-  pub numbers-le : (choices : List Choice) (plan : Plan)
-      → length (numbers_where (length release.concepts) (λ number. means release plan (get_or release.concepts number 0)))
-      ≤ size indexed choices plan
-  numbers-le choices plan = omega (arith, length-places (means release plan) release.concepts 0, size-le choices plan)
+  pub numbers-le : (plan : Physical)
+      → length (numbers_where (length release.concepts) (λ number. in_set plan (get_or release.concepts number 0))) ≤ size indexed plan
+  numbers-le plan = omega (arith, length-places (in_set plan) release.concepts 0, size-le plan)
 
-  pub group_numbers-le : (choices : List Choice) (plan : PlanOfUnits) (test : Option ConceptGroup → Bool)
-      → ((group : ConceptGroup) → test (Some group) ≡ meant (unit_means release plan) group)
-      → length (numbers_where (length (all_groups release)) (λ number. test (slice_get (all_groups release) number)))
-      ≤ group_size indexed choices plan
-  group_numbers-le choices plan test told =
+  pub group_numbers-le : (plan : PhysicalUnits) (test : Option ConceptGroup → Bool)
+      → ((group : ConceptGroup) → test (Some group) ≡ in_groups plan group)
+      → length (numbers_where (length (all_groups release)) (λ number. test (slice_get (all_groups release) number))) ≤ group_size indexed plan
+  group_numbers-le plan test told =
       omega (
         arith,
         length-places_got test (all_groups release) ∙ (λ i. count_by (λ group. told group i) (all_groups release)),
-        group_size-le choices plan,
+        group_size-le plan,
       )
 
 pub finds_within_size : FindsWithinSize
-finds_within_size release rising known indexed is choices = (
-  λ plan. omega (arith, length-filter (means release plan) release.concepts, size-le release indexed is rising known choices plan),
+finds_within_size release rising known indexed is = (
+  λ plan. omega (arith, length-filter (means release (logical plan)) release.concepts, size-le release indexed is rising known plan),
   λ plan.
       omega (
         arith,
-        length-filter (λ group. unit_means release plan (pairs_of_group release group)) (all_groups release),
-        group_size-le release indexed is rising known choices plan,
+        length-filter (λ group. unit_means release (logical_units plan) (pairs_of_group release group)) (all_groups release),
+        group_size-le release indexed is rising known plan,
       ),
 )

@@ -1,6 +1,6 @@
 -- The alternatives of a leaf, which is a node that counts pairs of concepts or of groups: which it offers, how many rows each
 -- of them reads, how much the leaf finds and visits at most, and which is chosen.
-use Rattle.std.specs.Prelude.{ℕ, ◌+◌, ◌≡◌, ◌≤◌, ◌&&◌, Bool, true, if◌then◌else◌, IsTrue, Option, None, Some, min, nat_le}
+use Rattle.std.specs.Prelude.{ℕ, ◌+◌, ◌≡◌, ◌≤◌, ◌&&◌, Bool, true, if◌then◌else◌, IsTrue, min, nat_le}
 use Rattle.set_algebra.specs.declared.choice.Choice.{Choice}
 use Rattle.set_algebra.specs.declared.choice.Choice.TheVariants.{ByValue, ByType, Scan}
 use Rattle.plan_bounds.specs.declared.leaf.Leaf.{Leaf}
@@ -39,15 +39,6 @@ least_choice leaf =
     if leaf.is_within && (nat_le (leaf_bound leaf ByValue) (leaf_bound leaf ByType) && nat_le (leaf_bound leaf ByValue) (leaf_bound leaf Scan))
     then ByValue
     else (if nat_le (leaf_bound leaf ByType) (leaf_bound leaf Scan) then ByType else Scan)
-
--- the choice that is asked for, where the leaf offers it; else another, where there is one; else the least
-abbrev pub or_least : Leaf → Option Choice → Choice
-or_least leaf (Some choice) = choice
-or_least leaf None = least_choice leaf
-
-abbrev pub choice_of : Leaf → Option Choice → Option Choice → Choice
-choice_of leaf (Some choice) other = if offers leaf.is_within choice then choice else or_least leaf other
-choice_of leaf None other = or_least leaf other
 
 -- in which order a tie is decided
 abbrev pub rank : Choice → ℕ

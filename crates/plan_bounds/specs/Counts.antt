@@ -2,8 +2,13 @@
 use Rattle.std.specs.Prelude.{ℕ, ◌==◌, Bool, true, false, if◌then◌else◌, List, Option, None, Some, length}
 use Rattle.constraint_tree.specs.declared.operator.Cardinality.{Cardinality}
 use Rattle.constraint_tree.specs.declared.operator.Operator.{Operator}
-use Rattle.constraint_tree.specs.declared.operator.Operator.TheVariants.{Descendants, DescendantsOrSelf, Children, ChildrenOrSelf, Ancestors, AncestorsOrSelf, Parents, ParentsOrSelf, Top, Bottom}
-use Rattle.set_algebra.specs.Plan.{Plan, empty_plan, all_plan, one_plan, walk_plan, members_plan, and_plan, or_plan, minus_plan, values_plan, pairs_plan, units_plan, TestPlan, within_plan, outside_plan, number_plan}
+use Rattle.constraint_tree.specs.declared.operator.Operator.TheVariants.{Descendants, DescendantsOrSelf, Children}
+use Rattle.constraint_tree.specs.declared.operator.Operator.TheVariants.{ChildrenOrSelf, Ancestors, AncestorsOrSelf}
+use Rattle.constraint_tree.specs.declared.operator.Operator.TheVariants.{Parents, ParentsOrSelf, Top, Bottom}
+use Rattle.set_algebra.specs.Physical.{Physical, physical_empty, physical_all, physical_one, physical_walk}
+use Rattle.set_algebra.specs.Physical.{physical_members, physical_and, physical_or, physical_minus, physical_values}
+use Rattle.set_algebra.specs.Physical.{physical_pairs, physical_units, PhysicalTest, physical_within}
+use Rattle.set_algebra.specs.Physical.{physical_outside, physical_number}
 use Rattle.number_lists.specs.KeyedLists.{list_of}
 use Rattle.held_release.specs.Numbering.{concept_number}
 use Rattle.ancestor_index.specs.HierarchyLists.{Hierarchy}
@@ -84,49 +89,49 @@ value_row_count indexed back id =
     of_concept indexed (λ number. length (if back then rows_by_source indexed number else rows_by_value indexed number)) id
 
 -- the concept of a plan that is one
-abbrev pub one_of : Plan → Option ℕ
-one_of empty_plan = None
-one_of all_plan = None
-one_of (one_plan id) = Some id
-one_of (walk_plan operator operand) = None
-one_of (members_plan operand) = None
-one_of (and_plan parts) = None
-one_of (or_plan parts) = None
-one_of (minus_plan first second) = None
-one_of (values_plan start names) = None
-one_of (pairs_plan back count types test) = None
-one_of (units_plan count units) = None
+abbrev pub one_of : Physical → Option ℕ
+one_of physical_empty = None
+one_of physical_all = None
+one_of (physical_one id) = Some id
+one_of (physical_walk operator operand) = None
+one_of (physical_members operand) = None
+one_of (physical_and parts) = None
+one_of (physical_or parts) = None
+one_of (physical_minus first second) = None
+one_of (physical_values start names) = None
+one_of (physical_pairs back count types test choice) = None
+one_of (physical_units count units) = None
 
 -- of all rows those that a set leaves, at most: of one concept its rows, of no concept none
-abbrev pub rows_left : (ℕ → ℕ) → ℕ → Plan → ℕ
-rows_left count all empty_plan = 0
-rows_left count all all_plan = all
-rows_left count all (one_plan id) = count id
-rows_left count all (walk_plan operator operand) = all
-rows_left count all (members_plan operand) = all
-rows_left count all (and_plan parts) = all
-rows_left count all (or_plan parts) = all
-rows_left count all (minus_plan first second) = all
-rows_left count all (values_plan start names) = all
-rows_left count all (pairs_plan back plan_count types test) = all
-rows_left count all (units_plan plan_count units) = all
+abbrev pub rows_left : (ℕ → ℕ) → ℕ → Physical → ℕ
+rows_left count all physical_empty = 0
+rows_left count all physical_all = all
+rows_left count all (physical_one id) = count id
+rows_left count all (physical_walk operator operand) = all
+rows_left count all (physical_members operand) = all
+rows_left count all (physical_and parts) = all
+rows_left count all (physical_or parts) = all
+rows_left count all (physical_minus first second) = all
+rows_left count all (physical_values start names) = all
+rows_left count all (physical_pairs back plan_count types test choice) = all
+rows_left count all (physical_units plan_count units) = all
 
 -- by the types of a leaf, and by the values that its test is within
-abbrev pub type_rows : Indexed → Plan → ℕ
+abbrev pub type_rows : Indexed → Physical → ℕ
 type_rows indexed types = rows_left (type_row_count indexed) (length indexed.rows) types
 
-abbrev pub value_rows : Indexed → Bool → TestPlan → ℕ
-value_rows indexed back (within_plan values) = rows_left (value_row_count indexed back) (length indexed.rows) values
-value_rows indexed back (outside_plan values) = length indexed.rows
-value_rows indexed back (number_plan compare number) = length indexed.rows
+abbrev pub value_rows : Indexed → Bool → PhysicalTest → ℕ
+value_rows indexed back (physical_within values) = rows_left (value_row_count indexed back) (length indexed.rows) values
+value_rows indexed back (physical_outside values) = length indexed.rows
+value_rows indexed back (physical_number compare number) = length indexed.rows
 
-abbrev pub is_within : TestPlan → Bool
-is_within (within_plan values) = true
-is_within (outside_plan values) = false
-is_within (number_plan compare number) = false
+abbrev pub is_within : PhysicalTest → Bool
+is_within (physical_within values) = true
+is_within (physical_outside values) = false
+is_within (physical_number compare number) = false
 
 -- a leaf, by how many concepts or groups there are, and by the sizes of its types and of the plan of its test
-abbrev pub leaf_of : Indexed → ℕ → Bool → Cardinality → Plan → TestPlan → ℕ → ℕ → Leaf
+abbrev pub leaf_of : Indexed → ℕ → Bool → Cardinality → Physical → PhysicalTest → ℕ → ℕ → Leaf
 leaf_of indexed all back count types test type_size value_size = record {
   all = all;
   none_pass = count.min == 0;

@@ -1,13 +1,13 @@
--- How much a plan finds is no more than its size, whatever its choices.
+-- How much a physical plan finds is no more than its size, whatever its choices.
 use Rattle.std.specs.Prelude.{◌≡◌, ◌≤◌, true, All, List, filter, length}
 use Rattle.std.specs.List.Sorted.{IsStrictlyIncreasing}
 use Rattle.rf2_rows.specs.Release.{Attribute, Release}
 use Rattle.number_lists.specs.Members.{has}
 use Rattle.set_algebra.specs.Meaning.{unit_means, meaning}
-use Rattle.set_algebra.specs.Plan.{PlanOfUnits, Plan}
+use Rattle.set_algebra.specs.Physical.{Physical, PhysicalUnits, logical, logical_units}
+use Rattle.set_algebra.specs.Plan.{PlanOfUnits}
 use Rattle.postings.specs.Groups.{ConceptGroup, all_groups, pairs_of_group}
 use Rattle.postings.specs.Indexed.{Indexed, IsIndexOf}
-use Rattle.set_algebra.specs.declared.choice.Choice.{Choice}
 use Rattle.plan_bounds.specs.Sizes.{group_size, size}
 
 -- the groups of a release that a plan of groups means
@@ -20,6 +20,6 @@ abbrev pub FindsWithinSize : Type 0
 FindsWithinSize =
     (release : Release) → IsStrictlyIncreasing release.concepts
     → All (λ (row : Attribute). has release.concepts row.source ≡ true) release.attributes
-    → (indexed : Indexed) → IsIndexOf indexed release → (choices : List Choice)
-    → ((plan : Plan) → length (meaning release plan) ≤ size indexed choices plan)
-    × ((plan : PlanOfUnits) → length (groups_meant release plan) ≤ group_size indexed choices plan)
+    → (indexed : Indexed) → IsIndexOf indexed release
+    → ((plan : Physical) → length (meaning release (logical plan)) ≤ size indexed plan)
+    × ((plan : PhysicalUnits) → length (groups_meant release (logical_units plan)) ≤ group_size indexed plan)

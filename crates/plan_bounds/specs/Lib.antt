@@ -7,6 +7,6 @@ pub mod inside
 pub mod Leaves
 pub mod Nodes
 pub mod Offered
-pub mod Physical
+pub mod PlanWithChoices
 pub mod Sizes
 pub mod Tallies

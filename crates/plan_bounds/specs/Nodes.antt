@@ -1,106 +1,110 @@
--- Going through the nodes of a plan, each with the choices from its own first leaf on: the sum of a number that each node has, and
--- the list of numbers that each node gives, a node before its children.
-use Rattle.std.specs.Prelude.{ℕ, ◌+◌, List, [], ◌++◌, drop}
-use Rattle.set_algebra.specs.Plan.{Plan, empty_plan, all_plan, one_plan, walk_plan, members_plan, and_plan, or_plan, minus_plan, values_plan, pairs_plan, units_plan, Plans, no_plans, plan_then, PlanOfUnits, nothing_unit, every_unit, and_units, or_units, minus_units, pairs_units, PlansOfUnits, no_unit_plans, unit_plan_then, TestPlan, within_plan, outside_plan, number_plan}
-use Rattle.set_algebra.specs.declared.choice.Choice.{Choice}
-use Rattle.plan_bounds.specs.Leaves.{group_leaves, leaves, test_choices, type_choices}
+-- Going through the nodes of a physical plan: the sum of a number that each node has, and the list of numbers that each node gives,
+-- a node before its children.
+use Rattle.std.specs.Prelude.{ℕ, ◌+◌, List, [], ◌++◌}
+use Rattle.set_algebra.specs.Physical.{Physical, physical_empty, physical_all, physical_one, physical_walk}
+use Rattle.set_algebra.specs.Physical.{physical_members, physical_and, physical_or, physical_minus, physical_values}
+use Rattle.set_algebra.specs.Physical.{physical_pairs, physical_units, Physicals, no_physicals, physical_then}
+use Rattle.set_algebra.specs.Physical.{PhysicalUnits, physical_nothing, physical_every, physical_units_and}
+use Rattle.set_algebra.specs.Physical.{physical_units_or, physical_units_minus, physical_units_pairs}
+use Rattle.set_algebra.specs.Physical.{PhysicalUnitsList, no_physical_units, physical_units_then, PhysicalTest}
+use Rattle.set_algebra.specs.Physical.{physical_within, physical_outside, physical_number}
 
 -- what a node has, of either sort
 pub record NodeNumber : Type 0 where
-  pub of_plan : List Choice → Plan → ℕ
-  pub of_group : List Choice → PlanOfUnits → ℕ
+  pub of_plan : Physical → ℕ
+  pub of_group : PhysicalUnits → ℕ
 
 pub record NodeList : Type 0 where
-  pub of_plan : List Choice → Plan → List ℕ
-  pub of_group : List Choice → PlanOfUnits → List ℕ
+  pub of_plan : Physical → List ℕ
+  pub of_group : PhysicalUnits → List ℕ
 
 abbrev mutual
-  pub node_sum : NodeNumber → List Choice → Plan → ℕ
-  node_sum node choices empty_plan = node.of_plan choices empty_plan
-  node_sum node choices all_plan = node.of_plan choices all_plan
-  node_sum node choices (one_plan number) = node.of_plan choices (one_plan number)
-  node_sum node choices (walk_plan operator operand) = node.of_plan choices (walk_plan operator operand) + node_sum node choices operand
-  node_sum node choices (members_plan operand) = node.of_plan choices (members_plan operand) + node_sum node choices operand
-  node_sum node choices (and_plan parts) = node.of_plan choices (and_plan parts) + plans_sum node choices parts
-  node_sum node choices (or_plan parts) = node.of_plan choices (or_plan parts) + plans_sum node choices parts
-  node_sum node choices (minus_plan first second) =
-      node.of_plan choices (minus_plan first second) + (node_sum node choices first + node_sum node (drop (leaves first) choices) second)
-  node_sum node choices (values_plan start names) =
-      node.of_plan choices (values_plan start names) + (node_sum node choices start + plans_sum node (drop (leaves start) choices) names)
-  node_sum node choices (pairs_plan back count types test) =
-      node.of_plan choices (pairs_plan back count types test)
-      + (node_sum node (type_choices choices) types + test_sum node (test_choices choices types) test)
-  node_sum node choices (units_plan count units) = node.of_plan choices (units_plan count units) + group_sum node choices units
+  pub node_sum : NodeNumber → Physical → ℕ
+  node_sum node physical_empty = node.of_plan physical_empty
+  node_sum node physical_all = node.of_plan physical_all
+  node_sum node (physical_one number) = node.of_plan (physical_one number)
+  node_sum node (physical_walk operator operand) = node.of_plan (physical_walk operator operand) + node_sum node operand
+  node_sum node (physical_members operand) = node.of_plan (physical_members operand) + node_sum node operand
+  node_sum node (physical_and parts) = node.of_plan (physical_and parts) + plans_sum node parts
+  node_sum node (physical_or parts) = node.of_plan (physical_or parts) + plans_sum node parts
+  node_sum node (physical_minus first second) =
+      node.of_plan (physical_minus first second) + (node_sum node first + node_sum node second)
+  node_sum node (physical_values start names) =
+      node.of_plan (physical_values start names) + (node_sum node start + plans_sum node names)
+  node_sum node (physical_pairs back count types test choice) =
+      node.of_plan (physical_pairs back count types test choice)
+      + (node_sum node types + test_sum node test)
+  node_sum node (physical_units count units) = node.of_plan (physical_units count units) + group_sum node units
 
-  pub plans_sum : NodeNumber → List Choice → Plans → ℕ
-  plans_sum node choices no_plans = 0
-  plans_sum node choices (plan_then first rest) = node_sum node choices first + plans_sum node (drop (leaves first) choices) rest
+  pub plans_sum : NodeNumber → Physicals → ℕ
+  plans_sum node no_physicals = 0
+  plans_sum node (physical_then first rest) = node_sum node first + plans_sum node rest
 
-  pub group_sum : NodeNumber → List Choice → PlanOfUnits → ℕ
-  group_sum node choices nothing_unit = node.of_group choices nothing_unit
-  group_sum node choices every_unit = node.of_group choices every_unit
-  group_sum node choices (and_units parts) = node.of_group choices (and_units parts) + groups_sum node choices parts
-  group_sum node choices (or_units parts) = node.of_group choices (or_units parts) + groups_sum node choices parts
-  group_sum node choices (minus_units first second) =
-      node.of_group choices (minus_units first second)
-      + (group_sum node choices first + group_sum node (drop (group_leaves first) choices) second)
-  group_sum node choices (pairs_units count types test) =
-      node.of_group choices (pairs_units count types test)
-      + (node_sum node (type_choices choices) types + test_sum node (test_choices choices types) test)
+  pub group_sum : NodeNumber → PhysicalUnits → ℕ
+  group_sum node physical_nothing = node.of_group physical_nothing
+  group_sum node physical_every = node.of_group physical_every
+  group_sum node (physical_units_and parts) = node.of_group (physical_units_and parts) + groups_sum node parts
+  group_sum node (physical_units_or parts) = node.of_group (physical_units_or parts) + groups_sum node parts
+  group_sum node (physical_units_minus first second) =
+      node.of_group (physical_units_minus first second)
+      + (group_sum node first + group_sum node second)
+  group_sum node (physical_units_pairs count types test choice) =
+      node.of_group (physical_units_pairs count types test choice)
+      + (node_sum node types + test_sum node test)
 
-  pub groups_sum : NodeNumber → List Choice → PlansOfUnits → ℕ
-  groups_sum node choices no_unit_plans = 0
-  groups_sum node choices (unit_plan_then first rest) =
-      group_sum node choices first + groups_sum node (drop (group_leaves first) choices) rest
+  pub groups_sum : NodeNumber → PhysicalUnitsList → ℕ
+  groups_sum node no_physical_units = 0
+  groups_sum node (physical_units_then first rest) =
+      group_sum node first + groups_sum node rest
 
   -- a test is no node
-  pub test_sum : NodeNumber → List Choice → TestPlan → ℕ
-  test_sum node choices (within_plan operand) = node_sum node choices operand
-  test_sum node choices (outside_plan operand) = node_sum node choices operand
-  test_sum node choices (number_plan compare number) = 0
+  pub test_sum : NodeNumber → PhysicalTest → ℕ
+  test_sum node (physical_within operand) = node_sum node operand
+  test_sum node (physical_outside operand) = node_sum node operand
+  test_sum node (physical_number compare number) = 0
 
 abbrev mutual
-  pub node_list : NodeList → List Choice → Plan → List ℕ
-  node_list node choices empty_plan = node.of_plan choices empty_plan
-  node_list node choices all_plan = node.of_plan choices all_plan
-  node_list node choices (one_plan number) = node.of_plan choices (one_plan number)
-  node_list node choices (walk_plan operator operand) = node.of_plan choices (walk_plan operator operand) ++ node_list node choices operand
-  node_list node choices (members_plan operand) = node.of_plan choices (members_plan operand) ++ node_list node choices operand
-  node_list node choices (and_plan parts) = node.of_plan choices (and_plan parts) ++ plans_list node choices parts
-  node_list node choices (or_plan parts) = node.of_plan choices (or_plan parts) ++ plans_list node choices parts
-  node_list node choices (minus_plan first second) =
-      node.of_plan choices (minus_plan first second)
-      ++ (node_list node choices first ++ node_list node (drop (leaves first) choices) second)
-  node_list node choices (values_plan start names) =
-      node.of_plan choices (values_plan start names)
-      ++ (node_list node choices start ++ plans_list node (drop (leaves start) choices) names)
-  node_list node choices (pairs_plan back count types test) =
-      node.of_plan choices (pairs_plan back count types test)
-      ++ (node_list node (type_choices choices) types ++ test_list node (test_choices choices types) test)
-  node_list node choices (units_plan count units) = node.of_plan choices (units_plan count units) ++ group_list node choices units
+  pub node_list : NodeList → Physical → List ℕ
+  node_list node physical_empty = node.of_plan physical_empty
+  node_list node physical_all = node.of_plan physical_all
+  node_list node (physical_one number) = node.of_plan (physical_one number)
+  node_list node (physical_walk operator operand) = node.of_plan (physical_walk operator operand) ++ node_list node operand
+  node_list node (physical_members operand) = node.of_plan (physical_members operand) ++ node_list node operand
+  node_list node (physical_and parts) = node.of_plan (physical_and parts) ++ plans_list node parts
+  node_list node (physical_or parts) = node.of_plan (physical_or parts) ++ plans_list node parts
+  node_list node (physical_minus first second) =
+      node.of_plan (physical_minus first second)
+      ++ (node_list node first ++ node_list node second)
+  node_list node (physical_values start names) =
+      node.of_plan (physical_values start names)
+      ++ (node_list node start ++ plans_list node names)
+  node_list node (physical_pairs back count types test choice) =
+      node.of_plan (physical_pairs back count types test choice)
+      ++ (node_list node types ++ test_list node test)
+  node_list node (physical_units count units) = node.of_plan (physical_units count units) ++ group_list node units
 
-  pub plans_list : NodeList → List Choice → Plans → List ℕ
-  plans_list node choices no_plans = []
-  plans_list node choices (plan_then first rest) = node_list node choices first ++ plans_list node (drop (leaves first) choices) rest
+  pub plans_list : NodeList → Physicals → List ℕ
+  plans_list node no_physicals = []
+  plans_list node (physical_then first rest) = node_list node first ++ plans_list node rest
 
-  pub group_list : NodeList → List Choice → PlanOfUnits → List ℕ
-  group_list node choices nothing_unit = node.of_group choices nothing_unit
-  group_list node choices every_unit = node.of_group choices every_unit
-  group_list node choices (and_units parts) = node.of_group choices (and_units parts) ++ groups_list node choices parts
-  group_list node choices (or_units parts) = node.of_group choices (or_units parts) ++ groups_list node choices parts
-  group_list node choices (minus_units first second) =
-      node.of_group choices (minus_units first second)
-      ++ (group_list node choices first ++ group_list node (drop (group_leaves first) choices) second)
-  group_list node choices (pairs_units count types test) =
-      node.of_group choices (pairs_units count types test)
-      ++ (node_list node (type_choices choices) types ++ test_list node (test_choices choices types) test)
+  pub group_list : NodeList → PhysicalUnits → List ℕ
+  group_list node physical_nothing = node.of_group physical_nothing
+  group_list node physical_every = node.of_group physical_every
+  group_list node (physical_units_and parts) = node.of_group (physical_units_and parts) ++ groups_list node parts
+  group_list node (physical_units_or parts) = node.of_group (physical_units_or parts) ++ groups_list node parts
+  group_list node (physical_units_minus first second) =
+      node.of_group (physical_units_minus first second)
+      ++ (group_list node first ++ group_list node second)
+  group_list node (physical_units_pairs count types test choice) =
+      node.of_group (physical_units_pairs count types test choice)
+      ++ (node_list node types ++ test_list node test)
 
-  pub groups_list : NodeList → List Choice → PlansOfUnits → List ℕ
-  groups_list node choices no_unit_plans = []
-  groups_list node choices (unit_plan_then first rest) =
-      group_list node choices first ++ groups_list node (drop (group_leaves first) choices) rest
+  pub groups_list : NodeList → PhysicalUnitsList → List ℕ
+  groups_list node no_physical_units = []
+  groups_list node (physical_units_then first rest) =
+      group_list node first ++ groups_list node rest
 
-  pub test_list : NodeList → List Choice → TestPlan → List ℕ
-  test_list node choices (within_plan operand) = node_list node choices operand
-  test_list node choices (outside_plan operand) = node_list node choices operand
-  test_list node choices (number_plan compare number) = []
+  pub test_list : NodeList → PhysicalTest → List ℕ
+  test_list node (physical_within operand) = node_list node operand
+  test_list node (physical_outside operand) = node_list node operand
+  test_list node (physical_number compare number) = []

@@ -1,18 +1,23 @@
--- Choices that their leaves offer, and choices of least bound.
-use Rattle.std.specs.Prelude.{ℕ, Bool, false, IsTrue, List, Option, None, Some, drop, length}
+-- Physical plans whose leaves offer their choices, and those whose choices are of the least bound.
+use Rattle.std.specs.Prelude.{ℕ, Bool, false, IsTrue, length}
 use Rattle.constraint_tree.specs.declared.operator.Cardinality.{Cardinality}
-use Rattle.set_algebra.specs.Plan.{Plan, empty_plan, all_plan, one_plan, walk_plan, members_plan, and_plan, or_plan, minus_plan, values_plan, pairs_plan, units_plan, Plans, no_plans, plan_then, PlanOfUnits, nothing_unit, every_unit, and_units, or_units, minus_units, pairs_units, PlansOfUnits, no_unit_plans, unit_plan_then, TestPlan, within_plan, outside_plan, number_plan}
+use Rattle.set_algebra.specs.Physical.{Physical, physical_empty, physical_all, physical_one, physical_walk}
+use Rattle.set_algebra.specs.Physical.{physical_members, physical_and, physical_or, physical_minus, physical_values}
+use Rattle.set_algebra.specs.Physical.{physical_pairs, physical_units, Physicals, no_physicals, physical_then}
+use Rattle.set_algebra.specs.Physical.{PhysicalUnits, physical_nothing, physical_every, physical_units_and}
+use Rattle.set_algebra.specs.Physical.{physical_units_or, physical_units_minus, physical_units_pairs}
+use Rattle.set_algebra.specs.Physical.{PhysicalUnitsList, no_physical_units, physical_units_then, PhysicalTest}
+use Rattle.set_algebra.specs.Physical.{physical_within, physical_outside, physical_number}
 use Rattle.postings.specs.Groups.{groups_in}
 use Rattle.postings.specs.Indexed.{Indexed}
 use Rattle.set_algebra.specs.declared.choice.Choice.{Choice}
 use Rattle.plan_bounds.specs.Alternatives.{IsLeast, offers}
 use Rattle.plan_bounds.specs.Counts.{is_within}
-use Rattle.plan_bounds.specs.Leaves.{first_choice, first_of, group_leaves, leaves, test_choices, type_choices}
 use Rattle.plan_bounds.specs.Sizes.{leaf_at}
 
--- what is said of a leaf, which is among all concepts or all groups of some indexes, and of the choices from it on
+-- what is said of a leaf and its choice, where the leaf is among all concepts or all groups of some indexes
 abbrev pub LeafFact : Type 1
-LeafFact = (Indexed → ℕ) → Bool → Cardinality → Plan → TestPlan → List Choice → Type 0
+LeafFact = (Indexed → ℕ) → Bool → Cardinality → Physical → PhysicalTest → Choice → Type 0
 
 abbrev pub all_concepts : Indexed → ℕ
 all_concepts indexed = length indexed.concepts
@@ -22,65 +27,54 @@ every_group_in indexed = length (groups_in indexed)
 
 -- it holds of each leaf of a plan
 abbrev mutual
-  pub EachLeaf : LeafFact → List Choice → Plan → Type 0
-  EachLeaf Holds choices empty_plan = Unit {0}
-  EachLeaf Holds choices all_plan = Unit {0}
-  EachLeaf Holds choices (one_plan number) = Unit {0}
-  EachLeaf Holds choices (walk_plan operator operand) = EachLeaf Holds choices operand
-  EachLeaf Holds choices (members_plan operand) = EachLeaf Holds choices operand
-  EachLeaf Holds choices (and_plan parts) = PlansEach Holds choices parts
-  EachLeaf Holds choices (or_plan parts) = PlansEach Holds choices parts
-  EachLeaf Holds choices (minus_plan first second) = EachLeaf Holds choices first × EachLeaf Holds (drop (leaves first) choices) second
-  EachLeaf Holds choices (values_plan start names) = EachLeaf Holds choices start × PlansEach Holds (drop (leaves start) choices) names
-  EachLeaf Holds choices (pairs_plan back count types test) =
-      Holds all_concepts back count types test choices
-      × EachLeaf Holds (type_choices choices) types
-      × TestEach Holds (test_choices choices types) test
-  EachLeaf Holds choices (units_plan count units) = GroupEach Holds choices units
+  pub EachLeaf : LeafFact → Physical → Type 0
+  EachLeaf Holds physical_empty = Unit {0}
+  EachLeaf Holds physical_all = Unit {0}
+  EachLeaf Holds (physical_one number) = Unit {0}
+  EachLeaf Holds (physical_walk operator operand) = EachLeaf Holds operand
+  EachLeaf Holds (physical_members operand) = EachLeaf Holds operand
+  EachLeaf Holds (physical_and parts) = PlansEach Holds parts
+  EachLeaf Holds (physical_or parts) = PlansEach Holds parts
+  EachLeaf Holds (physical_minus first second) = EachLeaf Holds first × EachLeaf Holds second
+  EachLeaf Holds (physical_values start names) = EachLeaf Holds start × PlansEach Holds names
+  EachLeaf Holds (physical_pairs back count types test choice) =
+      Holds all_concepts back count types test choice × EachLeaf Holds types × TestEach Holds test
+  EachLeaf Holds (physical_units count units) = GroupEach Holds units
 
-  pub PlansEach : LeafFact → List Choice → Plans → Type 0
-  PlansEach Holds choices no_plans = Unit {0}
-  PlansEach Holds choices (plan_then first rest) = EachLeaf Holds choices first × PlansEach Holds (drop (leaves first) choices) rest
+  pub PlansEach : LeafFact → Physicals → Type 0
+  PlansEach Holds no_physicals = Unit {0}
+  PlansEach Holds (physical_then first rest) = EachLeaf Holds first × PlansEach Holds rest
 
-  pub GroupEach : LeafFact → List Choice → PlanOfUnits → Type 0
-  GroupEach Holds choices nothing_unit = Unit {0}
-  GroupEach Holds choices every_unit = Unit {0}
-  GroupEach Holds choices (and_units parts) = GroupsEach Holds choices parts
-  GroupEach Holds choices (or_units parts) = GroupsEach Holds choices parts
-  GroupEach Holds choices (minus_units first second) =
-      GroupEach Holds choices first × GroupEach Holds (drop (group_leaves first) choices) second
-  GroupEach Holds choices (pairs_units count types test) =
-      Holds every_group_in false count types test choices
-      × EachLeaf Holds (type_choices choices) types
-      × TestEach Holds (test_choices choices types) test
+  pub GroupEach : LeafFact → PhysicalUnits → Type 0
+  GroupEach Holds physical_nothing = Unit {0}
+  GroupEach Holds physical_every = Unit {0}
+  GroupEach Holds (physical_units_and parts) = GroupsEach Holds parts
+  GroupEach Holds (physical_units_or parts) = GroupsEach Holds parts
+  GroupEach Holds (physical_units_minus first second) = GroupEach Holds first × GroupEach Holds second
+  GroupEach Holds (physical_units_pairs count types test choice) =
+      Holds every_group_in false count types test choice × EachLeaf Holds types × TestEach Holds test
 
-  pub GroupsEach : LeafFact → List Choice → PlansOfUnits → Type 0
-  GroupsEach Holds choices no_unit_plans = Unit {0}
-  GroupsEach Holds choices (unit_plan_then first rest) =
-      GroupEach Holds choices first × GroupsEach Holds (drop (group_leaves first) choices) rest
+  pub GroupsEach : LeafFact → PhysicalUnitsList → Type 0
+  GroupsEach Holds no_physical_units = Unit {0}
+  GroupsEach Holds (physical_units_then first rest) = GroupEach Holds first × GroupsEach Holds rest
 
-  pub TestEach : LeafFact → List Choice → TestPlan → Type 0
-  TestEach Holds choices (within_plan operand) = EachLeaf Holds choices operand
-  TestEach Holds choices (outside_plan operand) = EachLeaf Holds choices operand
-  TestEach Holds choices (number_plan compare number) = Unit {0}
+  pub TestEach : LeafFact → PhysicalTest → Type 0
+  TestEach Holds (physical_within operand) = EachLeaf Holds operand
+  TestEach Holds (physical_outside operand) = EachLeaf Holds operand
+  TestEach Holds (physical_number compare number) = Unit {0}
 
--- a leaf offers the choice that a list has for it
-abbrev pub IsOffered : Bool → Option Choice → Type 0
-IsOffered within (Some choice) = IsTrue (offers within choice)
-IsOffered within None = Unit {0}
-
-abbrev pub IsOfferedAt : LeafFact
-IsOfferedAt all back count types test choices = IsOffered (is_within test) (first_of choices)
+-- a leaf offers its choice
+abbrev pub IsOffered : LeafFact
+IsOffered all back count types test choice = IsTrue (offers (is_within test) choice)
 
 -- each leaf of a plan does
-abbrev pub AreOffered : List Choice → Plan → Type 0
-AreOffered choices plan = EachLeaf IsOfferedAt choices plan
+abbrev pub AreOffered : Physical → Type 0
+AreOffered plan = EachLeaf IsOffered plan
 
--- the choice of a leaf is the first of the least bound, where its sub-plans have the choices that the list has for them
+-- the choice of a leaf is the first of the least bound, where its sub-plans have the choices that they have
 abbrev pub IsLeastAt : Indexed → LeafFact
-IsLeastAt indexed all back count types test choices =
-    IsLeast (leaf_at indexed (all indexed) back count types test choices) (first_choice choices)
+IsLeastAt indexed all back count types test choice = IsLeast (leaf_at indexed (all indexed) back count types test) choice
 
 -- that of each leaf is
-abbrev pub AreLeast : Indexed → List Choice → Plan → Type 0
-AreLeast indexed choices plan = EachLeaf (IsLeastAt indexed) choices plan
+abbrev pub AreLeast : Indexed → Physical → Type 0
+AreLeast indexed plan = EachLeaf (IsLeastAt indexed) plan

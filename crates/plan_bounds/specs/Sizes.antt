@@ -1,16 +1,21 @@
--- How much a plan finds at most under some choices, in concepts or in groups.
-use Rattle.std.specs.Prelude.{ℕ, Bool, false, ◌+◌, ◌==◌, if◌then◌else◌, List, [], ◌∷◌, Option, None, Some, drop, length, min}
+-- How much a physical plan finds at most, in concepts or in groups.
+use Rattle.std.specs.Prelude.{ℕ, Bool, false, ◌+◌, ◌==◌, if◌then◌else◌, List, [], ◌∷◌, Option, None, Some, length, min}
 use Rattle.constraint_tree.specs.declared.operator.Cardinality.{Cardinality}
 use Rattle.constraint_tree.specs.declared.operator.Operator.{Operator}
-use Rattle.set_algebra.specs.Plan.{Plan, empty_plan, all_plan, one_plan, walk_plan, members_plan, and_plan, or_plan, minus_plan, values_plan, pairs_plan, units_plan, Plans, no_plans, plan_then, PlanOfUnits, nothing_unit, every_unit, and_units, or_units, minus_units, pairs_units, PlansOfUnits, no_unit_plans, unit_plan_then, TestPlan, within_plan, outside_plan, number_plan}
+use Rattle.set_algebra.specs.Physical.{Physical, physical_empty, physical_all, physical_one, physical_walk}
+use Rattle.set_algebra.specs.Physical.{physical_members, physical_and, physical_or, physical_minus, physical_values}
+use Rattle.set_algebra.specs.Physical.{physical_pairs, physical_units, Physicals, no_physicals, physical_then}
+use Rattle.set_algebra.specs.Physical.{PhysicalUnits, physical_nothing, physical_every, physical_units_and}
+use Rattle.set_algebra.specs.Physical.{physical_units_or, physical_units_minus, physical_units_pairs}
+use Rattle.set_algebra.specs.Physical.{PhysicalUnitsList, no_physical_units, physical_units_then, PhysicalTest}
+use Rattle.set_algebra.specs.Physical.{physical_within, physical_outside, physical_number}
 use Rattle.postings.specs.Groups.{groups_in}
 use Rattle.postings.specs.Indexed.{Indexed}
 use Rattle.postings.specs.Stats.{stats_in}
-use Rattle.set_algebra.specs.declared.choice.Choice.{Choice}
 use Rattle.plan_bounds.specs.declared.leaf.Leaf.{Leaf}
 use Rattle.plan_bounds.specs.Alternatives.{found_by, leaf_size}
 use Rattle.plan_bounds.specs.Counts.{is_extreme, leads_to_self, leaf_of, list_length, member_count, one_of}
-use Rattle.plan_bounds.specs.Leaves.{first_choice, group_leaves, leaves, plan_count, test_choices, type_choices}
+use Rattle.plan_bounds.specs.Leaves.{plan_count}
 
 -- a walk from one concept, and from any set of so many
 abbrev pub walk_size : Indexed → Operator → Option ℕ → ℕ → ℕ
@@ -41,53 +46,49 @@ least_of other [] = other
 least_of other (number ∷ numbers) = least_from number numbers
 
 abbrev mutual
-  pub size : Indexed → List Choice → Plan → ℕ
-  size indexed choices empty_plan = 0
-  size indexed choices all_plan = length indexed.concepts
-  size indexed choices (one_plan number) = 1
-  size indexed choices (walk_plan operator operand) = walk_size indexed operator (one_of operand) (size indexed choices operand)
-  size indexed choices (members_plan operand) = members_size indexed (one_of operand)
-  size indexed choices (and_plan parts) = least_of (length indexed.concepts) (sizes indexed choices parts)
-  size indexed choices (or_plan parts) = min (length indexed.concepts) (total (sizes indexed choices parts))
-  size indexed choices (minus_plan first second) = size indexed choices first
-  size indexed choices (values_plan start names) = values_size indexed (plan_count names) (size indexed choices start)
-  size indexed choices (pairs_plan back count types test) =
+  pub size : Indexed → Physical → ℕ
+  size indexed physical_empty = 0
+  size indexed physical_all = length indexed.concepts
+  size indexed (physical_one number) = 1
+  size indexed (physical_walk operator operand) = walk_size indexed operator (one_of operand) (size indexed operand)
+  size indexed (physical_members operand) = members_size indexed (one_of operand)
+  size indexed (physical_and parts) = least_of (length indexed.concepts) (sizes indexed parts)
+  size indexed (physical_or parts) = min (length indexed.concepts) (total (sizes indexed parts))
+  size indexed (physical_minus first second) = size indexed first
+  size indexed (physical_values start names) = values_size indexed (plan_count names) (size indexed start)
+  size indexed (physical_pairs back count types test choice) =
       leaf_size
-      (leaf_of indexed (length indexed.concepts) back count types test (size indexed (type_choices choices) types)
-      (test_size indexed (test_choices choices types) test))
-      (first_choice choices)
-  size indexed choices (units_plan count units) = found_by (count.min == 0) (length indexed.concepts) (group_size indexed choices units)
+      (leaf_of indexed (length indexed.concepts) back count types test (size indexed types) (test_size indexed test))
+      choice
+  size indexed (physical_units count units) = found_by (count.min == 0) (length indexed.concepts) (group_size indexed units)
 
-  -- of each part, each with its own choices
-  pub sizes : Indexed → List Choice → Plans → List ℕ
-  sizes indexed choices no_plans = []
-  sizes indexed choices (plan_then first rest) = size indexed choices first ∷ sizes indexed (drop (leaves first) choices) rest
+  -- of each part
+  pub sizes : Indexed → Physicals → List ℕ
+  sizes indexed no_physicals = []
+  sizes indexed (physical_then first rest) = size indexed first ∷ sizes indexed rest
 
-  pub group_size : Indexed → List Choice → PlanOfUnits → ℕ
-  group_size indexed choices nothing_unit = 0
-  group_size indexed choices every_unit = length (groups_in indexed)
-  group_size indexed choices (and_units parts) = least_of (length (groups_in indexed)) (group_sizes indexed choices parts)
-  group_size indexed choices (or_units parts) = min (length (groups_in indexed)) (total (group_sizes indexed choices parts))
-  group_size indexed choices (minus_units first second) = group_size indexed choices first
-  group_size indexed choices (pairs_units count types test) =
+  pub group_size : Indexed → PhysicalUnits → ℕ
+  group_size indexed physical_nothing = 0
+  group_size indexed physical_every = length (groups_in indexed)
+  group_size indexed (physical_units_and parts) = least_of (length (groups_in indexed)) (group_sizes indexed parts)
+  group_size indexed (physical_units_or parts) = min (length (groups_in indexed)) (total (group_sizes indexed parts))
+  group_size indexed (physical_units_minus first second) = group_size indexed first
+  group_size indexed (physical_units_pairs count types test choice) =
       leaf_size
-      (leaf_of indexed (length (groups_in indexed)) false count types test (size indexed (type_choices choices) types)
-      (test_size indexed (test_choices choices types) test))
-      (first_choice choices)
+      (leaf_of indexed (length (groups_in indexed)) false count types test (size indexed types) (test_size indexed test))
+      choice
 
-  pub group_sizes : Indexed → List Choice → PlansOfUnits → List ℕ
-  group_sizes indexed choices no_unit_plans = []
-  group_sizes indexed choices (unit_plan_then first rest) =
-      group_size indexed choices first ∷ group_sizes indexed (drop (group_leaves first) choices) rest
+  pub group_sizes : Indexed → PhysicalUnitsList → List ℕ
+  group_sizes indexed no_physical_units = []
+  group_sizes indexed (physical_units_then first rest) =
+      group_size indexed first ∷ group_sizes indexed rest
 
   -- of the plan of a test
-  pub test_size : Indexed → List Choice → TestPlan → ℕ
-  test_size indexed choices (within_plan operand) = size indexed choices operand
-  test_size indexed choices (outside_plan operand) = size indexed choices operand
-  test_size indexed choices (number_plan compare number) = 0
+  pub test_size : Indexed → PhysicalTest → ℕ
+  test_size indexed (physical_within operand) = size indexed operand
+  test_size indexed (physical_outside operand) = size indexed operand
+  test_size indexed (physical_number compare number) = 0
 
--- a leaf among so many concepts or groups, by the choices from it on
-abbrev pub leaf_at : Indexed → ℕ → Bool → Cardinality → Plan → TestPlan → List Choice → Leaf
-leaf_at indexed all back count types test choices =
-    leaf_of indexed all back count types test (size indexed (type_choices choices) types)
-    (test_size indexed (test_choices choices types) test)
+-- a leaf among so many concepts or groups
+abbrev pub leaf_at : Indexed → ℕ → Bool → Cardinality → Physical → PhysicalTest → Leaf
+leaf_at indexed all back count types test = leaf_of indexed all back count types test (size indexed types) (test_size indexed test)

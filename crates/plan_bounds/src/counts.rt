@@ -1,7 +1,7 @@
 //! What is counted of a release for a node of a plan.
 ghost use Rattle.std.specs.Prelude.{◌≡◌, ◌==◌, ◌<◌, ◌+◌, ◌*◌, if◌then◌else◌, min, ◌^◌, length};
 ghost use Rattle.number_lists.specs.KeyedLists.{list_of};
-ghost use Rattle.set_algebra.specs.Plan.{plan_of, test_plan_of};
+ghost use Rattle.set_algebra.specs.Physical.{physical_of, physical_test_of};
 ghost use Rattle.postings.specs.Groups.{groups_in};
 ghost use Rattle.plan_bounds.specs.Alternatives.{found_by, passed_over};
 ghost use Rattle.plan_bounds.specs.Bounds.{capped, members_bound, values_bound, walk_bound};
@@ -48,8 +48,8 @@ pub fn cost_of_walk(
     operand: &ConceptPlan,
     size: u64,
 ) -> NodeCost
-    ensures size { result.size ≡ walk_size indexes.now operator (one_of (plan_of operand.now)) size }
-    ensures bound { result.bound ≡ capped (walk_bound indexes.now operator (one_of (plan_of operand.now)) size) }
+    ensures size { result.size ≡ walk_size indexes.now operator (one_of (physical_of operand.now)) size }
+    ensures bound { result.bound ≡ capped (walk_bound indexes.now operator (one_of (physical_of operand.now)) size) }
 {
     match one(operand) {
         Some(id) => {
@@ -176,8 +176,8 @@ fn lists_length(indexes: &Indexes, operator: Operator) -> u64
 
 /// Of the components of the reference sets in a set of so many concepts.
 pub fn cost_of_members(indexes: &Indexes, operand: &ConceptPlan, size: u64) -> NodeCost
-    ensures size { result.size ≡ members_size indexes.now (one_of (plan_of operand.now)) }
-    ensures bound { result.bound ≡ capped (members_bound indexes.now (one_of (plan_of operand.now)) size) }
+    ensures size { result.size ≡ members_size indexes.now (one_of (physical_of operand.now)) }
+    ensures bound { result.bound ≡ capped (members_bound indexes.now (one_of (physical_of operand.now)) size) }
 {
     match one(operand) {
         Some(id) => {
@@ -286,7 +286,7 @@ pub fn counts_of_leaf(
     test: &ValueTest,
     sizes: (u64, u64),
 ) -> Leaf
-    ensures { result ≡ leaf_of indexes.now all back count (plan_of types.now) (test_plan_of test.now) sizes.0 sizes.1 }
+    ensures { result ≡ leaf_of indexes.now all back count (physical_of types.now) (physical_test_of test.now) sizes.0 sizes.1 }
 {
     let is_within = match test {
         ValueTest::Within(_) => true,
@@ -306,7 +306,7 @@ pub fn counts_of_leaf(
 
 // How many rows a test leaves, at most.
 fn value_rows(indexes: &Indexes, back: bool, test: &ValueTest) -> u64
-    ensures { result ≡ value_rows_of indexes.now back (test_plan_of test.now) }
+    ensures { result ≡ value_rows_of indexes.now back (physical_test_of test.now) }
 {
     match test {
         ValueTest::Within(values) => rows_of_values(indexes, back, values),
@@ -316,7 +316,7 @@ fn value_rows(indexes: &Indexes, back: bool, test: &ValueTest) -> u64
 
 // How many rows have values in a set, or, read backwards, sources, at most.
 fn rows_of_values(indexes: &Indexes, back: bool, values: &ConceptPlan) -> u64
-    ensures { result ≡ rows_left (value_row_count_of indexes.now back) (length indexes.now.rows) (plan_of values.now) }
+    ensures { result ≡ rows_left (value_row_count_of indexes.now back) (length indexes.now.rows) (physical_of values.now) }
 {
     match values {
         ConceptPlan::Empty => 0,
@@ -351,7 +351,7 @@ pub fn value_row_count(indexes: &Indexes, back: bool, id: u64) -> u64
 
 // How many rows have a type in a set, at most.
 fn type_rows(indexes: &Indexes, types: &ConceptPlan) -> u64
-    ensures { result ≡ type_rows_of indexes.now (plan_of types.now) }
+    ensures { result ≡ type_rows_of indexes.now (physical_of types.now) }
 {
     match types {
         ConceptPlan::Empty => 0,
@@ -370,7 +370,7 @@ fn type_rows(indexes: &Indexes, types: &ConceptPlan) -> u64
 
 /// The concept of a plan that is one.
 pub fn one(plan: &ConceptPlan) -> Option<u64>
-    ensures { result ≡ one_of (plan_of plan.now) }
+    ensures { result ≡ one_of (physical_of plan.now) }
 {
     match plan {
         ConceptPlan::One(id) => Some(*id),

@@ -1,181 +1,133 @@
 //! The floor of a plan, node by node.
-ghost use Rattle.std.specs.Prelude.{◌≡◌, ◌+◌, drop, if◌then◌else◌, suc};
-ghost use Rattle.set_algebra.specs.Plan.{unit_plan_of, unit_plans_of, plan_of, plans_of, test_plan_of};
+ghost use Rattle.std.specs.Prelude.{◌≡◌, ◌+◌, if◌then◌else◌};
+ghost use Rattle.set_algebra.specs.Physical.{physical_of, physical_test_of, physical_units_list_of, physical_units_of, physicals_of};
 ghost use Rattle.held_release.specs.Numbering.{concept_number};
 ghost use Rattle.plan_bounds.specs.Bounds.{capped};
 ghost use Rattle.plan_bounds.specs.Counts.{is_extreme as is_extreme_of, list_length as list_length_of, member_count as member_count_of, one_of};
 ghost use Rattle.plan_bounds.specs.Floors.{floor as floor_of, floor_number, if_in_force, leaf_floor as leaf_floor_of, of_one, within_floor};
-ghost use Rattle.plan_bounds.specs.Leaves.{first_choice as first_choice_of, group_leaves, groups_leaves, leaves};
-ghost use Rattle.plan_bounds.specs.Leaves.{plans_leaves, test_choices, test_leaves, type_choices};
 ghost use Rattle.plan_bounds.specs.Nodes.{group_sum, groups_sum, plans_sum, test_sum};
 
-use crate::choice::{after_first, first_choice};
 use crate::counts::{is_extreme, list_length, member_count, one, value_row_count};
 use constraint_tree::Operator;
 use postings::Indexes;
 use set_algebra::{Choice, ConceptPlan, UnitPlan, ValueTest};
 
-/// How many items a plan visits at least, and the choices behind its own.
-#[derive(Clone, Copy)]
-pub struct PlanFloor<'a> {
-    /// The sum over its nodes, or `u64::MAX` where it is larger.
-    pub floor: u64,
-    /// The choices of the leaves behind the plan.
-    pub rest: &'a [Choice],
-}
-
-/// Of a plan of concepts, whose choices are those at the front of a list. It takes no memory.
+/// How many items a plan of concepts visits at least: the sum over its nodes, or `u64::MAX` where it is larger. It takes no memory.
 #[cycle(floor)]
 #[tactic(auto, using(crate::proofs::Rules::costing))]
-pub fn plan_floor<'a>(plan: &ConceptPlan, choices: &'a [Choice], indexes: &Indexes) -> PlanFloor<'a>
-    ensures floor { result.floor ≡ capped (floor_of indexes.now choices.now (plan_of plan.now)) }
-    ensures rest { result.rest.now ≡ drop (leaves (plan_of plan.now)) choices.now }
+pub fn plan_floor(plan: &ConceptPlan, indexes: &Indexes) -> u64
+    ensures { result ≡ capped (floor_of indexes.now (physical_of plan.now)) }
 {
     match plan {
-        ConceptPlan::Empty | ConceptPlan::All | ConceptPlan::One(_) => floor_behind(0, 0, choices),
+        ConceptPlan::Empty | ConceptPlan::All | ConceptPlan::One(_) => 0,
         ConceptPlan::Walk(operator, operand) => {
-            let inner = plan_floor(operand, choices, indexes);
             let own = walk_floor(indexes, *operator, operand);
-            floor_behind(own, inner.floor, inner.rest)
+            together(own, plan_floor(operand, indexes))
         }
         ConceptPlan::Members(operand) => {
-            let inner = plan_floor(operand, choices, indexes);
             let own = members_floor(indexes, operand);
-            floor_behind(own, inner.floor, inner.rest)
+            together(own, plan_floor(operand, indexes))
         }
-        ConceptPlan::And(parts) | ConceptPlan::Or(parts) => parts_floor(parts, choices, indexes),
+        ConceptPlan::And(parts) | ConceptPlan::Or(parts) => parts_floor(parts, indexes),
         ConceptPlan::Minus(first, second) => {
-            let left = plan_floor(first, choices, indexes);
-            let right = plan_floor(second, left.rest, indexes);
-            floor_behind(left.floor, right.floor, right.rest)
+            together(plan_floor(first, indexes), plan_floor(second, indexes))
         }
         ConceptPlan::Values(start, names) => {
-            let from = plan_floor(start, choices, indexes);
-            let types = parts_floor(names, from.rest, indexes);
-            floor_behind(from.floor, types.floor, types.rest)
+            together(plan_floor(start, indexes), parts_floor(names, indexes))
         }
         ConceptPlan::Pairs {
             back,
             types,
             test,
+            choice,
             ..
-        } => pairs_floor(*back, types, test, choices, indexes),
-        ConceptPlan::Units { units, .. } => unit_floor(units, choices, indexes),
+        } => pairs_floor(*back, types, test, *choice, indexes),
+        ConceptPlan::Units { units, .. } => unit_floor(units, indexes),
     }
 }
 
-/// Of a plan of groups.
+/// How many items a plan of groups visits at least: the sum over its nodes, or `u64::MAX` where it is larger. It takes no memory.
 #[cycle(floor)]
 #[tactic(auto, using(crate::proofs::Rules::costing))]
-pub fn unit_floor<'a>(plan: &UnitPlan, choices: &'a [Choice], indexes: &Indexes) -> PlanFloor<'a>
-    ensures floor { result.floor ≡ capped (group_sum (floor_number indexes.now) choices.now (unit_plan_of plan.now)) }
-    ensures rest { result.rest.now ≡ drop (group_leaves (unit_plan_of plan.now)) choices.now }
+pub fn unit_floor(plan: &UnitPlan, indexes: &Indexes) -> u64
+    ensures { result ≡ capped (group_sum (floor_number indexes.now) (physical_units_of plan.now)) }
 {
     match plan {
-        UnitPlan::Nothing | UnitPlan::Every => floor_behind(0, 0, choices),
-        UnitPlan::And(parts) | UnitPlan::Or(parts) => unit_parts_floor(parts, choices, indexes),
+        UnitPlan::Nothing | UnitPlan::Every => 0,
+        UnitPlan::And(parts) | UnitPlan::Or(parts) => unit_parts_floor(parts, indexes),
         UnitPlan::Minus(first, second) => {
-            let left = unit_floor(first, choices, indexes);
-            let right = unit_floor(second, left.rest, indexes);
-            floor_behind(left.floor, right.floor, right.rest)
+            together(unit_floor(first, indexes), unit_floor(second, indexes))
         }
-        UnitPlan::Pairs { types, test, .. } => pairs_floor(false, types, test, choices, indexes),
+        UnitPlan::Pairs {
+            types,
+            test,
+            choice,
+            ..
+        } => pairs_floor(false, types, test, *choice, indexes),
     }
 }
 
-// Of a leaf, of concepts or of groups.
+// The floor of a leaf with its types and its test, of concepts or of groups.
 #[cycle(floor)]
-fn pairs_floor<'a>(
+fn pairs_floor(
     back: bool,
     types: &ConceptPlan,
     test: &ValueTest,
-    choices: &'a [Choice],
+    choice: Choice,
     indexes: &Indexes,
-) -> PlanFloor<'a>
-    ensures floor { result.floor ≡ capped (leaf_floor_of indexes.now back (plan_of types.now) (test_plan_of test.now) (first_choice_of choices.now)
-        + (floor_of indexes.now (type_choices choices.now) (plan_of types.now)
-        + test_sum (floor_number indexes.now) (test_choices choices.now (plan_of types.now)) (test_plan_of test.now))) }
-    ensures rest { result.rest.now ≡ drop (suc (leaves (plan_of types.now) + test_leaves (test_plan_of test.now))) choices.now }
+) -> u64
+    ensures { result ≡ capped (leaf_floor_of indexes.now back (physical_of types.now) (physical_test_of test.now) choice
+        + (floor_of indexes.now (physical_of types.now) + test_sum (floor_number indexes.now) (physical_test_of test.now))) }
 {
-    let of_types = plan_floor(types, after_first(choices), indexes);
-    let of_test = test_floor(test, of_types.rest, indexes);
-    let own = leaf_floor(indexes, back, types, test, first_choice(choices));
-    with_leaf(own, &of_types, &of_test)
+    let inner = together(plan_floor(types, indexes), test_floor(test, indexes));
+    together(leaf_floor(indexes, back, types, test, choice), inner)
 }
 
-// Of the plan of a test, if it has one.
+// The floor of the plan of a test, if it has one.
 #[cycle(floor)]
-fn test_floor<'a>(test: &ValueTest, choices: &'a [Choice], indexes: &Indexes) -> PlanFloor<'a>
-    ensures floor { result.floor ≡ capped (test_sum (floor_number indexes.now) choices.now (test_plan_of test.now)) }
-    ensures rest { result.rest.now ≡ drop (test_leaves (test_plan_of test.now)) choices.now }
+fn test_floor(test: &ValueTest, indexes: &Indexes) -> u64
+    ensures { result ≡ capped (test_sum (floor_number indexes.now) (physical_test_of test.now)) }
 {
     match test {
-        ValueTest::Within(operand) | ValueTest::Outside(operand) => {
-            plan_floor(operand, choices, indexes)
-        }
-        ValueTest::Number(_, _) => floor_behind(0, 0, choices),
+        ValueTest::Within(operand) | ValueTest::Outside(operand) => plan_floor(operand, indexes),
+        ValueTest::Number(_, _) => 0,
     }
 }
 
-// Of some plans of concepts.
+// The floors of sibling plans of concepts together.
 #[cycle(floor)]
-fn parts_floor<'a>(parts: &[ConceptPlan], choices: &'a [Choice], indexes: &Indexes) -> PlanFloor<'a>
-    ensures floor { result.floor ≡ capped (plans_sum (floor_number indexes.now) choices.now (plans_of parts.now)) }
-    ensures rest { result.rest.now ≡ drop (plans_leaves (plans_of parts.now)) choices.now }
+fn parts_floor(parts: &[ConceptPlan], indexes: &Indexes) -> u64
+    ensures { result ≡ capped (plans_sum (floor_number indexes.now) (physicals_of parts.now)) }
 {
     let mut floor = 0u64;
-    let mut rest = choices;
-    for place in 0..parts.len() {
-        let part = plan_floor(&parts[place], rest, indexes);
-        floor = floor.saturating_add(part.floor);
-        rest = part.rest;
+    for part in parts {
+        floor = floor.saturating_add(plan_floor(part, indexes));
     }
-    PlanFloor { floor, rest }
+    floor
 }
 
-// Of some plans of groups.
+// The floors of sibling plans of groups together.
 #[cycle(floor)]
-fn unit_parts_floor<'a>(
-    parts: &[UnitPlan],
-    choices: &'a [Choice],
-    indexes: &Indexes,
-) -> PlanFloor<'a>
-    ensures floor { result.floor ≡ capped (groups_sum (floor_number indexes.now) choices.now (unit_plans_of parts.now)) }
-    ensures rest { result.rest.now ≡ drop (groups_leaves (unit_plans_of parts.now)) choices.now }
+fn unit_parts_floor(parts: &[UnitPlan], indexes: &Indexes) -> u64
+    ensures { result ≡ capped (groups_sum (floor_number indexes.now) (physical_units_list_of parts.now)) }
 {
     let mut floor = 0u64;
-    let mut rest = choices;
-    for place in 0..parts.len() {
-        let part = unit_floor(&parts[place], rest, indexes);
-        floor = floor.saturating_add(part.floor);
-        rest = part.rest;
+    for part in parts {
+        floor = floor.saturating_add(unit_floor(part, indexes));
     }
-    PlanFloor { floor, rest }
+    floor
 }
 
-// Two floors together, and the choices behind both.
-fn floor_behind(one: u64, other: u64, rest: &[Choice]) -> PlanFloor<'_>
-    ensures floor { result.floor ≡ capped (one + other) }
-    ensures rest { result.rest.now ≡ rest.now }
+// Two floors together.
+fn together(one: u64, other: u64) -> u64
+    ensures { result ≡ capped (one + other) }
 {
-    PlanFloor {
-        floor: one.saturating_add(other),
-        rest,
-    }
-}
-
-// Of a leaf, with its types and its test.
-fn with_leaf<'a>(own: u64, of_types: &PlanFloor<'a>, of_test: &PlanFloor<'a>) -> PlanFloor<'a>
-    ensures floor { result.floor ≡ capped (own + (of_types.now.floor + of_test.now.floor)) }
-    ensures rest { result.rest.now ≡ of_test.now.rest.now }
-{
-    let inner = of_types.floor.saturating_add(of_test.floor);
-    floor_behind(own, inner, of_test.rest)
+    one.saturating_add(other)
 }
 
 /// The floor of a walk: the list of the concept that it is from, if that is one in force.
 pub fn walk_floor(indexes: &Indexes, operator: Operator, operand: &ConceptPlan) -> u64
-    ensures { result ≡ (if is_extreme_of operator then 0 else of_one indexes.now (one_of (plan_of operand.now)) (list_length_of indexes.now operator)) }
+    ensures { result ≡ (if is_extreme_of operator then 0 else of_one indexes.now (one_of (physical_of operand.now)) (list_length_of indexes.now operator)) }
 {
     if is_extreme(operator) {
         return 0;
@@ -188,7 +140,7 @@ pub fn walk_floor(indexes: &Indexes, operator: Operator, operand: &ConceptPlan) 
 
 /// The floor of the components of reference sets: those of the one, if it is in force.
 pub fn members_floor(indexes: &Indexes, operand: &ConceptPlan) -> u64
-    ensures { result ≡ of_one indexes.now (one_of (plan_of operand.now)) (member_count_of indexes.now) }
+    ensures { result ≡ of_one indexes.now (one_of (physical_of operand.now)) (member_count_of indexes.now) }
 {
     match one(operand) {
         Some(id) => in_force(indexes, id, member_count(indexes, id)),
@@ -204,7 +156,7 @@ pub fn leaf_floor(
     test: &ValueTest,
     choice: Choice,
 ) -> u64
-    ensures { result ≡ leaf_floor_of indexes.now back (plan_of types.now) (test_plan_of test.now) choice }
+    ensures { result ≡ leaf_floor_of indexes.now back (physical_of types.now) (physical_test_of test.now) choice }
 {
     match choice {
         Choice::ByValue => value_floor(indexes, back, test),
@@ -218,7 +170,7 @@ pub fn leaf_floor(
 
 // The rows with the one value, or, read backwards, the one source that a test is within.
 fn value_floor(indexes: &Indexes, back: bool, test: &ValueTest) -> u64
-    ensures { result ≡ within_floor indexes.now back (test_plan_of test.now) }
+    ensures { result ≡ within_floor indexes.now back (physical_test_of test.now) }
 {
     match test {
         ValueTest::Within(values) => match one(values) {

@@ -1,7 +1,7 @@
 //! The alternatives of a leaf: how many rows each of them reads, and which is chosen.
 ghost use Rattle.std.specs.Prelude.{◌≡◌};
 ghost use Rattle.plan_bounds.specs.Bounds.{capped};
-ghost use Rattle.plan_bounds.specs.Alternatives.{choice_of, least_choice as least_choice_of, leaf_bound, leaf_size, offers as offers_of};
+ghost use Rattle.plan_bounds.specs.Alternatives.{least_choice as least_choice_of, leaf_bound, leaf_size};
 
 use crate::counts::NodeCost;
 use set_algebra::Choice;
@@ -28,16 +28,6 @@ pub struct Leaf {
 }
 
 impl Leaf {
-    /// Whether the leaf can be answered so.
-    pub fn offers(&self, choice: Choice) -> bool
-        ensures { result ≡ offers_of self.now.is_within choice }
-    {
-        match choice {
-            Choice::ByValue => self.is_within,
-            Choice::ByType | Choice::Scan => true,
-        }
-    }
-
     /// How many concepts, or groups, the leaf finds at most.
     pub fn size(&self, choice: Choice) -> u64
         ensures { result ≡ leaf_size self.now choice }
@@ -95,21 +85,6 @@ impl Leaf {
             Choice::ByType
         } else {
             Choice::Scan
-        }
-    }
-
-    /// The choice that is asked for, where the leaf offers it; else the other, where there is one; else the least.
-    pub fn choice(&self, asked: Option<Choice>, other: Option<Choice>) -> Choice
-        ensures { result ≡ choice_of self.now asked other }
-    {
-        if let Some(choice) = asked {
-            if self.offers(choice) {
-                return choice;
-            }
-        }
-        match other {
-            Some(choice) => choice,
-            None => self.least(),
         }
     }
 }

@@ -3,22 +3,21 @@
 //! Of each node of a plan, of its sum over all nodes, and of what is known of one node where its parts have been executed.
 #![tactic(auto)]
 
-mod choice;
 mod costs;
 mod counts;
 mod floors;
 mod laws;
 mod leaf;
+mod leaf_choices;
 mod limits;
 mod physical;
 mod tally;
 
-pub use crate::choice::{after_first, first_choice};
 pub use crate::counts::{
     NodeCost, concepts, cost_of_all, cost_of_first, cost_of_members, cost_of_some, cost_of_units,
     cost_of_values, cost_of_walk, counts_of_leaf, groups,
 };
-pub use crate::floors::{PlanFloor, plan_floor, unit_floor};
+pub use crate::floors::{plan_floor, unit_floor};
 pub use crate::laws::{finds_within_size, floor_within_bound};
 pub use crate::leaf::Leaf;
 pub use crate::limits::{leaf_limits, members_limits, plan_size, unit_size, walk_limits};

@@ -1,6 +1,6 @@
 //! How many items one node of a plan visits beside its sub-plans, at least and at most, by how much these have found.
 ghost use Rattle.std.specs.Prelude.{◌≡◌, ◌≤◌, if◌then◌else◌};
-ghost use Rattle.set_algebra.specs.Plan.{unit_plan_of, plan_of, test_plan_of};
+ghost use Rattle.set_algebra.specs.Physical.{physical_units_of, physical_of, physical_test_of};
 ghost use Rattle.plan_bounds.specs.Alternatives.{leaf_bound};
 ghost use Rattle.plan_bounds.specs.Bounds.{capped, members_bound, walk_bound};
 ghost use Rattle.plan_bounds.specs.Counts.{is_extreme, leaf_of, list_length, member_count, one_of};
@@ -21,8 +21,8 @@ pub fn walk_limits(
     operand: &ConceptPlan,
     size: u64,
 ) -> NodeLimits
-    ensures floor { result.floor ≡ (if is_extreme operator then 0 else of_one indexes.now (one_of (plan_of operand.now)) (list_length indexes.now operator)) }
-    ensures bound { result.bound ≡ capped (walk_bound indexes.now operator (one_of (plan_of operand.now)) size) }
+    ensures floor { result.floor ≡ (if is_extreme operator then 0 else of_one indexes.now (one_of (physical_of operand.now)) (list_length indexes.now operator)) }
+    ensures bound { result.bound ≡ capped (walk_bound indexes.now operator (one_of (physical_of operand.now)) size) }
     ensures ordered { result.floor ≤ result.bound }
 {
     NodeLimits {
@@ -33,8 +33,8 @@ pub fn walk_limits(
 
 /// Of the components of the reference sets in a set of so many concepts.
 pub fn members_limits(indexes: &Indexes, operand: &ConceptPlan, size: u64) -> NodeLimits
-    ensures floor { result.floor ≡ of_one indexes.now (one_of (plan_of operand.now)) (member_count indexes.now) }
-    ensures bound { result.bound ≡ capped (members_bound indexes.now (one_of (plan_of operand.now)) size) }
+    ensures floor { result.floor ≡ of_one indexes.now (one_of (physical_of operand.now)) (member_count indexes.now) }
+    ensures bound { result.bound ≡ capped (members_bound indexes.now (one_of (physical_of operand.now)) size) }
     ensures ordered { result.floor ≤ result.bound }
 {
     NodeLimits {
@@ -54,8 +54,8 @@ pub fn leaf_limits(
     sizes: (u64, u64),
     choice: Choice,
 ) -> NodeLimits
-    ensures floor { result.floor ≡ leaf_floor_of indexes.now back (plan_of types.now) (test_plan_of test.now) choice }
-    ensures bound { result.bound ≡ capped (leaf_bound (leaf_of indexes.now all back count (plan_of types.now) (test_plan_of test.now) sizes.0 sizes.1) choice) }
+    ensures floor { result.floor ≡ leaf_floor_of indexes.now back (physical_of types.now) (physical_test_of test.now) choice }
+    ensures bound { result.bound ≡ capped (leaf_bound (leaf_of indexes.now all back count (physical_of types.now) (physical_test_of test.now) sizes.0 sizes.1) choice) }
     ensures ordered { result.floor ≤ result.bound }
 {
     let leaf = counts_of_leaf(indexes, all, back, count, types, test, sizes);
@@ -65,16 +65,16 @@ pub fn leaf_limits(
     }
 }
 
-/// How many concepts a plan finds at most, under the choices at the front of a list. It takes no memory.
-pub fn plan_size(plan: &ConceptPlan, choices: &[Choice], indexes: &Indexes) -> u64
-    ensures { result ≡ size_of indexes.now choices.now (plan_of plan.now) }
+/// How many concepts a plan finds at most. It takes no memory.
+pub fn plan_size(plan: &ConceptPlan, indexes: &Indexes) -> u64
+    ensures { result ≡ size_of indexes.now (physical_of plan.now) }
 {
-    cost(plan, choices, indexes).size
+    cost(plan, indexes).size
 }
 
-/// How many groups a plan of groups finds at most, under the choices at the front of a list. It takes no memory.
-pub fn unit_size(units: &UnitPlan, choices: &[Choice], indexes: &Indexes) -> u64
-    ensures { result ≡ group_size indexes.now choices.now (unit_plan_of units.now) }
+/// How many groups a plan of groups finds at most. It takes no memory.
+pub fn unit_size(units: &UnitPlan, indexes: &Indexes) -> u64
+    ensures { result ≡ group_size indexes.now (physical_units_of units.now) }
 {
-    unit_cost(units, choices, indexes).size
+    unit_cost(units, indexes).size
 }

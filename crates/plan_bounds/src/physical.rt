@@ -1,15 +1,17 @@
 //! A plan with its choices, and how much it visits.
-ghost use Rattle.std.specs.Prelude.{◌≡◌, length};
-ghost use Rattle.set_algebra.specs.Plan.{plan_of};
+ghost use Rattle.std.specs.Prelude.{◌≡◌, IfOk};
+ghost use Rattle.set_algebra.specs.Physical.{physical_of};
 ghost use Rattle.plan_bounds.specs.Bounds.{bound as bound_of, capped};
 ghost use Rattle.plan_bounds.specs.Floors.{floor as floor_of};
-ghost use Rattle.plan_bounds.specs.Leaves.{leaves};
+ghost use Rattle.plan_bounds.specs.Leaves.{choices_in};
 ghost use Rattle.plan_bounds.specs.Offered.{AreOffered};
 
 use crate::costs::cost;
 use crate::floors::plan_floor;
+use crate::leaf_choices::add_choices;
 use postings::Indexes;
 use set_algebra::{Choice, ConceptPlan};
+use std::alloc::{AllocError, Global};
 use std::marker::Model;
 
 /// A plan with a choice for each of its leaves: whether it is answered by the rows of its values, of its types, or by all rows. What
@@ -21,9 +23,9 @@ pub struct PhysicalPlan {
 }
 
 impl Model for PhysicalPlan {
-    ghost use Rattle.plan_bounds.specs.Physical.{Physical};
+    ghost use Rattle.plan_bounds.specs.PlanWithChoices.{PlanWithChoices};
 
-    ghost Value = { Physical };
+    ghost Value = { PlanWithChoices };
 
     ghost use Rattle.set_algebra.specs.contracts.plan.ConceptPlan as concept_plan;
     ghost use Rattle.std.specs.Coded.{codes};
@@ -38,19 +40,21 @@ impl Model for PhysicalPlan {
 }
 
 impl PhysicalPlan {
-    /// A plan with choices that its leaves offer.
-    pub fn new(plan: ConceptPlan, choices: Vec<Choice>) -> PhysicalPlan
-        requires count { length choices.items ≡ leaves (plan_of plan) }
-        requires offered { AreOffered choices.items (plan_of plan) }
-        ensures plan { result.plan ≡ plan }
-        ensures choices { result.choices ≡ choices.items }
+    /// A plan whose leaves offer their choices, with the list of these. The error is want of memory, and then the plan is spent.
+    pub fn new(alloc: Global, plan: ConceptPlan) -> Result<PhysicalPlan, AllocError>
+        requires offered { AreOffered (physical_of plan) }
+        ensures plan { IfOk result (λ physical. physical.plan ≡ plan) }
+        ensures choices { IfOk result (λ physical. physical.choices ≡ choices_in (physical_of plan)) }
     {
-        PhysicalPlan { plan, choices }
+        let mut choices = Vec::new(alloc);
+        add_choices(&plan, &mut choices)?;
+        Ok(PhysicalPlan { plan, choices })
     }
 
     /// The plan.
     pub fn plan(&self) -> &ConceptPlan
-        ensures { result.now ≡ self.now.plan }
+        ensures plan { result.now ≡ self.now.plan }
+        ensures offered { AreOffered (physical_of self.now.plan) }
     {
         &self.plan
     }
@@ -59,8 +63,7 @@ impl PhysicalPlan {
     /// these in their order, the types of a leaf before its test. Each leaf has one that it offers.
     pub fn choices(&self) -> &[Choice]
         ensures choices { result.now ≡ self.now.choices }
-        ensures count { length self.now.choices ≡ leaves (plan_of self.now.plan) }
-        ensures offered { AreOffered self.now.choices (plan_of self.now.plan) }
+        ensures leaves { self.now.choices ≡ choices_in (physical_of self.now.plan) }
     {
         self.choices.as_slice()
     }
@@ -68,15 +71,15 @@ impl PhysicalPlan {
 
 /// How many items a plan visits at most: the sum of the bounds of its nodes, or `u64::MAX` where it is larger. It takes no memory.
 pub fn bound(physical: &PhysicalPlan, indexes: &Indexes) -> u64
-    ensures { result ≡ capped (bound_of indexes.now physical.now.choices (plan_of physical.now.plan)) }
+    ensures { result ≡ capped (bound_of indexes.now (physical_of physical.now.plan)) }
 {
-    cost(physical.plan(), physical.choices(), indexes).bound
+    cost(physical.plan(), indexes).bound
 }
 
 /// How many items a plan visits at least, where none of its nodes is skipped: the sum of the floors of its nodes, or `u64::MAX` where it
 /// is larger. It takes no memory.
 pub fn floor(physical: &PhysicalPlan, indexes: &Indexes) -> u64
-    ensures { result ≡ capped (floor_of indexes.now physical.now.choices (plan_of physical.now.plan)) }
+    ensures { result ≡ capped (floor_of indexes.now (physical_of physical.now.plan)) }
 {
-    plan_floor(physical.plan(), physical.choices(), indexes).floor
+    plan_floor(physical.plan(), indexes)
 }

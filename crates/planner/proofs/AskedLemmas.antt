@@ -1,198 +1,240 @@
--- Where each leaf has a choice in place of the one asked for, the choices of a plan are those asked for, leaf by leaf, or the others.
-use Rattle.std.proofs.Common.{ℕ, suc, ◌+◌, ◌∷◌, ◌++◌, [], ◌≡◌, ◌≤◌, ◌∙◌, Bool, false, List, Option, None, Some, drop, length, refl, sym, ap, arith, length-append, length-drop}
-use Rattle.std.proofs.Math.Seq.{drop-nil}
-use Rattle.constraint_tree.specs.declared.operator.Cardinality.{Cardinality}
-use Rattle.set_algebra.specs.Plan.{Plan, empty_plan, all_plan, one_plan, walk_plan, members_plan, and_plan, or_plan, minus_plan, values_plan, pairs_plan, units_plan, Plans, no_plans, plan_then, PlanOfUnits, nothing_unit, every_unit, and_units, or_units, minus_units, pairs_units, PlansOfUnits, no_unit_plans, unit_plan_then, TestPlan, within_plan, outside_plan, number_plan}
-use Rattle.postings.specs.Groups.{groups_in}
-use Rattle.postings.specs.Indexed.{Indexed}
+-- A plan whose leaves take the choices that are asked for: it is the same logical plan, and its leaves have the choices of the list,
+-- each of which they offer.
+use Rattle.std.proofs.Common.{◌≡◌, ◌++◌, ◌∷◌, [], ◌∙◌, Bool, cond, inl, inr, List, Option, Some, None, drop, refl, sym, ap, subst}
+use Rattle.std.proofs.Common.{append-nil, append_assoc}
+use Rattle.std.specs.Prelude.{IsTrue}
+use Rattle.std.proofs.lemmas.Bool.{cases_Bool}
 use Rattle.set_algebra.specs.declared.choice.Choice.{Choice}
-use Rattle.plan_bounds.specs.declared.leaf.Leaf.{Leaf}
-use Rattle.plan_bounds.specs.Alternatives.{choice_of}
-use Rattle.planner.specs.Asked.{asked_or, each_asked_or, group_within, groups_within, plans_within, test_within, within_tests}
-use Rattle.planner.specs.Chosen.{chosen, group_chosen, groups_chosen, plans_chosen, test_chosen}
-use Rattle.plan_bounds.specs.Counts.{is_within, leaf_of}
-use Rattle.plan_bounds.specs.Leaves.{first_choice, first_of, group_leaves, groups_leaves, leaves, plans_leaves, test_choices, test_leaves, type_choices}
-use Rattle.plan_bounds.specs.Sizes.{size, test_size}
+use Rattle.set_algebra.specs.Physical.{Physical, physical_empty, physical_all, physical_one, physical_walk, physical_members, physical_and}
+use Rattle.set_algebra.specs.Physical.{physical_or, physical_minus, physical_values, physical_pairs, physical_units}
+use Rattle.set_algebra.specs.Physical.{Physicals, no_physicals, physical_then, PhysicalUnits, physical_nothing, physical_every}
+use Rattle.set_algebra.specs.Physical.{physical_units_and, physical_units_or, physical_units_minus, physical_units_pairs}
+use Rattle.set_algebra.specs.Physical.{PhysicalUnitsList, no_physical_units, physical_units_then}
+use Rattle.set_algebra.specs.Physical.{PhysicalTest, physical_within, physical_outside, physical_number}
+use Rattle.set_algebra.specs.Physical.{logical, logical_test, logical_units, logical_units_list, logicals}
+use Rattle.set_algebra.specs.Plan.{walk_plan, members_plan, and_plan, or_plan, minus_plan, values_plan, pairs_plan, units_plan}
+use Rattle.set_algebra.specs.Plan.{plan_then, and_units, or_units, minus_units, pairs_units, unit_plan_then, within_plan, outside_plan}
+use Rattle.plan_bounds.specs.Alternatives.{offers}
+use Rattle.plan_bounds.specs.Counts.{is_within}
+use Rattle.plan_bounds.specs.Leaves.{choices_in, choices_in_each, choices_in_each_units, choices_in_test, choices_in_units}
+use Rattle.plan_bounds.specs.Offered.{AreOffered, EachLeaf, GroupEach, GroupsEach, IsOffered, PlansEach, TestEach}
+use Rattle.planner.specs.Asked.{asked_or, each_asked_or, first_of, group_within, groups_within, plans_within, test_within, within_tests}
+use Rattle.planner.specs.inside.AskedInPlace.{PlanAndRest, all_with_asked, group_with_asked, groups_with_asked, test_with_asked}
+use Rattle.planner.specs.inside.AskedInPlace.{with_asked}
 
--- ---- as many tests as leaves
+-- ---- the logical plan stays
 mutual
-  length-within : (plan : Plan) → length (within_tests plan) ≡ leaves plan
-  length-within empty_plan = refl
-  length-within all_plan = refl
-  length-within (one_plan number) = refl
-  length-within (walk_plan operator operand) = length-within operand
-  length-within (members_plan operand) = length-within operand
-  length-within (and_plan parts) = length-plans_within parts
-  length-within (or_plan parts) = length-plans_within parts
-  length-within (minus_plan first second) =
-      length-append (within_tests first) (within_tests second) ∙ (λ i. length-within first i + length-within second i)
-  length-within (values_plan start names) =
-      length-append (within_tests start) (plans_within names) ∙ (λ i. length-within start i + length-plans_within names i)
-  length-within (pairs_plan back count types test) =
-      ap suc (length-append (within_tests types) (test_within test) ∙ (λ i. length-within types i + length-test_within test i))
-  length-within (units_plan count units) = length-group_within units
+  pub logical-asked : (asked : List Choice) (plan : Physical) → logical (with_asked asked plan).plan ≡ logical plan
+  logical-asked asked physical_empty = refl
+  logical-asked asked physical_all = refl
+  logical-asked asked (physical_one number) = refl
+  logical-asked asked (physical_walk operator operand) = ap (walk_plan operator) (logical-asked asked operand)
+  logical-asked asked (physical_members operand) = ap members_plan (logical-asked asked operand)
+  logical-asked asked (physical_and parts) = ap and_plan (logicals-asked asked parts)
+  logical-asked asked (physical_or parts) = ap or_plan (logicals-asked asked parts)
+  logical-asked asked (physical_minus first second) =
+      λ i. minus_plan (logical-asked asked first i) (logical-asked (with_asked asked first).rest second i)
+  logical-asked asked (physical_values start names) =
+      λ i. values_plan (logical-asked asked start i) (logicals-asked (with_asked asked start).rest names i)
+  logical-asked asked (physical_pairs back count types test choice) =
+      λ i. pairs_plan back count (logical-asked (drop 1 asked) types i)
+      (logical_test-asked (with_asked (drop 1 asked) types).rest test i)
+  logical-asked asked (physical_units count units) = ap (units_plan count) (logical_units-asked asked units)
 
-  length-plans_within : (parts : Plans) → length (plans_within parts) ≡ plans_leaves parts
-  length-plans_within no_plans = refl
-  length-plans_within (plan_then first rest) =
-      length-append (within_tests first) (plans_within rest) ∙ (λ i. length-within first i + length-plans_within rest i)
+  logicals-asked : (asked : List Choice) (parts : Physicals) → logicals (all_with_asked asked parts).plan ≡ logicals parts
+  logicals-asked asked no_physicals = refl
+  logicals-asked asked (physical_then first rest) =
+      λ i. plan_then (logical-asked asked first i) (logicals-asked (with_asked asked first).rest rest i)
 
-  length-group_within : (plan : PlanOfUnits) → length (group_within plan) ≡ group_leaves plan
-  length-group_within nothing_unit = refl
-  length-group_within every_unit = refl
-  length-group_within (and_units parts) = length-groups_within parts
-  length-group_within (or_units parts) = length-groups_within parts
-  length-group_within (minus_units first second) =
-      length-append (group_within first) (group_within second) ∙ (λ i. length-group_within first i + length-group_within second i)
-  length-group_within (pairs_units count types test) =
-      ap suc (length-append (within_tests types) (test_within test) ∙ (λ i. length-within types i + length-test_within test i))
+  logical_units-asked : (asked : List Choice) (plan : PhysicalUnits) → logical_units (group_with_asked asked plan).plan ≡ logical_units plan
+  logical_units-asked asked physical_nothing = refl
+  logical_units-asked asked physical_every = refl
+  logical_units-asked asked (physical_units_and parts) = ap and_units (logical_units_list-asked asked parts)
+  logical_units-asked asked (physical_units_or parts) = ap or_units (logical_units_list-asked asked parts)
+  logical_units-asked asked (physical_units_minus first second) =
+      λ i. minus_units (logical_units-asked asked first i) (logical_units-asked (group_with_asked asked first).rest second i)
+  logical_units-asked asked (physical_units_pairs count types test choice) =
+      λ i. pairs_units count (logical-asked (drop 1 asked) types i) (logical_test-asked (with_asked (drop 1 asked) types).rest test i)
 
-  length-groups_within : (parts : PlansOfUnits) → length (groups_within parts) ≡ groups_leaves parts
-  length-groups_within no_unit_plans = refl
-  length-groups_within (unit_plan_then first rest) =
-      length-append (group_within first) (groups_within rest) ∙ (λ i. length-group_within first i + length-groups_within rest i)
+  logical_units_list-asked : (asked : List Choice) (parts : PhysicalUnitsList)
+      → logical_units_list (groups_with_asked asked parts).plan ≡ logical_units_list parts
+  logical_units_list-asked asked no_physical_units = refl
+  logical_units_list-asked asked (physical_units_then first rest) =
+      λ i. unit_plan_then (logical_units-asked asked first i) (logical_units_list-asked (group_with_asked asked first).rest rest i)
 
-  length-test_within : (test : TestPlan) → length (test_within test) ≡ test_leaves test
-  length-test_within (within_plan operand) = length-within operand
-  length-test_within (outside_plan operand) = length-within operand
-  length-test_within (number_plan compare number) = refl
+  logical_test-asked : (asked : List Choice) (test : PhysicalTest) → logical_test (test_with_asked asked test).plan ≡ logical_test test
+  logical_test-asked asked (physical_within operand) = ap within_plan (logical-asked asked operand)
+  logical_test-asked asked (physical_outside operand) = ap outside_plan (logical-asked asked operand)
+  logical_test-asked asked (physical_number compare number) = refl
 
--- ---- some leaves, and then others
-more_dropped : (n : ℕ) (choices : List Choice) → drop n (drop 1 choices) ≡ drop (suc n) choices
-more_dropped n [] = drop-nil n
-more_dropped n (choice ∷ choices) = refl
+-- ---- the leaves offer what they then have
+-- whether a test says within which set a value is does not change
+is_within-asked : (asked : List Choice) (test : PhysicalTest) → is_within (test_with_asked asked test).plan ≡ is_within test
+is_within-asked asked (physical_within operand) = refl
+is_within-asked asked (physical_outside operand) = refl
+is_within-asked asked (physical_number compare number) = refl
 
-each-append : (one two : List Bool) (asked others : List Choice)
-    → each_asked_or (one ++ two) asked others
-    ≡ each_asked_or one asked others ++ each_asked_or two (drop (length one) asked) (drop (length one) others)
-each-append [] two asked others = refl
-each-append (within ∷ one) two asked others =
-    ap (λ (rest : List Choice). asked_or within (first_of asked) (first_choice others) ∷ rest)
-    (each-append one two (drop 1 asked) (drop 1 others)
-    ∙ (λ i. each_asked_or one (drop 1 asked) (drop 1 others)
-    ++ each_asked_or two (more_dropped (length one) asked i) (more_dropped (length one) others i)))
+-- the choice of one leaf, the choice of which was offered before
+leaf-offers : (within : Bool) (asked : Option Choice) (own : Choice) → IsTrue (offers within own) → IsTrue (offers within (asked_or within asked own))
+leaf-offers within None own offered = offered
+leaf-offers within (Some choice) own offered = elim (cases_Bool (offers within choice)) [
+  | inl taken ↦ subst (λ (b : Bool). IsTrue (offers within (cond b choice own))) (sym taken) taken
+  | inr refused ↦ subst (λ (b : Bool). IsTrue (offers within (cond b choice own))) (sym refused) offered
+]
 
--- two parts of a plan, each with its own leaves
-two_parts : (one two : List Bool) (count : ℕ) (asked others given more : List Choice) → length one ≡ count
-    → given ≡ each_asked_or one asked others → more ≡ each_asked_or two (drop count asked) (drop count others)
-    → given ++ more ≡ each_asked_or (one ++ two) asked others
-two_parts one two count asked others given more long given_is more_is =
-    (λ i. given_is i ++ (more_is ∙ (λ i. each_asked_or two (drop (sym long i) asked) (drop (sym long i) others))) i)
-    ∙ sym (each-append one two asked others)
+leaf-asked : (asked behind : List Choice) (test : PhysicalTest) (own : Choice) → IsTrue (offers (is_within test) own)
+    → IsTrue (offers (is_within (test_with_asked behind test).plan) (asked_or (is_within test) (first_of asked) own))
+leaf-asked asked behind test own offered =
+    subst (λ (within : Bool). IsTrue (offers within (asked_or (is_within test) (first_of asked) own))) (sym (is_within-asked behind test))
+    (leaf-offers (is_within test) (first_of asked) own offered)
 
--- a leaf with another choice in place of the one asked for
-choice-asked_or : (leaf : Leaf) (asked : Option Choice) (others : List Choice) → 1 ≤ length others
-    → choice_of leaf asked (first_of others) ≡ asked_or leaf.is_within asked (first_choice others)
-choice-asked_or leaf (Some choice) [] long = absurd (omega (arith, long))
-choice-asked_or leaf None [] long = absurd (omega (arith, long))
-choice-asked_or leaf (Some choice) (other ∷ others) long = refl
-choice-asked_or leaf None (other ∷ others) long = refl
+mutual
+  pub asked_are_offered : (asked : List Choice) (plan : Physical) → AreOffered plan → AreOffered (with_asked asked plan).plan
+  asked_are_offered asked physical_empty own = tt
+  asked_are_offered asked physical_all own = tt
+  asked_are_offered asked (physical_one number) own = tt
+  asked_are_offered asked (physical_walk operator operand) own = asked_are_offered asked operand own
+  asked_are_offered asked (physical_members operand) own = asked_are_offered asked operand own
+  asked_are_offered asked (physical_and parts) own = offered_in_all asked parts own
+  asked_are_offered asked (physical_or parts) own = offered_in_all asked parts own
+  asked_are_offered asked (physical_minus first second) own = (
+    asked_are_offered asked first own.0,
+    asked_are_offered (with_asked asked first).rest second own.1,
+  )
+  asked_are_offered asked (physical_values start names) own = (
+    asked_are_offered asked start own.0,
+    offered_in_all (with_asked asked start).rest names own.1,
+  )
+  asked_are_offered asked (physical_pairs back count types test choice) own = (
+    leaf-asked asked (with_asked (drop 1 asked) types).rest test choice own.0,
+    asked_are_offered (drop 1 asked) types own.1,
+    offered_in_test (with_asked (drop 1 asked) types).rest test own.2,
+  )
+  asked_are_offered asked (physical_units count units) own = offered_in_group asked units own
 
--- room for the choices of two parts
-record Room (others : List Choice) (one two : ℕ) : Type 0 where
-  first : one ≤ length others
-  second : two ≤ length (drop one others)
+  offered_in_all : (asked : List Choice) (parts : Physicals) → PlansEach IsOffered parts
+      → PlansEach IsOffered (all_with_asked asked parts).plan
+  offered_in_all asked no_physicals own = tt
+  offered_in_all asked (physical_then first rest) own = (
+    asked_are_offered asked first own.0,
+    offered_in_all (with_asked asked first).rest rest own.1,
+  )
 
-room : (others : List Choice) (one two : ℕ) → one + two ≤ length others → Room others one two
-room others one two long = record { first = omega (arith, long); second = omega (arith, long, length-drop one others) }
+  offered_in_group : (asked : List Choice) (plan : PhysicalUnits) → GroupEach IsOffered plan
+      → GroupEach IsOffered (group_with_asked asked plan).plan
+  offered_in_group asked physical_nothing own = tt
+  offered_in_group asked physical_every own = tt
+  offered_in_group asked (physical_units_and parts) own = offered_in_groups asked parts own
+  offered_in_group asked (physical_units_or parts) own = offered_in_groups asked parts own
+  offered_in_group asked (physical_units_minus first second) own = (
+    offered_in_group asked first own.0,
+    offered_in_group (group_with_asked asked first).rest second own.1,
+  )
+  offered_in_group asked (physical_units_pairs count types test choice) own = (
+    leaf-asked asked (with_asked (drop 1 asked) types).rest test choice own.0,
+    asked_are_offered (drop 1 asked) types own.1,
+    offered_in_test (with_asked (drop 1 asked) types).rest test own.2,
+  )
 
-leaf_room : (others : List Choice) (plan : Plan) (test : ℕ) → suc (leaves plan + test) ≤ length others
-    → (1 ≤ length others) × (leaves plan ≤ length (type_choices others)) × (test ≤ length (test_choices others plan))
-leaf_room [] plan test long = absurd (omega (arith, long))
-leaf_room (choice ∷ others) plan test long =
-    (omega (arith, long), omega (arith, long), omega (arith, long, length-drop (leaves plan) others))
+  offered_in_groups : (asked : List Choice) (parts : PhysicalUnitsList) → GroupsEach IsOffered parts
+      → GroupsEach IsOffered (groups_with_asked asked parts).plan
+  offered_in_groups asked no_physical_units own = tt
+  offered_in_groups asked (physical_units_then first rest) own = (
+    offered_in_group asked first own.0,
+    offered_in_groups (group_with_asked asked first).rest rest own.1,
+  )
 
--- ---- the whole
-leaf_asked : (indexed : Indexed) (asked others : List Choice) (all : ℕ) (back : Bool) (count : Cardinality) (types : Plan) (test : TestPlan)
-    → 1 ≤ length others
-    → chosen indexed (type_choices asked) (type_choices others) types ≡ each_asked_or (within_tests types) (type_choices asked) (type_choices others)
-    → test_chosen indexed (test_choices asked types) (test_choices others types) test
-    ≡ each_asked_or (test_within test) (test_choices asked types) (test_choices others types)
-    → choice_of
-    (leaf_of indexed all back count types test (size indexed (chosen indexed (type_choices asked) (type_choices others) types) types)
-    (test_size indexed (test_chosen indexed (test_choices asked types) (test_choices others types) test) test))
-    (first_of asked) (first_of others)
-    ∷ (chosen indexed (type_choices asked) (type_choices others) types
-    ++ test_chosen indexed (test_choices asked types) (test_choices others types) test)
-    ≡ each_asked_or (is_within test ∷ (within_tests types ++ test_within test)) asked others
-leaf_asked indexed asked others all back count types test long of_types of_test =
-    let inner = chosen indexed (type_choices asked) (type_choices others) types in
-    let last = test_chosen indexed (test_choices asked types) (test_choices others types) test in
-    (λ i. choice-asked_or (leaf_of indexed all back count types test (size indexed inner types) (test_size indexed last test))
-    (first_of asked) others long i
-    ∷ two_parts (within_tests types) (test_within test) (leaves types) (type_choices asked) (type_choices others) inner last
-    (length-within types) of_types of_test i)
+  offered_in_test : (asked : List Choice) (test : PhysicalTest) → TestEach IsOffered test
+      → TestEach IsOffered (test_with_asked asked test).plan
+  offered_in_test asked (physical_within operand) own = asked_are_offered asked operand own
+  offered_in_test asked (physical_outside operand) own = asked_are_offered asked operand own
+  offered_in_test asked (physical_number compare number) own = tt
 
-module _ (indexed : Indexed) where
-  mutual
-    pub chosen-asked : (asked others : List Choice) (plan : Plan) → leaves plan ≤ length others
-        → chosen indexed asked others plan ≡ each_asked_or (within_tests plan) asked others
-    chosen-asked asked others empty_plan long = refl
-    chosen-asked asked others all_plan long = refl
-    chosen-asked asked others (one_plan number) long = refl
-    chosen-asked asked others (walk_plan operator operand) long = chosen-asked asked others operand long
-    chosen-asked asked others (members_plan operand) long = chosen-asked asked others operand long
-    chosen-asked asked others (and_plan parts) long = plans_chosen-asked asked others parts long
-    chosen-asked asked others (or_plan parts) long = plans_chosen-asked asked others parts long
-    chosen-asked asked others (minus_plan first second) long =
-        let there = room others (leaves first) (leaves second) long in
-        two_parts (within_tests first) (within_tests second) (leaves first) asked others (chosen indexed asked others first)
-        (chosen indexed (drop (leaves first) asked) (drop (leaves first) others) second) (length-within first)
-        (chosen-asked asked others first there.first)
-        (chosen-asked (drop (leaves first) asked) (drop (leaves first) others) second there.second)
-    chosen-asked asked others (values_plan start names) long =
-        let there = room others (leaves start) (plans_leaves names) long in
-        two_parts (within_tests start) (plans_within names) (leaves start) asked others (chosen indexed asked others start)
-        (plans_chosen indexed (drop (leaves start) asked) (drop (leaves start) others) names) (length-within start)
-        (chosen-asked asked others start there.first)
-        (plans_chosen-asked (drop (leaves start) asked) (drop (leaves start) others) names there.second)
-    chosen-asked asked others (pairs_plan back count types test) long =
-        let there = leaf_room others types (test_leaves test) long in
-        leaf_asked indexed asked others (length indexed.concepts) back count types test there.0
-        (chosen-asked (type_choices asked) (type_choices others) types there.1)
-        (test_chosen-asked (test_choices asked types) (test_choices others types) test there.2)
-    chosen-asked asked others (units_plan count units) long = group_chosen-asked asked others units long
+-- ---- leaf by leaf
+-- of leaves with these tests and choices, in front of any others: which choices they take, and what is left of the list behind them
+abbrev Takes : List Choice → List Bool → List Choice → List Choice → List Choice → Type 0
+Takes asked tests own taken rest =
+    (more_tests : List Bool) (more : List Choice)
+    → each_asked_or (tests ++ more_tests) asked (own ++ more) ≡ taken ++ each_asked_or more_tests rest more
 
-    plans_chosen-asked : (asked others : List Choice) (parts : Plans) → plans_leaves parts ≤ length others
-        → plans_chosen indexed asked others parts ≡ each_asked_or (plans_within parts) asked others
-    plans_chosen-asked asked others no_plans long = refl
-    plans_chosen-asked asked others (plan_then first rest) long =
-        let there = room others (leaves first) (plans_leaves rest) long in
-        two_parts (within_tests first) (plans_within rest) (leaves first) asked others (chosen indexed asked others first)
-        (plans_chosen indexed (drop (leaves first) asked) (drop (leaves first) others) rest) (length-within first)
-        (chosen-asked asked others first there.first)
-        (plans_chosen-asked (drop (leaves first) asked) (drop (leaves first) others) rest there.second)
+-- the leaves of two parts
+takes_both : (asked between rest : List Choice) (one two : List Bool) (own_one own_two taken_one taken_two : List Choice)
+    → Takes asked one own_one taken_one between → Takes between two own_two taken_two rest
+    → Takes asked (one ++ two) (own_one ++ own_two) (taken_one ++ taken_two) rest
+takes_both asked between rest one two own_one own_two taken_one taken_two first second more_tests more =
+    (λ i. each_asked_or (append_assoc one two more_tests i) asked (append_assoc own_one own_two more i))
+    ∙ first (two ++ more_tests) (own_two ++ more)
+    ∙ ap (λ (all : List Choice). taken_one ++ all) (second more_tests more)
+    ∙ sym (append_assoc taken_one taken_two (each_asked_or more_tests rest more))
 
-    group_chosen-asked : (asked others : List Choice) (plan : PlanOfUnits) → group_leaves plan ≤ length others
-        → group_chosen indexed asked others plan ≡ each_asked_or (group_within plan) asked others
-    group_chosen-asked asked others nothing_unit long = refl
-    group_chosen-asked asked others every_unit long = refl
-    group_chosen-asked asked others (and_units parts) long = groups_chosen-asked asked others parts long
-    group_chosen-asked asked others (or_units parts) long = groups_chosen-asked asked others parts long
-    group_chosen-asked asked others (minus_units first second) long =
-        let there = room others (group_leaves first) (group_leaves second) long in
-        two_parts (group_within first) (group_within second) (group_leaves first) asked others (group_chosen indexed asked others first)
-        (group_chosen indexed (drop (group_leaves first) asked) (drop (group_leaves first) others) second) (length-group_within first)
-        (group_chosen-asked asked others first there.first)
-        (group_chosen-asked (drop (group_leaves first) asked) (drop (group_leaves first) others) second there.second)
-    group_chosen-asked asked others (pairs_units count types test) long =
-        let there = leaf_room others types (test_leaves test) long in
-        leaf_asked indexed asked others (length (groups_in indexed)) false count types test there.0
-        (chosen-asked (type_choices asked) (type_choices others) types there.1)
-        (test_chosen-asked (test_choices asked types) (test_choices others types) test there.2)
+-- a leaf, and those of its types and its test
+takes_leaf : (asked rest : List Choice) (within : Bool) (choice : Choice) (tests : List Bool) (own taken : List Choice)
+    → Takes (drop 1 asked) tests own taken rest
+    → Takes asked (within ∷ tests) (choice ∷ own) (asked_or within (first_of asked) choice ∷ taken) rest
+takes_leaf asked rest within choice tests own taken inner more_tests more =
+    ap (λ (all : List Choice). asked_or within (first_of asked) choice ∷ all) (inner more_tests more)
 
-    groups_chosen-asked : (asked others : List Choice) (parts : PlansOfUnits) → groups_leaves parts ≤ length others
-        → groups_chosen indexed asked others parts ≡ each_asked_or (groups_within parts) asked others
-    groups_chosen-asked asked others no_unit_plans long = refl
-    groups_chosen-asked asked others (unit_plan_then first rest) long =
-        let there = room others (group_leaves first) (groups_leaves rest) long in
-        two_parts (group_within first) (groups_within rest) (group_leaves first) asked others (group_chosen indexed asked others first)
-        (groups_chosen indexed (drop (group_leaves first) asked) (drop (group_leaves first) others) rest) (length-group_within first)
-        (group_chosen-asked asked others first there.first)
-        (groups_chosen-asked (drop (group_leaves first) asked) (drop (group_leaves first) others) rest there.second)
+mutual
+  takes : (asked : List Choice) (plan : Physical)
+      → Takes asked (within_tests plan) (choices_in plan) (choices_in (with_asked asked plan).plan) (with_asked asked plan).rest
+  takes asked physical_empty more_tests more = refl
+  takes asked physical_all more_tests more = refl
+  takes asked (physical_one number) more_tests more = refl
+  takes asked (physical_walk operator operand) more_tests more = takes asked operand more_tests more
+  takes asked (physical_members operand) more_tests more = takes asked operand more_tests more
+  takes asked (physical_and parts) more_tests more = takes_all asked parts more_tests more
+  takes asked (physical_or parts) more_tests more = takes_all asked parts more_tests more
+  takes asked (physical_minus first second) more_tests more =
+      takes_both asked (with_asked asked first).rest _ _ _ _ _ _ _ (takes asked first) (takes (with_asked asked first).rest second) more_tests more
+  takes asked (physical_values start names) more_tests more =
+      takes_both asked (with_asked asked start).rest _ _ _ _ _ _ _ (takes asked start) (takes_all (with_asked asked start).rest names) more_tests more
+  takes asked (physical_pairs back count types test choice) more_tests more =
+      takes_leaf asked _ (is_within test) choice _ _ _
+      (takes_both (drop 1 asked) (with_asked (drop 1 asked) types).rest _ _ _ _ _ _ _ (takes (drop 1 asked) types)
+      (takes_test (with_asked (drop 1 asked) types).rest test)) more_tests more
+  takes asked (physical_units count units) more_tests more = takes_group asked units more_tests more
 
-    test_chosen-asked : (asked others : List Choice) (test : TestPlan) → test_leaves test ≤ length others
-        → test_chosen indexed asked others test ≡ each_asked_or (test_within test) asked others
-    test_chosen-asked asked others (within_plan operand) long = chosen-asked asked others operand long
-    test_chosen-asked asked others (outside_plan operand) long = chosen-asked asked others operand long
-    test_chosen-asked asked others (number_plan compare number) long = refl
+  takes_all : (asked : List Choice) (parts : Physicals)
+      → Takes asked (plans_within parts) (choices_in_each parts) (choices_in_each (all_with_asked asked parts).plan)
+      (all_with_asked asked parts).rest
+  takes_all asked no_physicals more_tests more = refl
+  takes_all asked (physical_then first rest) more_tests more =
+      takes_both asked (with_asked asked first).rest _ _ _ _ _ _ _ (takes asked first) (takes_all (with_asked asked first).rest rest) more_tests more
+
+  takes_group : (asked : List Choice) (plan : PhysicalUnits)
+      → Takes asked (group_within plan) (choices_in_units plan) (choices_in_units (group_with_asked asked plan).plan)
+      (group_with_asked asked plan).rest
+  takes_group asked physical_nothing more_tests more = refl
+  takes_group asked physical_every more_tests more = refl
+  takes_group asked (physical_units_and parts) more_tests more = takes_groups asked parts more_tests more
+  takes_group asked (physical_units_or parts) more_tests more = takes_groups asked parts more_tests more
+  takes_group asked (physical_units_minus first second) more_tests more =
+      takes_both asked (group_with_asked asked first).rest _ _ _ _ _ _ _ (takes_group asked first)
+      (takes_group (group_with_asked asked first).rest second) more_tests more
+  takes_group asked (physical_units_pairs count types test choice) more_tests more =
+      takes_leaf asked _ (is_within test) choice _ _ _
+      (takes_both (drop 1 asked) (with_asked (drop 1 asked) types).rest _ _ _ _ _ _ _ (takes (drop 1 asked) types)
+      (takes_test (with_asked (drop 1 asked) types).rest test)) more_tests more
+
+  takes_groups : (asked : List Choice) (parts : PhysicalUnitsList)
+      → Takes asked (groups_within parts) (choices_in_each_units parts) (choices_in_each_units (groups_with_asked asked parts).plan)
+      (groups_with_asked asked parts).rest
+  takes_groups asked no_physical_units more_tests more = refl
+  takes_groups asked (physical_units_then first rest) more_tests more =
+      takes_both asked (group_with_asked asked first).rest _ _ _ _ _ _ _ (takes_group asked first)
+      (takes_groups (group_with_asked asked first).rest rest) more_tests more
+
+  takes_test : (asked : List Choice) (test : PhysicalTest)
+      → Takes asked (test_within test) (choices_in_test test) (choices_in_test (test_with_asked asked test).plan)
+      (test_with_asked asked test).rest
+  takes_test asked (physical_within operand) more_tests more = takes asked operand more_tests more
+  takes_test asked (physical_outside operand) more_tests more = takes asked operand more_tests more
+  takes_test asked (physical_number compare number) more_tests more = refl
+
+-- the choices of a plan that takes asked choices are those of the list, leaf by leaf
+pub choices-asked : (asked : List Choice) (plan : Physical)
+    → choices_in (with_asked asked plan).plan ≡ each_asked_or (within_tests plan) asked (choices_in plan)
+choices-asked asked plan =
+    sym (append-nil (choices_in (with_asked asked plan).plan))
+    ∙ sym (takes asked plan [] [])
+    ∙ (λ i. each_asked_or (append-nil (within_tests plan) i) asked (append-nil (choices_in plan) i))

@@ -1,12 +1,11 @@
--- The choice of a leaf is one that it offers; where none is asked for it is the first of least bound.
-use Rattle.std.proofs.Common.{ℕ, ◌≡◌, ◌≤◌, ◌<◌, ◌&&◌, ◌∙◌, ◌⊎◌, Bool, true, false, cond, Option, Some, None, inl, inr, refl, sym, ap, subst, arith}
+-- The choice that a leaf takes is one that it offers, and of these the first of the least bound.
+use Rattle.std.proofs.Common.{ℕ, ◌≡◌, ◌≤◌, ◌<◌, ◌&&◌, ◌∙◌, ◌⊎◌, Bool, true, false, cond, inl, inr, refl, sym, ap, subst, arith}
 use Rattle.std.specs.Prelude.{IsTrue, nat_le}
 use Rattle.std.proofs.lemmas.Bool.{and_parts, cases_Bool, leb-false, leb-true}
 use Rattle.set_algebra.specs.declared.choice.Choice.{Choice}
 use Rattle.set_algebra.specs.declared.choice.Choice.TheVariants.{ByValue, ByType, Scan}
 use Rattle.plan_bounds.specs.declared.leaf.Leaf.{Leaf}
-use Rattle.plan_bounds.specs.Alternatives.{IsLeast, choice_of, leaf_bound, least_choice, offers, or_least, rank}
-use Rattle.plan_bounds.specs.Offered.{IsOffered}
+use Rattle.plan_bounds.specs.Alternatives.{IsLeast, leaf_bound, least_choice, offers, rank}
 
 -- one of two tests fails
 one_fails : (a b : Bool) → (a && b) ≡ false → (a ≡ false) ⊎ (b ≡ false)
@@ -67,7 +66,7 @@ module _ (leaf : Leaf) where
       first ByType there same = absurd (omega (arith, second, same))
       first Scan there same = omega arith
 
-  -- where none is asked for
+  -- whatever its bounds are
   pub least_is_least : IsLeast leaf (least_choice leaf)
   least_is_least =
       elim (cases_Bool (leaf.is_within && (nat_le value by_type && nat_le value scan))) [
@@ -101,17 +100,3 @@ module _ (leaf : Leaf) where
       fails some within =
           one_fails (nat_le value by_type) (nat_le value scan)
           (sym (ap (λ (b : Bool). b && (nat_le value by_type && nat_le value scan)) within) ∙ some)
-
-  or_least_offered : (other : Option Choice) → IsOffered leaf.is_within other → IsTrue (offers leaf.is_within (or_least leaf other))
-  or_least_offered (Some choice) there = there
-  or_least_offered None there = least_is_least.offered
-
-  -- whatever is asked for
-  pub choice_offered : (asked other : Option Choice) → IsOffered leaf.is_within other
-      → IsTrue (offers leaf.is_within (choice_of leaf asked other))
-  choice_offered (Some choice) other there = elim (cases_Bool (offers leaf.is_within choice)) [
-    | inl offered ↦ subst (λ (b : Bool). IsTrue (offers leaf.is_within (cond b choice (or_least leaf other)))) (sym offered) offered
-    | inr refused ↦
-        subst (λ (b : Bool). IsTrue (offers leaf.is_within (cond b choice (or_least leaf other)))) (sym refused) (or_least_offered other there)
-  ]
-  choice_offered None other there = or_least_offered other there

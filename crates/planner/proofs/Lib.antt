@@ -1,8 +1,6 @@
 pub mod AskedLemmas
-pub mod ChoosingLemmas
-pub mod FrontLemmas
-pub mod LeafLemmas
+pub mod ChosenLemmas
 pub mod LeastLemmas
 pub mod ListedLemmas
-pub mod OfferedLemmas
+pub mod PassLemmas
 pub mod Rules

@@ -1,8 +1,9 @@
 -- Sets of lemmas that functions name.
+use Rattle.set_algebra.proofs.PhysicalLemmas.{physicals_of_items}
 use Rattle.set_algebra.proofs.PlanLemmas.{plans_of_items}
 
 -- for those that list bounds
-pub ruleset listing = (plans_of_items)
+pub ruleset listing = (physicals_of_items)
 
 -- for those that choose
-pub ruleset settling = (plans_of_items)
+pub ruleset choosing = (plans_of_items, physicals_of_items)

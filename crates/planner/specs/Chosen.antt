@@ -1,70 +1,63 @@
--- Which choices a plan gets: for each leaf the one that is asked for, where the leaf offers it, or the least.
-use Rattle.std.specs.Prelude.{false, List, [], ◌∷◌, ◌++◌, drop, length}
-use Rattle.set_algebra.specs.Plan.{Plan, empty_plan, all_plan, one_plan, walk_plan, members_plan, and_plan, or_plan, minus_plan, values_plan, pairs_plan, units_plan, Plans, no_plans, plan_then, PlanOfUnits, nothing_unit, every_unit, and_units, or_units, minus_units, pairs_units, PlansOfUnits, no_unit_plans, unit_plan_then, TestPlan, within_plan, outside_plan, number_plan}
+-- Which choices a plan gets: the leaves of its parts choose first, and then each leaf takes the alternative of the least bound.
+use Rattle.std.specs.Prelude.{false, List, length}
+use Rattle.set_algebra.specs.declared.choice.Choice.{Choice}
+use Rattle.set_algebra.specs.Physical.{Physical, physical_empty, physical_all, physical_one, physical_walk, physical_members, physical_and}
+use Rattle.set_algebra.specs.Physical.{physical_or, physical_minus, physical_values, physical_pairs, physical_units}
+use Rattle.set_algebra.specs.Physical.{Physicals, no_physicals, physical_then, PhysicalUnits, physical_nothing, physical_every}
+use Rattle.set_algebra.specs.Physical.{physical_units_and, physical_units_or, physical_units_minus, physical_units_pairs}
+use Rattle.set_algebra.specs.Physical.{PhysicalUnitsList, no_physical_units, physical_units_then}
+use Rattle.set_algebra.specs.Physical.{PhysicalTest, physical_within, physical_outside, physical_number}
+use Rattle.set_algebra.specs.Plan.{Plan, empty_plan, all_plan, one_plan, walk_plan, members_plan, and_plan, or_plan, minus_plan}
+use Rattle.set_algebra.specs.Plan.{values_plan, pairs_plan, units_plan, Plans, no_plans, plan_then}
+use Rattle.set_algebra.specs.Plan.{PlanOfUnits, nothing_unit, every_unit, and_units, or_units, minus_units, pairs_units}
+use Rattle.set_algebra.specs.Plan.{PlansOfUnits, no_unit_plans, unit_plan_then, TestPlan, within_plan, outside_plan, number_plan}
 use Rattle.postings.specs.Groups.{groups_in}
 use Rattle.postings.specs.Indexed.{Indexed}
-use Rattle.set_algebra.specs.declared.choice.Choice.{Choice}
-use Rattle.plan_bounds.specs.Alternatives.{choice_of}
-use Rattle.plan_bounds.specs.Counts.{leaf_of}
-use Rattle.plan_bounds.specs.Leaves.{first_of, group_leaves, leaves, test_choices, type_choices}
-use Rattle.plan_bounds.specs.Sizes.{size, test_size}
+use Rattle.plan_bounds.specs.Alternatives.{least_choice}
+use Rattle.plan_bounds.specs.Leaves.{choices_in}
+use Rattle.plan_bounds.specs.Sizes.{leaf_at}
 
--- by two lists, the choices asked for and others in their place; a leaf of which neither has one takes the least, which rests on
--- what its sub-plans have taken
 abbrev mutual
-  pub chosen : Indexed → List Choice → List Choice → Plan → List Choice
-  chosen indexed asked others empty_plan = []
-  chosen indexed asked others all_plan = []
-  chosen indexed asked others (one_plan number) = []
-  chosen indexed asked others (walk_plan operator operand) = chosen indexed asked others operand
-  chosen indexed asked others (members_plan operand) = chosen indexed asked others operand
-  chosen indexed asked others (and_plan parts) = plans_chosen indexed asked others parts
-  chosen indexed asked others (or_plan parts) = plans_chosen indexed asked others parts
-  chosen indexed asked others (minus_plan first second) =
-      chosen indexed asked others first ++ chosen indexed (drop (leaves first) asked) (drop (leaves first) others) second
-  chosen indexed asked others (values_plan start names) =
-      chosen indexed asked others start ++ plans_chosen indexed (drop (leaves start) asked) (drop (leaves start) others) names
-  chosen indexed asked others (pairs_plan back count types test) =
-      let inner = chosen indexed (type_choices asked) (type_choices others) types in
-      let last = test_chosen indexed (test_choices asked types) (test_choices others types) test in
-      choice_of
-      (leaf_of indexed (length indexed.concepts) back count types test (size indexed inner types) (test_size indexed last test))
-      (first_of asked) (first_of others)
-      ∷ (inner ++ last)
-  chosen indexed asked others (units_plan count units) = group_chosen indexed asked others units
+  pub chosen : Indexed → Plan → Physical
+  chosen indexed empty_plan = physical_empty
+  chosen indexed all_plan = physical_all
+  chosen indexed (one_plan number) = physical_one number
+  chosen indexed (walk_plan operator operand) = physical_walk operator (chosen indexed operand)
+  chosen indexed (members_plan operand) = physical_members (chosen indexed operand)
+  chosen indexed (and_plan parts) = physical_and (all_chosen indexed parts)
+  chosen indexed (or_plan parts) = physical_or (all_chosen indexed parts)
+  chosen indexed (minus_plan first second) = physical_minus (chosen indexed first) (chosen indexed second)
+  chosen indexed (values_plan start names) = physical_values (chosen indexed start) (all_chosen indexed names)
+  chosen indexed (pairs_plan back count types test) =
+      let inner = chosen indexed types in
+      let last = test_chosen indexed test in
+      physical_pairs back count inner last (least_choice (leaf_at indexed (length indexed.concepts) back count inner last))
+  chosen indexed (units_plan count units) = physical_units count (group_chosen indexed units)
 
-  pub plans_chosen : Indexed → List Choice → List Choice → Plans → List Choice
-  plans_chosen indexed asked others no_plans = []
-  plans_chosen indexed asked others (plan_then first rest) =
-      chosen indexed asked others first ++ plans_chosen indexed (drop (leaves first) asked) (drop (leaves first) others) rest
+  pub all_chosen : Indexed → Plans → Physicals
+  all_chosen indexed no_plans = no_physicals
+  all_chosen indexed (plan_then first rest) = physical_then (chosen indexed first) (all_chosen indexed rest)
 
-  pub group_chosen : Indexed → List Choice → List Choice → PlanOfUnits → List Choice
-  group_chosen indexed asked others nothing_unit = []
-  group_chosen indexed asked others every_unit = []
-  group_chosen indexed asked others (and_units parts) = groups_chosen indexed asked others parts
-  group_chosen indexed asked others (or_units parts) = groups_chosen indexed asked others parts
-  group_chosen indexed asked others (minus_units first second) =
-      group_chosen indexed asked others first
-      ++ group_chosen indexed (drop (group_leaves first) asked) (drop (group_leaves first) others) second
-  group_chosen indexed asked others (pairs_units count types test) =
-      let inner = chosen indexed (type_choices asked) (type_choices others) types in
-      let last = test_chosen indexed (test_choices asked types) (test_choices others types) test in
-      choice_of
-      (leaf_of indexed (length (groups_in indexed)) false count types test (size indexed inner types) (test_size indexed last test))
-      (first_of asked) (first_of others)
-      ∷ (inner ++ last)
+  pub group_chosen : Indexed → PlanOfUnits → PhysicalUnits
+  group_chosen indexed nothing_unit = physical_nothing
+  group_chosen indexed every_unit = physical_every
+  group_chosen indexed (and_units parts) = physical_units_and (groups_chosen indexed parts)
+  group_chosen indexed (or_units parts) = physical_units_or (groups_chosen indexed parts)
+  group_chosen indexed (minus_units first second) = physical_units_minus (group_chosen indexed first) (group_chosen indexed second)
+  group_chosen indexed (pairs_units count types test) =
+      let inner = chosen indexed types in
+      let last = test_chosen indexed test in
+      physical_units_pairs count inner last (least_choice (leaf_at indexed (length (groups_in indexed)) false count inner last))
 
-  pub groups_chosen : Indexed → List Choice → List Choice → PlansOfUnits → List Choice
-  groups_chosen indexed asked others no_unit_plans = []
-  groups_chosen indexed asked others (unit_plan_then first rest) =
-      group_chosen indexed asked others first
-      ++ groups_chosen indexed (drop (group_leaves first) asked) (drop (group_leaves first) others) rest
+  pub groups_chosen : Indexed → PlansOfUnits → PhysicalUnitsList
+  groups_chosen indexed no_unit_plans = no_physical_units
+  groups_chosen indexed (unit_plan_then first rest) = physical_units_then (group_chosen indexed first) (groups_chosen indexed rest)
 
-  pub test_chosen : Indexed → List Choice → List Choice → TestPlan → List Choice
-  test_chosen indexed asked others (within_plan operand) = chosen indexed asked others operand
-  test_chosen indexed asked others (outside_plan operand) = chosen indexed asked others operand
-  test_chosen indexed asked others (number_plan compare number) = []
+  pub test_chosen : Indexed → TestPlan → PhysicalTest
+  test_chosen indexed (within_plan operand) = physical_within (chosen indexed operand)
+  test_chosen indexed (outside_plan operand) = physical_outside (chosen indexed operand)
+  test_chosen indexed (number_plan compare number) = physical_number compare number
 
 -- the choices of a plan for which nothing is asked
 abbrev pub least_choices : Indexed → Plan → List Choice
-least_choices indexed plan = chosen indexed [] [] plan
+least_choices indexed plan = choices_in (chosen indexed plan)

@@ -14,7 +14,7 @@ use Rattle.postings.specs.Stats.{stats_in}
 use Rattle.set_algebra.specs.declared.choice.Choice.{Choice}
 use Rattle.set_algebra.specs.declared.choice.Choice.TheVariants.{ByValue, ByType}
 use Rattle.plan_bounds.specs.Bounds.{bound, own_bounds}
-use Rattle.planner.specs.Chosen.{least_choices}
+use Rattle.planner.specs.Chosen.{chosen, least_choices}
 use Rattle.plan_bounds.specs.Floors.{floor}
 
 -- the indexes of the sample release, as far as bounds rest on them
@@ -35,9 +35,9 @@ CountsSample = stats_in indexed_sample ≡ record { n = 10; a = 9; g = 8; r = 15
 -- what the choices of a plan are, its own bounds, its bound and its floor
 pub record IsBounded (plan : Plan) (choices : List Choice) (own : List ℕ) (most least : ℕ) : Type 0 where
   pub choices_are : least_choices indexed_sample plan ≡ choices
-  pub own_bounds_are : own_bounds indexed_sample choices plan ≡ own
-  pub bound_is : bound indexed_sample choices plan ≡ most
-  pub floor_is : floor indexed_sample choices plan ≡ least
+  pub own_bounds_are : own_bounds indexed_sample (chosen indexed_sample plan) ≡ own
+  pub bound_is : bound indexed_sample (chosen indexed_sample plan) ≡ most
+  pub floor_is : floor indexed_sample (chosen indexed_sample plan) ≡ least
 
 -- <100005:104001=106004
 abbrev pub BoundsByValue : Type 0

@@ -1,3 +1,3 @@
 -- Definitions that private functions alone need: no contract of a public call names one.
+pub mod AskedInPlace
 pub mod ListedNodes
-pub mod SettledNodes

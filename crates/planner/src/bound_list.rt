@@ -1,434 +1,332 @@
 //! The own bounds of all nodes of a plan, a node before its children.
-ghost use Rattle.std.specs.Prelude.{◌≡◌, ◌<◌, ◌++◌, ◌∷◌, [], IfOk, OnOk, drop, length};
+ghost use Rattle.std.specs.Prelude.{◌≡◌, ◌<◌, ◌++◌, ◌∷◌, [], IfOk, OnOk, length};
 ghost use Rattle.std.specs.List.{slice_set};
-ghost use Rattle.set_algebra.specs.Plan.{and_plan, and_units, members_plan, minus_plan, minus_units, or_plan, or_units, plan_of};
-ghost use Rattle.set_algebra.specs.Plan.{plans_of, test_plan_of, unit_plan_of, unit_plans_of, units_plan, values_plan, walk_plan};
+ghost use Rattle.set_algebra.specs.Physical.{physical_and, physical_members, physical_minus, physical_of, physical_or, physical_test_of};
+ghost use Rattle.set_algebra.specs.Physical.{physical_units, physical_units_and, physical_units_list_of, physical_units_minus};
+ghost use Rattle.set_algebra.specs.Physical.{physical_units_of, physical_units_or, physical_values, physical_walk, physicals_of};
 ghost use Rattle.plan_bounds.specs.Bounds.{own_bounds, own_list};
-ghost use Rattle.plan_bounds.specs.Leaves.{group_leaves, groups_leaves, leaves, plans_leaves, test_leaves};
-ghost use Rattle.plan_bounds.specs.Nodes.{group_list, groups_list, node_list, plans_list, test_list};
+ghost use Rattle.plan_bounds.specs.Nodes.{group_list, groups_list, plans_list, test_list};
 ghost use Rattle.plan_bounds.specs.Sizes.{group_size, group_sizes, size as size_of, sizes, test_size};
 ghost use Rattle.planner.specs.inside.ListedNodes.{IsGroupNode, IsLeafNode, IsNode};
 ghost use Rattle.plan_bounds.specs.Tallies.{IsTallyOf};
 
 use constraint_tree::{Cardinality, Operator};
 use plan_bounds::{
-    NodeCost, Tally, after_first, concepts, cost_of_all, cost_of_first, cost_of_members,
-    cost_of_some, cost_of_units, cost_of_values, cost_of_walk, counts_of_leaf, first_choice,
-    groups,
+    NodeCost, Tally, concepts, cost_of_all, cost_of_first, cost_of_members, cost_of_some,
+    cost_of_units, cost_of_values, cost_of_walk, counts_of_leaf, groups,
 };
 use postings::Indexes;
 use set_algebra::{Choice, ConceptPlan, UnitPlan, ValueTest};
 use std::alloc::AllocError;
 
-/// How much a plan finds at most, and the choices behind its own.
-#[derive(Clone, Copy)]
-pub struct Listed<'a> {
-    /// In concepts or groups; exact.
-    pub size: u64,
-    /// The choices of the leaves behind the plan.
-    pub rest: &'a [Choice],
-}
-
-// The same of some plans together.
-#[derive(Clone, Copy)]
-struct ListedParts<'a> {
-    tally: Tally,
-    rest: &'a [Choice],
-}
-
-// A node whose sub-plans are listed: its own cost, and the choices behind it.
-#[derive(Clone, Copy)]
-struct Node<'a> {
-    own: NodeCost,
-    rest: &'a [Choice],
-}
-
-/// Adds the own bounds of a plan of concepts, whose choices are those at the front of a list.
+/// Adds the own bounds of a plan of concepts. Answers how many concepts it finds at most. The error is want of memory.
 #[cycle(list)]
-pub fn list<'a>(
-    plan: &ConceptPlan,
-    choices: &'a [Choice],
-    indexes: &Indexes,
-    bounds: &mut Vec<u64>,
-) -> Result<Listed<'a>, AllocError>
-    ensures bounds { OnOk result (bounds.new.items ≡ bounds.old.items ++ own_bounds indexes.now choices.now (plan_of plan.now)) }
-    ensures size { IfOk result (λ found. found.size ≡ size_of indexes.now choices.now (plan_of plan.now)) }
-    ensures rest { IfOk result (λ found. found.rest.now ≡ drop (leaves (plan_of plan.now)) choices.now) }
+pub fn list(plan: &ConceptPlan, indexes: &Indexes, bounds: &mut Vec<u64>) -> Result<u64, AllocError>
+    ensures bounds { OnOk result (bounds.new.items ≡ bounds.old.items ++ own_bounds indexes.now (physical_of plan.now)) }
+    ensures size { IfOk result (λ size. size ≡ size_of indexes.now (physical_of plan.now)) }
 {
     let at = open(bounds)?;
-    let node = list_behind(plan, choices, indexes, bounds)?;
-    Ok(closed(bounds, at, &node))
+    let node = list_behind(plan, indexes, bounds)?;
+    Ok(closed(bounds, at, node))
 }
 
 // Adds those of the sub-plans of a plan of concepts, and answers its own.
 #[cycle(list)]
 #[tactic(auto, using(crate::proofs::Rules::listing))]
-fn list_behind<'a>(
+fn list_behind(
     plan: &ConceptPlan,
-    choices: &'a [Choice],
     indexes: &Indexes,
     bounds: &mut Vec<u64>,
-) -> Result<Node<'a>, AllocError>
-    ensures { IfOk result (λ node. IsNode indexes.now choices.now (plan_of plan.now) bounds.old.items bounds.new.items node.own node.rest.now) }
+) -> Result<NodeCost, AllocError>
+    ensures { IfOk result (λ node. IsNode indexes.now (physical_of plan.now) bounds.old.items bounds.new.items node) }
 {
     match plan {
-        ConceptPlan::Empty => Ok(without_parts(0, choices)),
-        ConceptPlan::All => Ok(without_parts(concepts(indexes), choices)),
-        ConceptPlan::One(_) => Ok(without_parts(1, choices)),
-        ConceptPlan::Walk(operator, operand) => {
-            list_walk(*operator, operand, choices, indexes, bounds)
-        }
-        ConceptPlan::Members(operand) => list_members(operand, choices, indexes, bounds),
-        ConceptPlan::And(parts) => list_and(parts, choices, indexes, bounds),
-        ConceptPlan::Or(parts) => list_or(parts, choices, indexes, bounds),
-        ConceptPlan::Minus(first, second) => list_minus(first, second, choices, indexes, bounds),
-        ConceptPlan::Values(start, names) => list_values(start, names, choices, indexes, bounds),
+        ConceptPlan::Empty => Ok(without_parts(0)),
+        ConceptPlan::All => Ok(without_parts(concepts(indexes))),
+        ConceptPlan::One(_) => Ok(without_parts(1)),
+        ConceptPlan::Walk(operator, operand) => { list_walk(*operator, operand, indexes, bounds) }
+        ConceptPlan::Members(operand) => list_members(operand, indexes, bounds),
+        ConceptPlan::And(parts) => list_and(parts, indexes, bounds),
+        ConceptPlan::Or(parts) => list_or(parts, indexes, bounds),
+        ConceptPlan::Minus(first, second) => list_minus(first, second, indexes, bounds),
+        ConceptPlan::Values(start, names) => list_values(start, names, indexes, bounds),
         ConceptPlan::Pairs {
             back,
             count,
             types,
             test,
+            choice,
         } => {
             let all = concepts(indexes);
-            list_pairs(all, *back, *count, types, test, choices, indexes, bounds)
+            list_pairs(all, *back, *count, types, test, *choice, indexes, bounds)
         }
-        ConceptPlan::Units { count, units } => {
-            list_of_units(*count, units, choices, indexes, bounds)
-        }
+        ConceptPlan::Units { count, units } => { list_of_units(*count, units, indexes, bounds) }
     }
 }
 
 // Adds those of the sub-plans of a walk.
 #[cycle(list)]
-fn list_walk<'a>(
+fn list_walk(
     operator: Operator,
     operand: &ConceptPlan,
-    choices: &'a [Choice],
     indexes: &Indexes,
     bounds: &mut Vec<u64>,
-) -> Result<Node<'a>, AllocError>
-    ensures { IfOk result (λ node.
-        IsNode indexes.now choices.now (walk_plan operator (plan_of operand.now)) bounds.old.items bounds.new.items node.own node.rest.now) }
+) -> Result<NodeCost, AllocError>
+    ensures { IfOk result (λ node. IsNode indexes.now (physical_walk operator (physical_of operand.now)) bounds.old.items bounds.new.items node) }
 {
-    let inner = list(operand, choices, indexes, bounds)?;
-    let own = cost_of_walk(indexes, operator, operand, inner.size);
-    Ok(Node {
-        own,
-        rest: inner.rest,
-    })
+    let inner = list(operand, indexes, bounds)?;
+    let own = cost_of_walk(indexes, operator, operand, inner);
+    Ok(own)
 }
 
 // Adds those of the sub-plans of the components of reference sets.
 #[cycle(list)]
-fn list_members<'a>(
+fn list_members(
     operand: &ConceptPlan,
-    choices: &'a [Choice],
     indexes: &Indexes,
     bounds: &mut Vec<u64>,
-) -> Result<Node<'a>, AllocError>
-    ensures { IfOk result (λ node.
-        IsNode indexes.now choices.now (members_plan (plan_of operand.now)) bounds.old.items bounds.new.items node.own node.rest.now) }
+) -> Result<NodeCost, AllocError>
+    ensures { IfOk result (λ node. IsNode indexes.now (physical_members (physical_of operand.now)) bounds.old.items bounds.new.items node) }
 {
-    let inner = list(operand, choices, indexes, bounds)?;
-    let own = cost_of_members(indexes, operand, inner.size);
-    Ok(Node {
-        own,
-        rest: inner.rest,
-    })
+    let inner = list(operand, indexes, bounds)?;
+    let own = cost_of_members(indexes, operand, inner);
+    Ok(own)
 }
 
 // Adds those of the sub-plans of what all of some plans find.
 #[cycle(list)]
-fn list_and<'a>(
+fn list_and(
     parts: &[ConceptPlan],
-    choices: &'a [Choice],
     indexes: &Indexes,
     bounds: &mut Vec<u64>,
-) -> Result<Node<'a>, AllocError>
-    ensures { IfOk result (λ node. IsNode indexes.now choices.now (and_plan (plans_of parts.now)) bounds.old.items bounds.new.items node.own node.rest.now) }
+) -> Result<NodeCost, AllocError>
+    ensures { IfOk result (λ node. IsNode indexes.now (physical_and (physicals_of parts.now)) bounds.old.items bounds.new.items node) }
 {
-    let inner = list_parts(parts, concepts(indexes), choices, indexes, bounds)?;
-    Ok(Node {
-        own: cost_of_all(&inner.tally),
-        rest: inner.rest,
-    })
+    let inner = list_parts(parts, concepts(indexes), indexes, bounds)?;
+    Ok(cost_of_all(&inner))
 }
 
 // Adds those of the sub-plans of what one of some plans finds.
 #[cycle(list)]
-fn list_or<'a>(
+fn list_or(
     parts: &[ConceptPlan],
-    choices: &'a [Choice],
     indexes: &Indexes,
     bounds: &mut Vec<u64>,
-) -> Result<Node<'a>, AllocError>
-    ensures { IfOk result (λ node. IsNode indexes.now choices.now (or_plan (plans_of parts.now)) bounds.old.items bounds.new.items node.own node.rest.now) }
+) -> Result<NodeCost, AllocError>
+    ensures { IfOk result (λ node. IsNode indexes.now (physical_or (physicals_of parts.now)) bounds.old.items bounds.new.items node) }
 {
     let all = concepts(indexes);
-    let inner = list_parts(parts, all, choices, indexes, bounds)?;
-    let own = cost_of_some(all, &inner.tally, parts.len() as u64);
-    Ok(Node {
-        own,
-        rest: inner.rest,
-    })
+    let inner = list_parts(parts, all, indexes, bounds)?;
+    let own = cost_of_some(all, &inner, parts.len() as u64);
+    Ok(own)
 }
 
 // Adds those of the sub-plans of what the first of two plans finds and the second does not.
 #[cycle(list)]
-fn list_minus<'a>(
+fn list_minus(
     first: &ConceptPlan,
     second: &ConceptPlan,
-    choices: &'a [Choice],
     indexes: &Indexes,
     bounds: &mut Vec<u64>,
-) -> Result<Node<'a>, AllocError>
-    ensures { IfOk result (λ node.
-        IsNode indexes.now choices.now (minus_plan (plan_of first.now) (plan_of second.now)) bounds.old.items bounds.new.items node.own node.rest.now) }
+) -> Result<NodeCost, AllocError>
+    ensures { IfOk result (λ node. IsNode indexes.now (physical_minus (physical_of first.now) (physical_of second.now))
+        bounds.old.items bounds.new.items node) }
 {
-    let left = list(first, choices, indexes, bounds)?;
-    let right = list(second, left.rest, indexes, bounds)?;
-    Ok(Node {
-        own: cost_of_first(left.size, right.size),
-        rest: right.rest,
-    })
+    let left = list(first, indexes, bounds)?;
+    let right = list(second, indexes, bounds)?;
+    Ok(cost_of_first(left, right))
 }
 
 // Adds those of the sub-plans of the values along some types.
 #[cycle(list)]
-fn list_values<'a>(
+fn list_values(
     start: &ConceptPlan,
     names: &[ConceptPlan],
-    choices: &'a [Choice],
     indexes: &Indexes,
     bounds: &mut Vec<u64>,
-) -> Result<Node<'a>, AllocError>
-    ensures { IfOk result (λ node.
-        IsNode indexes.now choices.now (values_plan (plan_of start.now) (plans_of names.now)) bounds.old.items bounds.new.items node.own node.rest.now) }
+) -> Result<NodeCost, AllocError>
+    ensures { IfOk result (λ node. IsNode indexes.now (physical_values (physical_of start.now) (physicals_of names.now))
+        bounds.old.items bounds.new.items node) }
 {
-    let from = list(start, choices, indexes, bounds)?;
-    let types = list_parts(names, 0, from.rest, indexes, bounds)?;
-    let own = cost_of_values(indexes, names.len() as u64, from.size);
-    Ok(Node {
-        own,
-        rest: types.rest,
-    })
+    let from = list(start, indexes, bounds)?;
+    let types = list_parts(names, 0, indexes, bounds)?;
+    let own = cost_of_values(indexes, names.len() as u64, from);
+    Ok(own)
 }
 
 // Adds those of the sub-plans of a leaf, of concepts or of groups.
 #[cycle(list)]
-fn list_pairs<'a>(
+fn list_pairs(
     all: u64,
     back: bool,
     count: Cardinality,
     types: &ConceptPlan,
     test: &ValueTest,
-    choices: &'a [Choice],
+    choice: Choice,
     indexes: &Indexes,
     bounds: &mut Vec<u64>,
-) -> Result<Node<'a>, AllocError>
-    ensures { IfOk result (λ node.
-        IsLeafNode indexes.now choices.now all back count (plan_of types.now) (test_plan_of test.now)
-        bounds.old.items bounds.new.items node.own node.rest.now) }
+) -> Result<NodeCost, AllocError>
+    ensures { IfOk result (λ node. IsLeafNode indexes.now all back count (physical_of types.now) (physical_test_of test.now) choice
+        bounds.old.items bounds.new.items node) }
 {
-    let of_types = list(types, after_first(choices), indexes, bounds)?;
-    let of_test = list_test(test, of_types.rest, indexes, bounds)?;
-    let sizes = (of_types.size, of_test.size);
+    let of_types = list(types, indexes, bounds)?;
+    let of_test = list_test(test, indexes, bounds)?;
+    let sizes = (of_types, of_test);
     let leaf = counts_of_leaf(indexes, all, back, count, types, test, sizes);
-    Ok(Node {
-        own: leaf.cost(first_choice(choices)),
-        rest: of_test.rest,
-    })
+    Ok(leaf.cost(choice))
 }
 
 // Adds those of the sub-plans of the concepts so many of whose groups a plan finds.
 #[cycle(list)]
-fn list_of_units<'a>(
+fn list_of_units(
     count: Cardinality,
     units: &UnitPlan,
-    choices: &'a [Choice],
     indexes: &Indexes,
     bounds: &mut Vec<u64>,
-) -> Result<Node<'a>, AllocError>
-    ensures { IfOk result (λ node.
-        IsNode indexes.now choices.now (units_plan count (unit_plan_of units.now)) bounds.old.items bounds.new.items node.own node.rest.now) }
+) -> Result<NodeCost, AllocError>
+    ensures { IfOk result (λ node. IsNode indexes.now (physical_units count (physical_units_of units.now))
+        bounds.old.items bounds.new.items node) }
 {
-    let inner = list_units(units, choices, indexes, bounds)?;
-    let own = cost_of_units(count, concepts(indexes), inner.size);
-    Ok(Node {
-        own,
-        rest: inner.rest,
-    })
+    let inner = list_units(units, indexes, bounds)?;
+    let own = cost_of_units(count, concepts(indexes), inner);
+    Ok(own)
 }
 
 // Adds those of a plan of groups.
 #[cycle(list)]
-fn list_units<'a>(
-    plan: &UnitPlan,
-    choices: &'a [Choice],
-    indexes: &Indexes,
-    bounds: &mut Vec<u64>,
-) -> Result<Listed<'a>, AllocError>
-    ensures bounds { OnOk result (bounds.new.items ≡ bounds.old.items ++ group_list (own_list indexes.now) choices.now (unit_plan_of plan.now)) }
-    ensures size { IfOk result (λ found. found.size ≡ group_size indexes.now choices.now (unit_plan_of plan.now)) }
-    ensures rest { IfOk result (λ found. found.rest.now ≡ drop (group_leaves (unit_plan_of plan.now)) choices.now) }
+fn list_units(plan: &UnitPlan, indexes: &Indexes, bounds: &mut Vec<u64>) -> Result<u64, AllocError>
+    ensures bounds { OnOk result (bounds.new.items ≡ bounds.old.items ++ group_list (own_list indexes.now) (physical_units_of plan.now)) }
+    ensures size { IfOk result (λ size. size ≡ group_size indexes.now (physical_units_of plan.now)) }
 {
     let at = open(bounds)?;
-    let node = list_units_behind(plan, choices, indexes, bounds)?;
-    Ok(closed(bounds, at, &node))
+    let node = list_units_behind(plan, indexes, bounds)?;
+    Ok(closed(bounds, at, node))
 }
 
 // Adds those of the sub-plans of a plan of groups, and answers its own.
 #[cycle(list)]
 #[tactic(auto, using(crate::proofs::Rules::listing))]
-fn list_units_behind<'a>(
+fn list_units_behind(
     plan: &UnitPlan,
-    choices: &'a [Choice],
     indexes: &Indexes,
     bounds: &mut Vec<u64>,
-) -> Result<Node<'a>, AllocError>
-    ensures { IfOk result (λ node. IsGroupNode indexes.now choices.now (unit_plan_of plan.now) bounds.old.items bounds.new.items node.own node.rest.now) }
+) -> Result<NodeCost, AllocError>
+    ensures { IfOk result (λ node. IsGroupNode indexes.now (physical_units_of plan.now) bounds.old.items bounds.new.items node) }
 {
     match plan {
-        UnitPlan::Nothing => Ok(without_parts(0, choices)),
-        UnitPlan::Every => Ok(without_parts(groups(indexes), choices)),
-        UnitPlan::And(parts) => list_units_and(parts, choices, indexes, bounds),
-        UnitPlan::Or(parts) => list_units_or(parts, choices, indexes, bounds),
-        UnitPlan::Minus(first, second) => {
-            list_units_minus(first, second, choices, indexes, bounds)
-        }
-        UnitPlan::Pairs { count, types, test } => {
+        UnitPlan::Nothing => Ok(without_parts(0)),
+        UnitPlan::Every => Ok(without_parts(groups(indexes))),
+        UnitPlan::And(parts) => list_units_and(parts, indexes, bounds),
+        UnitPlan::Or(parts) => list_units_or(parts, indexes, bounds),
+        UnitPlan::Minus(first, second) => { list_units_minus(first, second, indexes, bounds) }
+        UnitPlan::Pairs {
+            count,
+            types,
+            test,
+            choice,
+        } => {
             let all = groups(indexes);
-            list_pairs(all, false, *count, types, test, choices, indexes, bounds)
+            list_pairs(all, false, *count, types, test, *choice, indexes, bounds)
         }
     }
 }
 
 // Adds those of the sub-plans of what all of some plans of groups find.
 #[cycle(list)]
-fn list_units_and<'a>(
+fn list_units_and(
     parts: &[UnitPlan],
-    choices: &'a [Choice],
     indexes: &Indexes,
     bounds: &mut Vec<u64>,
-) -> Result<Node<'a>, AllocError>
-    ensures { IfOk result (λ node.
-        IsGroupNode indexes.now choices.now (and_units (unit_plans_of parts.now)) bounds.old.items bounds.new.items node.own node.rest.now) }
+) -> Result<NodeCost, AllocError>
+    ensures { IfOk result (λ node. IsGroupNode indexes.now (physical_units_and (physical_units_list_of parts.now))
+        bounds.old.items bounds.new.items node) }
 {
-    let inner = list_unit_parts(parts, groups(indexes), choices, indexes, bounds)?;
-    Ok(Node {
-        own: cost_of_all(&inner.tally),
-        rest: inner.rest,
-    })
+    let inner = list_unit_parts(parts, groups(indexes), indexes, bounds)?;
+    Ok(cost_of_all(&inner))
 }
 
 // Adds those of the sub-plans of what one of some plans of groups finds.
 #[cycle(list)]
-fn list_units_or<'a>(
+fn list_units_or(
     parts: &[UnitPlan],
-    choices: &'a [Choice],
     indexes: &Indexes,
     bounds: &mut Vec<u64>,
-) -> Result<Node<'a>, AllocError>
-    ensures { IfOk result (λ node.
-        IsGroupNode indexes.now choices.now (or_units (unit_plans_of parts.now)) bounds.old.items bounds.new.items node.own node.rest.now) }
+) -> Result<NodeCost, AllocError>
+    ensures { IfOk result (λ node. IsGroupNode indexes.now (physical_units_or (physical_units_list_of parts.now))
+        bounds.old.items bounds.new.items node) }
 {
     let all = groups(indexes);
-    let inner = list_unit_parts(parts, all, choices, indexes, bounds)?;
-    let own = cost_of_some(all, &inner.tally, parts.len() as u64);
-    Ok(Node {
-        own,
-        rest: inner.rest,
-    })
+    let inner = list_unit_parts(parts, all, indexes, bounds)?;
+    let own = cost_of_some(all, &inner, parts.len() as u64);
+    Ok(own)
 }
 
 // Adds those of the sub-plans of what the first of two plans of groups finds and the second does not.
 #[cycle(list)]
-fn list_units_minus<'a>(
+fn list_units_minus(
     first: &UnitPlan,
     second: &UnitPlan,
-    choices: &'a [Choice],
     indexes: &Indexes,
     bounds: &mut Vec<u64>,
-) -> Result<Node<'a>, AllocError>
-    ensures { IfOk result (λ node.
-        IsGroupNode indexes.now choices.now (minus_units (unit_plan_of first.now) (unit_plan_of second.now))
-        bounds.old.items bounds.new.items node.own node.rest.now) }
+) -> Result<NodeCost, AllocError>
+    ensures { IfOk result (λ node. IsGroupNode indexes.now (physical_units_minus (physical_units_of first.now) (physical_units_of second.now))
+        bounds.old.items bounds.new.items node) }
 {
-    let left = list_units(first, choices, indexes, bounds)?;
-    let right = list_units(second, left.rest, indexes, bounds)?;
-    Ok(Node {
-        own: cost_of_first(left.size, right.size),
-        rest: right.rest,
-    })
+    let left = list_units(first, indexes, bounds)?;
+    let right = list_units(second, indexes, bounds)?;
+    Ok(cost_of_first(left, right))
 }
 
 // Adds those of the plan of a test, if it has one.
 #[cycle(list)]
-fn list_test<'a>(
-    test: &ValueTest,
-    choices: &'a [Choice],
-    indexes: &Indexes,
-    bounds: &mut Vec<u64>,
-) -> Result<Listed<'a>, AllocError>
-    ensures bounds { OnOk result (bounds.new.items ≡ bounds.old.items ++ test_list (own_list indexes.now) choices.now (test_plan_of test.now)) }
-    ensures size { IfOk result (λ found. found.size ≡ test_size indexes.now choices.now (test_plan_of test.now)) }
-    ensures rest { IfOk result (λ found. found.rest.now ≡ drop (test_leaves (test_plan_of test.now)) choices.now) }
+fn list_test(test: &ValueTest, indexes: &Indexes, bounds: &mut Vec<u64>) -> Result<u64, AllocError>
+    ensures bounds { OnOk result (bounds.new.items ≡ bounds.old.items ++ test_list (own_list indexes.now) (physical_test_of test.now)) }
+    ensures size { IfOk result (λ size. size ≡ test_size indexes.now (physical_test_of test.now)) }
 {
     match test {
         ValueTest::Within(operand) | ValueTest::Outside(operand) => {
-            list(operand, choices, indexes, bounds)
+            list(operand, indexes, bounds)
         }
-        ValueTest::Number(_, _) => Ok(Listed {
-            size: 0,
-            rest: choices,
-        }),
+        ValueTest::Number(_, _) => Ok(0),
     }
 }
 
 // Adds those of some plans of concepts.
 #[cycle(list)]
-fn list_parts<'a>(
+fn list_parts(
     parts: &[ConceptPlan],
     all: u64,
-    choices: &'a [Choice],
     indexes: &Indexes,
     bounds: &mut Vec<u64>,
-) -> Result<ListedParts<'a>, AllocError>
-    ensures bounds { OnOk result (bounds.new.items ≡ bounds.old.items ++ plans_list (own_list indexes.now) choices.now (plans_of parts.now)) }
-    ensures tally { IfOk result (λ found. IsTallyOf all (sizes indexes.now choices.now (plans_of parts.now)) found.tally) }
-    ensures rest { IfOk result (λ found. found.rest.now ≡ drop (plans_leaves (plans_of parts.now)) choices.now) }
+) -> Result<Tally, AllocError>
+    ensures bounds { OnOk result (bounds.new.items ≡ bounds.old.items ++ plans_list (own_list indexes.now) (physicals_of parts.now)) }
+    ensures tally { IfOk result (λ tally. IsTallyOf all (sizes indexes.now (physicals_of parts.now)) tally) }
 {
     let mut tally = Tally::none(all);
-    let mut rest = choices;
     for place in 0..parts.len() {
-        let part = list(&parts[place], rest, indexes, bounds)?;
-        tally = tally.with(place as u64, part.size);
-        rest = part.rest;
+        let part = list(&parts[place], indexes, bounds)?;
+        tally = tally.with(place as u64, part);
     }
-    Ok(ListedParts { tally, rest })
+    Ok(tally)
 }
 
 // Adds those of some plans of groups.
 #[cycle(list)]
-fn list_unit_parts<'a>(
+fn list_unit_parts(
     parts: &[UnitPlan],
     all: u64,
-    choices: &'a [Choice],
     indexes: &Indexes,
     bounds: &mut Vec<u64>,
-) -> Result<ListedParts<'a>, AllocError>
-    ensures bounds { OnOk result (bounds.new.items ≡ bounds.old.items ++ groups_list (own_list indexes.now) choices.now (unit_plans_of parts.now)) }
-    ensures tally { IfOk result (λ found. IsTallyOf all (group_sizes indexes.now choices.now (unit_plans_of parts.now)) found.tally) }
-    ensures rest { IfOk result (λ found. found.rest.now ≡ drop (groups_leaves (unit_plans_of parts.now)) choices.now) }
+) -> Result<Tally, AllocError>
+    ensures bounds { OnOk result (bounds.new.items ≡ bounds.old.items ++ groups_list (own_list indexes.now) (physical_units_list_of parts.now)) }
+    ensures tally { IfOk result (λ tally. IsTallyOf all (group_sizes indexes.now (physical_units_list_of parts.now)) tally) }
 {
     let mut tally = Tally::none(all);
-    let mut rest = choices;
     for place in 0..parts.len() {
-        let part = list_units(&parts[place], rest, indexes, bounds)?;
-        tally = tally.with(place as u64, part.size);
-        rest = part.rest;
+        let part = list_units(&parts[place], indexes, bounds)?;
+        tally = tally.with(place as u64, part);
     }
-    Ok(ListedParts { tally, rest })
+    Ok(tally)
 }
 
 // A place for the bound of a node, before those of its children.
@@ -442,27 +340,19 @@ fn open(bounds: &mut Vec<u64>) -> Result<usize, AllocError>
 }
 
 // Puts the bound of a node in its place, once those of its sub-plans are added.
-fn closed<'a>(bounds: &mut Vec<u64>, at: usize, node: &Node<'a>) -> Listed<'a>
+fn closed(bounds: &mut Vec<u64>, at: usize, node: NodeCost) -> u64
     requires { at < length bounds.old.items }
-    ensures bounds { bounds.new.items ≡ slice_set bounds.old.items at node.now.own.bound }
-    ensures size { result.size ≡ node.now.own.size }
-    ensures rest { result.rest.now ≡ node.now.rest.now }
+    ensures bounds { bounds.new.items ≡ slice_set bounds.old.items at node.bound }
+    ensures size { result ≡ node.size }
 {
-    bounds[at] = node.own.bound;
-    Listed {
-        size: node.own.size,
-        rest: node.rest,
-    }
+    bounds[at] = node.bound;
+    node.size
 }
 
 // A node without sub-plans, which reads nothing.
-fn without_parts(size: u64, choices: &[Choice]) -> Node<'_>
-    ensures size { result.own.size ≡ size }
-    ensures bound { result.own.bound ≡ 0 }
-    ensures rest { result.rest.now ≡ choices.now }
+fn without_parts(size: u64) -> NodeCost
+    ensures size { result.size ≡ size }
+    ensures bound { result.bound ≡ 0 }
 {
-    Node {
-        own: NodeCost { size, bound: 0 },
-        rest: choices,
-    }
+    NodeCost { size, bound: 0 }
 }

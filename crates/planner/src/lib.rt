@@ -1,6 +1,7 @@
 //! How a plan is to be executed, so that it visits least at most.
 #![tactic(auto)]
 
+mod asking;
 mod bound_list;
 mod choosing;
 mod laws;
@@ -9,7 +10,6 @@ mod physical;
 pub use crate::laws::worked_bounds_hold;
 pub use crate::physical::{choose, choose_with, own_bounds};
 pub use plan_bounds::{
-    Choice, NodeLimits, PhysicalPlan, PlanFloor, after_first, bound, finds_within_size,
-    first_choice, floor, floor_within_bound, leaf_limits, members_limits, plan_floor, plan_size,
-    unit_floor, unit_size, walk_limits,
+    Choice, NodeLimits, PhysicalPlan, bound, finds_within_size, floor, floor_within_bound,
+    leaf_limits, members_limits, plan_floor, plan_size, unit_floor, unit_size, walk_limits,
 };

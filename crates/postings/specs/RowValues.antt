@@ -36,5 +36,5 @@ pub record AreTables (decimals : List ℤ) (texts : List (List ℕ)) : Type 0 wh
 -- they are those that some rows have
 pub record AreTablesOf (rows : List Attribute) (decimals : List ℤ) (texts : List (List ℕ)) : Type 0 where
   pub rising : AreTables decimals texts
-  pub decimals_are : (decimal : ℤ) → Contains decimals decimal ↔ Contains (decimals_of rows) decimal
-  pub texts_are : (text : List ℕ) → Contains texts text ↔ Contains (texts_of rows) text
+  pub decimals_are : (decimal : ℤ) → ∥ Contains decimals decimal ↔ Contains (decimals_of rows) decimal ∥₁
+  pub texts_are : (text : List ℕ) → ∥ Contains texts text ↔ Contains (texts_of rows) text ∥₁

@@ -1,15 +1,14 @@
 -- What a request ends with, by the status and the faults that it met.
-use Rattle.std.proofs.Common.{ℕ, ◌≡◌, ◌≢◌, ◌<◌, ◌⊎◌, inl, inr, false, true, List, [], length, map, take, Option, None, Some, Result, Ok, Err, refl, sym, ap, subst, ◌∙◌}
+use Rattle.std.proofs.Common.{◌+◌, ◌≤◌, max, ℕ, ◌≡◌, ◌≢◌, ◌<◌, ◌⊎◌, inl, inr, false, true, List, [], length, map, take, Option, None, Some, Result, Ok, Err, refl, sym, ap, subst, ◌∙◌}
 use Rattle.std.specs.Prelude.{IfSome}
 use Rattle.std.proofs.lemmas.Bool.{true≢false}
-use Rattle.std.proofs.lemmas.List.{length-map}
 use Rattle.std.specs.Io.KnownBytes.{Appends}
 use Rattle.held_release.specs.Contents.{Contents, IsFaultOf}
 use Rattle.snapshot.specs.Load.{load_of}
-use Rattle.release_files.specs.Source.{FileText}
-use Rattle.release_rows.specs.Limits.{standard_limits}
-use Rattle.release_rows.specs.Pieces.{AreInOrder, FailsToList, listed}
-use Rattle.release_rows.specs.DeviceFaults.{FailsBelow, is_device}
+use Rattle.release_files.specs.Source.{FileText, History}
+use Rattle.release_rows.specs.Limits.{limits_in_force, standard_limits}
+use Rattle.release_rows.specs.Pieces.{AreInOrder, IsUnlisted, listed}
+use Rattle.release_rows.specs.DeviceFaults.{is_device}
 use Rattle.row_lists.specs.declared.fault.LoadFault.{LoadFault}
 use Rattle.row_lists.specs.declared.fault.LoadFault.TheVariants as load
 use Rattle.release_rows.specs.declared.limits.Limits.{Limits}
@@ -70,7 +69,7 @@ serves_sample r w e contents MemoryRefused before after stopped =
     record { fault = stopped.fault; ends = stopped.ends; served = stopped.served; failed = stopped.failed; turns = stopped.turns; told = stopped.told }
 
 -- a mode that answers the lines over files asks for the release of a source's files
-pub asked_of_files : {told : Option (List FileText)} {old new : ℕ} {language : List ℕ} {task : Task} (mode : Mode) → AnswersFiles mode
+pub asked_of_files : {told : Option (List FileText)} {old new : History} {language : List ℕ} {task : Task} (mode : Mode) → AnswersFiles mode
     → IsLoadedFrom told old new language task → IsAskedFor told old new language mode task
 asked_of_files Sample files loaded = absurd files
 asked_of_files Query files loaded = loaded
@@ -128,23 +127,23 @@ loaded_whole (Some known) limits language names contents same loads (inl order) 
     (order, ap (λ (l : Limits). load_of l language (listed known names)) (sym same) ∙ loads)
 loaded_whole (Some known) limits language names contents same loads (inr none) = absurd none
 
-pub loaded_not : (told : Option (List FileText)) (limits : Limits) (language : List ℕ) (names : List (List ℕ)) (fault : LoadFault) → limits ≡ standard_limits
+pub loaded_not : (told : Option (List FileText)) (limits : Limits) (language : List ℕ) (names : List (List ℕ)) (now : History) (fault : LoadFault)
+    → limits ≡ standard_limits
     → IfSome told (λ known. is_device fault ≡ false → IsFaultOf fault (load_of limits language (listed known names)))
-    → IfSome told (λ known. AreInOrder known names ⊎ (names ≡ []) × ((fault ≡ load.Device None) ⊎ (fault ≡ load.Memory)))
+    → IfSome told (λ known. AreInOrder known names ⊎ IsUnlisted {X = Contents} (Err fault) names now)
     → IfSome told (λ known. IsLoadOf known language names (Err fault))
-loaded_not None limits language names fault same said ordered = tt
-loaded_not (Some known) limits language names fault same said (inl order) =
+loaded_not None limits language names now fault same said ordered = tt
+loaded_not (Some known) limits language names now fault same said (inl order) =
     λ other own. (order, ap (λ (l : Limits). load_of l language (listed known names)) (sym same) ∙ said own other)
-loaded_not (Some known) limits language names fault same said (inr (none, inl device)) = λ other own. absurd (true≢false (ap is_device (sym device) ∙ own))
-loaded_not (Some known) limits language names fault same said (inr (none, inr memory)) = λ other own. absurd (other memory)
+loaded_not (Some known) limits language names now fault same said (inr (none, unlisted, inl device)) =
+    λ other own. absurd (true≢false (ap is_device (sym device) ∙ own))
+loaded_not (Some known) limits language names now fault same said (inr (none, unlisted, inr memory)) = λ other own. absurd (other memory)
 
--- a failure of the device at one of some names was counted
-pub counts_device : {X : Type 0} (text : X → List ℕ) (items : List X) (old new : ℕ) (fault : LoadFault)
-    → (is_device fault ≡ true → FailsToList old new (map text items) fault ⊎ FailsBelow (length items) old new fault)
-    → is_device fault ≡ true → FailsToList old new (map text items) fault ⊎ FailsBelow (length (map text items)) old new fault
-counts_device text items old new fault said =
-    subst (λ (count : ℕ). is_device fault ≡ true
-    → FailsToList old new (map text items) fault ⊎ FailsBelow count old new fault) (sym (length-map items text)) said
+-- what may be read of a file of a load within the standard limits
+pub within_standard : (limits : Limits) (before after : ℕ) → limits ≡ standard_limits
+    → after ≤ max before ((limits_in_force limits).bytes + 1) → after ≤ max before (standard_limits.bytes + 1)
+within_standard limits before after is within =
+    subst (λ (one : Limits). after ≤ max before ((limits_in_force one).bytes + 1)) is within
 
 -- what is said of want of memory behind a load
 pub loaded_no_more : (told : Option (List FileText)) (language : List ℕ) (names : List (List ℕ)) (fault : LoadFault) → fault ≡ load.Memory
@@ -153,7 +152,7 @@ loaded_no_more None language names fault memory = tt
 loaded_no_more (Some known) language names fault memory = λ other own. absurd (other memory)
 
 -- a task is told by its mode and its language
-pub asked_as : (told : Option (List FileText)) (old new : ℕ) (lent language : List ℕ) (mode asked : Mode) (task : Task) → asked ≡ mode → lent ≡ language
+pub asked_as : (told : Option (List FileText)) (old new : History) (lent language : List ℕ) (mode asked : Mode) (task : Task) → asked ≡ mode → lent ≡ language
     → IsTask told old new lent mode task → IsTask told old new language asked task
 asked_as told old new lent language mode asked task is same task_is =
     subst (λ (m : Mode). IsTask told old new language m task) (sym is) (subst (λ (code : List ℕ). IsTask told old new code mode task) same task_is)

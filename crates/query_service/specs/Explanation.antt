@@ -8,7 +8,7 @@ use Rattle.set_algebra.specs.Plan.{Plan}
 use Rattle.rewrites.specs.Simplified.{simplified}
 use Rattle.held_release.specs.Contents.{Contents}
 use Rattle.postings.specs.Indexed.{Indexed, IsIndexOf}
-use Rattle.planner.specs.Chosen.{least_choices}
+use Rattle.planner.specs.Chosen.{chosen}
 use Rattle.plan_bounds.specs.Offered.{AreLeast}
 use Rattle.answer_printer.specs.PlanText.{plan_text}
 use Rattle.query_service.specs.Answer.{IsForLine}
@@ -23,8 +23,8 @@ pub record Explains (contents : Contents) (tree : Tree) (text : List ℕ) : Type
   pub indexed : Indexed
   pub of_release : IsIndexOf indexed contents.release
   pub meaning : (concept : ℕ) → means contents.release (executed_plan tree) concept ≡ denotes contents.release tree concept
-  pub least : AreLeast indexed (least_choices indexed (executed_plan tree)) (executed_plan tree)
-  pub written : text ≡ plan_text indexed (least_choices indexed (executed_plan tree)) (executed_plan tree)
+  pub least : AreLeast indexed (chosen indexed (executed_plan tree))
+  pub written : text ≡ plan_text indexed (chosen indexed (executed_plan tree))
 
 -- a text explains a query line: it explains the constraint that the line is, or is the refusal of the line
 abbrev pub IsExplanation : Contents → List ℕ → List ℕ → Type 0

@@ -1,12 +1,12 @@
 -- What a request ends with: a status, and what it says of what was read, written and told.
-use Rattle.std.specs.Prelude.{ℕ, ◌≡◌, ◌≢◌, ◌⊎◌, ◌<◌, false, true, List, [], codes, length, take, IfErr, IfSome, Option, Result, Ok, Err, ⊤}
+use Rattle.std.specs.Prelude.{ℕ, ◌≡◌, ◌≢◌, ◌⊎◌, ◌+◌, ◌<◌, ◌≤◌, false, true, List, [], codes, length, max, take, IfErr, IfSome, Option, Result, Ok, Err, ⊤}
 use Rattle.std.specs.Io.KnownBytes.{Appends, IsAtEnd}
 use Rattle.held_release.specs.Contents.{Contents}
 use Rattle.snapshot.specs.Load.{load_of}
-use Rattle.release_files.specs.Source.{FileText}
+use Rattle.release_files.specs.Source.{FileText, History}
 use Rattle.release_rows.specs.Limits.{standard_limits}
 use Rattle.release_rows.specs.Pieces.{AreInOrder, FailsToList, IsUnlisted, listed}
-use Rattle.release_rows.specs.DeviceFaults.{FailsBelow, RaisesOnlyAtDevice, is_device}
+use Rattle.release_rows.specs.DeviceFaults.{FailsAtOneOf, RaisesOnlyAtDevice, is_device}
 use Rattle.row_lists.specs.declared.fault.LoadFault.{LoadFault}
 use Rattle.row_lists.specs.declared.fault.LoadFault.TheVariants as load
 use Rattle.answer_printer.specs.LoadRefusal.{load_refusal}
@@ -72,21 +72,22 @@ IsLoadOf known language names (Ok contents) = AreInOrder known names × (load_of
 IsLoadOf known language names (Err fault) =
     fault ≢ load.Memory → is_device fault ≡ false → AreInOrder known names × (load_of standard_limits language (listed known names) ≡ Err fault)
 
--- where the device failed this was counted: it was to list the files, or to read one of these. Else no failure was counted
-pub record CountsDevice (old new : ℕ) (names : List (List ℕ)) (loaded : Result Contents LoadFault) : Type 0 where
-  pub failed : IfErr loaded (λ fault. is_device fault ≡ true → FailsToList old new names fault ⊎ FailsBelow (length names) old new fault)
+-- where the device failed this was counted once: it was to list the files, or to read one of these. Else no failure was counted
+pub record CountsDevice (old new : History) (names : List (List ℕ)) (loaded : Result Contents LoadFault) : Type 0 where
+  pub failed : IfErr loaded (λ fault. is_device fault ≡ true → FailsToList old new names fault ⊎ FailsAtOneOf names old new fault)
   pub calm : RaisesOnlyAtDevice loaded old new
 
--- the files of a source were loaded, which had failed so often before and behind: their names were listed in byte order, or
--- none were
-pub record IsLoadedFrom (told : Option (List FileText)) (old new : ℕ) (language : List ℕ) (task : Task) : Type 0 where
+-- the files of a source were loaded, with which so much was done before and behind: their names were listed in byte order, or
+-- none were, since the listing failed; and of each file no more was read than the limit of bytes and one
+pub record IsLoadedFrom (told : Option (List FileText)) (old new : History) (language : List ℕ) (task : Task) : Type 0 where
   pub loaded : IfSome told (λ known. IsLoadOf known language task.names task.loaded)
-  pub named : IfSome told (λ known. AreInOrder known task.names ⊎ IsUnlisted task.loaded task.names)
+  pub named : IfSome told (λ known. AreInOrder known task.names ⊎ IsUnlisted task.loaded task.names new)
   pub device : CountsDevice old new task.names task.loaded
+  pub bounded : new.most ≤ max old.most (standard_limits.bytes + 1)
 
 -- the release that a mode asks for: the one that is built in, or that of the files of a source with the names of
 -- a language first
-abbrev pub IsAskedFor : Option (List FileText) → ℕ → ℕ → List ℕ → Mode → Task → Type 0
+abbrev pub IsAskedFor : Option (List FileText) → History → History → List ℕ → Mode → Task → Type 0
 IsAskedFor told old new language Sample task = task.loaded ≡ Ok sample_contents
 IsAskedFor told old new language Query task = IsLoadedFrom told old new language task
 IsAskedFor told old new language Explain task = IsLoadedFrom told old new language task
@@ -100,7 +101,7 @@ AnswersFiles Explain = ⊤
 AnswersFiles Check = ⊥
 
 -- the task of a mode
-pub record IsTask (told : Option (List FileText)) (old new : ℕ) (language : List ℕ) (mode : Mode) (task : Task) : Type 0 where
+pub record IsTask (told : Option (List FileText)) (old new : History) (language : List ℕ) (mode : Mode) (task : Task) : Type 0 where
   pub mode_is : task.mode ≡ mode
   pub loaded : IsAskedFor told old new language mode task
 

@@ -1,9 +1,10 @@
 //! What the service needs of an engine.
-ghost use Rattle.std.specs.Prelude.{◌≡◌, ◌⊎◌, ℕ, false, IfErr, IfOk, IfSome, List, Ok, OnOk, map, string_bytes};
+ghost use Rattle.std.specs.Prelude.{◌≡◌, ◌⊎◌, ◌+◌, ◌≤◌, ℕ, false, IfErr, IfOk, IfSome, List, Ok, OnOk, map, max, string_bytes};
 ghost use Rattle.std.specs.Io.KnownBytes.{IsAtEnd};
 ghost use Rattle.release_files.specs.Source.{file_text};
 ghost use Rattle.held_release.specs.Contents.{Contents, IsFaultOf};
 ghost use Rattle.snapshot.specs.Load.{load_of};
+ghost use Rattle.release_rows.specs.Limits.{limits_in_force};
 ghost use Rattle.release_rows.specs.Pieces.{AreInOrder, FailsAtFiles, IsUnlisted, listed};
 ghost use Rattle.release_rows.specs.DeviceFaults.{RaisesOnlyAtDevice, is_device};
 ghost use Rattle.query_run.specs.Fault.{CountsTurns, EndsAt, HaveFailed};
@@ -46,9 +47,10 @@ pub trait QueryEngine: AnswerLine + Drop {
     ) -> Result<Self, LoadFault>
         ensures ok { IfSome (S.files source.old) (λ known. IfOk result (λ engine. load_of limits lang.now (listed known (map string_bytes names.new.items)) ≡ Ok (contents engine))) }
         ensures err { IfSome (S.files source.old) (λ known. IfErr result (λ fault. is_device fault ≡ false → IsFaultOf fault (load_of limits lang.now (listed known (map string_bytes names.new.items))))) }
-        ensures names { IfSome (S.files source.old) (λ known. AreInOrder known (map string_bytes names.new.items) ⊎ IsUnlisted result (map string_bytes names.new.items)) }
-        ensures device { FailsAtFiles string_bytes names.new.items result (S.failure_count source.old) (S.failure_count source.new) }
-        ensures calm { RaisesOnlyAtDevice result (S.failure_count source.old) (S.failure_count source.new) };
+        ensures names { IfSome (S.files source.old) (λ known. AreInOrder known (map string_bytes names.new.items) ⊎ IsUnlisted result (map string_bytes names.new.items) (S.history source.new)) }
+        ensures device { FailsAtFiles string_bytes names.new.items result (S.history source.old) (S.history source.new) }
+        ensures calm { RaisesOnlyAtDevice result (S.history source.old) (S.history source.new) }
+        ensures bounded { (S.history source.new).most ≤ max (S.history source.old).most ((limits_in_force limits).bytes + 1) };
 
     /// Loads the same release, leaves the same names, and answers what the release has, in place of an engine.
     fn report_from<S: FileSource>(
@@ -61,9 +63,10 @@ pub trait QueryEngine: AnswerLine + Drop {
         ensures ok { IfOk result (λ report. (loaded : Contents) × (report ≡ report_of loaded)
             × IfSome (S.files source.old) (λ known. load_of limits lang.now (listed known (map string_bytes names.new.items)) ≡ Ok loaded)) }
         ensures err { IfSome (S.files source.old) (λ known. IfErr result (λ fault. is_device fault ≡ false → IsFaultOf fault (load_of limits lang.now (listed known (map string_bytes names.new.items))))) }
-        ensures names { IfSome (S.files source.old) (λ known. AreInOrder known (map string_bytes names.new.items) ⊎ IsUnlisted result (map string_bytes names.new.items)) }
-        ensures device { FailsAtFiles string_bytes names.new.items result (S.failure_count source.old) (S.failure_count source.new) }
-        ensures calm { RaisesOnlyAtDevice result (S.failure_count source.old) (S.failure_count source.new) };
+        ensures names { IfSome (S.files source.old) (λ known. AreInOrder known (map string_bytes names.new.items) ⊎ IsUnlisted result (map string_bytes names.new.items) (S.history source.new)) }
+        ensures device { FailsAtFiles string_bytes names.new.items result (S.history source.old) (S.history source.new) }
+        ensures calm { RaisesOnlyAtDevice result (S.history source.old) (S.history source.new) }
+        ensures bounded { (S.history source.new).most ≤ max (S.history source.old).most ((limits_in_force limits).bytes + 1) };
 
     /// Tells of each query line of an input, in order, how it is answered. It reads, writes and ends as `run` of
     /// `query_run` does.

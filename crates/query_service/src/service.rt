@@ -1,8 +1,9 @@
 //! What the program does with a request, its files and its streams.
-ghost use Rattle.std.specs.Prelude.{◌≡◌, ◌⊎◌, false, Err, IfErr, IfOk, IfSome, Ok, OnOk, map, string_bytes};
+ghost use Rattle.std.specs.Prelude.{◌≡◌, ◌⊎◌, ◌+◌, ◌≤◌, false, Err, IfErr, IfOk, IfSome, Ok, OnOk, map, max, string_bytes};
 ghost use Rattle.std.specs.Io.KnownBytes.{IsAtEnd};
 ghost use Rattle.text_parts.specs.Parts.{texts_of};
 ghost use Rattle.held_release.specs.Contents.{Contents, IsFaultOf};
+ghost use Rattle.release_rows.specs.Limits.{standard_limits};
 ghost use Rattle.release_rows.specs.Pieces.{AreInOrder, FailsAtFiles, IsUnlisted};
 ghost use Rattle.release_rows.specs.DeviceFaults.{RaisesOnlyAtDevice};
 ghost use Rattle.sample_release.specs.SampleContents.{sample_contents};
@@ -73,7 +74,7 @@ pub fn serve<Q: QueryEngine, S: FileSource, R: QueryInput, W: AnswerOutput, E: A
     requires output { W.has_failed output.old ≡ false }
     requires errors { E.AnswerOutput.has_failed errors.old ≡ false }
     ensures served { (task : Task)
-        × IsTask (S.files source.old) (S.failure_count source.old) (S.failure_count source.new) (string_bytes request.now.lang) request.now.mode task
+        × IsTask (S.files source.old) (S.history source.old) (S.history source.new) (string_bytes request.now.lang) request.now.mode task
         × EndsWith R.QueryInput W.AnswerOutput E.AnswerOutput task result (streams input.old output.old errors.old) (streams input.new output.new errors.new) }
     ensures untouched { request.now.mode ≡ Mode.Sample → source.new ≡ source.old }
 {
@@ -144,7 +145,7 @@ fn answer_source<Q: QueryEngine, S: FileSource, R: QueryInput, W: AnswerOutput, 
     requires output { W.has_failed output.old ≡ false }
     requires errors { E.AnswerOutput.has_failed errors.old ≡ false }
     ensures { (task : Task)
-        × IsTask (S.files source.old) (S.failure_count source.old) (S.failure_count source.new) lang.now mode task
+        × IsTask (S.files source.old) (S.history source.old) (S.history source.new) lang.now mode task
         × EndsWith R.QueryInput W.AnswerOutput E.AnswerOutput task result (streams input.old output.old errors.old) (streams input.new output.new errors.new) }
 {
     let mut names = Vec::new(alloc);
@@ -269,7 +270,7 @@ fn report_source<Q: QueryEngine, S: FileSource, R: QueryInput, W: AnswerOutput, 
     requires output { W.has_failed output.old ≡ false }
     requires errors { E.AnswerOutput.has_failed errors.old ≡ false }
     ensures { (task : Task)
-        × IsTask (S.files source.old) (S.failure_count source.old) (S.failure_count source.new) lang.now Mode.Check task
+        × IsTask (S.files source.old) (S.history source.old) (S.history source.new) lang.now Mode.Check task
         × EndsWith R.QueryInput W.AnswerOutput E.AnswerOutput task result (streams input.old output.old errors.old) (streams input.new output.new errors.new) }
 {
     let mut names = Vec::new(alloc);
@@ -292,9 +293,10 @@ fn report<Q: QueryEngine, S: FileSource>(
     ensures ok { IfOk result (λ text. (contents : Contents) × (text.items ≡ report_text (report_of contents))
         × IfSome (S.files source.old) (λ known. IsLoadOf known lang.now (map string_bytes names.new.items) (Ok contents))) }
     ensures err { IfErr result (λ fault. IfSome (S.files source.old) (λ known. IsLoadOf known lang.now (map string_bytes names.new.items) (Err fault))) }
-    ensures named { IfSome (S.files source.old) (λ known. AreInOrder known (map string_bytes names.new.items) ⊎ IsUnlisted result (map string_bytes names.new.items)) }
-    ensures device { FailsAtFiles string_bytes names.new.items result (S.failure_count source.old) (S.failure_count source.new) }
-    ensures calm { RaisesOnlyAtDevice result (S.failure_count source.old) (S.failure_count source.new) }
+    ensures named { IfSome (S.files source.old) (λ known. AreInOrder known (map string_bytes names.new.items) ⊎ IsUnlisted result (map string_bytes names.new.items) (S.history source.new)) }
+    ensures device { FailsAtFiles string_bytes names.new.items result (S.history source.old) (S.history source.new) }
+    ensures calm { RaisesOnlyAtDevice result (S.history source.old) (S.history source.new) }
+    ensures bounded { (S.history source.new).most ≤ max (S.history source.old).most (standard_limits.bytes + 1) }
 {
     match Q::report_from(alloc, source, names, lang, Limits::standard()) {
         Ok(report) => Ok(printed(alloc, &report)?),

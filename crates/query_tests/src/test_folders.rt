@@ -1,11 +1,12 @@
 //! A file system of a test: its folders and files fail where the test asks it.
-ghost use Rattle.std.specs.Prelude.{IsErr};
+ghost use Rattle.std.specs.Prelude.{IsErr, None, ⊤};
 
 use std::alloc::{Alloc, Allocator, Global};
 use std::fs::{Files, Metadata, OpenFile, OpenOptions};
 use std::io::{ErrorKind, Read, Seek, SeekFrom, Write};
 use std::random::RandomSource;
 use std::{fs, io};
+use streams::{FolderSystem, Standing, names_at, open_plain_at, standing_at};
 
 /// What stands at a path.
 #[derive(Clone, Copy)]
@@ -149,6 +150,24 @@ impl Files for TestFolders {
 
     fn remove_dir_all<B: Allocator>(&self, _alloc: B, _path: &str) -> io::Result<()> {
         unsupported()
+    }
+}
+
+impl FolderSystem for TestFolders {
+    ghost opens = { λ _ _. ⊤ };
+
+    ghost tree = { λ _. None };
+
+    fn open_plain(&self, path: &str) -> io::Result<TestFile> {
+        open_plain_at(self, path)
+    }
+
+    fn standing(&self, path: &str) -> io::Result<Standing> {
+        standing_at(self, path)
+    }
+
+    fn names_in(&self, path: &str) -> io::Result<Vec<String>> {
+        names_at(self, path)
     }
 }
 

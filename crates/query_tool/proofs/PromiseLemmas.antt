@@ -1,17 +1,22 @@
 -- What was written over accepted files, in the words of the promise.
 use Rattle.std.proofs.Common.{arith, ℕ, ◌≡◌, ◌∙◌, ◌↔◌, ◌++◌, ◌∷◌, [], ◌&&◌, inl, inr, Bool, true, cond, refl, List, length, map, Option, None, Some, Result, Ok, Err, ap, sym, subst}
-use Rattle.std.specs.List.{list_any}
-use Rattle.std.specs.Prelude.{IfSome, IsTrue, Contains, filter}
+use Rattle.std.specs.List.{IsDistinct, list_any}
+use Rattle.std.specs.Cmp.Lexicographic.{slice_cmp}
+use Rattle.std.specs.Ordering.{nat_cmp}
+use Rattle.std.proofs.lemmas.Slice.Eq.{bytes_eq-Decides}
+use Rattle.std.proofs.lemmas.List.Sorted.{IsPermutation-map}
+use Rattle.std.specs.Prelude.{IfSome, IsPermutation, IsTrue, Contains, bytes_eq, false, filter, unwrap_or}
+use Rattle.std.specs.List.{AllByRecursion}
 use Rattle.std.proofs.lemmas.Bool.{and_parts}
 use Rattle.std.proofs.lemmas.Bool.Decides.{nat_tests}
 use Rattle.std.proofs.lemmas.Grind.{common_steps}
 use Rattle.std.proofs.lemmas.List.Kept.{IsStrictlyIncreasing-filter}
 use Rattle.std.specs.Io.KnownBytes.{Appends}
-use Rattle.std.specs.List.Sorted.{IsStrictlyIncreasing}
+use Rattle.std.specs.List.Sorted.{IsSorted, IsStrictlyIncreasing}
 use Rattle.number_lists.specs.Members.{has}
 use Rattle.number_lists.proofs.MemberLemmas.{contains_had, had_contained}
 use Rattle.constraint_tree.specs.Denotation.{denotation, denotes}
-use Rattle.release_files.specs.Source.{FileText}
+use Rattle.release_files.specs.Source.{FileText, History, bytes_of}
 use Rattle.held_release.specs.Contents.{Contents}
 use Rattle.snapshot.specs.Load.{contents_of, load_of, loaded_from, unless_faulty}
 use Rattle.release_rows.specs.Files.{text_of_row, has_kind, is_concept_file, places_from, rows_of}
@@ -21,7 +26,7 @@ use Rattle.release_rows.specs.Chosen.{chosen}
 use Rattle.row_lists.specs.InForce.{concept_rows}
 use Rattle.number_lists.specs.RisingOrder.{KeepsRising}
 use Rattle.release_rows.specs.Limits.{limits_in_force, standard_limits}
-use Rattle.release_rows.specs.Pieces.{listed}
+use Rattle.release_rows.specs.Pieces.{AreInOrder, listed, text_named}
 use Rattle.row_lists.specs.declared.fault.LoadFault.{LoadFault}
 use Rattle.row_lists.specs.declared.fault.LoadFault.TheVariants.{NoConceptFile}
 use Rattle.command_line.specs.declared.words.Mode.{Mode}
@@ -32,7 +37,7 @@ use Rattle.query_service.specs.Serve.{EndsWith, IsAnswered, IsLoadOf, IsServed, 
 use Rattle.query_service.specs.Streams.{Streams}
 use Rattle.query_service.specs.declared.service.Status.TheVariants.{Done}
 use Rattle.query_service.proofs.WrittenLemmas.{AreAnswers-weaker}
-use Rattle.query_tool.specs.Promise.{Answers, IsReleaseOf}
+use Rattle.query_tool.specs.Promise.{Answers, HaveOwnNames, IsReleaseOf}
 use Rattle.streams.specs.declared.output.AnswerOutput.{Ghosts as Output}
 use Rattle.streams.specs.declared.input.QueryInput.{Ghosts as Input}
 
@@ -92,13 +97,54 @@ appended : (there : List ℕ) (after : Option (List ℕ)) (text : List ℕ) → 
 appended there None text none = absurd none
 appended there (Some bytes) text same = ap Some same
 
+-- of files with names of their own a file that another one has not the name of is passed over
+passed_over : (file : FileText) (files others : List FileText)
+    → AllByRecursion (λ name. bytes_eq file.name name ≡ false) (map (λ (one : FileText). one.name) others)
+    → listed (file ∷ files) (map (λ (one : FileText). one.name) others) ≡ listed files (map (λ (one : FileText). one.name) others)
+passed_over file files [] apart = refl
+passed_over file files (other ∷ others) apart =
+    let bytes : bytes_of other.name (file ∷ files) ≡ bytes_of other.name files =
+    ap (λ (same : Bool). cond same (Some file.bytes) (bytes_of other.name files)) apart.0 in
+    let here : text_named (file ∷ files) other.name ≡ text_named files other.name =
+    ap (λ (found : Option (List ℕ)). record { name = other.name; bytes = unwrap_or found [] }) bytes in
+    ap (λ (one : FileText). one ∷ listed (file ∷ files) (map (λ (one : FileText). one.name) others)) here
+    ∙ ap (λ (rest : List FileText). text_named files other.name ∷ rest) (passed_over file files others apart.1)
+
+-- they are found by their names
+found_by_name : (files : List FileText) → HaveOwnNames files → listed files (map (λ (one : FileText). one.name) files) ≡ files
+unfolding IsDistinct
+found_by_name [] own = refl
+found_by_name (file ∷ files) own =
+    let bytes : bytes_of file.name (file ∷ files) ≡ Some file.bytes =
+    ap (λ (same : Bool). cond same (Some file.bytes) (bytes_of file.name files)) ((bytes_eq-Decides file.name file.name).1 refl) in
+    let here : text_named (file ∷ files) file.name ≡ file =
+    ap (λ (found : Option (List ℕ)). record { name = file.name; bytes = unwrap_or found [] }) bytes in
+    ap (λ (one : FileText). one ∷ listed (file ∷ files) (map (λ (one : FileText). one.name) files)) here
+    ∙ ap (λ (rest : List FileText). file ∷ rest) (passed_over file files files own.0 ∙ found_by_name files own.1)
+
+-- the names of files that are listed by names
+names_listed : (files : List FileText) (names : List (List ℕ)) → map (λ (one : FileText). one.name) (listed files names) ≡ names
+names_listed files [] = refl
+names_listed files (name ∷ names) = ap (λ (rest : List (List ℕ)). name ∷ rest) (names_listed files names)
+
+-- so files with names of their own, listed in the byte order of these, are the same files
+release_of : (files : List FileText) (names : List (List ℕ)) (language : List ℕ) (contents : Contents) → HaveOwnNames files
+    → AreInOrder files names → load_of standard_limits language (listed files names) ≡ Ok contents → IsReleaseOf files language contents
+release_of files names language contents own order loads = record {
+  ordered = listed files names;
+  same = subst (λ (all : List FileText). IsPermutation all (listed files names)) (found_by_name files own)
+      (IsPermutation-map (text_named files) (map (λ (one : FileText). one.name) files) names order.same);
+  rising = subst (IsSorted (slice_cmp nat_cmp)) (sym (names_listed files names)) order.rising;
+  accepted = loads;
+}
+
 -- a query request that ends with status 0 keeps the promise
 pub promise_kept : {R W E : Type 0} → KeepsRising → (r : Input R) (w : Output W) (e : Output E) (before after : Streams R W E)
-    (files : List FileText) (language bytes there : List ℕ) (old new : ℕ) (task : Task) → IsTask (Some files) old new language Query task
+    (files : List FileText) (language bytes there : List ℕ) (old new : History) (task : Task) → HaveOwnNames files → IsTask (Some files) old new language Query task
     → EndsWith r w e task Done before after → r.remaining before.input ≡ Some bytes → w.written before.output ≡ Some there
     → (contents : Contents) × IsReleaseOf files language contents
     × (text : List ℕ) × AreAnswers (Answers contents) (query_lines bytes) text × (w.written after.output ≡ Some (there ++ text))
-promise_kept rises r w e before after files language bytes there old new task asked (inl served) reads wrote =
+promise_kept rises r w e before after files language bytes there old new task own asked (inl served) reads wrote =
     let contents = served.contents in
     let answers_from = λ (earlier : Option (List ℕ)) (known : List ℕ).
     AreWritten (IsAnswer contents) (query_lines known) earlier (w.written after.output) in
@@ -109,10 +155,10 @@ promise_kept rises r w e before after files language bytes there old new task as
     subst (λ (input : Option (List ℕ)). IfSome input (answers_from (w.written before.output))) reads answered.written in
     let (text, answers, behind) = subst (λ (earlier : Option (List ℕ)). answers_from earlier bytes) wrote read in (
       contents,
-      record { names = task.names; in_order = loads.0; accepted = loads.1 },
+      release_of files task.names language contents own loads.0 loads.1,
       text,
       AreAnswers-weaker (IsAnswer contents) (Answers contents)
           (answer_said contents (concepts_rise rises language (listed files task.names) contents loads.1)) (query_lines bytes) text answers,
       appended there (w.written after.output) text behind,
     )
-promise_kept rises r w e before after files language bytes there old new task asked (inr none) reads wrote = absurd none
+promise_kept rises r w e before after files language bytes there old new task own asked (inr none) reads wrote = absurd none

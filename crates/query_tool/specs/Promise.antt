@@ -3,18 +3,20 @@
 -- For every accepted release and every list of query lines, whatever plans were chosen, what is written is, line by line, a
 -- count and then, in rising order and once each, exactly the active concepts that the constraint denotes over the release's
 -- active inferred rows, with their names; or, for a text outside the grammar, its one refusal line and no concept.
-use Rattle.std.specs.Prelude.{ℕ, ◌≡◌, ◌⊎◌, ◌↔◌, ◌++◌, IsTrue, List, Contains, Some, Ok}
-use Rattle.std.specs.List.Sorted.{IsStrictlyIncreasing}
+use Rattle.std.specs.Prelude.{ℕ, ◌≡◌, ◌⊎◌, ◌↔◌, ◌++◌, IsPermutation, IsTrue, List, Contains, Some, Ok, bytes_eq, map}
+use Rattle.std.specs.Cmp.Lexicographic.{slice_cmp}
+use Rattle.std.specs.List.{IsDistinct}
+use Rattle.std.specs.Ordering.{nat_cmp}
+use Rattle.std.specs.List.Sorted.{IsSorted, IsStrictlyIncreasing}
 use Rattle.ecl_lexer.specs.declared.fault.QueryFault.{QueryFault}
 use Rattle.constraint_tree.specs.Denotation.{denotes}
 use Rattle.constraint_tree.specs.Refusal.{IsConstraint, IsRefusalOf}
 use Rattle.constraint_tree.specs.Tree.{Tree}
-use Rattle.release_files.specs.Source.{FileText}
+use Rattle.release_files.specs.Source.{FileText, History}
 use Rattle.held_release.specs.Contents.{Contents}
 use Rattle.snapshot.specs.Load.{load_of}
 use Rattle.release_rows.specs.Limits.{standard_limits}
 use Rattle.held_release.specs.Name.{name_of}
-use Rattle.release_rows.specs.Pieces.{AreInOrder, listed}
 use Rattle.answer_printer.specs.AnswerText.{answer_text, refusal_text}
 use Rattle.query_run.specs.Lines.{AreAnswers, query_lines}
 use Rattle.query_service.specs.Serve.{EndsWith, IsTask, Task}
@@ -24,11 +26,16 @@ use Rattle.streams.specs.declared.output.AnswerOutput.{Ghosts as Output}
 use Rattle.streams.specs.declared.input.QueryInput.{Ghosts as Input}
 use Rattle.command_line.specs.declared.words.Mode.TheVariants.{Query}
 
+-- no two files have one name
+abbrev pub HaveOwnNames : List FileText → Type 0
+HaveOwnNames files = IsDistinct bytes_eq (map (λ (file : FileText). file.name) files)
+
 -- the release of accepted files, in the byte order of their names: its active concepts and their active inferred rows
 pub record IsReleaseOf (files : List FileText) (language : List ℕ) (contents : Contents) : Type 0 where
-  pub names : List (List ℕ)
-  pub in_order : AreInOrder files names
-  pub accepted : load_of standard_limits language (listed files names) ≡ Ok contents
+  pub ordered : List FileText
+  pub same : IsPermutation files ordered
+  pub rising : IsSorted (slice_cmp nat_cmp) (map (λ (file : FileText). file.name) ordered)
+  pub accepted : load_of standard_limits language ordered ≡ Ok contents
 
 -- a constraint is answered by a count and, in rising order and once each, exactly the active concepts that it denotes
 pub record Lists (contents : Contents) (tree : Tree) (text : List ℕ) : Type 0 where
@@ -43,11 +50,12 @@ Answers contents line text =
     ((tree : Tree) × IsConstraint line tree × Lists contents tree text)
     ⊎ ((fault : QueryFault) × IsRefusalOf line fault × (text ≡ refusal_text fault))
 
--- where a query request over told files and a told input ends with status 0, this was written behind what was there
+-- where a query request over told files, each of which has a name of its own, and a told input ends with status 0, this was written
+-- behind what was there
 abbrev pub KeepsThePromise : {R W E : Type 0} → Input R → Output W → Output E → Type 0
 KeepsThePromise {R} {W} {E} r w e =
-    (before after : Streams R W E) (files : List FileText) (language bytes there : List ℕ) (old new : ℕ) (task : Task)
-    → IsTask (Some files) old new language Query task → EndsWith r w e task Done before after
+    (before after : Streams R W E) (files : List FileText) (language bytes there : List ℕ) (old new : History) (task : Task)
+    → HaveOwnNames files → IsTask (Some files) old new language Query task → EndsWith r w e task Done before after
     → r.remaining before.input ≡ Some bytes → w.written before.output ≡ Some there
     → (contents : Contents) × IsReleaseOf files language contents
     × (text : List ℕ) × AreAnswers (Answers contents) (query_lines bytes) text × (w.written after.output ≡ Some (there ++ text))

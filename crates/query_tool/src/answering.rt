@@ -1,15 +1,19 @@
 //! What is appended for a query line over a release and its indexes: its answer, or its plan.
-ghost use Rattle.std.specs.Prelude.{ℕ, ◌≡◌, ◌++◌, List, IfOk, MatchOption, OnErr, OnOk, length, map, slice_index};
+ghost use Rattle.std.specs.Prelude.{ℕ, ◌≡◌, ◌+◌, ◌-◌, ◌^◌, ◌≤◌, ◌++◌, List, IfOk, MatchOption, OnErr, OnOk, length, map, min, slice_index};
 ghost use Rattle.ecl_lexer.specs.declared.fault.QueryFault.{QueryFault};
 ghost use Rattle.constraint_tree.specs.Denotation.{denotation, denotes};
 ghost use Rattle.constraint_tree.specs.Refusal.{IsConstraint, IsRefusalOf};
 ghost use Rattle.constraint_tree.specs.Tree.{Tree, tree_of};
 ghost use Rattle.set_algebra.specs.Meaning.{means};
+ghost use Rattle.set_algebra.specs.Physical.{physical_of};
 ghost use Rattle.set_algebra.specs.Plan.{plan_of};
 ghost use Rattle.postings.specs.Indexed.{IsIndexOf};
 ghost use Rattle.answer_printer.specs.AnswerText.{refusal_text};
 ghost use Rattle.query_service.specs.Answer.{IsAnswer, constraint_answer};
+ghost use Rattle.plan_bounds.specs.Bounds.{bound as bound_of};
+ghost use Rattle.plan_bounds.specs.Floors.{floor as floor_of};
 ghost use Rattle.query_service.specs.Explanation.{Explains, IsExplanation};
+ghost use Rattle.query_tool.specs.inside.AskedPlan.{ReadsAsked};
 
 use crate::plans::{asked_plan, least_plan};
 use answer_printer::{print_answer, print_fault, print_plan};
@@ -177,9 +181,40 @@ fn answer_by_asked_plan(
     ensures ok { OnOk result (output.new.items ≡ output.old.items ++ constraint_answer snapshot.now (tree_of constraint.now)) }
     ensures err { OnErr result (output.new.items ≡ output.old.items) }
 {
-    let physical = asked_plan(alloc, constraint, steps, choices, indexes)?;
-    let found: SortedSet = found_by(alloc, &physical, snapshot, indexes)?;
+    let mut visits = Visits { count: 0 };
+    let found: SortedSet = asked_concepts(
+        alloc,
+        snapshot,
+        indexes,
+        constraint,
+        steps,
+        choices,
+        &mut visits,
+    )?;
     print_answer(alloc, snapshot, &found, output)
+}
+
+// The concepts that a constraint denotes over a release, by the plan that is asked for. Unless memory is refused, what is counted as read is
+// no more than the bound of that plan with those choices, and no less than its floor.
+fn asked_concepts<S: ConceptSet>(
+    alloc: Global,
+    snapshot: &Snapshot,
+    indexes: &Indexes,
+    constraint: &Constraint,
+    steps: &[Step<'_>],
+    choices: &[Choice],
+    visits: &mut Visits,
+) -> Result<S, AllocError>
+    requires { IsIndexOf indexes.now snapshot.now.release }
+    ensures concepts { IfOk result (λ found. map (slice_index snapshot.now.release.concepts) (S.items_of found) ≡ denotation snapshot.now.release (tree_of constraint.now)) }
+    ensures bound { IfOk result (λ found. S.bound_of found ≡ length snapshot.now.release.concepts) }
+    ensures reads { OnOk result (ReadsAsked indexes.now steps.now choices.now (tree_of constraint.now) visits.old visits.new) }
+{
+    let physical = asked_plan(alloc, constraint, steps, choices, indexes)?;
+    // its choices are those in its leaves
+    physical.choices();
+    let found: S = found_by(alloc, &physical, snapshot, indexes, visits)?;
+    Ok(found)
 }
 
 /// The concepts that a constraint denotes over a release, by its plan, in one form of set.
@@ -194,7 +229,13 @@ pub fn concepts_of<S: ConceptSet>(
     ensures bound { IfOk result (λ found. S.bound_of found ≡ length snapshot.now.release.concepts) }
 {
     let physical = least_plan(alloc, constraint, indexes)?;
-    let found: S = found_by(alloc, &physical, snapshot, indexes)?;
+    let found: S = found_by(
+        alloc,
+        &physical,
+        snapshot,
+        indexes,
+        &mut Visits { count: 0 },
+    )?;
     Ok(found)
 }
 
@@ -204,15 +245,17 @@ fn found_by<S: ConceptSet>(
     physical: &PhysicalPlan,
     snapshot: &Snapshot,
     indexes: &Indexes,
+    visits: &mut Visits,
 ) -> Result<S, AllocError>
     requires { IsIndexOf indexes.now snapshot.now.release }
     ensures concepts { IfOk result (λ found. (tree : Tree)
         → ((concept : ℕ) → means snapshot.now.release (plan_of physical.now.plan) concept ≡ denotes snapshot.now.release tree concept)
         → map (slice_index snapshot.now.release.concepts) (S.items_of found) ≡ denotation snapshot.now.release tree) }
     ensures bound { IfOk result (λ found. S.bound_of found ≡ length snapshot.now.release.concepts) }
+    ensures within { visits.new.count ≤ visits.old.count + bound_of indexes.now (physical_of physical.now.plan) }
+    ensures floor { OnOk result (min (visits.old.count + floor_of indexes.now (physical_of physical.now.plan)) (2 ^ 64 - 1) ≤ visits.new.count) }
 {
-    let mut visits = Visits { count: 0 };
-    let found: S = execute(alloc, physical, snapshot, indexes, &mut visits)?;
+    let found: S = execute(alloc, physical, snapshot, indexes, visits)?;
     Ok(found)
 }
 

@@ -1,5 +1,5 @@
 //! The engine: a release that answers queries.
-ghost use Rattle.std.specs.Prelude.{ℕ, ◌≡◌, ◌<◌, ◌⊎◌, ◌++◌, List, Err, IfErr, IfOk, IfSome, Ok, OnErr, OnOk, false, length, map, string_bytes};
+ghost use Rattle.std.specs.Prelude.{ℕ, ◌≡◌, ◌+◌, ◌<◌, ◌≤◌, ◌⊎◌, ◌++◌, List, Err, IfErr, IfOk, IfSome, Ok, OnErr, OnOk, false, length, map, max, string_bytes};
 ghost use Rattle.std.specs.Cmp.Lexicographic.{slice_cmp};
 ghost use Rattle.std.specs.List.Sorted.{IsSorted, IsStrictlyIncreasing};
 ghost use Rattle.std.specs.Ordering.{nat_cmp};
@@ -8,6 +8,7 @@ ghost use Rattle.constraint_tree.specs.Tree.{Tree};
 ghost use Rattle.held_release.specs.Contents.{IsFaultOf};
 ghost use Rattle.snapshot.specs.Load.{load_of};
 ghost use Rattle.release_rows.specs.Files.{name_concepts};
+ghost use Rattle.release_rows.specs.Limits.{limits_in_force};
 ghost use Rattle.release_rows.specs.Pieces.{AreInOrder, FailsAtFiles, IsUnlisted, has_kind_at, listed};
 ghost use Rattle.release_rows.specs.DeviceFaults.{FailsAtRead, FileIs, RaisesOnlyAtDevice, is_device};
 ghost use Rattle.release_files.specs.Source.{file_text};
@@ -77,14 +78,15 @@ impl Engine {
     ) -> Result<Engine, LoadFault>
         ensures ok { IfSome (S.files source.old) (λ known. IfOk result (λ engine. load_of limits lang.now (listed known (map string_bytes names.new.items)) ≡ Ok engine)) }
         ensures err { IfSome (S.files source.old) (λ known. IfErr result (λ fault. is_device fault ≡ false → IsFaultOf fault (load_of limits lang.now (listed known (map string_bytes names.new.items))))) }
-        ensures names { IfSome (S.files source.old) (λ known. AreInOrder known (map string_bytes names.new.items) ⊎ IsUnlisted result (map string_bytes names.new.items)) }
-        ensures device { FailsAtFiles string_bytes names.new.items result (S.failure_count source.old) (S.failure_count source.new) }
-        ensures calm { RaisesOnlyAtDevice result (S.failure_count source.old) (S.failure_count source.new) }
+        ensures names { IfSome (S.files source.old) (λ known. AreInOrder known (map string_bytes names.new.items) ⊎ IsUnlisted result (map string_bytes names.new.items) (S.history source.new)) }
+        ensures device { FailsAtFiles string_bytes names.new.items result (S.history source.old) (S.history source.new) }
+        ensures calm { RaisesOnlyAtDevice result (S.history source.old) (S.history source.new) }
+        ensures bounded { (S.history source.new).most ≤ max (S.history source.old).most ((limits_in_force limits).bytes + 1) }
         ensures kind { IfErr result (λ fault. FailsAtRead (has_kind_at (map string_bytes names.new.items)) fault) }
         ensures files { S.files source.new ≡ S.files source.old }
         ensures rising { IsSorted (slice_cmp nat_cmp) (map string_bytes names.new.items) }
         ensures unnamed { name_concepts string_bytes names.new.items ≡ false
-            → (result ≡ Err LoadFault.NoConceptFile) ⊎ IsUnlisted result (map string_bytes names.new.items) }
+            → (result ≡ Err LoadFault.NoConceptFile) ⊎ IsUnlisted result (map string_bytes names.new.items) (S.history source.new) }
         ensures found { result ≡ Err LoadFault.NoConceptFile → name_concepts string_bytes names.new.items ≡ false }
         ensures named { IfErr result (FileIs (λ file. file < length names.new.items)) }
     {

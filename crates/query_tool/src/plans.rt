@@ -5,10 +5,11 @@ ghost use Rattle.constraint_tree.specs.Denotation.{denotes};
 ghost use Rattle.constraint_tree.specs.Tree.{tree_of};
 ghost use Rattle.set_algebra.specs.Lowering.{lowered};
 ghost use Rattle.set_algebra.specs.Meaning.{means};
+ghost use Rattle.set_algebra.specs.Physical.{physical_of};
 ghost use Rattle.set_algebra.specs.Plan.{plan_of};
 ghost use Rattle.rewrites.specs.Steps.{all_applied};
 ghost use Rattle.planner.specs.Asked.{choices_with};
-ghost use Rattle.planner.specs.Chosen.{least_choices};
+ghost use Rattle.planner.specs.Chosen.{chosen, least_choices};
 ghost use Rattle.plan_bounds.specs.Offered.{AreLeast};
 ghost use Rattle.query_service.specs.Explanation.{executed_plan};
 
@@ -27,8 +28,9 @@ pub fn least_plan(
     indexes: &Indexes,
 ) -> Result<PhysicalPlan, AllocError>
     ensures plan { IfOk result (λ physical. plan_of physical.plan ≡ executed_plan (tree_of constraint.now)) }
+    ensures chosen { IfOk result (λ physical. physical_of physical.plan ≡ chosen indexes.now (executed_plan (tree_of constraint.now))) }
     ensures choices { IfOk result (λ physical. physical.choices ≡ least_choices indexes.now (plan_of physical.plan)) }
-    ensures least { IfOk result (λ physical. AreLeast indexes.now physical.choices (plan_of physical.plan)) }
+    ensures least { IfOk result (λ physical. AreLeast indexes.now (physical_of physical.plan)) }
     ensures meaning { IfOk result (λ physical. (release : Release) (concept : ℕ)
         → means release (plan_of physical.plan) concept ≡ denotes release (tree_of constraint.now) concept) }
 {

@@ -87,7 +87,7 @@ pub fn serve<S: FileSource, R: QueryInput, W: AnswerOutput, E: AnswerOutput>(
     requires output { W.has_failed output.old ≡ false }
     requires errors { E.AnswerOutput.has_failed errors.old ≡ false }
     ensures served { (task : Task)
-        × IsTask (S.files source.old) (S.failure_count source.old) (S.failure_count source.new) (string_bytes request.now.lang) request.now.mode task
+        × IsTask (S.files source.old) (S.history source.old) (S.history source.new) (string_bytes request.now.lang) request.now.mode task
         × EndsWith R.QueryInput W.AnswerOutput E.AnswerOutput task result (streams input.old output.old errors.old) (streams input.new output.new errors.new) }
     ensures untouched { request.now.mode ≡ Mode.Sample → source.new ≡ source.old }
 {

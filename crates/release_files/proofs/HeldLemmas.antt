@@ -1,12 +1,14 @@
 -- How bytes that are held begin with a part, and how they grow.
 use Rattle.std.proofs.Common.{◌≡◌, ◌≢◌, ℕ, suc, ◌+◌, ◌<◌, ◌≤◌, zero, min, true, eqb, List, [], ◌∷◌, ◌++◌, length, get_or, take, drop, slice_range, ◌-◌, None, Some, refl, sym, ap, ◌∙◌, append-nil, append_assoc, length-append, length-take, length-drop, ◌^◌, arith}
-use Rattle.std.specs.Prelude.{Option}
+use Rattle.std.specs.Prelude.{Option, Result}
 use Rattle.std.proofs.Math.Seq.{take-add, take-suc}
 use Rattle.std.proofs.lemmas.Bool.{eqb-true, eq-eqb}
 use Rattle.std.proofs.lemmas.List.{get_or-take, get_or_default, take-take, take_all, drop_all, nil_from_length, take-append-drop, take_at, drop-drop, drop-take}
 use Rattle.std.proofs.lemmas.List.Elements.{All-append}
 use Rattle.std.specs.Io.KnownBytes.{Consumes, IsAtEnd}
-use Rattle.release_files.specs.Held.{BeginsWithPart, GrowsBy, IsEndedPart, KeepsBytes, TakesWithin, reachable}
+use Rattle.release_files.specs.Held.{BeginsWithPart, GrowsBy, IsEndedPart, KeepsBytes, ReadsOn, TakesWithin, reachable}
+use Rattle.release_files.specs.Source.{History, IsReading, given}
+use Rattle.release_files.specs.declared.source.SourceFault.{SourceFault}
 use Rattle.release_files.specs.Lines.{parts, HasNoFeed}
 use Rattle.release_files.proofs.Parts.{NoFeed, parts_ended, parts_last}
 
@@ -104,6 +106,28 @@ TakesWithin-trans (Some first) None last old mid new before after = absurd befor
 TakesWithin-trans (Some first) (Some next) None old mid new before after = absurd after
 TakesWithin-trans (Some first) (Some next) (Some last) old mid new before after =
     (omega (arith, before.0, after.0), omega (arith, before.1, after.1))
+
+-- what is read in two steps is read in one
+pub ReadsOn-trans : (first next last : History) (old mid new : ℕ) → ReadsOn first next old mid → ReadsOn next last mid new
+    → ReadsOn first last old new
+ReadsOn-trans first next last old mid new before after = record {
+  less = omega (arith, before.less, after.less);
+  taken = omega (arith, before.taken, after.taken);
+  most = omega (arith, before.most, after.most, before.taken);
+  opened = after.opened ∙ before.opened;
+  unlisted = after.unlisted ∙ before.unlisted;
+}
+
+-- a read gives no more bytes than may be read, and they are counted
+pub reads_on : (result : Result ℕ SourceFault) (old new : History) (left : ℕ) → IsReading result old new → given result ≤ left
+    → ReadsOn old new left (left - given result)
+reads_on result old new left read few = record {
+  less = omega arith;
+  taken = omega (arith, read.taken, few);
+  most = omega (arith, read.most, few);
+  opened = read.opened;
+  unlisted = read.unlisted;
+}
 
 -- a slice has no more bytes than its end
 pub few_bytes : (bytes : List ℕ) (from until : ℕ) → until < 2 ^ 64 → length (slice_range bytes from until) < 2 ^ 64

@@ -1,7 +1,8 @@
 -- What is held of a file that is read in pieces.
-use Rattle.std.specs.Prelude.{◌≡◌, ℕ, ◌<◌, ◌≤◌, ◌+◌, List, [], ◌∷◌, ◌++◌, length, take, drop, ⊤, Option, None, Some, option_map}
+use Rattle.std.specs.Prelude.{◌≡◌, ℕ, ◌<◌, ◌≤◌, ◌+◌, List, [], ◌∷◌, ◌++◌, length, max, take, drop, ⊤, Option, None, Some, option_map}
 use Rattle.std.specs.Io.KnownBytes.{Consumes, IsAtEnd}
 use Rattle.release_files.specs.Lines.{parts}
+use Rattle.release_files.specs.Source.{History}
 
 -- the bytes that were taken last, those behind them that were read, and how many may still be read
 pub record HeldBytes : Type 0 where
@@ -43,3 +44,12 @@ abbrev pub TakesWithin : Option (List ℕ) → Option (List ℕ) → ℕ → ℕ
 TakesWithin None after old new = new ≤ old
 TakesWithin (Some before) None old new = ⊥
 TakesWithin (Some before) (Some after) old new = (new ≤ old) × (length before + new ≤ length after + old)
+
+-- whether or not a source failed: of its open file no more bytes were taken than the number that may still be read fell by, no other
+-- file was opened, and none were listed
+pub record ReadsOn (old new : History) (left still : ℕ) : Type 0 where
+  pub less : still ≤ left
+  pub taken : new.taken + still ≤ old.taken + left
+  pub most : new.most ≤ max old.most (old.taken + left)
+  pub opened : new.opened ≡ old.opened
+  pub unlisted : new.unlisted ≡ old.unlisted

@@ -28,9 +28,9 @@ lines_at Ended number end bytes = []
 abbrev pub lines_to_come : PieceLines → List ℕ → List LineText
 lines_to_come lines rest = lines_at lines.stage lines.number lines.end (lines.held.bytes ++ rest)
 
--- no line is to come, whatever is left
+-- the lines have ended, by the last one or by a fault: none is to come, whatever is left
 abbrev pub HasEnded : PieceLines → Type 0
-HasEnded lines = (rest : List ℕ) → lines_to_come lines rest ≡ []
+HasEnded lines = lines.stage ≡ Ended
 
 -- the lines that are to come are the same before and after, where `before` and `after` are the bytes that are left
 abbrev pub KeepsLines : PieceLines → PieceLines → Option (List ℕ) → Option (List ℕ) → Type 0

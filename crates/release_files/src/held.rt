@@ -1,9 +1,9 @@
 //! The bytes of a file that were read in pieces and not yet cut into lines.
 ghost use Rattle.std.specs.Prelude.{◌≡◌, ◌+◌, ◌-◌, ◌^◌, ◌<◌, ◌≤◌, ◌⊎◌, IfOk, MatchOption, MatchResult, OnOk, [], length, drop, slice_range, take, vec_len};
 ghost use Rattle.std.specs.Io.KnownBytes.{Consumes, IsAtEnd};
-ghost use Rattle.release_files.specs.Held.{BeginsWithPart, GrowsBy, IsEndedPart, KeepsBytes, TakesWithin, reachable};
+ghost use Rattle.release_files.specs.Held.{BeginsWithPart, GrowsBy, IsEndedPart, KeepsBytes, ReadsOn, TakesWithin, reachable};
 ghost use Rattle.release_files.specs.Lines.{HasNoFeed};
-ghost use Rattle.release_files.specs.Source.{CountsFailures};
+ghost use Rattle.release_files.specs.Source.{FailsAtOpened, IsReading};
 
 use crate::feeds::first_feed;
 use crate::source::{FileSource, SourceFault};
@@ -91,7 +91,8 @@ impl Held {
         ensures room { length self.new.bytes < 2 ^ 64 }
         ensures bounded { OnOk result (TakesWithin (S.rest source.old) (S.rest source.new) self.old.left self.new.left) }
         ensures files { S.files source.new ≡ S.files source.old }
-        ensures failures { CountsFailures result (S.failure_count source.old) (S.failure_count source.new) }
+        ensures failures { FailsAtOpened result (S.history source.old) (S.history source.new) }
+        ensures history { ReadsOn (S.history source.old) (S.history source.new) self.old.left self.new.left }
     {
         let length = self.filled - self.start;
         move_to_front(self.buffer.as_mut_slice(), self.start, self.filled);
@@ -118,7 +119,8 @@ impl Held {
         ensures enough { OnOk result ((count ≤ length self.new.bytes) ⊎ IsAtEnd (reachable self.new.left (S.rest source.new))) }
         ensures bounded { OnOk result (TakesWithin (S.rest source.old) (S.rest source.new) self.old.left self.new.left) }
         ensures files { S.files source.new ≡ S.files source.old }
-        ensures failures { CountsFailures result (S.failure_count source.old) (S.failure_count source.new) }
+        ensures failures { FailsAtOpened result (S.history source.old) (S.history source.new) }
+        ensures history { ReadsOn (S.history source.old) (S.history source.new) self.old.left self.new.left }
     {
         while self.bytes().len() < count {
             if self.read_piece(source)? == 0 {
@@ -136,7 +138,8 @@ impl Held {
         ensures part { IfOk result (λ count. BeginsWithPart (reachable self.new.left (S.rest source.new)) self.new.bytes count) }
         ensures bounded { OnOk result (TakesWithin (S.rest source.old) (S.rest source.new) self.old.left self.new.left) }
         ensures files { S.files source.new ≡ S.files source.old }
-        ensures failures { CountsFailures result (S.failure_count source.old) (S.failure_count source.new) }
+        ensures failures { FailsAtOpened result (S.history source.old) (S.history source.new) }
+        ensures history { ReadsOn (S.history source.old) (S.history source.new) self.old.left self.new.left }
     {
         let mut searched = 0;
         loop {
@@ -188,7 +191,8 @@ fn read_behind<S: FileSource>(
     ensures piece { IfOk result (λ count. Consumes (S.rest source.old) (S.rest source.new) (slice_range buffer.new at (at + count))) }
     ensures end { IfOk result (λ count. count ≡ 0 → 0 < room → IsAtEnd (S.rest source.new)) }
     ensures files { S.files source.new ≡ S.files source.old }
-    ensures failures { CountsFailures result (S.failure_count source.old) (S.failure_count source.new) }
+    ensures failures { FailsAtOpened result (S.history source.old) (S.history source.new) }
+    ensures history { IsReading result (S.history source.old) (S.history source.new) }
 {
     source.read(&mut buffer[at..at + room])
 }

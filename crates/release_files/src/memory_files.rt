@@ -1,7 +1,7 @@
 //! Files in memory as a source.
-ghost use Rattle.std.specs.Prelude.{◌≡◌, ◌≢◌, ◌⊎◌, ◌<◌, ◌≤◌, ◌^◌, Err, IfErr, IfOk, IfSome, MatchOption, MatchResult, OnErr, OnOk, None, Some, [], length, map, string_bytes};
-ghost use Rattle.release_files.specs.MemorySource.{IsCall, IsCounted};
-ghost use Rattle.release_files.specs.Source.{CountsFailures, IsRaised, Opens, ReadsNext, bytes_of, file_text};
+ghost use Rattle.std.specs.Prelude.{◌≡◌, ◌≢◌, ◌<◌, ◌≤◌, ◌^◌, ◌++◌, Err, IfErr, IfOk, IfSome, MatchOption, MatchResult, OnErr, OnOk, None, Some, IsOk, [], is_err, length, map, string_bytes, take};
+ghost use Rattle.release_files.specs.MemorySource.{IsCall, IsCounted, IsFailed, IsToldOpened, with_bytes};
+ghost use Rattle.release_files.specs.Source.{CountsFailures, FailsAtName, FailsAtOpened, IsListing, IsOpening, IsReading, Opens, ReadsNext, bytes_of, file_text};
 
 use crate::NamedBytes;
 use crate::source::{FileSource, SourceFault};
@@ -9,8 +9,8 @@ use std::alloc::{AllocError, Global};
 use std::marker::Model;
 
 /// Files in memory as a source. It borrows the files, and takes memory for the names that it lists
-/// alone. Its seed is fixed: they are files that one trusts. Contracts see the files, what is left of
-/// the open one, and what is counted.
+/// alone. Its seed is fixed: they are files that one trusts. It tells all that was done with it, but a name that no file
+/// has. Contracts see the files, what is left of the open one, and what is counted.
 #[derive(Debug, Drop)]
 pub struct MemoryFiles<'a> {
     alloc: Global,
@@ -21,6 +21,14 @@ pub struct MemoryFiles<'a> {
     fail_at: u64,
     calls: u64,
     failures: u64,
+    // the name that was opened last, and that of the file at which a call failed last
+    opened: Option<&'a str>,
+    failed: Option<&'a str>,
+    // how many bytes were taken since the last opening, and at most since any
+    taken: u64,
+    most: u64,
+    // whether the last listing failed
+    unlisted: bool,
 }
 
 impl<'a> Model for MemoryFiles<'a> {
@@ -51,7 +59,7 @@ impl<'a> MemoryFiles<'a> {
         ensures asked { result ≡ asked_source (map file_text files.now) piece fail_at }
         ensures files { ⟦<MemoryFiles<'a> as FileSource>⟧.files result ≡ Some (map file_text files.now) }
         ensures closed { ⟦<MemoryFiles<'a> as FileSource>⟧.rest result ≡ Some [] }
-        ensures failures { ⟦<MemoryFiles<'a> as FileSource>⟧.failure_count result ≡ 0 }
+        ensures failures { (⟦<MemoryFiles<'a> as FileSource>⟧.history result).failures ≡ 0 }
     {
         MemoryFiles {
             alloc,
@@ -61,15 +69,20 @@ impl<'a> MemoryFiles<'a> {
             fail_at,
             calls: 0,
             failures: 0,
+            opened: None,
+            failed: None,
+            taken: 0,
+            most: 0,
+            unlisted: false,
         }
     }
 
     // Counts a call, and fails it if it is the one to fail.
     fn count_call(&mut self) -> Result<(), SourceFault>
         ensures call { IsCall self.old self.new }
-        ensures ok { OnOk result ((self.new.calls ≢ self.new.fail_at) × (self.new.rest ≡ self.old.rest) × (self.new.failures ≡ self.old.failures)) }
+        ensures ok { OnOk result ((self.new.calls ≢ self.new.fail_at) × (self.new.rest ≡ self.old.rest) × (self.new.history ≡ self.old.history)) }
         ensures fault { IfErr result (λ fault. (self.new.calls ≡ self.new.fail_at) × (fault ≡ SourceFault.Device)
-            × (self.new.rest ≡ []) × IsRaised self.old.failures self.new.failures) }
+            × (self.new.rest ≡ []) × IsFailed self.old.history self.new.history) }
     {
         self.calls = self.calls.saturating_add(1);
         if self.calls == self.fail_at {
@@ -78,16 +91,35 @@ impl<'a> MemoryFiles<'a> {
         Ok(())
     }
 
-    // Counts a failure, and closes the file.
+    // Counts a failure at the file that was opened last, and closes it.
     fn fail(&mut self) -> SourceFault
         ensures fault { result ≡ SourceFault.Device }
         ensures closed { self.new.rest ≡ [] }
-        ensures raised { IsRaised self.old.failures self.new.failures }
+        ensures failed { IsFailed self.old.history self.new.history }
         ensures same { IsCounted self.old.calls self.old self.new }
     {
         self.failures = self.failures.saturating_add(1);
+        self.failed = self.opened;
         self.rest = &[];
         SourceFault::Device
+    }
+
+    // Takes the next bytes of the open file into a buffer.
+    fn take(&mut self, buffer: &mut [u8]) -> usize
+        ensures within { result ≤ length buffer.new }
+        ensures bytes { self.old.rest ≡ take result buffer.new ++ self.new.rest }
+        ensures end { result ≡ 0 → 0 < length buffer.new → self.new.rest ≡ [] }
+        ensures piece { result ≤ self.old.piece }
+        ensures same { IsCounted self.old.calls self.old self.new }
+        ensures taken { self.new.history ≡ with_bytes result self.old.history }
+    {
+        let count = buffer.len().min(self.rest.len()).min(self.piece);
+        let (front, rest) = self.rest.split_at(count);
+        buffer[..count].copy_from_slice(front);
+        self.rest = rest;
+        self.taken = self.taken.saturating_add(count as u64);
+        self.most = self.most.max(self.taken);
+        count
     }
 }
 
@@ -96,7 +128,7 @@ impl<'a> FileSource for MemoryFiles<'a> {
 
     ghost rest = { λ source. Some source.rest };
 
-    ghost failure_count = { λ source. source.failures };
+    ghost history = { λ source. source.history };
 
     fn failures(&self) -> u64 {
         self.failures
@@ -106,14 +138,20 @@ impl<'a> FileSource for MemoryFiles<'a> {
         ensures names { IfOk result (λ names. map string_bytes names.items ≡ map (λ file. file.name) self.old.files) }
         ensures rest { MatchResult result (λ _. self.new.rest ≡ self.old.rest) (λ _. self.new.rest ≡ []) }
         ensures files { self.new.files ≡ self.old.files }
-        ensures failures { CountsFailures result self.old.failures self.new.failures }
+        ensures failures { CountsFailures result self.old.history self.new.history }
+        ensures history { IsListing result self.old.history self.new.history }
+        ensures unlisted { self.new.history.unlisted ≡ is_err result }
         ensures call { IsCall self.old self.new }
-        ensures fails { IfErr result (λ fault. fault ≡ SourceFault.Device → self.new.calls ≡ self.new.fail_at) }
-        ensures goes { OnOk result (self.new.calls ≢ self.new.fail_at) }
+        ensures fails { self.new.calls ≡ self.new.fail_at → result ≡ Err SourceFault.Device }
+        ensures memory { self.new.calls ≢ self.new.fail_at → IfErr result (λ fault. fault ≡ SourceFault.Memory) }
     {
+        self.unlisted = true;
         self.count_call()?;
         match names_of(self.alloc, self.files) {
-            Ok(names) => Ok(names),
+            Ok(names) => {
+                self.unlisted = false;
+                Ok(names)
+            }
             Err(_) => {
                 self.rest = &[];
                 Err(SourceFault::Memory)
@@ -126,15 +164,19 @@ impl<'a> FileSource for MemoryFiles<'a> {
         ensures closed { OnErr result (self.new.rest ≡ []) }
         ensures missing { bytes_of name.now self.old.files ≡ None → result ≡ Err SourceFault.Device }
         ensures files { self.new.files ≡ self.old.files }
-        ensures failures { CountsFailures result self.old.failures self.new.failures }
+        ensures failures { FailsAtName name.now result self.old.history self.new.history }
+        ensures history { IsOpening name.now self.old.history self.new.history }
+        ensures told { IsToldOpened name.now self.new }
         ensures call { IsCall self.old self.new }
-        ensures fails { IfErr result (λ fault. (fault ≡ SourceFault.Device)
-            × ((self.new.calls ≡ self.new.fail_at) ⊎ (bytes_of name.now self.old.files ≡ None))) }
-        ensures goes { OnOk result (self.new.calls ≢ self.new.fail_at) }
+        ensures fails { self.new.calls ≡ self.new.fail_at → result ≡ Err SourceFault.Device }
+        ensures goes { self.new.calls ≢ self.new.fail_at → bytes_of name.now self.old.files ≢ None → IsOk result }
     {
+        let found = file_named(self.files, name);
+        self.opened = found.map(|file| file.0);
+        self.taken = 0;
         self.count_call()?;
-        match file_named(self.files, name) {
-            Some(bytes) => {
+        match found {
+            Some((_, bytes)) => {
                 self.rest = bytes;
                 Ok(())
             }
@@ -146,18 +188,16 @@ impl<'a> FileSource for MemoryFiles<'a> {
         ensures within { IfOk result (λ count. count ≤ length buffer.new) }
         ensures bytes { ReadsNext (Some self.old.rest) (Some self.new.rest) result buffer.new }
         ensures files { self.new.files ≡ self.old.files }
-        ensures failures { CountsFailures result self.old.failures self.new.failures }
+        ensures failures { FailsAtOpened result self.old.history self.new.history }
+        ensures history { IsReading result self.old.history self.new.history }
+        ensures taken { IfOk result (λ count. self.new.history ≡ with_bytes count self.old.history) }
         ensures piece { IfOk result (λ count. count ≤ self.old.piece) }
         ensures call { IsCall self.old self.new }
-        ensures fails { IfErr result (λ _. self.new.calls ≡ self.new.fail_at) }
-        ensures goes { OnOk result (self.new.calls ≢ self.new.fail_at) }
+        ensures fails { self.new.calls ≡ self.new.fail_at → result ≡ Err SourceFault.Device }
+        ensures goes { self.new.calls ≢ self.new.fail_at → IsOk result }
     {
         self.count_call()?;
-        let count = buffer.len().min(self.rest.len()).min(self.piece);
-        let (front, rest) = self.rest.split_at(count);
-        buffer[..count].copy_from_slice(front);
-        self.rest = rest;
-        Ok(count)
+        Ok(self.take(buffer))
     }
 }
 
@@ -172,14 +212,16 @@ fn names_of(alloc: Global, files: &[NamedBytes<'_>]) -> Result<Vec<String>, Allo
     Ok(names)
 }
 
-// The bytes of the first file of a name.
-fn file_named<'a>(files: &'a [NamedBytes<'a>], name: &str) -> Option<&'a [u8]>
-    ensures found { MatchOption result (bytes_of name.now (map file_text files.now) ≡ None) (λ bytes. bytes_of name.now (map file_text files.now) ≡ Some bytes.now) }
-    ensures short { IfSome result (λ bytes. length bytes.now < 2 ^ 64) }
+// The name and the bytes of the first file of a name.
+fn file_named<'a>(files: &'a [NamedBytes<'a>], name: &str) -> Option<(&'a str, &'a [u8])>
+    ensures found { MatchOption result (bytes_of name.now (map file_text files.now) ≡ None)
+        (λ file. bytes_of name.now (map file_text files.now) ≡ Some file.1.now) }
+    ensures named { IfSome result (λ file. file.0.now ≡ name.now) }
+    ensures short { IfSome result (λ file. length file.1.now < 2 ^ 64) }
 {
     for file in files {
         if file.name == name {
-            return Some(file.bytes);
+            return Some((file.name, file.bytes));
         }
     }
     None

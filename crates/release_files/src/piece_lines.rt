@@ -1,11 +1,11 @@
 //! The lines of a file that is read in pieces.
-ghost use Rattle.std.specs.Prelude.{◌≡◌, ◌⊎◌, ◌+◌, ◌^◌, ◌<◌, ◌≤◌, if◌then◌else◌, IfOk, List, MatchResult, None, OnOk, Some, drop, length, option_map, take, ℕ};
+ghost use Rattle.std.specs.Prelude.{◌≡◌, ◌⊎◌, ◌+◌, ◌^◌, ◌<◌, ◌≤◌, if◌then◌else◌, IfOk, List, MatchResult, None, Ok, OnOk, Some, false, drop, length, option_map, take, ℕ};
 ghost use Rattle.std.specs.Borrow.{sem};
 ghost use Rattle.std.specs.Io.BufRead.{Rests};
-ghost use Rattle.release_files.specs.Held.{BeginsWithPart, TakesWithin, reachable};
+ghost use Rattle.release_files.specs.Held.{BeginsWithPart, ReadsOn, TakesWithin, reachable};
 ghost use Rattle.release_files.specs.Lines.{line_text, lines_of, mark_length};
 ghost use Rattle.release_files.specs.PieceLines.{GivesNext, HasEnded, KeepsLines, counted, current_line, lines_to_come};
-ghost use Rattle.release_files.specs.Source.{CountsFailures};
+ghost use Rattle.release_files.specs.Source.{FailsAtOpened};
 ghost use Rattle.release_files.specs.contracts.piece_lines.PieceLines.{the_row};
 
 use crate::held::Held;
@@ -70,9 +70,11 @@ impl PieceLines {
         ensures* lines { sem 𝓛 (Rests the_row self.entry (λ new. MatchResult result
             (λ line. GivesNext (option_map line_text line) self.old new (reachable self.old.held.left (S.rest source.old)) (reachable new.held.left (S.rest source.new))
             × TakesWithin (S.rest source.old) (S.rest source.new) self.old.held.left new.held.left)
-            (λ _. HasEnded new))) }
+            (λ _. HasEnded new)
+            × ReadsOn (S.history source.old) (S.history source.new) self.old.held.left new.held.left)) }
+        ensures ended { HasEnded self.old → result ≡ Ok None }
         ensures files { S.files source.new ≡ S.files source.old }
-        ensures failures { CountsFailures result (S.failure_count source.old) (S.failure_count source.new) }
+        ensures failures { FailsAtOpened result (S.history source.old) (S.history source.new) }
     {
         match self.advance(source) {
             Ok(true) => Ok(Some(self.line())),
@@ -83,12 +85,14 @@ impl PieceLines {
 
     // Takes the next line, if there is one.
     fn advance<S: FileSource>(&mut self, source: &mut S) -> Result<bool, SourceFault>
+        ensures ended { HasEnded self.old → result ≡ Ok false }
         ensures lines { MatchResult result
             (λ more. GivesNext (if more then Some (current_line self.new) else None) self.old self.new (reachable self.old.held.left (S.rest source.old)) (reachable self.new.held.left (S.rest source.new)))
             (λ _. HasEnded self.new) }
         ensures bounded { OnOk result (TakesWithin (S.rest source.old) (S.rest source.new) self.old.held.left self.new.held.left) }
         ensures files { S.files source.new ≡ S.files source.old }
-        ensures failures { CountsFailures result (S.failure_count source.old) (S.failure_count source.new) }
+        ensures failures { FailsAtOpened result (S.history source.old) (S.history source.new) }
+        ensures history { ReadsOn (S.history source.old) (S.history source.new) self.old.held.left self.new.held.left }
     {
         let found = self.find_line(source);
         match found {
@@ -110,13 +114,15 @@ impl PieceLines {
     // Reads on until the next line is held, and answers how long it is with its end: 0 where there
     // is none.
     fn find_line<S: FileSource>(&mut self, source: &mut S) -> Result<usize, SourceFault>
+        ensures ended { HasEnded self.old → result ≡ Ok 0 }
         ensures within { IfOk result (λ count. count ≤ length self.new.held.bytes) }
         ensures kept { OnOk result (KeepsLines self.old self.new (reachable self.old.held.left (S.rest source.old)) (reachable self.new.held.left (S.rest source.new))) }
         ensures part { IfOk result (λ count. ((count ≡ 0) × (self.new.stage ≡ Stage.Ended))
             ⊎ ((self.new.stage ≡ Stage.Begun) × BeginsWithPart (reachable self.new.held.left (S.rest source.new)) self.new.held.bytes count)) }
         ensures bounded { OnOk result (TakesWithin (S.rest source.old) (S.rest source.new) self.old.held.left self.new.held.left) }
         ensures files { S.files source.new ≡ S.files source.old }
-        ensures failures { CountsFailures result (S.failure_count source.old) (S.failure_count source.new) }
+        ensures failures { FailsAtOpened result (S.history source.old) (S.history source.new) }
+        ensures history { ReadsOn (S.history source.old) (S.history source.new) self.old.held.left self.new.held.left }
     {
         if self.stage == Stage::Ended {
             return Ok(0);
@@ -134,7 +140,8 @@ impl PieceLines {
         ensures kept { OnOk result (KeepsLines self.old self.new (reachable self.old.held.left (S.rest source.old)) (reachable self.new.held.left (S.rest source.new))) }
         ensures bounded { OnOk result (TakesWithin (S.rest source.old) (S.rest source.new) self.old.held.left self.new.held.left) }
         ensures files { S.files source.new ≡ S.files source.old }
-        ensures failures { CountsFailures result (S.failure_count source.old) (S.failure_count source.new) }
+        ensures failures { FailsAtOpened result (S.history source.old) (S.history source.new) }
+        ensures history { ReadsOn (S.history source.old) (S.history source.new) self.old.held.left self.new.held.left }
     {
         self.held.read_at_least(BYTE_ORDER_MARK.len(), source)?;
         let mark = mark_length(self.held.bytes());

@@ -1,7 +1,7 @@
 //! Where the files of a release are read from.
 ghost use Rattle.std.specs.Prelude.{◌≡◌, ℕ, ◌≤◌, Err, None, IfOk, IfSome, List, MatchResult, OnErr, OnOk, Option, length, map, string_bytes};
 ghost use Rattle.std.specs.Io.KnownBytes.{IsAtEnd, Keeps};
-ghost use Rattle.release_files.specs.Source.{CountsFailures, FileText, Opens, ReadsNext, bytes_of, source_fault_number};
+ghost use Rattle.release_files.specs.Source.{CountsFailures, FailsAtName, FailsAtOpened, FileText, History, IsListing, IsOpening, IsReading, Opens, ReadsNext, bytes_of, source_fault_number};
 
 use first_met::Seed;
 
@@ -40,12 +40,13 @@ pub trait FileSource {
     /// is claimed of them.
     ghost rest: { Self → Option (List ℕ) };
 
-    /// How many failures there were, up to `u64::MAX`.
-    ghost failure_count: { Self → ℕ };
+    /// What was done with the source: how many failures there were, which name was opened last, at which the device failed last,
+    /// how many bytes were taken of a file, and whether the last listing failed. All but the failures may be left out.
+    ghost history: { Self → History };
 
     /// How many failures there were. The count stands still at `u64::MAX`.
     fn failures(&self) -> u64
-        ensures { result ≡ failure_count self.now };
+        ensures { result ≡ (history self.now).failures };
 
     /// The seed of the hashes over what the files hold, which stays the same. It is fixed unless a source tells one of its
     /// own. Whoever knows the seed can make files that take very long to load: a source of files that one does not trust
@@ -60,7 +61,8 @@ pub trait FileSource {
         ensures names { IfOk result (λ names. IfSome (files self.old) (λ known. map string_bytes names.items ≡ map (λ file. file.name) known)) }
         ensures rest { MatchResult result (λ _. Keeps (rest self.old) (rest self.new)) (λ _. IsAtEnd (rest self.new)) }
         ensures files { files self.new ≡ files self.old }
-        ensures failures { CountsFailures result (failure_count self.old) (failure_count self.new) };
+        ensures failures { CountsFailures result (history self.old) (history self.new) }
+        ensures history { IsListing result (history self.old) (history self.new) };
 
     /// Closes the file that was open, and opens the first one of a name. A name that no file has is
     /// a failure.
@@ -69,7 +71,8 @@ pub trait FileSource {
         ensures closed { OnErr result (IsAtEnd (rest self.new)) }
         ensures missing { IfSome (files self.old) (λ known. bytes_of name.now known ≡ None → result ≡ Err SourceFault.Device) }
         ensures files { files self.new ≡ files self.old }
-        ensures failures { CountsFailures result (failure_count self.old) (failure_count self.new) };
+        ensures failures { FailsAtName name.now result (history self.old) (history self.new) }
+        ensures history { IsOpening name.now (history self.old) (history self.new) };
 
     /// Puts the next bytes of the open file at the front of `buffer`, and answers how many: 0 only
     /// at the end of the file, where `buffer` is empty, or where no file is open.
@@ -77,5 +80,6 @@ pub trait FileSource {
         ensures within { IfOk result (λ count. count ≤ length buffer.new) }
         ensures bytes { ReadsNext (rest self.old) (rest self.new) result buffer.new }
         ensures files { files self.new ≡ files self.old }
-        ensures failures { CountsFailures result (failure_count self.old) (failure_count self.new) };
+        ensures failures { FailsAtOpened result (history self.old) (history self.new) }
+        ensures history { IsReading result (history self.old) (history self.new) };
 }

@@ -1,5 +1,5 @@
 -- Going over files that are read from a source in pieces.
-use Rattle.std.proofs.Common.{rules, ◌⊎◌, sym, Global, String, unwrap_or, take, ◌≡◌, ◌≢◌, inl, inr, ℕ, ◌+◌, ◌-◌, ◌^◌, ◌<◌, ◌≤◌, List, [], ◌∷◌, ◌++◌, length, map, drop, drop-cons, get_or, ap, subst, arith, Option, None, Some, Result, Ok, Err, MatchResult, length-drop, length-take, min, Bool, IfErr, IsPermutation, OnOk, option_map, string_bytes, is_lt, nat_cmp, take_all}
+use Rattle.std.proofs.Common.{rules, ◌⊎◌, sym, Global, String, unwrap_or, take, ◌≡◌, ◌≢◌, inl, inr, ◌∙◌, ℕ, ◌+◌, ◌-◌, ◌^◌, ◌<◌, ◌≤◌, refl, List, [], ◌∷◌, ◌++◌, length, map, drop, drop-cons, get_or, ap, subst, arith, Option, None, Some, Result, Ok, Err, MatchResult, length-drop, length-take, min, Bool, IfErr, IsPermutation, OnOk, option_map, string_bytes, is_lt, nat_cmp, take_all}
 use Rattle.std.proofs.lemmas.Bool.Decides.{nat_tests}
 use Rattle.std.proofs.lemmas.Grind.{common_steps}
 use Rattle.std.specs.Cmp.Lexicographic.{slice_cmp}
@@ -10,7 +10,7 @@ use Rattle.std.proofs.lemmas.List.Sorted.{IsPermutation-map}
 use Rattle.release_files.proofs.Parts.{length-lines}
 use Rattle.release_files.specs.Lines.{LineText, line_text, lines_of}
 use Rattle.release_files.specs.PieceLines.{GivesNext, HasEnded, lines_to_come}
-use Rattle.release_files.specs.Source.{CountsFailures, FileText, IsRaised, bytes_of}
+use Rattle.release_files.specs.Source.{FailsAtName, FailsAtOpened, FileText, History, IsToldAs, bytes_of}
 use Rattle.release_files.specs.declared.lines.Line.{Line}
 use Rattle.release_files.specs.declared.piece_lines.PieceLines.{PieceLines}
 use Rattle.release_files.specs.declared.source.SourceFault.{SourceFault}
@@ -19,13 +19,14 @@ use Rattle.release_files.specs.declared.source.SourceFault.TheVariants.{Device}
 use Rattle.rf2_rows.specs.declared.kind.FileKind.{FileKind}
 use Rattle.release_rows.specs.Files.{Place, first_line, later_line, no_line, places_from, places_of_file, places_of_kind, places_of_lines}
 use Rattle.rf2_rows.specs.Files.{file_kind_of}
-use Rattle.std.proofs.lemmas.Bool.{cases_lt}
-use Rattle.release_files.specs.Held.{TakesWithin, reachable}
+use Rattle.std.proofs.lemmas.Bool.{cases_lt, false≢true}
+use Rattle.release_files.specs.Held.{ReadsOn, TakesWithin, reachable}
 use Rattle.release_files.proofs.HeldLemmas.{reachable_told}
-use Rattle.std.specs.Prelude.{is_some, true, zero, suc}
+use Rattle.std.specs.List.{slice_get}
+use Rattle.std.specs.Prelude.{IfSome, is_some, true, zero, suc}
 use Rattle.release_rows.specs.Pieces.{has_kind_at, AreInOrder, cut_file, FailsAt, FailsAtFile, GoesOver, fault_of, listed, text_named}
 use Rattle.release_rows.specs.Traversal.{StopsAt, TakesAll, taken}
-use Rattle.release_rows.specs.DeviceFaults.{FailsAtRead, is_device}
+use Rattle.release_rows.specs.DeviceFaults.{FailsAtOneOf, FailsAtRead, is_device}
 use Rattle.row_lists.specs.declared.fault.LoadFault.{LoadFault}
 use Rattle.row_lists.specs.declared.fault.LoadFault.TheVariants.{Memory}
 use Rattle.release_rows.proofs.TakingLemmas.{Leads, Leads-end, Leads-next, Leads-on, Leads-stop, Leads-until, stops_lines, stops_none, takes_lines, takes_none}
@@ -41,33 +42,15 @@ pub gives_next : (result : Result (Option Line) SourceFault) (old new : PieceLin
 gives_next (Ok line) old new before after ahead behind both = both.0
 gives_next (Err fault) old new before after ahead behind ended = ended
 
--- and that alone
-pub takes_next : (result : Result (Option Line) SourceFault) (found : Option Line) (old new : PieceLines)
-    → (before after ahead behind : Option (List ℕ))
-    → MatchResult result
-    (λ line. GivesNext (option_map line_text line) old new before after × TakesWithin ahead behind old.held.left new.held.left)
-    (λ _. HasEnded new)
-    → result ≡ Ok found → TakesWithin ahead behind old.held.left new.held.left
-takes_next (Ok line) found old new before after ahead behind both is = both.1
-takes_next (Err fault) found old new before after ahead behind ended is = absurd (cc)
-
--- what is taken in two turns
-pub takes_on : (first middle last : Option (List ℕ)) (old between new : ℕ) → TakesWithin first middle old between
-    → TakesWithin middle last between new → TakesWithin first last old new
-takes_on None None last old between new one other = omega (arith, one, other)
-takes_on None (Some middle) None old between new one other = absurd other
-takes_on None (Some middle) (Some last) old between new one other = omega (arith, one, other.0)
-takes_on (Some first) None last old between new one other = absurd one
-takes_on (Some first) (Some middle) None old between new one other = absurd other
-takes_on (Some first) (Some middle) (Some last) old between new one other =
-    (omega (arith, one.0, other.0), omega (arith, one.1, other.1))
-
--- what is taken where no more may be than so many
-pub takes_most : (before after : Option (List ℕ)) (old new most : ℕ) → old ≤ most → TakesWithin before after old new
-    → TakesWithin before after most 0
-takes_most None after old new most few takes = omega arith
-takes_most (Some before) None old new most few takes = absurd takes
-takes_most (Some before) (Some after) old new most few takes = (omega arith, omega (arith, few, takes.1))
+-- what may be read of a file is at most so much
+pub reads_most : (old new : History) (left still most : ℕ) → ReadsOn old new left still → left ≤ most → ReadsOn old new most 0
+reads_most old new left still most reads few = record {
+  less = omega arith;
+  taken = omega (arith, reads.taken, few);
+  most = omega (arith, reads.most, few);
+  opened = reads.opened;
+  unlisted = reads.unlisted;
+}
 
 -- a line was the first of those to come, and some bytes are left behind it
 pub record GaveLine (line : LineText) (old new : PieceLines) (after : Option (List ℕ)) (rest : List ℕ) : Type 0 where
@@ -155,16 +138,30 @@ pub cut_reachable : (limit left held : ℕ) (rest : Option (List ℕ)) (bytes : 
 cut_reachable limit left held rest bytes told short is same = grind (arith, (reachable_told held rest bytes told), (cut_bytes limit left bytes short is))
 
 -- a fault of the source at a file is the device's or the want of memory
-pub device_fails : (file start old new : ℕ) (fault : SourceFault) (found : LoadFault)
-    → CountsFailures {T = Unit {0}} (Err fault) old new → old ≡ start → found ≡ fault_of file fault → found ≢ Memory
+pub device_fails : (file : ℕ) (start old new : History) (fault : SourceFault) (found : LoadFault)
+    → FailsAtOpened {T = Unit {0}} (Err fault) old new → old.failures ≡ start.failures → found ≡ fault_of file fault → found ≢ Memory
     → FailsAt file start new found
-device_fails file start old new Device found counts same is other =
-    (is, subst (λ count. IsRaised count new) same counts)
+device_fails file start old new Device found counts same is other = (is, rw (← same) counts.0)
 device_fails file start old new source_fault.Memory found counts same is other = absurd (other is)
 
+-- the device failed at the file that was opened last
+pub device_failed : (file : ℕ) (old new : History) (fault : SourceFault) (found : LoadFault)
+    → FailsAtOpened {T = Unit {0}} (Err fault) old new → found ≡ fault_of file fault → is_device found ≡ true
+    → new.failed ≡ old.opened
+device_failed file old new Device found counts is device = counts.1
+device_failed file old new source_fault.Memory found counts is device = absurd (false≢true (sym (ap is_device is) ∙ device))
+
+-- where a file was to be opened
+pub device_fails_to_open : {S : Type 0} (history : S → History) (file : ℕ) (name : List ℕ) (old new : S) (fault : SourceFault) (found : LoadFault)
+    → FailsAtName {T = Unit {0}} name (Err fault) (history old) (history new) → found ≡ fault_of file fault → found ≢ Memory
+    → FailsAt file (history old) (history new) found
+device_fails_to_open history file name old new Device found counts is other = (is, counts.0)
+device_fails_to_open history file name old new source_fault.Memory found counts is other = absurd (other is)
+
 -- the device failed at the file, counted from another count
-pub fails_from : (file start old new : ℕ) (fault : LoadFault) → start ≤ old → FailsAt file old new fault → FailsAt file start new fault
-fails_from file start old new fault up failed = grind (arith, inl, inr)
+pub fails_from : (file : ℕ) (start old new : History) (fault : LoadFault) → old.failures ≡ start.failures → FailsAt file old new fault
+    → FailsAt file start new fault
+fails_from file start old new fault same failed = (failed.0, rw (← same) failed.1)
 
 module _ {Held : Type 0} (takes : Held → Place → Held → Type 0) (refuses : Held → Place → Held → LoadFault → Type 0)
     (file limit : ℕ) (known : List FileText) (name : List ℕ) where
@@ -230,6 +227,13 @@ in_order known listed sorted named moved rising = record {
   rising = sorted_map string_bytes (λ one other. is_lt (slice_cmp nat_cmp one other)) sorted rising;
 }
 
+-- the name at a place
+slice_get_name : {A : Type 0} (name_of : A → List ℕ) (names : List A) (i : ℕ) (d : A) → i < length names
+    → slice_get (map name_of names) i ≡ Some (name_of (get_or names i d))
+slice_get_name name_of [] i d within = absurd (omega arith)
+slice_get_name name_of (x ∷ xs) zero d within = refl
+slice_get_name name_of (x ∷ xs) (suc i) d within = slice_get_name name_of xs i d (omega arith)
+
 -- the name at a place is that of a file of some kind where its own name is
 pub kind_at : {A : Type 0} (name_of : A → List ℕ) (names : List A) (i : ℕ) (d : A) (name : List ℕ) → i < length names → name ≡ name_of (get_or names i d)
     → has_kind_at (map name_of names) i ≡ is_some (file_kind_of name)
@@ -237,12 +241,32 @@ kind_at name_of [] i d name within is = grind arith
 kind_at name_of (x ∷ xs) zero d name within is = ap (λ one. is_some (file_kind_of one)) (sym is)
 kind_at name_of (x ∷ xs) (suc i) d name within is = kind_at name_of xs i d name (omega arith) is
 
-pub fails_at_read : (reads : ℕ → Bool) (file old new : ℕ) (fault : LoadFault)
+pub fails_at_read : (reads : ℕ → Bool) (file : ℕ) (old new : History) (fault : LoadFault)
     → (is_device fault ≡ true → FailsAt file old new fault) → (is_device fault ≡ true → reads file ≡ true)
     → FailsAtRead reads fault
 fails_at_read reads file old new fault failed kind = grind (arith, common_steps, nat_tests)
 
-pub fails_at_file : {X : Type 0} (file old middle new : ℕ) (fault : LoadFault) → middle ≡ old
+pub fails_at_file : {X : Type 0} (file : ℕ) (old middle new : History) (fault : LoadFault) → middle.failures ≡ old.failures
     → FailsAt file middle new fault ⊎ X → FailsAtFile old new fault ⊎ X
-fails_at_file file old middle new fault same (inl failed) = inl (file, subst (λ count. FailsAt file count new fault) same failed)
+fails_at_file file old middle new fault same (inl failed) = inl (file, fails_from file old middle new fault same failed)
 fails_at_file file old middle new fault same (inr stops) = inr stops
+
+-- the device failed at the file at hand, which is one of these names
+pub fails_at_one : {A : Type 0} (name_of : A → List ℕ) (names : List A) (file : ℕ) (d : A) (name : List ℕ) (old middle new : History)
+    (fault : LoadFault) → file < length names → name ≡ name_of (get_or names file d) → middle.failures ≡ old.failures
+    → FailsAt file middle new fault → IsToldAs new.failed name → FailsAtOneOf (map name_of names) old new fault
+fails_at_one name_of names file d name old middle new fault within is same failed told =
+    let from = fails_from file old middle new fault same failed in (
+      file,
+      omega (arith, length-map names name_of),
+      from.0,
+      from.1,
+      told_one new.failed told,
+    )
+  where
+    here : slice_get (map name_of names) file ≡ Some name
+    here = slice_get_name name_of names file d within ∙ ap Some (sym is)
+
+    told_one : (told : Option (List ℕ)) → IsToldAs told name → IfSome told (λ one. slice_get (map name_of names) file ≡ Some one)
+    told_one None said = tt
+    told_one (Some one) said = here ∙ ap Some (sym said)

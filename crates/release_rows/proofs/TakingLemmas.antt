@@ -11,7 +11,8 @@ use Rattle.rf2_rows.specs.declared.kind.FileKind.{FileKind}
 use Rattle.release_rows.specs.Files.{Place, first_line, later_line, no_line, places_from, places_of_file, places_of_lines}
 use Rattle.std.proofs.lemmas.Bool.{cases_Bool}
 use Rattle.release_rows.specs.Traversal.{StopsAt, TakesAll, next, taken}
-use Rattle.release_rows.specs.DeviceFaults.{FailsBelow, is_device}
+use Rattle.release_rows.specs.DeviceFaults.{FailsAtOneOf, ReadsWithin, is_device}
+use Rattle.release_files.specs.Source.{History}
 use Rattle.row_lists.specs.declared.fault.LoadFault.{LoadFault}
 
 -- places are taken behind others
@@ -158,14 +159,20 @@ pub at_told : {A : Type 0} (P : A → Type 0) (told : Option A) (known : A) → 
 at_told {A} P told known is said = subst (λ (some : Option A). IfSome some P) is said
 
 -- a failure that was counted later was counted since earlier
-pub fails_since : (count more old middle new : ℕ) (fault : LoadFault) → more ≡ count → old ≤ middle
-    → FailsBelow more middle new fault → FailsBelow count old new fault
-fails_since count more old middle new fault same before failed = grind (arith, common_steps, nat_tests)
+pub fails_since : (names more : List (List ℕ)) (old middle new : History) (fault : LoadFault) → more ≡ names → middle.failures ≡ old.failures
+    → FailsAtOneOf more middle new fault → FailsAtOneOf names old new fault
+fails_since names more old middle new fault same before failed =
+    rw (← same) (failed.0, failed.1, failed.2, rw (← before) failed.3, failed.4)
 
 -- where no failure is counted none is answered
-pub no_device : (count old : ℕ) (fault : LoadFault) → old + 1 < 2 ^ 64
-    → (is_device fault ≡ true → FailsBelow count old old fault) → is_device fault ≡ false
-no_device count old fault few fails = grind (arith, common_steps, nat_tests, cases_Bool)
+pub no_device : (names : List (List ℕ)) (old : History) (fault : LoadFault) → old.failures + 1 < 2 ^ 64
+    → (is_device fault ≡ true → FailsAtOneOf names old old fault) → is_device fault ≡ false
+no_device names old fault few fails = grind (arith, common_steps, nat_tests, cases_Bool)
+
+-- what is read in two goes is within one bound
+pub ReadsWithin-trans : (most : ℕ) (first middle last : History) → ReadsWithin most first middle → ReadsWithin most middle last
+    → ReadsWithin most first last
+ReadsWithin-trans most first middle last before after = (omega (arith, before.0, after.0), after.1 ∙ before.1)
 
 -- two things that are said of a fault
 pub if_both : {T E : Type 0} (P Q R : E → Type 0) (result : Result T E) → ((fault : E) → P fault → Q fault → R fault)

@@ -1,7 +1,7 @@
 -- Which rows of components that have several are chosen (Release File Specification, "effectiveTime"; an edition and the
 -- extensions on top of it are one list of files): of each component the one with the latest effective time, and of
 -- equal ones the first.
-use Rattle.std.specs.Prelude.{◌≡◌, ℕ, Bool, true, false, not, nat_lt, ◌==◌, ◌&&◌, ◌||◌, if◌then◌else◌, List, [], ◌∷◌, ◌++◌, Contains, filter, length, Option, None, Some}
+use Rattle.std.specs.Prelude.{◌≡◌, ℕ, Bool, true, false, not, nat_lt, ◌==◌, ◌&&◌, ◌||◌, List, [], ◌∷◌, ◌++◌, Contains, filter, length, Option, None, Some}
 use Rattle.std.specs.List.{list_any}
 use Rattle.rf2_rows.specs.Versions.{id_on, same_row, same_time, time_on}
 use Rattle.rf2_rows.specs.declared.kind.FileKind.{FileKind}

@@ -1,6 +1,7 @@
 -- Faults of a load by the file that they name, and failures of the device, which a source counts.
-use Rattle.std.specs.Prelude.{◌≡◌, ◌<◌, ℕ, Bool, true, false, ⊤, IfErr, IfSome, Option, None, Some, Result, Ok, Err}
-use Rattle.release_files.specs.Source.{IsRaised}
+use Rattle.std.specs.List.{slice_get}
+use Rattle.std.specs.Prelude.{◌≡◌, ◌<◌, ◌≤◌, ℕ, List, length, max, Bool, true, false, ⊤, IfErr, IfSome, Option, None, Some, Result, Ok, Err}
+use Rattle.release_files.specs.Source.{History, IsRaised}
 use Rattle.row_lists.specs.declared.fault.LoadFault.{LoadFault}
 use Rattle.row_lists.specs.declared.fault.LoadFault.TheVariants.{Conflict, Device, Header, Row, TooMany}
 
@@ -10,17 +11,28 @@ is_device (Device file) = true
 is_device other = false
 
 -- the count of failures rises only where a failure of the device is answered
-abbrev pub RaisesOnlyAtDevice : {T : Type 0} → Result T LoadFault → ℕ → ℕ → Type 0
-RaisesOnlyAtDevice (Ok done) old new = new ≡ old
-RaisesOnlyAtDevice (Err fault) old new = is_device fault ≡ false → new ≡ old
+abbrev pub RaisesOnlyAtDevice : {T : Type 0} → Result T LoadFault → History → History → Type 0
+RaisesOnlyAtDevice (Ok done) old new = new.failures ≡ old.failures
+RaisesOnlyAtDevice (Err fault) old new = is_device fault ≡ false → new.failures ≡ old.failures
 
--- the device failed at one of so many files, and this was counted
-abbrev pub FailsBelow : ℕ → ℕ → ℕ → LoadFault → Type 0
-FailsBelow count old new fault = (file : ℕ) × (file < count) × (fault ≡ Device (Some file)) × IsRaised old new
+-- the device failed at one of the files of these names: at that one which its source tells, if it tells any, and this was counted once
+abbrev pub FailsAtOneOf : List (List ℕ) → History → History → LoadFault → Type 0
+FailsAtOneOf names old new fault =
+    (file : ℕ) × (file < length names) × (fault ≡ Device (Some file)) × IsRaised old new
+    × IfSome new.failed (λ name. slice_get names file ≡ Some name)
 
--- where the device has failed, it was at one of so many files, and this was counted
-abbrev pub FailsOnlyBelow : {T : Type 0} → ℕ → Result T LoadFault → ℕ → ℕ → Type 0
-FailsOnlyBelow count result old new = IfErr result (λ fault. is_device fault ≡ true → FailsBelow count old new fault)
+-- where the device has failed, it was at one of the files of these names
+abbrev pub FailsOnlyAt : {T : Type 0} → List (List ℕ) → Result T LoadFault → History → History → Type 0
+FailsOnlyAt names result old new = IfErr result (λ fault. is_device fault ≡ true → FailsAtOneOf names old new fault)
+
+-- of no file more bytes than so many were taken between two openings, and the files were not listed again
+abbrev pub ReadsWithin : ℕ → History → History → Type 0
+ReadsWithin most old new = (new.most ≤ max old.most most) × (new.unlisted ≡ old.unlisted)
+
+-- the names of the files that are gone over, and how many bytes of each are read at most
+pub record AskedFiles : Type 0 where
+  pub names : List (List ℕ)
+  pub most : ℕ
 
 -- a file that has failed is one that is read
 abbrev pub FailsAtRead : (ℕ → Bool) → LoadFault → Type 0

@@ -1,17 +1,16 @@
 -- Going over files that are read from a source in pieces.
 use Rattle.std.specs.List.{slice_get}
 use Rattle.rf2_rows.specs.Files.{file_kind_of}
-use Rattle.std.specs.Prelude.{Bool, true, is_some, option_and_then, ◌≡◌, ◌≢◌, ◌⊎◌, ℕ, ◌+◌, IfErr, IfSome, List, [], length, map, take, IsPermutation, Option, None, Some, unwrap_or, Result, Ok, Err}
+use Rattle.std.specs.Prelude.{Bool, true, is_some, option_and_then, ◌≡◌, ◌≢◌, ◌⊎◌, ℕ, ◌+◌, IfErr, IfSome, List, [], map, take, IsPermutation, Option, None, Some, unwrap_or, Result, Ok, Err}
 use Rattle.std.specs.Cmp.Lexicographic.{slice_cmp}
 use Rattle.std.specs.Ordering.{nat_cmp}
 use Rattle.std.specs.List.Sorted.{IsSorted}
-use Rattle.release_files.specs.Held.{TakesWithin}
-use Rattle.release_files.specs.Source.{FileText, IsRaised, bytes_of}
+use Rattle.release_files.specs.Source.{FileText, History, IsRaised, bytes_of}
 use Rattle.release_files.specs.declared.source.SourceFault.{SourceFault}
 use Rattle.release_files.specs.declared.source.SourceFault.TheVariants as source
 use Rattle.release_rows.specs.Files.{Place}
-use Rattle.release_rows.specs.Traversal.{OfFiles, StopsAt, TakesAll}
-use Rattle.release_rows.specs.DeviceFaults.{FailsBelow, is_device}
+use Rattle.release_rows.specs.Traversal.{StopsAt, TakesAll}
+use Rattle.release_rows.specs.DeviceFaults.{FailsAtOneOf, is_device}
 use Rattle.row_lists.specs.declared.fault.LoadFault.{LoadFault}
 use Rattle.row_lists.specs.declared.fault.LoadFault.TheVariants.{Device, Memory}
 
@@ -32,27 +31,30 @@ pub record AreInOrder (known : List FileText) (names : List (List ℕ)) : Type 0
   pub same : IsPermutation (map (λ (file : FileText). file.name) known) names
   pub rising : IsSorted (slice_cmp nat_cmp) names
 
--- no names were listed: the device failed, or memory was refused
-abbrev pub IsUnlisted : {X : Type 0} → Result X LoadFault → List (List ℕ) → Type 0
-IsUnlisted (Ok loaded) names = ⊥
-IsUnlisted (Err fault) names = (names ≡ []) × ((fault ≡ Device None) ⊎ (fault ≡ Memory))
+-- no names were listed: the device failed, or memory was refused, where the files were to be listed
+abbrev pub IsUnlisted : {X : Type 0} → Result X LoadFault → List (List ℕ) → History → Type 0
+IsUnlisted (Ok loaded) names now = ⊥
+IsUnlisted (Err fault) names now = (names ≡ []) × (now.unlisted ≡ true) × ((fault ≡ Device None) ⊎ (fault ≡ Memory))
 
--- the device failed where the files were to be listed, and this was counted
-pub record FailsToList (old new : ℕ) (names : List (List ℕ)) (fault : LoadFault) : Type 0 where
+-- the device failed where the files were to be listed, and this was counted once
+pub record FailsToList (old new : History) (names : List (List ℕ)) (fault : LoadFault) : Type 0 where
   pub at_no_file : fault ≡ Device None
   pub no_names : names ≡ []
   pub raised : IsRaised old new
+  pub unlisted : new.unlisted ≡ true
 
--- where the device has failed this was counted, and it was to list the files, or to read one of these
-abbrev pub FailsAtFiles : {X T : Type 0} → (X → List ℕ) → List X → Result T LoadFault → ℕ → ℕ → Type 0
+-- where the device has failed this was counted once, and it was to list the files, or to read one of these
+abbrev pub FailsAtFiles : {X T : Type 0} → (X → List ℕ) → List X → Result T LoadFault → History → History → Type 0
 FailsAtFiles name files result old new =
-    IfErr result (λ fault. is_device fault ≡ true → FailsToList old new (map name files) fault ⊎ FailsBelow (length files) old new fault)
+    IfErr result (λ fault. is_device fault ≡ true → FailsToList old new (map name files) fault ⊎ FailsAtOneOf (map name files) old new fault)
 
 -- names were listed: those of the files, in byte order, if these are told; or none, since the device failed, and this was
--- counted, or memory was refused
-abbrev pub ListsNames : {T : Type 0} → Option (List FileText) → Result T LoadFault → List (List ℕ) → ℕ → ℕ → Type 0
-ListsNames told (Ok done) names old new = IfSome told (λ known. AreInOrder known names) × (new ≡ old)
-ListsNames told (Err fault) names old new = FailsToList old new names fault ⊎ (fault ≡ Memory) × (names ≡ []) × (new ≡ old)
+-- counted once, or memory was refused
+abbrev pub ListsNames : {T : Type 0} → Option (List FileText) → Result T LoadFault → List (List ℕ) → History → History → Type 0
+ListsNames told (Ok done) names old new = IfSome told (λ known. AreInOrder known names) × (new.failures ≡ old.failures)
+ListsNames told (Err fault) names old new =
+    FailsToList old new names fault
+    ⊎ (fault ≡ Memory) × (names ≡ []) × (new.unlisted ≡ true) × (new.failures ≡ old.failures)
 
 -- what a fault of a source that was to list its files is to a load
 abbrev pub listing_fault : SourceFault → LoadFault
@@ -64,17 +66,12 @@ abbrev pub fault_of : ℕ → SourceFault → LoadFault
 fault_of file source.Device = Device (Some file)
 fault_of file source.Memory = Memory
 
--- of the bytes that were left of a file no more than so many were taken, unless its source failed or memory was refused
-abbrev pub TakesAtMost : {T : Type 0} → ℕ → Result T LoadFault → Option (List ℕ) → Option (List ℕ) → Type 0
-TakesAtMost most (Ok done) before after = TakesWithin before after most 0
-TakesAtMost most (Err fault) before after = OfFiles fault (TakesWithin before after most 0)
-
 -- the device failed at the file, and this was counted
-abbrev pub FailsAt : ℕ → ℕ → ℕ → LoadFault → Type 0
+abbrev pub FailsAt : ℕ → History → History → LoadFault → Type 0
 FailsAt file old new fault = (fault ≡ Device (Some file)) × IsRaised old new
 
 -- the device failed at a file, and this was counted
-abbrev pub FailsAtFile : ℕ → ℕ → LoadFault → Type 0
+abbrev pub FailsAtFile : History → History → LoadFault → Type 0
 FailsAtFile old new fault = (file : ℕ) × FailsAt file old new fault
 
 -- places are taken in turn: all of them, or up to one that is refused, or up to where the device or memory fails

@@ -10,7 +10,8 @@ ghost use Rattle.release_rows.specs.inside.KeyedRows.{Covers};
 ghost use Rattle.release_rows.specs.inside.RowsInside.{kept_in};
 ghost use Rattle.release_rows.specs.inside.FirstPass.{AreChoicesAmong, AreChosenOfKept, HaveNoConflict, IsFirstBehind, IsFirstConflict, IsFirstOfKept};
 ghost use Rattle.release_rows.specs.Traversal.{FaultOf, OfFiles};
-ghost use Rattle.release_rows.specs.DeviceFaults.{FailsAtRead, FailsBelow, FailsOnlyBelow, FileIs, RaisesOnlyAtDevice, is_device as is_device_of};
+ghost use Rattle.release_rows.specs.DeviceFaults.{FailsAtOneOf, FailsAtRead, FailsOnlyAt, FileIs, RaisesOnlyAtDevice, ReadsWithin, is_device as is_device_of};
+ghost use Rattle.release_rows.specs.Pieces.{has_kind_at};
 
 use crate::comparing::Comparing;
 use crate::keys::RowKeys;
@@ -33,16 +34,17 @@ pub fn read_rows<P: PlaceSource>(
     limits: Limits,
 ) -> Result<ReadRows, LoadFault>
     requires total { row_total limits ≤ 68000000 }
-    requires some { 0 < P.file_count files.old }
+    requires some { 0 < length (P.asked files.old).names }
     ensures ok { IfSome (P.places files.old) (λ known. IfOk result (λ read. IsReadFrom limits known read.count (read_in read.lists))) }
     ensures err { FaultOf (P.places files.old) (HasFirstFault limits) result }
-    ensures device { FailsOnlyBelow (P.file_count files.old) result (P.failure_count files.old) (P.failure_count files.new) }
-    ensures failures { P.failure_count files.old ≤ P.failure_count files.new }
-    ensures calm { RaisesOnlyAtDevice result (P.failure_count files.old) (P.failure_count files.new) }
-    ensures kind { IfErr result (λ fault. FailsAtRead (P.is_read files.old) fault) }
-    ensures named { IfErr result (FileIs (λ file. file < P.file_count files.old)) }
+    ensures device { FailsOnlyAt (P.asked files.old).names result (P.history files.old) (P.history files.new) }
+    ensures failures { (P.history files.old).failures ≤ (P.history files.new).failures }
+    ensures calm { RaisesOnlyAtDevice result (P.history files.old) (P.history files.new) }
+    ensures bounded { ReadsWithin (P.asked files.old).most (P.history files.old) (P.history files.new) }
+    ensures kind { IfErr result (λ fault. FailsAtRead (has_kind_at (P.asked files.old).names) fault) }
+    ensures named { IfErr result (FileIs (λ file. file < length (P.asked files.old).names)) }
     ensures found { IfErr result (λ fault. fault ≢ LoadFault.NoConceptFile) }
-    ensures read { P.is_read files.new ≡ P.is_read files.old }
+    ensures asked { P.asked files.new ≡ P.asked files.old }
     ensures told { P.told files.new ≡ P.told files.old }
     ensures reference { P.reference files.new ≡ P.reference files.old }
 {
@@ -61,16 +63,17 @@ fn first_of_faults<P: PlaceSource>(
     keys: &RowKeys,
     fault: LoadFault,
 ) -> LoadFault
-    requires some { 0 < P.file_count files.old }
+    requires some { 0 < length (P.asked files.old).names }
     ensures first { OfFiles result (IfSome (P.places files.old) (λ known. IsFirstBehind keys.now fault known result)) }
-    ensures stays { is_device_of fault ≡ true → (result ≡ fault) × (P.failure_count files.new ≡ P.failure_count files.old) }
-    ensures device { is_device_of fault ≡ false → is_device_of result ≡ true → FailsBelow (P.file_count files.old) (P.failure_count files.old) (P.failure_count files.new) result }
-    ensures failures { P.failure_count files.old ≤ P.failure_count files.new }
-    ensures calm { is_device_of result ≡ false → P.failure_count files.new ≡ P.failure_count files.old }
-    ensures kind { is_device_of fault ≡ false → FailsAtRead (P.is_read files.old) result }
-    ensures named { FileIs (λ file. file < P.file_count files.old) fault → FileIs (λ file. file < P.file_count files.old) result }
+    ensures stays { is_device_of fault ≡ true → (result ≡ fault) × (P.history files.new ≡ P.history files.old) }
+    ensures device { is_device_of fault ≡ false → is_device_of result ≡ true → FailsAtOneOf (P.asked files.old).names (P.history files.old) (P.history files.new) result }
+    ensures failures { (P.history files.old).failures ≤ (P.history files.new).failures }
+    ensures calm { is_device_of result ≡ false → (P.history files.new).failures ≡ (P.history files.old).failures }
+    ensures bounded { ReadsWithin (P.asked files.old).most (P.history files.old) (P.history files.new) }
+    ensures kind { is_device_of fault ≡ false → FailsAtRead (has_kind_at (P.asked files.old).names) result }
+    ensures named { FileIs (λ file. file < length (P.asked files.old).names) fault → FileIs (λ file. file < length (P.asked files.old).names) result }
     ensures found { fault ≢ LoadFault.NoConceptFile → result ≢ LoadFault.NoConceptFile }
-    ensures read { P.is_read files.new ≡ P.is_read files.old }
+    ensures asked { P.asked files.new ≡ P.asked files.old }
     ensures told { P.told files.new ≡ P.told files.old }
     ensures reference { P.reference files.new ≡ P.reference files.old }
 {
@@ -92,16 +95,17 @@ fn choose_rows<P: PlaceSource>(
     files: &mut P,
     rows: Rows,
 ) -> Result<ReadRows, LoadFault>
-    requires some { 0 < P.file_count files.old }
+    requires some { 0 < length (P.asked files.old).names }
     ensures ok { IfSome (P.places files.old) (λ known. IfOk result (λ read. AreChosenOfKept (kept_in rows) known read.count (listed_in read.lists))) }
     ensures err { FaultOf (P.places files.old) (IsFirstOfKept (kept_in rows)) result }
-    ensures device { FailsOnlyBelow (P.file_count files.old) result (P.failure_count files.old) (P.failure_count files.new) }
-    ensures failures { P.failure_count files.old ≤ P.failure_count files.new }
-    ensures calm { RaisesOnlyAtDevice result (P.failure_count files.old) (P.failure_count files.new) }
-    ensures kind { IfErr result (λ fault. FailsAtRead (P.is_read files.old) fault) }
-    ensures named { IfErr result (FileIs (λ file. file < P.file_count files.old)) }
+    ensures device { FailsOnlyAt (P.asked files.old).names result (P.history files.old) (P.history files.new) }
+    ensures failures { (P.history files.old).failures ≤ (P.history files.new).failures }
+    ensures calm { RaisesOnlyAtDevice result (P.history files.old) (P.history files.new) }
+    ensures bounded { ReadsWithin (P.asked files.old).most (P.history files.old) (P.history files.new) }
+    ensures kind { IfErr result (λ fault. FailsAtRead (has_kind_at (P.asked files.old).names) fault) }
+    ensures named { IfErr result (FileIs (λ file. file < length (P.asked files.old).names)) }
     ensures found { IfErr result (λ fault. fault ≢ LoadFault.NoConceptFile) }
-    ensures read { P.is_read files.new ≡ P.is_read files.old }
+    ensures asked { P.asked files.new ≡ P.asked files.old }
     ensures told { P.told files.new ≡ P.told files.old }
     ensures reference { P.reference files.new ≡ P.reference files.old }
 {
@@ -152,18 +156,19 @@ fn choices_among<P: PlaceSource>(
     keys: &RowKeys,
 ) -> Result<Option<Vec<bool>>, LoadFault>
     requires few { length keys.now.keys < 2 ^ 32 }
-    requires some { 0 < P.file_count files.old }
+    requires some { 0 < length (P.asked files.old).names }
     ensures ok { IfSome (P.places files.old) (λ known. IfOk result (λ choices.
         MatchOption choices (AreSingle keys.now.keys) (λ choices. AreChoicesAmong keys.now known choices.items))) }
     ensures clear { IfSome (P.places files.old) (λ known. OnOk result (HaveNoConflict keys.now known)) }
     ensures err { FaultOf (P.places files.old) (IsFirstConflict keys.now) result }
-    ensures device { FailsOnlyBelow (P.file_count files.old) result (P.failure_count files.old) (P.failure_count files.new) }
-    ensures failures { P.failure_count files.old ≤ P.failure_count files.new }
-    ensures calm { RaisesOnlyAtDevice result (P.failure_count files.old) (P.failure_count files.new) }
-    ensures kind { IfErr result (λ fault. FailsAtRead (P.is_read files.old) fault) }
-    ensures named { IfErr result (FileIs (λ file. file < P.file_count files.old)) }
+    ensures device { FailsOnlyAt (P.asked files.old).names result (P.history files.old) (P.history files.new) }
+    ensures failures { (P.history files.old).failures ≤ (P.history files.new).failures }
+    ensures calm { RaisesOnlyAtDevice result (P.history files.old) (P.history files.new) }
+    ensures bounded { ReadsWithin (P.asked files.old).most (P.history files.old) (P.history files.new) }
+    ensures kind { IfErr result (λ fault. FailsAtRead (has_kind_at (P.asked files.old).names) fault) }
+    ensures named { IfErr result (FileIs (λ file. file < length (P.asked files.old).names)) }
     ensures found { IfErr result (λ fault. fault ≢ LoadFault.NoConceptFile) }
-    ensures read { P.is_read files.new ≡ P.is_read files.old }
+    ensures asked { P.asked files.new ≡ P.asked files.old }
     ensures told { P.told files.new ≡ P.told files.old }
     ensures reference { P.reference files.new ≡ P.reference files.old }
 {
@@ -189,16 +194,17 @@ fn compare<P: PlaceSource>(
     requires rising { IsStrictlyIncreasing repeated.items }
     requires few { length repeated.items < 2 ^ 32 }
     requires covers { Covers repeated.items keys.now.keys }
-    requires some { 0 < P.file_count files.old }
+    requires some { 0 < length (P.asked files.old).names }
     ensures ok { IfSome (P.places files.old) (λ known. IfOk result (λ chosen. AreChoicesAmong keys.now known chosen.items)) }
     ensures err { FaultOf (P.places files.old) (IsFirstConflict keys.now) result }
-    ensures device { FailsOnlyBelow (P.file_count files.old) result (P.failure_count files.old) (P.failure_count files.new) }
-    ensures failures { P.failure_count files.old ≤ P.failure_count files.new }
-    ensures calm { RaisesOnlyAtDevice result (P.failure_count files.old) (P.failure_count files.new) }
-    ensures kind { IfErr result (λ fault. FailsAtRead (P.is_read files.old) fault) }
-    ensures named { IfErr result (FileIs (λ file. file < P.file_count files.old)) }
+    ensures device { FailsOnlyAt (P.asked files.old).names result (P.history files.old) (P.history files.new) }
+    ensures failures { (P.history files.old).failures ≤ (P.history files.new).failures }
+    ensures calm { RaisesOnlyAtDevice result (P.history files.old) (P.history files.new) }
+    ensures bounded { ReadsWithin (P.asked files.old).most (P.history files.old) (P.history files.new) }
+    ensures kind { IfErr result (λ fault. FailsAtRead (has_kind_at (P.asked files.old).names) fault) }
+    ensures named { IfErr result (FileIs (λ file. file < length (P.asked files.old).names)) }
     ensures found { IfErr result (λ fault. fault ≢ LoadFault.NoConceptFile) }
-    ensures read { P.is_read files.new ≡ P.is_read files.old }
+    ensures asked { P.asked files.new ≡ P.asked files.old }
     ensures told { P.told files.new ≡ P.told files.old }
     ensures reference { P.reference files.new ≡ P.reference files.old }
 {

@@ -1,5 +1,5 @@
 //! The names of the files that a source lists.
-ghost use Rattle.std.specs.Prelude.{◌≡◌, map, string_bytes};
+ghost use Rattle.std.specs.Prelude.{◌≡◌, ◌≤◌, map, string_bytes};
 ghost use Rattle.std.specs.Cmp.Lexicographic.{slice_cmp};
 ghost use Rattle.std.specs.List.Sorted.{IsSorted};
 ghost use Rattle.std.specs.Ordering.{nat_cmp};
@@ -11,8 +11,9 @@ use row_lists::LoadFault;
 /// Leaves in `names` the names of the files that a source lists, in their byte order: the order in
 /// which they are to be read. Where the source fails, or memory is refused, there are none.
 pub fn list_names<S: FileSource>(source: &mut S, names: &mut Vec<String>) -> Result<(), LoadFault>
-    ensures listed { ListsNames (S.files source.old) result (map string_bytes names.new.items) (S.failure_count source.old) (S.failure_count source.new) }
+    ensures listed { ListsNames (S.files source.old) result (map string_bytes names.new.items) (S.history source.old) (S.history source.new) }
     ensures rising { IsSorted (slice_cmp nat_cmp) (map string_bytes names.new.items) }
+    ensures taken { (S.history source.new).most ≤ (S.history source.old).most }
     ensures files { S.files source.new ≡ S.files source.old }
 {
     names.clear();

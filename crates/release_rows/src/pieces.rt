@@ -1,14 +1,14 @@
 //! Going over the files of a release that a source reads in pieces, place by place.
 ghost use Rattle.rf2_rows.specs.Files.{file_kind_of};
 ghost use Rattle.std.specs.Prelude.{is_some, ◌≡◌, ◌≢◌, ◌⊎◌, ◌+◌, ◌^◌, ◌<◌, ◌≤◌, ℕ, true, IfErr, IfSome, List, OnOk, Some, length, map, string_bytes, take};
-ghost use Rattle.release_files.specs.Held.{reachable};
+ghost use Rattle.release_files.specs.Held.{ReadsOn, reachable};
 ghost use Rattle.release_files.specs.Lines.{lines_of};
 ghost use Rattle.release_files.specs.PieceLines.{lines_to_come};
-ghost use Rattle.release_files.specs.Source.{FileText};
+ghost use Rattle.release_files.specs.Source.{FileText, IsToldAs};
 ghost use Rattle.release_rows.specs.Files.{later_line, places_from, places_of_file, places_of_lines};
-ghost use Rattle.release_rows.specs.Pieces.{cut_file, has_kind_at, FailsAt, FailsAtFile, GoesOver, TakesAtMost, fault_of, listed, text_named};
+ghost use Rattle.release_rows.specs.Pieces.{cut_file, has_kind_at, FailsAt, FailsAtFile, GoesOver, fault_of, listed, text_named};
 ghost use Rattle.release_rows.specs.Traversal.{StopsAt, TakesAll};
-ghost use Rattle.release_rows.specs.DeviceFaults.{FailsAtRead, FailsOnlyBelow, FileIs, RaisesOnlyAtDevice, is_device};
+ghost use Rattle.release_rows.specs.DeviceFaults.{FailsAtRead, FailsOnlyAt, FileIs, RaisesOnlyAtDevice, ReadsWithin, is_device};
 
 use crate::places::{Met, PlaceSource, PlaceTaker};
 use first_met::Seed;
@@ -28,21 +28,19 @@ pub struct PiecePlaces<'a, S: FileSource> {
 }
 
 impl<'a, S: FileSource> PlaceSource for PiecePlaces<'a, S> {
-    ghost use Rattle.std.specs.Prelude.{length, map, option_map, string_bytes};
+    ghost use Rattle.std.specs.Prelude.{◌+◌, map, option_map, string_bytes};
     ghost use Rattle.release_rows.specs.Files.{places_from};
-    ghost use Rattle.release_rows.specs.Pieces.{cut_file, has_kind_at, listed};
+    ghost use Rattle.release_rows.specs.Pieces.{cut_file, listed};
 
     ghost places = { λ held. option_map (λ known. places_from 0 (map (cut_file held.byte_limit) (listed known (map string_bytes held.names.now)))) (S.files held.source.now) };
 
-    ghost file_count = { λ held. length held.names.now };
+    ghost asked = { λ held. record { names = map string_bytes held.names.now; most = held.byte_limit + 1 } };
 
-    ghost failure_count = { λ held. S.failure_count held.source.now };
+    ghost history = { λ held. S.history held.source.now };
 
     ghost reference = { λ held. held.source.ghost_name };
 
     ghost told = { λ held. S.files held.source.now };
-
-    ghost is_read = { λ held. has_kind_at (map string_bytes held.names.now) };
 
     fn last_file(&self) -> usize {
         self.names.len().saturating_sub(1)
@@ -74,15 +72,16 @@ fn take_pieces<S: FileSource, T: PlaceTaker>(
         OnOk result (TakesAll T.takes taker.old (places_from 0 (map (cut_file byte_limit) (listed known (map string_bytes names.now)))) taker.new)) }
     ensures err { IfSome (S.files source.old) (λ known.
         IfErr result (λ fault. fault ≢ LoadFault.Memory
-        → FailsAtFile (S.failure_count source.old) (S.failure_count source.new) fault
+        → FailsAtFile (S.history source.old) (S.history source.new) fault
         ⊎ StopsAt T.takes T.refuses taker.old (places_from 0 (map (cut_file byte_limit) (listed known (map string_bytes names.now)))) taker.new fault)) }
-    ensures device { FailsOnlyBelow (length names.now) result (S.failure_count source.old) (S.failure_count source.new) }
+    ensures device { FailsOnlyAt (map string_bytes names.now) result (S.history source.old) (S.history source.new) }
+    ensures bounded { ReadsWithin (byte_limit + 1) (S.history source.old) (S.history source.new) }
     ensures kind { IfErr result (λ fault. FailsAtRead (has_kind_at (map string_bytes names.now)) fault) }
     ensures named { IfErr result (FileIs (λ file. file < length names.now)) }
     ensures found { IfErr result (λ fault. fault ≢ LoadFault.NoConceptFile) }
     ensures files { S.files source.new ≡ S.files source.old }
-    ensures failures { S.failure_count source.old ≤ S.failure_count source.new }
-    ensures calm { RaisesOnlyAtDevice result (S.failure_count source.old) (S.failure_count source.new) }
+    ensures failures { (S.history source.old).failures ≤ (S.history source.new).failures }
+    ensures calm { RaisesOnlyAtDevice result (S.history source.old) (S.history source.new) }
 {
     for (file, name) in names.iter().enumerate() {
         match take_name(alloc, file, name.as_str(), source, byte_limit, taker) {
@@ -103,15 +102,17 @@ fn take_name<S: FileSource, T: PlaceTaker>(
     taker: &mut T,
 ) -> Result<(), LoadFault>
     ensures goes { (known : List FileText) → S.files source.old ≡ Some known
-        → GoesOver T.takes T.refuses (FailsAt file (S.failure_count source.old) (S.failure_count source.new))
+        → GoesOver T.takes T.refuses (FailsAt file (S.history source.old) (S.history source.new))
         taker.old (places_of_file file (cut_file byte_limit (text_named known name.now))) result taker.new }
-    ensures device { IfErr result (λ fault. is_device fault ≡ true → FailsAt file (S.failure_count source.old) (S.failure_count source.new) fault) }
+    ensures device { IfErr result (λ fault. is_device fault ≡ true → FailsAt file (S.history source.old) (S.history source.new) fault) }
+    ensures failed { IfErr result (λ fault. is_device fault ≡ true → IsToldAs (S.history source.new).failed name.now) }
+    ensures bounded { ReadsWithin (byte_limit + 1) (S.history source.old) (S.history source.new) }
     ensures kind { IfErr result (λ fault. is_device fault ≡ true → is_some (file_kind_of name.now) ≡ true) }
     ensures named { IfErr result (FileIs (λ at. at ≡ file)) }
     ensures found { IfErr result (λ fault. fault ≢ LoadFault.NoConceptFile) }
     ensures files { S.files source.new ≡ S.files source.old }
-    ensures failures { S.failure_count source.old ≤ S.failure_count source.new }
-    ensures calm { RaisesOnlyAtDevice result (S.failure_count source.old) (S.failure_count source.new) }
+    ensures failures { (S.history source.old).failures ≤ (S.history source.new).failures }
+    ensures calm { RaisesOnlyAtDevice result (S.history source.old) (S.history source.new) }
 {
     match file_kind(name) {
         Some(kind) => match source.open(name) {
@@ -132,15 +133,16 @@ fn take_opened<S: FileSource, T: PlaceTaker>(
     taker: &mut T,
 ) -> Result<(), LoadFault>
     ensures goes { (bytes : List ℕ) → S.rest source.old ≡ Some bytes → length bytes < 2 ^ 64
-        → GoesOver T.takes T.refuses (FailsAt file (S.failure_count source.old) (S.failure_count source.new))
+        → GoesOver T.takes T.refuses (FailsAt file (S.history source.old) (S.history source.new))
         taker.old (places_of_lines file kind (lines_of (take (byte_limit + 1) bytes))) result taker.new }
-    ensures bounded { TakesAtMost (byte_limit + 1) result (S.rest source.old) (S.rest source.new) }
-    ensures device { IfErr result (λ fault. is_device fault ≡ true → FailsAt file (S.failure_count source.old) (S.failure_count source.new) fault) }
+    ensures bounded { ReadsOn (S.history source.old) (S.history source.new) (byte_limit + 1) 0 }
+    ensures failed { IfErr result (λ fault. is_device fault ≡ true → (S.history source.new).failed ≡ (S.history source.old).opened) }
+    ensures device { IfErr result (λ fault. is_device fault ≡ true → FailsAt file (S.history source.old) (S.history source.new) fault) }
     ensures named { IfErr result (FileIs (λ at. at ≡ file)) }
     ensures found { IfErr result (λ fault. fault ≢ LoadFault.NoConceptFile) }
     ensures files { S.files source.new ≡ S.files source.old }
-    ensures failures { S.failure_count source.old ≤ S.failure_count source.new }
-    ensures calm { RaisesOnlyAtDevice result (S.failure_count source.old) (S.failure_count source.new) }
+    ensures failures { (S.history source.old).failures ≤ (S.history source.new).failures }
+    ensures calm { RaisesOnlyAtDevice result (S.history source.old) (S.history source.new) }
 {
     let limit = byte_limit.saturating_add(1);
     let mut lines = PieceLines::within(alloc, limit);
@@ -167,15 +169,16 @@ fn take_later<S: FileSource, T: PlaceTaker>(
     taker: &mut T,
 ) -> Result<(), LoadFault>
     ensures goes { (rest : List ℕ) → reachable lines.held.left (S.rest source.old) ≡ Some rest → length (lines_to_come lines rest) < turns
-        → GoesOver T.takes T.refuses (FailsAt file (S.failure_count source.old) (S.failure_count source.new))
+        → GoesOver T.takes T.refuses (FailsAt file (S.history source.old) (S.history source.new))
         taker.old (map (later_line file kind) (lines_to_come lines rest)) result taker.new }
-    ensures bounded { TakesAtMost lines.held.left result (S.rest source.old) (S.rest source.new) }
-    ensures device { IfErr result (λ fault. is_device fault ≡ true → FailsAt file (S.failure_count source.old) (S.failure_count source.new) fault) }
+    ensures bounded { ReadsOn (S.history source.old) (S.history source.new) lines.held.left 0 }
+    ensures failed { IfErr result (λ fault. is_device fault ≡ true → (S.history source.new).failed ≡ (S.history source.old).opened) }
+    ensures device { IfErr result (λ fault. is_device fault ≡ true → FailsAt file (S.history source.old) (S.history source.new) fault) }
     ensures named { IfErr result (FileIs (λ at. at ≡ file)) }
     ensures found { IfErr result (λ fault. fault ≢ LoadFault.NoConceptFile) }
     ensures files { S.files source.new ≡ S.files source.old }
-    ensures failures { S.failure_count source.old ≤ S.failure_count source.new }
-    ensures calm { RaisesOnlyAtDevice result (S.failure_count source.old) (S.failure_count source.new) }
+    ensures failures { (S.history source.old).failures ≤ (S.history source.new).failures }
+    ensures calm { RaisesOnlyAtDevice result (S.history source.old) (S.history source.new) }
 {
     for turn in 0..turns {
         match lines.next_line(source) {

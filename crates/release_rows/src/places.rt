@@ -47,34 +47,32 @@ pub trait PlaceTaker {
 
 /// The files of a release as places, which can be gone over more than once.
 pub trait PlaceSource {
-    ghost use Rattle.std.specs.Prelude.{◌≡◌, ◌≢◌, ◌<◌, ◌≤◌, ◌-◌, ℕ, Bool, List, Option, IfErr, IfSome, OnOk};
-    ghost use Rattle.release_files.specs.Source.{FileText};
+    ghost use Rattle.std.specs.Prelude.{◌≡◌, ◌≢◌, ◌<◌, ◌≤◌, ◌-◌, ℕ, List, Option, IfErr, IfSome, OnOk, length};
+    ghost use Rattle.release_files.specs.Source.{FileText, History};
     ghost use Rattle.release_rows.specs.Files.{Place};
     ghost use Rattle.release_rows.specs.Traversal.{FaultOf, StopsAt, TakesAll};
-    ghost use Rattle.release_rows.specs.DeviceFaults.{FailsAtRead, FailsOnlyBelow, FileIs, RaisesOnlyAtDevice};
+    ghost use Rattle.release_rows.specs.DeviceFaults.{AskedFiles, FailsAtRead, FailsOnlyAt, FileIs, RaisesOnlyAtDevice, ReadsWithin};
+    ghost use Rattle.release_rows.specs.Pieces.{has_kind_at};
     ghost use Rattle.row_lists.specs.declared.fault.LoadFault.{LoadFault};
 
     /// The places in turn; `None` where nothing is claimed of them.
     ghost places: { Self → Option (List Place) };
 
-    /// How many files there are.
-    ghost file_count: { Self → ℕ };
+    /// The names of the files, and how many bytes of each are read at most, which stay the same.
+    ghost asked: { Self → AskedFiles };
 
-    /// How often the device has failed.
-    ghost failure_count: { Self → ℕ };
+    /// What was done with the source that is read through.
+    ghost history: { Self → History };
 
     /// What the files are read through, which stays the same.
     ghost reference: { Self → ℕ };
-
-    /// Whether the file at a place is read.
-    ghost is_read: { Self → ℕ → Bool };
 
     /// What the source that is read through tells of its files, which stay the same.
     ghost told: { Self → Option (List FileText) };
 
     /// The place of the last file, or 0 where there is none.
     fn last_file(&self) -> usize
-        ensures { result ≡ file_count self.now - 1 };
+        ensures { result ≡ length (asked self.now).names - 1 };
 
     /// The seed of the hashes over what the files hold.
     fn seed(&self) -> Seed;
@@ -83,15 +81,15 @@ pub trait PlaceSource {
     fn take_places<T: PlaceTaker>(&mut self, taker: &mut T) -> Result<(), LoadFault>
         ensures ok { IfSome (places self.old) (λ known. OnOk result (TakesAll T.takes taker.old known taker.new)) }
         ensures err { FaultOf (places self.old) (λ known fault. StopsAt T.takes T.refuses taker.old known taker.new fault) result }
-        ensures device { FailsOnlyBelow (file_count self.old) result (failure_count self.old) (failure_count self.new) }
+        ensures device { FailsOnlyAt (asked self.old).names result (history self.old) (history self.new) }
         ensures places { places self.new ≡ places self.old }
-        ensures files { file_count self.new ≡ file_count self.old }
-        ensures failures { failure_count self.old ≤ failure_count self.new }
-        ensures calm { RaisesOnlyAtDevice result (failure_count self.old) (failure_count self.new) }
-        ensures kind { IfErr result (λ fault. FailsAtRead (is_read self.old) fault) }
-        ensures named { IfErr result (FileIs (λ file. file < file_count self.old)) }
+        ensures failures { (history self.old).failures ≤ (history self.new).failures }
+        ensures calm { RaisesOnlyAtDevice result (history self.old) (history self.new) }
+        ensures bounded { ReadsWithin (asked self.old).most (history self.old) (history self.new) }
+        ensures kind { IfErr result (λ fault. FailsAtRead (has_kind_at (asked self.old).names) fault) }
+        ensures named { IfErr result (FileIs (λ file. file < length (asked self.old).names)) }
         ensures found { IfErr result (λ fault. fault ≢ LoadFault.NoConceptFile) }
-        ensures read { is_read self.new ≡ is_read self.old }
+        ensures asked { asked self.new ≡ asked self.old }
         ensures told { told self.new ≡ told self.old }
         ensures reference { reference self.new ≡ reference self.old };
 }
@@ -103,21 +101,20 @@ pub struct MemoryPlaces<'a> {
 }
 
 impl<'a> PlaceSource for MemoryPlaces<'a> {
-    ghost use Rattle.std.specs.Prelude.{None, Some, true, length, map};
+    ghost use Rattle.std.specs.Prelude.{None, Some, map};
+    ghost use Rattle.release_files.specs.MemorySource.{nothing_done};
     ghost use Rattle.release_files.specs.Source.{file_text};
     ghost use Rattle.release_rows.specs.Files.{places_from};
 
     ghost places = { λ held. Some (places_from 0 (map file_text held.files.now)) };
 
-    ghost file_count = { λ held. length held.files.now };
+    ghost asked = { λ held. record { names = map (λ file. file.name.now) held.files.now; most = 0 } };
 
-    ghost failure_count = { λ _. 0 };
+    ghost history = { λ _. nothing_done };
 
     ghost reference = { λ _. 0 };
 
     ghost told = { λ _. None };
-
-    ghost is_read = { λ _ _. true };
 
     fn last_file(&self) -> usize {
         self.files.len().saturating_sub(1)

@@ -27,8 +27,8 @@ const SAMPLE: [Around<'static>; 10] = [
     [&[], &[0, 1, 2, 3, 4, 5, 6, 7, 8], &[], &[0, 4, 5, 6, 8]],
 ];
 
-// How many concepts are in the chain.
-const CHAIN: u32 = 300;
+// How many concepts are in the chain: their lists have 204,480 ancestors.
+const CHAIN: u32 = 640;
 
 // A row that says once more that D is a B, before the last row.
 const D_IS_B: &[u8] =
@@ -189,7 +189,7 @@ fn lists_a_chain(rt: HostRuntime) -> Result<(), Fail> {
     let files = files_of(concepts.as_slice(), rows.as_slice());
     let numbers: Vec<u32> = (0..CHAIN).collect(alloc)?;
     let wants = arounds_in_a_chain(alloc, numbers.as_slice())?;
-    assert_hierarchy(&rt, alloc, &files, 299, wants.as_slice())?;
+    assert_hierarchy(&rt, alloc, &files, 639, wants.as_slice())?;
     Ok(())
 }
 

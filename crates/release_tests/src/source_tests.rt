@@ -1,8 +1,9 @@
 //! Loads of the sample release from a source that reads it in pieces, and fails.
 use crate::load_tests::sample;
 use release_files::{MemoryFiles, NamedBytes};
+use rf2_rows::{FileKind, header};
 use snapshot::{Limits, LoadFault, LoadSnapshot, Report, Snapshot};
-use std::alloc::Global;
+use std::alloc::{AllocError, Global};
 use std::process::Abort;
 use std::test::Fail;
 
@@ -60,7 +61,39 @@ fn loads_in_pieces(rt: HostRuntime) -> Result<(), Fail> {
     Ok(())
 }
 
-// How many bytes a source that fails reads at once.
+// The files of the sample, and so many more of a header alone.
+fn with_headers(alloc: Global, count: usize) -> Result<Vec<NamedBytes<'static>>, AllocError> {
+    let mut files = Vec::from_array(alloc, sample())?;
+    for _ in 0..count {
+        files.push(NamedBytes {
+            name: "der2_Refset_SimpleSnapshot_INT_20240102.txt",
+            bytes: header(FileKind::Member).as_bytes(),
+        })?;
+    }
+    Ok(files)
+}
+
+// What the release of some files has, and how many names are left.
+fn report_in_pieces(alloc: Global, files: &[NamedBytes<'_>]) -> Result<(Report, usize), LoadFault> {
+    let mut source = MemoryFiles::new(alloc, files, PIECE, 0);
+    let mut names = Vec::new(alloc);
+    let snapshot = Snapshot::load_from(alloc, &mut source, &mut names, "en", Limits::standard())?;
+    Ok((snapshot.report(), names.len()))
+}
+
+// Thousands of files have their memory, where there is some.
+#[test]
+fn loads_thousands_of_files(rt: HostRuntime) -> Result<(), Fail> {
+    let files = with_headers(rt.alloc(), 5_000)?;
+    let wanted = Report {
+        files: 5_005,
+        ..SAMPLE
+    };
+    assert!(rt; report_in_pieces(rt.alloc(), &files) == Ok((wanted, 5_005)));
+    Ok(())
+}
+
+// How many bytes a source reads at once, where it is not asked for others.
 const PIECE: usize = 1_000;
 
 // Which of the sample's files is at hand at a call of its source, counted from 1, if there are so many calls.

@@ -2,7 +2,7 @@
 use crate::plans::plan_of;
 use constraint_tree::Cardinality;
 use rewrites::{ApplyFault, Rule, Step, apply, apply_all};
-use set_algebra::{ConceptPlan, ValueTest};
+use set_algebra::{Choice, ConceptPlan, ValueTest};
 use std::alloc::{AllocError, Global};
 use std::process::Abort;
 
@@ -200,6 +200,7 @@ fn twice(alloc: Global) -> Result<ConceptPlan, AllocError> {
         count: Cardinality { min: 2, max: None },
         types,
         test: ValueTest::Within(values),
+        choice: Choice::ByType,
     })
 }
 

@@ -11,7 +11,7 @@ ghost use Rattle.rewrites.specs.Rules.{both_groups};
 use crate::fault::RuleFault;
 use constraint_tree::{Cardinality, Operator};
 use set_algebra::copy::{boxed, boxed_unit};
-use set_algebra::{ConceptPlan, UnitPlan, ValueTest};
+use set_algebra::{Choice, ConceptPlan, UnitPlan, ValueTest};
 use std::alloc::{AllocError, Global};
 
 // What a rule answers that makes this of a plan.
@@ -107,6 +107,7 @@ pub(crate) fn pairs(
         count,
         types: boxed(alloc, types)?,
         test: test.copy(alloc)?,
+        choice: Choice::ByType,
     })
 }
 
@@ -135,6 +136,7 @@ pub(crate) fn unit_pairs(
         count,
         types: boxed(alloc, types)?,
         test: test.copy(alloc)?,
+        choice: Choice::ByType,
     })
 }
 

@@ -13,7 +13,7 @@ use crate::made::{pairs, with_last};
 use constraint_tree::Cardinality;
 use set_algebra::copy::boxed;
 use set_algebra::views::{or_of, pairs_of, within_of};
-use set_algebra::{ConceptPlan, ValueTest};
+use set_algebra::{Choice, ConceptPlan, ValueTest};
 use std::alloc::{AllocError, Global};
 
 #[tactic(auto, using(set_algebra::proofs::PlanLemmas::plans_of_items))]
@@ -90,5 +90,6 @@ fn pairs_within(
         count,
         types: boxed(alloc, types)?,
         test: ValueTest::Within(boxed(alloc, operand)?),
+        choice: Choice::ByType,
     })
 }

@@ -59,6 +59,7 @@ fn without_braces(plan: ConceptPlan) -> ConceptPlan
                     count: some,
                     types,
                     test,
+                    choice,
                 } => {
                     if asks_some(some) {
                         return ConceptPlan::Pairs {
@@ -66,12 +67,14 @@ fn without_braces(plan: ConceptPlan) -> ConceptPlan
                             count,
                             types,
                             test,
+                            choice,
                         };
                     }
                     *units = UnitPlan::Pairs {
                         count: some,
                         types,
                         test,
+                        choice,
                     };
                     ConceptPlan::Units { count, units }
                 }

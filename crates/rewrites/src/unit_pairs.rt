@@ -15,7 +15,7 @@ use crate::made::{both_units, given_units, minus_units, unit_in_box, unit_pairs,
 use constraint_tree::Cardinality;
 use set_algebra::copy::boxed;
 use set_algebra::views::{or_of, unit_pairs_of, within_of};
-use set_algebra::{ConceptPlan, UnitPlan, ValueTest};
+use set_algebra::{Choice, ConceptPlan, UnitPlan, ValueTest};
 use std::alloc::{AllocError, Global};
 
 #[tactic(auto, using(set_algebra::proofs::PlanLemmas::plans_of_items))]
@@ -88,6 +88,7 @@ fn pairs_within(
         count,
         types: boxed(alloc, types)?,
         test: ValueTest::Within(boxed(alloc, operand)?),
+        choice: Choice::ByType,
     })
 }
 

@@ -4,6 +4,7 @@ pub mod LoweredLists
 pub mod LoweringLemmas
 pub mod MeaningLemmas
 pub mod NodeLemmas
+pub mod PhysicalLemmas
 pub mod PlaceLemmas
 pub mod PlanLemmas
 pub mod SameLemmas

@@ -4,6 +4,7 @@ pub mod EqualLaws
 pub mod inside
 pub mod Lowering
 pub mod Meaning
+pub mod Physical
 pub mod Places
 pub mod Plan
 pub mod WorkedPlans

@@ -71,7 +71,7 @@ abbrev mutual
   plan_of (concept_plan.Or' shape parts) = or_plan (row_of_plans parts)
   plan_of (concept_plan.Minus' pointer first other second) = minus_plan (plan_of first) (plan_of second)
   plan_of (concept_plan.Values' pointer start shape names) = values_plan (plan_of start) (row_of_plans names)
-  plan_of (concept_plan.Pairs' back count pointer types test) = pairs_plan back count (plan_of types) (test_plan_of test)
+  plan_of (concept_plan.Pairs' back count pointer types test choice) = pairs_plan back count (plan_of types) (test_plan_of test)
   plan_of (concept_plan.Units' count pointer units) = units_plan count (unit_plan_of units)
 
   pub row_of_plans : {size : _} → Row_of-ConceptPlan size → Plans
@@ -84,7 +84,7 @@ abbrev mutual
   unit_plan_of (unit_plan.And' shape parts) = and_units (row_of_units parts)
   unit_plan_of (unit_plan.Or' shape parts) = or_units (row_of_units parts)
   unit_plan_of (unit_plan.Minus' pointer first other second) = minus_units (unit_plan_of first) (unit_plan_of second)
-  unit_plan_of (unit_plan.Pairs' count pointer types test) = pairs_units count (plan_of types) (test_plan_of test)
+  unit_plan_of (unit_plan.Pairs' count pointer types test choice) = pairs_units count (plan_of types) (test_plan_of test)
 
   pub row_of_units : {size : _} → Row_of-UnitPlan size → PlansOfUnits
   row_of_units end_of-UnitPlan = no_unit_plans

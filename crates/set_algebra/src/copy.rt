@@ -35,11 +35,13 @@ impl ConceptPlan {
                 count,
                 types,
                 test,
+                choice,
             } => Ok(ConceptPlan::Pairs {
                 back: *back,
                 count: *count,
                 types: boxed(alloc, types)?,
                 test: test.copy(alloc)?,
+                choice: *choice,
             }),
             ConceptPlan::Units { count, units } => Ok(ConceptPlan::Units {
                 count: *count,
@@ -64,10 +66,16 @@ impl UnitPlan {
             UnitPlan::Minus(first, second) => {
                 UnitPlan::Minus(boxed_unit(alloc, first)?, boxed_unit(alloc, second)?)
             }
-            UnitPlan::Pairs { count, types, test } => UnitPlan::Pairs {
+            UnitPlan::Pairs {
+                count,
+                types,
+                test,
+                choice,
+            } => UnitPlan::Pairs {
                 count: *count,
                 types: boxed(alloc, types)?,
                 test: test.copy(alloc)?,
+                choice: *choice,
             },
         })
     }

@@ -75,12 +75,14 @@ fn same(one: &ConceptPlan, other: &ConceptPlan) -> bool
                 count,
                 types,
                 test,
+                ..
             },
             ConceptPlan::Pairs {
                 back: other_back,
                 count: other_count,
                 types: others,
                 test: other,
+                ..
             },
         ) => *back == *other_back && same_pairs(count, types, test, other_count, others, other),
         (
@@ -172,11 +174,17 @@ fn same_unit(one: &UnitPlan, other: &UnitPlan) -> bool
             same_unit_minus(first, second, other_first, other_second)
         }
         (
-            UnitPlan::Pairs { count, types, test },
+            UnitPlan::Pairs {
+                count,
+                types,
+                test,
+                ..
+            },
             UnitPlan::Pairs {
                 count: other_count,
                 types: others,
                 test: other,
+                ..
             },
         ) => same_pairs(count, types, test, other_count, others, other),
         _ => false,

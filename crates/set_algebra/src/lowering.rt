@@ -7,6 +7,7 @@ ghost use Rattle.set_algebra.specs.Lowering.{lowered, lowered_trees, lowered_ref
 ghost use Rattle.set_algebra.specs.Meaning.{means};
 ghost use Rattle.set_algebra.specs.Plan.{plan_of, plans_of, unit_plan_of, unit_plans_of, test_plan_of};
 
+use crate::choice::Choice;
 use crate::plan::{ConceptPlan, UnitPlan, ValueTest};
 use constraint_tree::{Attribute, AttributeSet, Constraint, Refinement, Test};
 use std::alloc::{AllocError, Global};
@@ -86,6 +87,7 @@ fn satisfying(alloc: Global, refinement: &Refinement) -> Result<ConceptPlan, All
             count: attribute.count,
             types: boxed(alloc, &attribute.name)?,
             test: value_test(alloc, &attribute.test)?,
+            choice: Choice::ByType,
         }),
         Refinement::Group(count, set) => Ok(ConceptPlan::Units {
             count: *count,
@@ -119,6 +121,7 @@ fn groups(alloc: Global, set: &AttributeSet) -> Result<UnitPlan, AllocError>
             count: attribute.count,
             types: boxed(alloc, &attribute.name)?,
             test: value_test(alloc, &attribute.test)?,
+            choice: Choice::ByType,
         }),
         AttributeSet::And(parts) => Ok(UnitPlan::And(each_groups(alloc, parts)?)),
         AttributeSet::Or(parts) => Ok(UnitPlan::Or(each_groups(alloc, parts)?)),

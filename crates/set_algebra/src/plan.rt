@@ -1,4 +1,5 @@
 //! The plan of a query.
+use crate::choice::Choice;
 use constraint_tree::{Cardinality, Compare, Operator};
 use numerals::Decimal;
 
@@ -38,6 +39,8 @@ pub enum ConceptPlan {
         types: Box<ConceptPlan>,
         /// What the value must pass.
         test: ValueTest,
+        /// Which rows it is answered from. It is no part of what the plan means, and `==` does not look at it.
+        choice: Choice,
     },
     /// The concepts so many of whose groups are in a set of groups (Release File Specification,
     /// "Relationship file", relationshipGroup).
@@ -73,6 +76,8 @@ pub enum UnitPlan {
         types: Box<ConceptPlan>,
         /// What the value must pass.
         test: ValueTest,
+        /// Which rows it is answered from. It is no part of what the plan means, and `==` does not look at it.
+        choice: Choice,
     },
 }
 

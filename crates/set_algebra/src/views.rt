@@ -66,6 +66,7 @@ pub fn pairs_of(
             count,
             types,
             test,
+            ..
         } => Ok((*back, *count, types, test)),
         _ => Err(OtherForm),
     }
@@ -118,7 +119,12 @@ pub fn unit_pairs_of(plan: &UnitPlan) -> Result<(Cardinality, &ConceptPlan, &Val
     ensures { MatchResult result (λ pairs. unit_plan_of plan.now ≡ pairs_units pairs.0 (plan_of pairs.1.now) (test_plan_of pairs.2.now)) (λ _. group_pairs_parts (unit_plan_of plan.now) ≡ None) }
 {
     match plan {
-        UnitPlan::Pairs { count, types, test } => Ok((*count, types, test)),
+        UnitPlan::Pairs {
+            count,
+            types,
+            test,
+            ..
+        } => Ok((*count, types, test)),
         _ => Err(OtherForm),
     }
 }

@@ -1,5 +1,6 @@
 -- The faults of what is made of the rows that were read.
 use Rattle.std.proofs.Common.{ℕ, Bool, ◌≡◌, ◌≢◌, List, Option, None, Some, Result, Ok, Err, arith, false, refl}
+use Rattle.release_files.specs.Source.{History}
 use Rattle.row_lists.specs.ReleaseLists.{ReleaseLists}
 use Rattle.row_lists.specs.declared.fault.LoadFault.{LoadFault}
 use Rattle.row_lists.specs.declared.fault.LoadFault.TheVariants.{Cycle, Memory, NoConceptFile}
@@ -30,7 +31,7 @@ finished-own language files count listed fault said =
     cycle-own fault (contents_from language files count listed) (least_cyclic (release_from listed)) said
 
 -- where the count of failures stays the same nothing more is to be said of it
-pub raised_by_none : {T : Type 0} {old new : ℕ} (result : Result T LoadFault)
-    → new ≡ old → RaisesOnlyAtDevice result old new
-raised_by_none (Ok done) same = same
-raised_by_none (Err fault) same = λ other. same
+pub raised_by_none : {T : Type 0} (old new : History) (result : Result T LoadFault)
+    → new.failures ≡ old.failures → RaisesOnlyAtDevice result old new
+raised_by_none old new (Ok done) same = same
+raised_by_none old new (Err fault) same = λ other. same

@@ -1,5 +1,5 @@
 //! Loading a release: its files are read, and what the rows that count make is held.
-ghost use Rattle.std.specs.Prelude.{◌≡◌, ◌≢◌, ◌↔◌, ◌<◌, ◌≤◌, ◌⊎◌, ℕ, Err, Some, Ok, false, IfOk, IfErr, IfSome, is_some, map, length, string_bytes, count_by};
+ghost use Rattle.std.specs.Prelude.{◌≡◌, ◌≢◌, ◌↔◌, ◌+◌, ◌<◌, ◌≤◌, ◌⊎◌, ℕ, Err, Some, Ok, false, IfOk, IfErr, IfSome, is_some, map, max, length, string_bytes, count_by};
 ghost use Rattle.std.specs.List.{list_any};
 ghost use Rattle.std.specs.Cmp.Lexicographic.{slice_cmp};
 ghost use Rattle.std.specs.List.Sorted.{IsSorted};
@@ -8,8 +8,8 @@ ghost use Rattle.rf2_rows.specs.Files.{file_kind_of};
 ghost use Rattle.release_files.specs.Source.{file_text};
 ghost use Rattle.release_rows.specs.Files.{has_kind as has_kind_of, is_concept_file, is_concept_kind, name_concepts};
 ghost use Rattle.release_rows.specs.Pieces.{AreInOrder, FailsAtFiles, IsUnlisted, has_kind_at, listed};
-ghost use Rattle.release_rows.specs.DeviceFaults.{FailsAtRead, FailsOnlyBelow, FileIs, RaisesOnlyAtDevice, is_device};
-ghost use Rattle.release_rows.specs.Limits.{row_total};
+ghost use Rattle.release_rows.specs.DeviceFaults.{FailsAtRead, FailsOnlyAt, FileIs, RaisesOnlyAtDevice, ReadsWithin, is_device};
+ghost use Rattle.release_rows.specs.Limits.{limits_in_force, row_total};
 ghost use Rattle.held_release.specs.Contents.{IsFaultOf};
 ghost use Rattle.snapshot.specs.Load.{load_of, loaded_from};
 
@@ -60,15 +60,16 @@ pub trait LoadSnapshot {
     ) -> Result<Snapshot, LoadFault>
         ensures ok { IfSome (S.files source.old) (λ known. IfOk result (λ snapshot. load_of limits lang.now (listed known (map string_bytes names.new.items)) ≡ Ok snapshot)) }
         ensures err { IfSome (S.files source.old) (λ known. IfErr result (λ fault. is_device fault ≡ false → IsFaultOf fault (load_of limits lang.now (listed known (map string_bytes names.new.items))))) }
-        ensures names { IfSome (S.files source.old) (λ known. AreInOrder known (map string_bytes names.new.items) ⊎ IsUnlisted result (map string_bytes names.new.items)) }
-        ensures device { FailsAtFiles string_bytes names.new.items result (S.failure_count source.old) (S.failure_count source.new) }
-        ensures failures { S.failure_count source.old ≤ S.failure_count source.new }
-        ensures calm { RaisesOnlyAtDevice result (S.failure_count source.old) (S.failure_count source.new) }
+        ensures names { IfSome (S.files source.old) (λ known. AreInOrder known (map string_bytes names.new.items) ⊎ IsUnlisted result (map string_bytes names.new.items) (S.history source.new)) }
+        ensures device { FailsAtFiles string_bytes names.new.items result (S.history source.old) (S.history source.new) }
+        ensures failures { (S.history source.old).failures ≤ (S.history source.new).failures }
+        ensures calm { RaisesOnlyAtDevice result (S.history source.old) (S.history source.new) }
+        ensures bounded { (S.history source.new).most ≤ max (S.history source.old).most ((limits_in_force limits).bytes + 1) }
         ensures kind { IfErr result (λ fault. FailsAtRead (has_kind_at (map string_bytes names.new.items)) fault) }
         ensures files { S.files source.new ≡ S.files source.old }
         ensures rising { IsSorted (slice_cmp nat_cmp) (map string_bytes names.new.items) }
         ensures unnamed { name_concepts string_bytes names.new.items ≡ false
-            → (result ≡ Err LoadFault.NoConceptFile) ⊎ IsUnlisted result (map string_bytes names.new.items) }
+            → (result ≡ Err LoadFault.NoConceptFile) ⊎ IsUnlisted result (map string_bytes names.new.items) (S.history source.new) }
         ensures found { result ≡ Err LoadFault.NoConceptFile → name_concepts string_bytes names.new.items ≡ false }
         ensures named { IfErr result (FileIs (λ file. file < length names.new.items)) };
 
@@ -83,9 +84,10 @@ pub trait LoadSnapshot {
     ) -> Result<Snapshot, LoadFault>
         ensures ok { IfSome (S.files source.old) (λ known. IfOk result (λ snapshot. load_of limits lang.now (listed known (map string_bytes names.now)) ≡ Ok snapshot)) }
         ensures err { IfSome (S.files source.old) (λ known. IfErr result (λ fault. is_device fault ≡ false → IsFaultOf fault (load_of limits lang.now (listed known (map string_bytes names.now))))) }
-        ensures device { FailsOnlyBelow (length names.now) result (S.failure_count source.old) (S.failure_count source.new) }
-        ensures failures { S.failure_count source.old ≤ S.failure_count source.new }
-        ensures calm { RaisesOnlyAtDevice result (S.failure_count source.old) (S.failure_count source.new) }
+        ensures device { FailsOnlyAt (map string_bytes names.now) result (S.history source.old) (S.history source.new) }
+        ensures failures { (S.history source.old).failures ≤ (S.history source.new).failures }
+        ensures calm { RaisesOnlyAtDevice result (S.history source.old) (S.history source.new) }
+        ensures bounded { ReadsWithin ((limits_in_force limits).bytes + 1) (S.history source.old) (S.history source.new) }
         ensures kind { IfErr result (λ fault. FailsAtRead (has_kind_at (map string_bytes names.now)) fault) }
         ensures files { S.files source.new ≡ S.files source.old }
         ensures unnamed { (result ≡ Err LoadFault.NoConceptFile) ↔ (name_concepts string_bytes names.now ≡ false) }
@@ -156,16 +158,17 @@ fn load_places<P: PlaceSource>(
     kinds: u64,
 ) -> Result<Snapshot, LoadFault>
     requires total { row_total limits ≤ 68000000 }
-    requires some { 0 < P.file_count files.old }
+    requires some { 0 < length (P.asked files.old).names }
     ensures ok { IfSome (P.places files.old) (λ known. IfOk result (λ snapshot. loaded_from limits lang.now kinds known ≡ Ok snapshot)) }
     ensures err { IfSome (P.places files.old) (λ known. IfErr result (λ fault. is_device fault ≡ false → IsFaultOf fault (loaded_from limits lang.now kinds known))) }
-    ensures device { FailsOnlyBelow (P.file_count files.old) result (P.failure_count files.old) (P.failure_count files.new) }
-    ensures failures { P.failure_count files.old ≤ P.failure_count files.new }
-    ensures calm { RaisesOnlyAtDevice result (P.failure_count files.old) (P.failure_count files.new) }
-    ensures kind { IfErr result (λ fault. FailsAtRead (P.is_read files.old) fault) }
-    ensures named { IfErr result (FileIs (λ file. file < P.file_count files.old)) }
+    ensures device { FailsOnlyAt (P.asked files.old).names result (P.history files.old) (P.history files.new) }
+    ensures failures { (P.history files.old).failures ≤ (P.history files.new).failures }
+    ensures calm { RaisesOnlyAtDevice result (P.history files.old) (P.history files.new) }
+    ensures bounded { ReadsWithin (P.asked files.old).most (P.history files.old) (P.history files.new) }
+    ensures kind { IfErr result (λ fault. FailsAtRead (has_kind_at (P.asked files.old).names) fault) }
+    ensures named { IfErr result (FileIs (λ file. file < length (P.asked files.old).names)) }
     ensures found { IfErr result (λ fault. fault ≢ LoadFault.NoConceptFile) }
-    ensures read { P.is_read files.new ≡ P.is_read files.old }
+    ensures asked { P.asked files.new ≡ P.asked files.old }
     ensures told { P.told files.new ≡ P.told files.old }
     ensures reference { P.reference files.new ≡ P.reference files.old }
 {

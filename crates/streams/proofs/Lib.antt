@@ -1,1 +1,2 @@
 pub mod WaitingLemmas
+pub mod WalkLemmas

@@ -1,5 +1,5 @@
 -- What a source of the files of folders opens, what it answers where the system fails, and what is left of its open file.
-use Rattle.std.specs.Prelude.{◌≡◌, ◌≢◌, ℕ, ◌+◌, ◌==◌, Bool, List, [], ◌∷◌, ◌++◌, Option, None, Some, Result, Err, length, slice_get, string_bytes}
+use Rattle.std.specs.Prelude.{◌≡◌, ◌≢◌, ℕ, ◌+◌, ◌==◌, Bool, true, List, [], ◌∷◌, ◌++◌, Option, None, Some, Result, Err, length, slice_get, string_bytes}
 use Rattle.std.specs.List.{after_first, before_first}
 use Rattle.std.specs.Str.Parse.{digits_value, without_leading_plus}
 use Rattle.std.specs.declared.string.String.{String}
@@ -7,13 +7,19 @@ use Rattle.std.specs.declared.io.ErrorKind.{ErrorKind}
 use Rattle.std.specs.declared.io.ErrorKind.TheVariants.{OutOfMemory}
 use Rattle.release_files.specs.declared.source.SourceFault.{SourceFault}
 use Rattle.release_files.specs.declared.source.SourceFault.TheVariants.{Device, Memory}
-use Rattle.release_files.specs.Source.{IsRaised}
+use Rattle.release_files.specs.Source.{History, IsRaised}
+
+-- what is told of a source of folders that was used: how many failures there were, and nothing else
+abbrev pub failed_so_often : ℕ → History
+failed_so_often failures =
+    record { failures = failures; opened = None; failed = None; taken = 0; most = 0; unlisted = true }
 
 -- a failure of a kind is answered and counted: want of memory as Memory, which is not counted, every other as Device,
 -- which is
-abbrev pub AnswersFault : {T : Type 0} → ErrorKind → Result T SourceFault → ℕ → ℕ → Type 0
+abbrev pub AnswersFault : {T : Type 0} → ErrorKind → Result T SourceFault → History → History → Type 0
 AnswersFault kind result old new =
-    (kind ≡ OutOfMemory → (result ≡ Err Memory) × (new ≡ old)) × (kind ≢ OutOfMemory → (result ≡ Err Device) × IsRaised old new)
+    (kind ≡ OutOfMemory → (result ≡ Err Memory) × (new.failures ≡ old.failures))
+    × (kind ≢ OutOfMemory → (result ≡ Err Device) × IsRaised old new)
 
 -- the bytes that are left of the open file, none where no file is open
 abbrev pub rest_of : {F : Type 0} → (F → Option (List ℕ)) → Option F → Option (List ℕ)

@@ -1,2 +1,4 @@
 pub mod Folders
+pub mod inside
 pub mod Waiting
+pub mod Walk

@@ -1,24 +1,20 @@
 //! The files of the folders of a release.
-ghost use Rattle.std.specs.Prelude.{◌≡◌, ◌≢◌, ◌≤◌, IfErr, IfOk, IfSome, IsSomeAnd, MatchOption, None, Ok, OnErr, OnOk, length, string_bytes};
-ghost use Rattle.std.specs.Io.KnownBytes.{IsAtEnd, ReadConsumes};
+ghost use Rattle.std.specs.Prelude.{◌≡◌, ◌≢◌, ◌≤◌, ◌++◌, ℕ, List, IfErr, IfOk, IfSome, IsSomeAnd, MatchOption, MatchResult, None, Ok, OnErr, OnOk, Some, length, map, string_bytes};
+ghost use Rattle.std.specs.Io.KnownBytes.{IsAtEnd, Keeps, ReadConsumes};
 ghost use Rattle.std.specs.IoError.{error_kind};
-ghost use Rattle.release_files.specs.Source.{CountsFailures, Opens};
-ghost use Rattle.streams.specs.Folders.{AnswersFault, IsNumbered, IsOpenedBy, IsPlace, path_below, rest_of};
+ghost use Rattle.release_files.specs.Source.{CountsFailures, FailsAtName, FailsAtOpened, FileText, IsListing, IsOpening, Opens};
+ghost use Rattle.streams.specs.Folders.{AnswersFault, IsNumbered, IsOpenedBy, IsPlace, failed_so_often, path_below, rest_of};
+ghost use Rattle.streams.specs.Walk.{AreFilesBelow, AreFilesOf, AreFilesOfAll, FolderTree, numbered_name};
 
 use crate::fault::TRIES;
 use crate::system::FolderSystem;
+use crate::walk::list_files;
 use first_met::Seed;
 use release_files::{FileSource, SourceFault};
-use rf2_rows::file_kind;
 use std::alloc::{AllocError, Global};
-use std::collections::BTreeSet;
-use std::fs::{Files, Metadata};
+use std::fs::Files;
+use std::io;
 use std::io::{ErrorKind, Read};
-use std::os::unix::fs::MetadataExt;
-use std::{fs, io, mem};
-
-// A folder has subfolders of this many levels; what lies deeper is not listed.
-const LEVELS: usize = 16;
 
 /// The plain files of folders and their subfolders as a source. The name of a file is its path below
 /// its folder, with `/` between the parts; of two folders and more it begins with the number of the
@@ -45,7 +41,7 @@ pub struct FolderSource<'a, R: Files = HostRuntime> {
 impl<'a, R: FolderSystem> FolderSource<'a, R> {
     /// A source of the files of these folders, with none open.
     pub fn new(rt: &'a R, folders: &'a [String]) -> FolderSource<'a, R>
-        ensures { ⟦<FolderSource<'a, R> as FileSource>⟧.failure_count result ≡ 0 }
+        ensures { (⟦<FolderSource<'a, R> as FileSource>⟧.history result).failures ≡ 0 }
     {
         FolderSource {
             rt,
@@ -60,8 +56,10 @@ impl<'a, R: FolderSystem> FolderSource<'a, R> {
     fn counted<T>(&mut self, given: io::Result<T>) -> Result<T, SourceFault>
         ensures value { IfOk result (λ value. given ≡ Ok value) }
         ensures answered { IfOk given (λ value. result ≡ Ok value) }
-        ensures counted { IfErr given (λ error. AnswersFault (error_kind error) result self.old.failures self.new.failures) }
-        ensures failures { CountsFailures result self.old.failures self.new.failures }
+        ensures counted { IfErr given (λ error. AnswersFault (error_kind error) result (failed_so_often self.old.failures) (failed_so_often self.new.failures)) }
+        ensures failures { CountsFailures result (failed_so_often self.old.failures) (failed_so_often self.new.failures) }
+        ensures opened { FailsAtOpened result (failed_so_often self.old.failures) (failed_so_often self.new.failures) }
+        ensures named { (name : List ℕ) → FailsAtName name result (failed_so_often self.old.failures) (failed_so_often self.new.failures) }
         ensures open { OnOk result (self.new.file ≡ self.old.file) }
         ensures closed { OnErr result (self.new.file ≡ None) }
     {
@@ -84,7 +82,7 @@ impl<'a, R: FolderSystem> FileSource for FolderSource<'a, R> {
 
     ghost rest = { λ source. rest_of R.File.Read.remaining source.file };
 
-    ghost failure_count = { λ source. source.failures };
+    ghost history = { λ source. failed_so_often source.failures };
 
     fn failures(&self) -> u64 {
         self.failures
@@ -94,7 +92,14 @@ impl<'a, R: FolderSystem> FileSource for FolderSource<'a, R> {
         self.seed.unwrap_or(Seed::FIXED)
     }
 
-    fn list(&mut self) -> Result<Vec<String>, SourceFault> {
+    /// Where the system tells its tree, the names are those of the files of the folders, and no failure was passed over.
+    fn list(&mut self) -> Result<Vec<String>, SourceFault>
+        ensures listed { (tree : FolderTree) → R.tree self.old.rt.now ≡ Some tree → IfOk result (λ names. AreFilesOf tree self.old.folders.now (map string_bytes names.items)) }
+        ensures names { IfOk result (λ names. IfSome None (λ (known : List FileText). map string_bytes names.items ≡ map (λ file. file.name) known)) }
+        ensures rest { MatchResult result (λ _. Keeps (rest_of R.File.Read.remaining self.old.file) (rest_of R.File.Read.remaining self.new.file)) (λ _. IsAtEnd (rest_of R.File.Read.remaining self.new.file)) }
+        ensures failures { CountsFailures result (failed_so_often self.old.failures) (failed_so_often self.new.failures) }
+        ensures history { IsListing result (failed_so_often self.old.failures) (failed_so_often self.new.failures) }
+    {
         let names = list_seeded(self.rt, self.folders, self.seed);
         self.counted(names)
     }
@@ -104,7 +109,8 @@ impl<'a, R: FolderSystem> FileSource for FolderSource<'a, R> {
         ensures path { OnOk result (IsSomeAnd self.new.file (λ file. IsOpenedBy R.opens self.old.folders.now name.now file)) }
         ensures opened { OnOk result (Opens None name.now (rest_of R.File.Read.remaining self.new.file)) }
         ensures closed { OnErr result (IsAtEnd (rest_of R.File.Read.remaining self.new.file)) }
-        ensures failures { CountsFailures result self.old.failures self.new.failures }
+        ensures failures { FailsAtName name.now result (failed_so_often self.old.failures) (failed_so_often self.new.failures) }
+        ensures history { IsOpening name.now (failed_so_often self.old.failures) (failed_so_often self.new.failures) }
     {
         self.file = None;
         let file = open_file(self.rt, self.folders, name);
@@ -129,21 +135,35 @@ fn list_seeded<R: FolderSystem>(
     rt: &R,
     folders: &[String],
     seed: Option<Seed>,
-) -> io::Result<Vec<String>> {
+) -> io::Result<Vec<String>>
+    ensures { (tree : FolderTree) → R.tree rt.now ≡ Some tree → IfOk result (λ names. AreFilesOf tree folders.now (map string_bytes names.items)) }
+{
     match seed {
-        Some(_) => list_folders(rt, folders),
+        Some(seed) => list_folders(rt, folders, seed),
         None => Err(io::Error::from(ErrorKind::Other)),
     }
 }
 
 // The names of the files of folders, folder by folder.
-fn list_folders<R: FolderSystem>(rt: &R, folders: &[String]) -> io::Result<Vec<String>> {
+fn list_folders<R: FolderSystem>(rt: &R, folders: &[String], seed: Seed) -> io::Result<Vec<String>>
+    ensures { (tree : FolderTree) → R.tree rt.now ≡ Some tree → IfOk result (λ names. AreFilesOf tree folders.now (map string_bytes names.items)) }
+{
     if let [folder] = folders {
-        return list_files(rt, folder.as_str());
+        return list_files(rt, folder.as_str(), seed);
     }
+    list_several(rt, folders, seed)
+}
+
+// The names of the files of several folders, each behind the number of its folder.
+fn list_several<R: FolderSystem>(rt: &R, folders: &[String], seed: Seed) -> io::Result<Vec<String>>
+    ensures { (tree : FolderTree) → R.tree rt.now ≡ Some tree → IfOk result (λ names. AreFilesOfAll tree 1 folders.now (map string_bytes names.items)) }
+{
     let mut names = Vec::new(rt.alloc());
     for (index, folder) in folders.iter().enumerate() {
-        list_numbered(rt, index + 1, folder.as_str(), &mut names)?;
+        match list_numbered(rt, index + 1, folder.as_str(), seed, &mut names) {
+            Ok(()) => {}
+            Err(error) => return Err(error),
+        }
     }
     Ok(names)
 }
@@ -153,12 +173,37 @@ fn list_numbered<R: FolderSystem>(
     rt: &R,
     number: usize,
     folder: &str,
+    seed: Seed,
     names: &mut Vec<String>,
-) -> io::Result<()> {
-    for name in list_files(rt, folder)? {
-        names.push(format!(in rt.alloc(); "{number}/{name}")?)?;
+) -> io::Result<()>
+    ensures { (tree : FolderTree) → R.tree rt.now ≡ Some tree → OnOk result ((own : List (List ℕ)) × AreFilesBelow tree folder.now own
+        × (map string_bytes names.new.items ≡ map string_bytes names.old.items ++ map (numbered_name number) own)) }
+{
+    let own = list_files(rt, folder, seed)?;
+    add_numbered(rt.alloc(), number, own.as_slice(), names)?;
+    Ok(())
+}
+
+// Adds names, each behind a number.
+fn add_numbered(
+    alloc: Global,
+    number: usize,
+    own: &[String],
+    names: &mut Vec<String>,
+) -> Result<(), AllocError>
+    ensures { OnOk result (map string_bytes names.new.items ≡ map string_bytes names.old.items ++ map (numbered_name number) (map string_bytes own.now)) }
+{
+    for name in own {
+        names.push(numbered_name(alloc, number, name.as_str())?)?;
     }
     Ok(())
+}
+
+// A name behind a number.
+fn numbered_name(alloc: Global, number: usize, name: &str) -> Result<String, AllocError>
+    ensures { IfOk result (λ text. string_bytes text ≡ numbered_name number name.now) }
+{
+    format!(in alloc; "{number}/{name}")
 }
 
 fn open_file<R: FolderSystem>(rt: &R, folders: &[String], name: &str) -> io::Result<R::File>
@@ -207,132 +252,8 @@ fn read_some<F: Read>(file: &mut F, buffer: &mut [u8]) -> io::Result<usize>
     Err(io::Error::from(ErrorKind::Interrupted))
 }
 
-// The names of the plain files of a folder and its subfolders, level by level.
-fn list_files<R: FolderSystem>(rt: &R, folder: &str) -> io::Result<Vec<String>> {
-    let mut walk = Walk::new(rt.alloc());
-    let mut level = Vec::new(rt.alloc());
-    level.push(String::new(rt.alloc()))?;
-    for _ in 0..=LEVELS {
-        for below in &level {
-            walk.enter(rt, folder, below.as_str())?;
-        }
-        level = mem::replace(&mut walk.next, Vec::new(rt.alloc()));
-    }
-    Ok(walk.names)
-}
-
-// What a walk through a folder and its subfolders has found. A path is one below the folder.
-#[derive(Drop)]
-struct Walk {
-    // The paths of the plain files.
-    names: Vec<String>,
-    // The paths of the folders of the next level, each with a `/` behind it.
-    next: Vec<String>,
-    // The folders that were entered, by their devices and their numbers there: a link may lead to one
-    // again.
-    entered: BTreeSet<(u64, u64)>,
-}
-
-impl Walk {
-    fn new(alloc: Global) -> Walk {
-        Walk {
-            names: Vec::new(alloc),
-            next: Vec::new(alloc),
-            entered: BTreeSet::new(alloc),
-        }
-    }
-
-    // Takes what a folder has, in the byte order of the names, unless the folder was entered before.
-    fn enter<R: FolderSystem>(&mut self, rt: &R, folder: &str, below: &str) -> io::Result<()> {
-        let path = joined(rt.alloc(), folder, below)?;
-        let attributes = fs::metadata(rt, path.as_str())?;
-        if self.entered.insert((attributes.dev(), attributes.ino()))? {
-            self.take_all(rt, folder, below, entries(rt, path.as_str())?)?;
-        }
-        Ok(())
-    }
-
-    // Takes what has these names below a path.
-    fn take_all<R: FolderSystem>(
-        &mut self,
-        rt: &R,
-        folder: &str,
-        below: &str,
-        names: Vec<String>,
-    ) -> io::Result<()> {
-        for name in &names {
-            self.take_below(rt, folder, below, name.as_str())?;
-        }
-        Ok(())
-    }
-
-    fn take_below<R: FolderSystem>(
-        &mut self,
-        rt: &R,
-        folder: &str,
-        below: &str,
-        name: &str,
-    ) -> io::Result<()> {
-        let mut path = String::from_str(rt.alloc(), below)?;
-        path.push_str(name)?;
-        self.take(rt, folder, path)
-    }
-
-    // Takes a plain file or a folder by its path, or a link that leads nowhere, and nothing else.
-    fn take<R: FolderSystem>(&mut self, rt: &R, folder: &str, name: String) -> io::Result<()> {
-        let path = joined(rt.alloc(), folder, name.as_str())?;
-        match fs::metadata(rt, path.as_str()) {
-            Ok(attributes) => self.take_by(name, &attributes),
-            Err(error) => self.take_lost(name, error),
-        }
-    }
-
-    fn take_by(&mut self, mut name: String, attributes: &Metadata) -> io::Result<()> {
-        if attributes.is_dir() {
-            name.push_str("/")?;
-            self.next.push(name)?;
-        } else if attributes.is_file() {
-            self.names.push(name)?;
-        }
-        Ok(())
-    }
-
-    // Takes a path that leads nowhere if its name is that of a file that would be read, so that it
-    // fails where it is opened. Other links that lead nowhere are passed over.
-    fn take_lost(&mut self, name: String, error: io::Error) -> io::Result<()> {
-        if error.kind() == ErrorKind::OutOfMemory {
-            return Err(error);
-        }
-        if file_kind(name.as_str()).is_some() {
-            self.names.push(name)?;
-            return Ok(());
-        }
-        match error.kind() {
-            ErrorKind::NotFound | ErrorKind::NotADirectory | ErrorKind::FilesystemLoop => Ok(()),
-            _ => Err(error),
-        }
-    }
-}
-
-// The names in a folder, in byte order.
-fn entries<R: FolderSystem>(rt: &R, path: &str) -> io::Result<Vec<String>> {
-    let mut names = Vec::new(rt.alloc());
-    push_entries(rt, path, &mut names)?;
-    names.sort()?;
-    Ok(names)
-}
-
-// Adds the names in a folder, in the order in which the system tells them.
-fn push_entries<R: FolderSystem>(rt: &R, path: &str, names: &mut Vec<String>) -> io::Result<()> {
-    for entry in fs::read_dir(rt, path)? {
-        let name = String::from_str(rt.alloc(), entry?.file_name())?;
-        names.push(name)?;
-    }
-    Ok(())
-}
-
-// A path below a folder. The folder itself is its word as it stands, so that an empty word is none.
-fn joined(alloc: Global, folder: &str, below: &str) -> Result<String, AllocError>
+/// A path below a folder. The folder itself is its word as it stands, so that an empty word is none.
+pub fn joined(alloc: Global, folder: &str, below: &str) -> Result<String, AllocError>
     ensures { IfOk result (λ path. string_bytes path ≡ path_below folder.now below.now) }
 {
     let mut path = String::from_str(alloc, folder)?;

@@ -8,10 +8,11 @@ mod input;
 mod output;
 mod piece;
 mod system;
+mod walk;
 
 pub use crate::fault::{AnswerFault, IoFault};
 pub use crate::folder::FolderSource;
 pub use crate::input::{QueryInput, StreamInput};
 pub use crate::output::{AnswerOutput, StreamOutput, write_all};
 pub use crate::piece::Piece;
-pub use crate::system::FolderSystem;
+pub use crate::system::{FolderSystem, Standing, names_at, open_plain_at, standing_at};

@@ -20,7 +20,7 @@ use Rattle.walks.specs.Reads.{asked_items, items_at_most}
 use Rattle.walks.specs.declared.family.Family.{Family}
 use Rattle.walks.specs.declared.family.Family.TheVariants as family
 use Rattle.walks.proofs.JoinedLemmas.{over_length, over_lists, stands}
-use Rattle.candidates.specs.Counted.{full}
+use Rattle.reading.specs.Counted.{full}
 use Rattle.candidates.specs.Extents.{AreListed, IsExtentOf}
 use Rattle.candidates.specs.declared.candidates.Extent.{Extent}
 use Rattle.candidates.specs.declared.candidates.ListExtent.{ListExtent}

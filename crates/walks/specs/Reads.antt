@@ -2,7 +2,7 @@
 use Rattle.std.specs.Prelude.{ℕ, ◌≤◌, ◌+◌, if◌then◌else◌, List, length, nat_lt}
 use Rattle.constraint_tree.specs.declared.operator.Operator.{Operator}
 use Rattle.ancestor_index.specs.HierarchyLists.{Hierarchy}
-use Rattle.candidates.specs.Counted.{full}
+use Rattle.reading.specs.Counted.{full}
 use Rattle.candidates.specs.declared.candidates.Candidates.{Candidates}
 use Rattle.candidates.specs.declared.candidates.Candidates.TheVariants as candidates
 use Rattle.walks.specs.Asked.{asked_lists}

@@ -8,9 +8,9 @@ ghost use Rattle.walks.specs.inside.Counts.{told_of};
 ghost use Rattle.walks.specs.inside.Steps.{HasWords, IsStepFor, asked_of};
 ghost use Rattle.walks.specs.Families.{lists_of};
 
-use ancestor_index::AncestorIndex;
 use candidates::ListExtent;
 use constraint_tree::Operator;
+use reading::Reader;
 
 /// A family of lists, one for each concept.
 #[derive(Clone, Copy)]
@@ -71,26 +71,26 @@ impl Family {
     }
 
     /// The list of a concept.
-    pub fn list(self, index: &AncestorIndex, concept: u32) -> &[u32]
-        requires { concept < length (lists_of index.now self) }
-        ensures { result.now ≡ list_of (lists_of index.now self) concept }
+    pub fn list(self, reader: Reader<'_>, concept: u32) -> &[u32]
+        requires { concept < length (lists_of reader.indexes.now.hierarchy self) }
+        ensures { result.now ≡ list_of (lists_of reader.entry.indexes.now.hierarchy self) concept }
     {
         match self {
-            Family::Ancestors => index.ancestors(concept),
-            Family::Descendants => index.descendants(concept),
-            Family::Parents => index.parents(concept),
-            Family::Children => index.children(concept),
+            Family::Ancestors => reader.ancestors(concept),
+            Family::Descendants => reader.descendants(concept),
+            Family::Parents => reader.parents(concept),
+            Family::Children => reader.children(concept),
         }
     }
 
     /// The list of a concept as words of bits, if the index has them.
-    pub fn words(self, index: &AncestorIndex, concept: u32) -> Option<&[u64]>
-        requires { concept < length (lists_of index.now self) }
-        ensures some { IfSome result (λ words. MarkedBelow (length (lists_of index.now self)) words.now (has (list_of (lists_of index.now self) concept))) }
-        ensures wide { IsSome result ↔ HasWords index.now self concept }
+    pub fn words(self, reader: Reader<'_>, concept: u32) -> Option<&[u64]>
+        requires { concept < length (lists_of reader.indexes.now.hierarchy self) }
+        ensures some { IfSome result (λ words. MarkedBelow (length (lists_of reader.entry.indexes.now.hierarchy self)) words.now (has (list_of (lists_of reader.entry.indexes.now.hierarchy self) concept))) }
+        ensures wide { IsSome result ↔ HasWords reader.entry.indexes.now.hierarchy self concept }
     {
         match self {
-            Family::Descendants => index.descendant_words(concept),
+            Family::Descendants => reader.descendant_words(concept),
             Family::Ancestors | Family::Parents | Family::Children => None,
         }
     }

@@ -7,9 +7,8 @@ ghost use Rattle.walks.specs.Led.{IsOf, IsOver};
 ghost use Rattle.walks.specs.Families.{lists_of};
 
 use crate::family::Family;
-use ancestor_index::AncestorIndex;
-use held_release::Snapshot;
 use idset::{ConceptSet, WordSet};
+use reading::{Answer, Reader};
 use std::alloc::{AllocError, Global};
 
 /// The concepts that are in the list of one of a set, in a family whose lists hold those of their own concepts. The set is given as a
@@ -19,40 +18,42 @@ use std::alloc::{AllocError, Global};
 /// away: where it was found, and is not in the set, they are found. So all that lead to it have had their turn, and what is one row
 /// away from it is read once. Where all that was found first is in the set, no more is.
 pub fn reached<S: ConceptSet>(
-    alloc: Global,
-    snapshot: &Snapshot,
-    index: &AncestorIndex,
+    reader: Reader<'_>,
     family: Family,
-    set: &S,
+    set: &Answer<S>,
     concepts: &[u32],
 ) -> Result<WordSet, AllocError>
-    requires over { IsOf snapshot.now.release (S.bound_of set.now) index.now }
+    requires over { IsOf reader.snapshot.now.release (S.bound_of set.now) reader.indexes.now.hierarchy }
     requires whole { is_whole_of family ≡ true }
     requires concepts { concepts.now ≡ S.items_of set.now }
-    ensures joined { IfOk result (λ found. AreJoined (lists_of index.now family) (S.items_of set.now) (⟦<WordSet as ConceptSet>⟧.items_of found)) }
+    ensures joined { IfOk result (λ found. AreJoined (lists_of reader.entry.indexes.now.hierarchy family) (S.items_of set.now) (⟦<WordSet as ConceptSet>⟧.items_of found)) }
     ensures bound { IfOk result (λ found. ⟦<WordSet as ConceptSet>⟧.bound_of found ≡ S.bound_of set.now) }
 {
     // the rows are those of the concepts, which rise
-    snapshot.concept_count();
-    snapshot.isa_rows();
-    let order = snapshot.parents_first();
+    reader.concept_count();
+    reader.isa_rows();
+    let order = reader.parents_first();
     let near = family.near();
-    let mut found = near_of_all(alloc, index, near, concepts, set.bound())?;
-    let closed = contains_all(alloc, set, &found)?;
+    let mut found = near_of_all(reader, near, concepts, set.bound())?;
+    let closed = contains_all(reader.alloc, set, &found)?;
     if closed {
         return Ok(found);
     }
     for turn in 0..order.len() {
         let concept = order[family.place_of_turn(turn, order.len())];
         if is_in_first_alone(&found, set, concept) {
-            found.add_all(alloc, near.list(index, concept))?;
+            found.add_all(reader.alloc, near.list(reader, concept))?;
         }
     }
     Ok(found)
 }
 
 // Whether all items of a set are in another.
-fn contains_all<S: ConceptSet>(alloc: Global, set: &S, found: &WordSet) -> Result<bool, AllocError>
+fn contains_all<S: ConceptSet>(
+    alloc: Global,
+    set: &Answer<S>,
+    found: &WordSet,
+) -> Result<bool, AllocError>
     ensures { IfOk result (λ all. all ≡ list_all (has (S.items_of set.now)) (⟦<WordSet as ConceptSet>⟧.items_of found.now)) }
 {
     let items = found.items(alloc)?;
@@ -61,26 +62,25 @@ fn contains_all<S: ConceptSet>(alloc: Global, set: &S, found: &WordSet) -> Resul
 
 // The concepts in the list of one of some. These are gone through by their numbers, so that lists follow one another in memory.
 fn near_of_all(
-    alloc: Global,
-    index: &AncestorIndex,
+    reader: Reader<'_>,
     near: Family,
     concepts: &[u32],
     count: u32,
 ) -> Result<WordSet, AllocError>
-    requires over { IsOver count index.now }
+    requires over { IsOver count reader.indexes.now.hierarchy }
     requires below { All (λ concept. concept < count) concepts.now }
-    ensures joined { IfOk result (λ found. AreJoined (lists_of index.now near) concepts.now (⟦<WordSet as ConceptSet>⟧.items_of found)) }
+    ensures joined { IfOk result (λ found. AreJoined (lists_of reader.entry.indexes.now.hierarchy near) concepts.now (⟦<WordSet as ConceptSet>⟧.items_of found)) }
     ensures bound { IfOk result (λ found. ⟦<WordSet as ConceptSet>⟧.bound_of found ≡ count) }
 {
-    let mut found = WordSet::from_items(alloc, &[], count)?;
+    let mut found = WordSet::from_items(reader.alloc, &[], count)?;
     for concept in concepts {
-        found.add_all(alloc, near.list(index, *concept))?;
+        found.add_all(reader.alloc, near.list(reader, *concept))?;
     }
     Ok(found)
 }
 
 // Whether a number is in the first of two sets and not in the second.
-fn is_in_first_alone<S: ConceptSet, T: ConceptSet>(one: &S, other: &T, number: u32) -> bool
+fn is_in_first_alone<S: ConceptSet, T: ConceptSet>(one: &S, other: &Answer<T>, number: u32) -> bool
     ensures { result ≡ (has (S.items_of one.now) number && not (has (T.items_of other.now) number)) }
 {
     one.has(number) && !other.has(number)

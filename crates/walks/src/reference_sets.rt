@@ -3,18 +3,16 @@ ghost use Rattle.std.specs.Prelude.{◌≡◌, ◌≤◌, ◌<◌, ◌+◌, All,
 ghost use Rattle.std.specs.List.{flat_map};
 ghost use Rattle.number_lists.specs.KeyedLists.{list_of};
 ghost use Rattle.number_lists.specs.Members.{has};
-ghost use Rattle.postings.specs.Indexed.{IsIndexOf};
 ghost use Rattle.walks.specs.Components.{components_of};
 ghost use Rattle.walks.specs.inside.Components.{is_in_one_of};
 ghost use Rattle.walks.specs.Families.{items_in};
-ghost use Rattle.candidates.specs.Counted.{CountsWithin, IsFound, full};
+ghost use Rattle.reading.specs.Counted.{CountsWithin, IsFound, full};
 ghost use Rattle.candidates.specs.Within.{AreConcepts, may_be};
 
-use candidates::{Candidates, Visits, restricted};
-use held_release::Snapshot;
+use candidates::{Candidates, restricted};
 use idset::{ConceptSet, has_number};
-use postings::Indexes;
-use std::alloc::{AllocError, Global};
+use reading::{Answer, Counter, Reader};
+use std::alloc::AllocError;
 
 // To look up a candidate in a list takes about as long as to copy so many components.
 const LOOK_UP: u64 = 32;
@@ -23,35 +21,31 @@ const LOOK_UP: u64 = 32;
 /// (Expression Constraint Language, "Simple Expression Constraints", memberOf). Few candidates are looked up, where the lists of these
 /// are long. What is read is counted: the reference sets, and no more items than they have components.
 pub fn members_within<S: ConceptSet>(
-    alloc: Global,
-    snapshot: &Snapshot,
-    indexes: &Indexes,
-    from: &S,
+    reader: Reader<'_>,
+    from: &Answer<S>,
     candidates: &Candidates<'_, S>,
-    visits: &mut Visits,
-) -> Result<S, AllocError>
-    requires index { IsIndexOf indexes.now snapshot.now.release }
-    requires bound { S.bound_of from.now ≡ length snapshot.now.release.concepts }
-    requires candidates { AreConcepts S.ConceptSet snapshot.now.release indexes.now candidates.now }
-    ensures counted { CountsWithin (length (S.items_of from.now) + items_in indexes.now.members (S.items_of from.now)) visits.old visits.new }
-    ensures found { IfOk result (IsFound S.ConceptSet (length snapshot.now.release.concepts)
-        (filter (may_be S.items_of candidates.now) (components_of snapshot.now.release (S.items_of from.now)))
+    visits: &mut Counter,
+) -> Result<Answer<S>, AllocError>
+    requires bound { S.bound_of from.now ≡ length reader.snapshot.now.release.concepts }
+    requires candidates { AreConcepts S.ConceptSet reader.snapshot.now.release reader.indexes.now candidates.now }
+    ensures counted { CountsWithin (length (S.items_of from.now) + items_in reader.entry.indexes.now.members (S.items_of from.now)) visits.old visits.new }
+    ensures found { IfOk result (IsFound S.ConceptSet (length reader.entry.snapshot.now.release.concepts)
+        (filter (may_be S.items_of candidates.now) (components_of reader.entry.snapshot.now.release (S.items_of from.now)))
         (length (S.items_of from.now)) visits.old visits.new) }
 {
-    let numbers = from.items(alloc)?;
+    let numbers = from.items(reader.alloc, visits)?;
     let refsets = numbers.as_slice();
-    let components = component_count(indexes, refsets);
-    visits.add(u64::from(from.count()));
+    let components = component_count(reader, refsets);
     if let Candidates::Within(wanted, extent) = candidates {
         if look_ups(extent.items, refsets) < components {
             visits.add(extent.items);
-            let found = members_among(alloc, snapshot, indexes, refsets, *wanted)?;
+            let found = members_among(reader, refsets, *wanted)?;
             return Ok(found);
         }
     }
     visits.add(components);
-    let all: S = members(alloc, snapshot, indexes, refsets)?;
-    let found = restricted(alloc, all, candidates)?;
+    let all: Answer<S> = members(reader, refsets)?;
+    let found = restricted(reader, all, candidates)?;
     Ok(found)
 }
 
@@ -66,38 +60,32 @@ fn look_ups(candidates: u64, refsets: &[u32]) -> u64
 
 // The concepts of a set among the components of some reference sets, each looked up in the lists of these.
 fn members_among<S: ConceptSet>(
-    alloc: Global,
-    snapshot: &Snapshot,
-    indexes: &Indexes,
+    reader: Reader<'_>,
     refsets: &[u32],
-    wanted: &S,
-) -> Result<S, AllocError>
-    requires index { IsIndexOf indexes.now snapshot.now.release }
-    requires below { All (λ refset. refset < length indexes.now.concepts) refsets.now }
-    requires wanted { S.bound_of wanted.now ≡ length snapshot.now.release.concepts }
-    ensures items { IfOk result (λ found. S.items_of found ≡ filter (has (S.items_of wanted.now)) (components_of snapshot.now.release refsets.now)) }
-    ensures bound { IfOk result (λ found. S.bound_of found ≡ length snapshot.now.release.concepts) }
+    wanted: &Answer<S>,
+) -> Result<Answer<S>, AllocError>
+    requires below { All (λ refset. refset < length reader.indexes.now.concepts) refsets.now }
+    requires wanted { S.bound_of wanted.now ≡ length reader.snapshot.now.release.concepts }
+    ensures items { IfOk result (λ found. S.items_of found ≡ filter (has (S.items_of wanted.now)) (components_of reader.entry.snapshot.now.release refsets.now)) }
+    ensures bound { IfOk result (λ found. S.bound_of found ≡ length reader.entry.snapshot.now.release.concepts) }
 {
-    let own = wanted.items(alloc)?;
-    let kept = components_among(alloc, snapshot, indexes, refsets, own.as_slice())?;
-    S::from_items(alloc, kept.as_slice(), snapshot.concept_count())
+    let own = wanted.items_uncounted(reader.alloc)?;
+    let kept = components_among(reader, refsets, own.as_slice())?;
+    Answer::from_items(reader.alloc, kept.as_slice(), reader.concept_count())
 }
 
 // Those of some concepts that are components of one of some reference sets.
 fn components_among(
-    alloc: Global,
-    snapshot: &Snapshot,
-    indexes: &Indexes,
+    reader: Reader<'_>,
     refsets: &[u32],
     concepts: &[u32],
 ) -> Result<Vec<u32>, AllocError>
-    requires index { IsIndexOf indexes.now snapshot.now.release }
-    requires below { All (λ refset. refset < length indexes.now.concepts) refsets.now }
-    ensures { IfOk result (λ kept. kept.items ≡ filter (is_in_one_of indexes.now.members refsets.now) concepts.now) }
+    requires below { All (λ refset. refset < length reader.indexes.now.concepts) refsets.now }
+    ensures { IfOk result (λ kept. kept.items ≡ filter (is_in_one_of reader.entry.indexes.now.members refsets.now) concepts.now) }
 {
-    let mut kept = Vec::new(alloc);
+    let mut kept = Vec::new(reader.alloc);
     for concept in concepts {
-        if is_component(snapshot, indexes, refsets, *concept) {
+        if is_component(reader, refsets, *concept) {
             kept.push(*concept)?;
         }
     }
@@ -105,56 +93,49 @@ fn components_among(
 }
 
 // Whether a concept is a component of one of some reference sets.
-fn is_component(snapshot: &Snapshot, indexes: &Indexes, refsets: &[u32], concept: u32) -> bool
-    requires index { IsIndexOf indexes.now snapshot.now.release }
-    requires below { All (λ refset. refset < length indexes.now.concepts) refsets.now }
-    ensures { result ≡ is_in_one_of indexes.now.members refsets.now concept }
+fn is_component(reader: Reader<'_>, refsets: &[u32], concept: u32) -> bool
+    requires below { All (λ refset. refset < length reader.indexes.now.concepts) refsets.now }
+    ensures { result ≡ is_in_one_of reader.entry.indexes.now.members refsets.now concept }
 {
     // 32 bits hold the number of each concept
-    snapshot.concept_count();
+    reader.concept_count();
     let mut found = false;
     for refset in refsets {
-        found = found || has_number(indexes.members(*refset), concept);
+        found = found || has_number(reader.members(*refset), concept);
     }
     found
 }
 
 // The concepts that a member row with a reference set among some leads to.
-fn members<S: ConceptSet>(
-    alloc: Global,
-    snapshot: &Snapshot,
-    indexes: &Indexes,
-    refsets: &[u32],
-) -> Result<S, AllocError>
-    requires index { IsIndexOf indexes.now snapshot.now.release }
-    requires below { All (λ refset. refset < length indexes.now.concepts) refsets.now }
-    ensures items { IfOk result (λ found. S.items_of found ≡ components_of snapshot.now.release refsets.now) }
-    ensures bound { IfOk result (λ found. S.bound_of found ≡ length snapshot.now.release.concepts) }
+fn members<S: ConceptSet>(reader: Reader<'_>, refsets: &[u32]) -> Result<Answer<S>, AllocError>
+    requires below { All (λ refset. refset < length reader.indexes.now.concepts) refsets.now }
+    ensures items { IfOk result (λ found. S.items_of found ≡ components_of reader.entry.snapshot.now.release refsets.now) }
+    ensures bound { IfOk result (λ found. S.bound_of found ≡ length reader.entry.snapshot.now.release.concepts) }
 {
-    let found = components(alloc, indexes, refsets)?;
-    S::from_numbers(alloc, found.as_slice(), snapshot.concept_count())
+    let found = components(reader, refsets)?;
+    Answer::from_numbers(reader.alloc, found.as_slice(), reader.concept_count())
 }
 
 // How many components some reference sets have, one set beside the other.
-fn component_count(indexes: &Indexes, refsets: &[u32]) -> u64
-    requires { All (λ refset. refset < length indexes.now.concepts) refsets.now }
-    ensures { result ≡ full (items_in indexes.now.members refsets.now) }
+fn component_count(reader: Reader<'_>, refsets: &[u32]) -> u64
+    requires { All (λ refset. refset < length reader.indexes.now.concepts) refsets.now }
+    ensures { result ≡ full (items_in reader.entry.indexes.now.members refsets.now) }
 {
     let mut components = 0u64;
     for refset in refsets {
-        components = components.saturating_add(indexes.members(*refset).len() as u64);
+        components = components.saturating_add(reader.member_count(*refset));
     }
     components
 }
 
 // The components of some reference sets, one set behind the other.
-fn components(alloc: Global, indexes: &Indexes, refsets: &[u32]) -> Result<Vec<u32>, AllocError>
-    requires { All (λ refset. refset < length indexes.now.concepts) refsets.now }
-    ensures { IfOk result (λ found. found.items ≡ flat_map (list_of indexes.now.members) refsets.now) }
+fn components(reader: Reader<'_>, refsets: &[u32]) -> Result<Vec<u32>, AllocError>
+    requires { All (λ refset. refset < length reader.indexes.now.concepts) refsets.now }
+    ensures { IfOk result (λ found. found.items ≡ flat_map (list_of reader.entry.indexes.now.members) refsets.now) }
 {
-    let mut found = Vec::new(alloc);
+    let mut found = Vec::new(reader.alloc);
     for refset in refsets {
-        found.extend_from_slice(indexes.members(*refset))?;
+        found.extend_from_slice(reader.members(*refset))?;
     }
     Ok(found)
 }

@@ -3,7 +3,7 @@ ghost use Rattle.std.specs.Prelude.{◌≡◌, ◌≤◌, ◌<◌, ◌*◌, fals
 ghost use Rattle.std.specs.Bool.{OnFalse, OnTrue};
 ghost use Rattle.number_lists.specs.Rising.{IsRisingBelow};
 ghost use Rattle.postings.specs.Indexed.{Indexed};
-ghost use Rattle.candidates.specs.Counted.{full};
+ghost use Rattle.reading.specs.Counted.{full};
 ghost use Rattle.candidates.specs.Extents.{IsExtentOf};
 ghost use Rattle.candidates.specs.Within.{HaveExtent};
 ghost use Rattle.walks.specs.Families.{all_items_of, family_of, items_in, lists_of};
@@ -13,11 +13,10 @@ ghost use Rattle.walks.specs.inside.Counts.{pass_items};
 
 use crate::family::{Family, Step};
 use crate::walks::{items_of_lists, items_of_pass, most_items};
-use ancestor_index::AncestorIndex;
 use candidates::Candidates;
 use constraint_tree::Operator;
 use idset::ConceptSet;
-use postings::Indexes;
+use reading::Reader;
 
 // The lists of more concepts than these are not added up one by one: all lists stand for them.
 const MANY: usize = 4096;
@@ -40,18 +39,18 @@ pub struct WalkWay {
 /// How many items are read where few candidates are asked one by one, and the concepts, which are not few, are not even listed: no
 /// more than all lists have. `None` where that is not so.
 pub fn items_unlisted<S: ConceptSet>(
-    indexes: &Indexes,
+    reader: Reader<'_>,
     operator: Operator,
     concepts: u32,
     count: u32,
     candidates: &Candidates<'_, S>,
 ) -> Option<u64>
-    requires { HaveExtent S.items_of (IsExtentOf indexes.now) candidates.now }
+    requires { HaveExtent S.items_of (IsExtentOf reader.indexes.now) candidates.now }
     ensures many { IfSome result (λ _. 1 < concepts) }
-    ensures all { IfSome result (λ items. items ≤ all_items_of indexes.now.hierarchy (family_of operator)) }
-    ensures told { IfSome result (AreAsked S.items_of indexes.now.hierarchy operator candidates.now) }
+    ensures all { IfSome result (λ items. items ≤ all_items_of reader.entry.indexes.now.hierarchy (family_of operator)) }
+    ensures told { IfSome result (AreAsked S.items_of reader.entry.indexes.now.hierarchy operator candidates.now) }
 {
-    let all = items_of_all_lists(indexes.hierarchy(), Step::of(operator).family);
+    let all = items_of_all_lists(reader, Step::of(operator).family);
     match items_asked(operator, count, candidates) {
         Some(items) if concepts as usize > MANY && items <= all => Some(items),
         _ => None,
@@ -61,18 +60,18 @@ pub fn items_unlisted<S: ConceptSet>(
 /// How many items few candidates and the lists have by which they are asked, where these are few beside so many rows, which are read
 /// to find of all concepts those from which an operator leads. The items may be read twice. `None` where that is not so.
 pub fn items_enough<S: ConceptSet>(
-    indexes: &Indexes,
+    reader: Reader<'_>,
     operator: Operator,
     count: u32,
     rows: u64,
     candidates: &Candidates<'_, S>,
 ) -> Option<u64>
-    requires { HaveExtent S.items_of (IsExtentOf indexes.now) candidates.now }
-    ensures all { IfSome result (λ items. 2 * items ≤ all_items_of indexes.now.hierarchy (family_of operator)) }
+    requires { HaveExtent S.items_of (IsExtentOf reader.indexes.now) candidates.now }
+    ensures all { IfSome result (λ items. 2 * items ≤ all_items_of reader.entry.indexes.now.hierarchy (family_of operator)) }
     ensures some { IfSome result (λ _. 0 < rows) }
-    ensures told { IfSome result (AreAsked S.items_of indexes.now.hierarchy operator candidates.now) }
+    ensures told { IfSome result (AreAsked S.items_of reader.entry.indexes.now.hierarchy operator candidates.now) }
 {
-    let all = items_of_all_lists(indexes.hierarchy(), Step::of(operator).family);
+    let all = items_of_all_lists(reader, Step::of(operator).family);
     let most = all.min(rows / ROWS);
     match items_asked(operator, count, candidates) {
         Some(items) if rows > 0 && items <= most / 2 => Some(items),
@@ -83,21 +82,21 @@ pub fn items_enough<S: ConceptSet>(
 /// The way from some concepts. The candidates are asked where they are few and their lists have no more items than those of the
 /// concepts. Of all lists only the lengths are looked up.
 pub fn walk_way<S: ConceptSet>(
-    indexes: &Indexes,
+    reader: Reader<'_>,
     operator: Operator,
     concepts: &[u32],
     count: u32,
     candidates: &Candidates<'_, S>,
 ) -> WalkWay
-    requires over { IsOver count indexes.now.hierarchy }
+    requires over { IsOver count reader.indexes.now.hierarchy }
     requires rising { IsRisingBelow count concepts.now }
-    requires listed { HaveExtent S.items_of (IsExtentOf indexes.now) candidates.now }
-    ensures within { result.items ≤ walk_items indexes.now.hierarchy operator concepts.now }
-    ensures asked { OnTrue result.asks_candidates (AreAsked S.items_of indexes.now.hierarchy operator candidates.now result.items) }
-    ensures read { OnFalse result.asks_candidates (full (min (items_in (lists_of indexes.now.hierarchy (family_of operator)) concepts.now) (pass_items indexes.now.hierarchy count)) ≤ result.items) }
+    requires listed { HaveExtent S.items_of (IsExtentOf reader.indexes.now) candidates.now }
+    ensures within { result.items ≤ walk_items reader.entry.indexes.now.hierarchy operator concepts.now }
+    ensures asked { OnTrue result.asks_candidates (AreAsked S.items_of reader.entry.indexes.now.hierarchy operator candidates.now result.items) }
+    ensures read { OnFalse result.asks_candidates (full (min (items_in (lists_of reader.entry.indexes.now.hierarchy (family_of operator)) concepts.now) (pass_items reader.entry.indexes.now.hierarchy count)) ≤ result.items) }
 {
     let step = Step::of(operator);
-    let whole = whole_way(indexes.hierarchy(), step, concepts, count);
+    let whole = whole_way(reader, step, concepts, count);
     match items_asked(operator, count, candidates) {
         Some(items) if items <= whole.items => WalkWay {
             asks_candidates: true,
@@ -127,37 +126,37 @@ fn items_asked<S: ConceptSet>(
 }
 
 // The way without the candidates.
-fn whole_way(index: &AncestorIndex, step: Step, concepts: &[u32], count: u32) -> WalkWay
-    requires over { IsOver count index.now }
+fn whole_way(reader: Reader<'_>, step: Step, concepts: &[u32], count: u32) -> WalkWay
+    requires over { IsOver count reader.indexes.now.hierarchy }
     requires rising { IsRisingBelow count concepts.now }
-    ensures within { result.items ≤ items_at_most index.now step.family concepts.now }
-    ensures read { full (min (items_in (lists_of index.now step.family) concepts.now) (pass_items index.now count)) ≤ result.items }
+    ensures within { result.items ≤ items_at_most reader.entry.indexes.now.hierarchy step.family concepts.now }
+    ensures read { full (min (items_in (lists_of reader.entry.indexes.now.hierarchy step.family) concepts.now) (pass_items reader.entry.indexes.now.hierarchy count)) ≤ result.items }
     ensures asks { result.asks_candidates ≡ false }
 {
     let family = step.family;
     if step.is_apart() {
-        return apart_way(index, family, concepts, count);
+        return apart_way(reader, family, concepts, count);
     }
-    let own = items_or_all(index, family, concepts, count);
+    let own = items_or_all(reader, family, concepts, count);
     if concepts.len() > MANY {
         return without_candidates(None, own);
     }
-    without_candidates(None, with_pass(index, family, concepts.len(), own, count))
+    without_candidates(None, with_pass(reader, family, concepts.len(), own, count))
 }
 
 // The way to those of some concepts that have none of them in their list. The near lists are looked at first where all lists have
 // room for them and for what is read then: the whole lists of those that are left, or a pass over the is-a rows.
-fn apart_way(index: &AncestorIndex, family: Family, concepts: &[u32], count: u32) -> WalkWay
-    requires over { IsOver count index.now }
+fn apart_way(reader: Reader<'_>, family: Family, concepts: &[u32], count: u32) -> WalkWay
+    requires over { IsOver count reader.indexes.now.hierarchy }
     requires rising { IsRisingBelow count concepts.now }
-    ensures within { result.items ≤ items_at_most index.now family concepts.now }
-    ensures read { full (min (items_in (lists_of index.now family) concepts.now) (pass_items index.now count)) ≤ result.items }
+    ensures within { result.items ≤ items_at_most reader.entry.indexes.now.hierarchy family concepts.now }
+    ensures read { full (min (items_in (lists_of reader.entry.indexes.now.hierarchy family) concepts.now) (pass_items reader.entry.indexes.now.hierarchy count)) ≤ result.items }
     ensures asks { result.asks_candidates ≡ false }
 {
-    let all = items_of_all_lists(index, family);
-    let own = items_or_all(index, family, concepts, count);
-    let near = items_or_all(index, family.near(), concepts, count);
-    let pass = items_of_pass(index, count);
+    let all = items_of_all_lists(reader, family);
+    let own = items_or_all(reader, family, concepts, count);
+    let near = items_or_all(reader, family.near(), concepts, count);
+    let pass = items_of_pass(reader, count);
     if concepts.len() > 1 && near.saturating_add(own.min(pass)) <= all {
         without_candidates(Some(all - near), near.saturating_add(own).min(all))
     } else {
@@ -166,31 +165,31 @@ fn apart_way(index: &AncestorIndex, family: Family, concepts: &[u32], count: u32
 }
 
 // How many items the lists of some concepts have; of many concepts all lists stand for them.
-fn items_or_all(index: &AncestorIndex, family: Family, concepts: &[u32], count: u32) -> u64
-    requires over { IsOver count index.now }
+fn items_or_all(reader: Reader<'_>, family: Family, concepts: &[u32], count: u32) -> u64
+    requires over { IsOver count reader.indexes.now.hierarchy }
     requires rising { IsRisingBelow count concepts.now }
-    ensures within { result ≤ items_at_most index.now family concepts.now }
-    ensures read { full (items_in (lists_of index.now family) concepts.now) ≤ result }
+    ensures within { result ≤ items_at_most reader.entry.indexes.now.hierarchy family concepts.now }
+    ensures read { full (items_in (lists_of reader.entry.indexes.now.hierarchy family) concepts.now) ≤ result }
 {
     if concepts.len() > MANY {
-        items_of_all_lists(index, family)
+        items_of_all_lists(reader, family)
     } else {
-        items_of_lists(index, family, concepts, count, u64::MAX)
+        items_of_lists(reader, family, concepts, count, u64::MAX)
     }
 }
 
 // How many items are read where the lists of so many concepts have so many: where the lists are left for a pass over the is-a rows,
 // those of the pass too.
-fn with_pass(index: &AncestorIndex, family: Family, concepts: usize, own: u64, count: u32) -> u64
+fn with_pass(reader: Reader<'_>, family: Family, concepts: usize, own: u64, count: u32) -> u64
     ensures few { concepts ≤ 1 → result ≡ own }
-    ensures within { own ≤ all_items_of index.now family → result ≤ all_items_of index.now family }
-    ensures read { min own (pass_items index.now count) ≤ result }
+    ensures within { own ≤ all_items_of reader.entry.indexes.now.hierarchy family → result ≤ all_items_of reader.entry.indexes.now.hierarchy family }
+    ensures read { min own (pass_items reader.entry.indexes.now.hierarchy count) ≤ result }
 {
     if !family.is_whole() || concepts <= 1 {
         return own;
     }
-    match most_items(index, count) {
-        Some(most) if own > most => most.saturating_add(items_of_pass(index, count)),
+    match most_items(reader, count) {
+        Some(most) if own > most => most.saturating_add(items_of_pass(reader, count)),
         _ => own,
     }
 }
@@ -207,12 +206,12 @@ fn without_candidates(near_first: Option<u64>, items: u64) -> WalkWay
 }
 
 /// How many items all lists have.
-pub fn items_of_all_lists(index: &AncestorIndex, family: Family) -> u64
-    ensures { result ≡ all_items_of index.now family }
+pub fn items_of_all_lists(reader: Reader<'_>, family: Family) -> u64
+    ensures { result ≡ all_items_of reader.entry.indexes.now.hierarchy family }
 {
     if family.is_whole() {
-        index.ancestor_count() as u64
+        reader.ancestor_count() as u64
     } else {
-        index.link_count() as u64
+        reader.link_count() as u64
     }
 }

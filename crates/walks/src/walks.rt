@@ -6,7 +6,7 @@ ghost use Rattle.number_lists.specs.Members.{has};
 ghost use Rattle.number_lists.specs.KeyedLists.{list_of};
 ghost use Rattle.walks.specs.inside.Joined.{AreJoined, is_long as is_long_of, is_whole as is_whole_of, with_length};
 ghost use Rattle.walks.specs.Led.{apart as apart_of, IsOf, IsOver, joined};
-ghost use Rattle.candidates.specs.Counted.{full};
+ghost use Rattle.reading.specs.Counted.{full};
 ghost use Rattle.candidates.specs.Tallies.{Adds};
 ghost use Rattle.walks.specs.Families.{items_in, lists_of};
 ghost use Rattle.walks.specs.inside.Counts.{pass_items};
@@ -14,10 +14,9 @@ ghost use Rattle.walks.specs.inside.Steps.{stepped};
 
 use crate::family::{Family, Reach, Step};
 use crate::reached::reached;
-use ancestor_index::AncestorIndex;
 use candidates::RowTally;
-use held_release::Snapshot;
 use idset::{ConceptSet, WordSet};
+use reading::{Answer, Reader};
 use std::alloc::{AllocError, Global};
 
 // A list of so many items is joined before the shorter ones: what it has need not be looked at again.
@@ -30,175 +29,160 @@ const PASS: u64 = 8;
 /// of what is found from one concept, if that is asked for; of what is found otherwise it is not known how many there are. Which
 /// lists are looked at first, where the set is looked for in them, is as `WalkWay` says.
 pub fn walk<S: ConceptSet>(
-    alloc: Global,
-    snapshot: &Snapshot,
-    index: &AncestorIndex,
+    reader: Reader<'_>,
     step: Step,
-    operand: &S,
+    operand: &Answer<S>,
     concepts: &[u32],
     near_first: Option<u64>,
     tally: &mut RowTally<'_>,
-) -> Result<S, AllocError>
-    requires over { IsOf snapshot.now.release (S.bound_of operand.now) index.now }
+) -> Result<Answer<S>, AllocError>
+    requires over { IsOf reader.snapshot.now.release (S.bound_of operand.now) reader.indexes.now.hierarchy }
     requires whole { step.reach ≡ Reach.Apart → is_whole_of step.family ≡ true }
     requires concepts { concepts.now ≡ S.items_of operand.now }
-    ensures items { IfOk result (λ found. S.items_of found ≡ stepped (lists_of index.now step.family) (S.bound_of operand.now) step.reach (S.items_of operand.now)) }
+    ensures items { IfOk result (λ found. S.items_of found ≡ stepped (lists_of reader.entry.indexes.now.hierarchy step.family) (S.bound_of operand.now) step.reach (S.items_of operand.now)) }
     ensures bound { IfOk result (λ found. S.bound_of found ≡ S.bound_of operand.now) }
     ensures adds { IfOk result (λ found. Adds (S.items_of found) tally.old tally.new) }
 {
     let family = step.family;
     match step.reach {
-        Reach::Listed => listed(alloc, snapshot, index, family, operand, concepts, tally),
-        Reach::ListedOrSelf => {
-            listed_or_self(alloc, snapshot, index, family, operand, concepts, tally)
-        }
+        Reach::Listed => listed(reader, family, operand, concepts, tally),
+        Reach::ListedOrSelf => { listed_or_self(reader, family, operand, concepts, tally) }
         Reach::Apart => {
             tally.forget();
-            apart(
-                alloc, snapshot, index, family, operand, concepts, near_first,
-            )
+            apart(reader, family, operand, concepts, near_first)
         }
     }
 }
 
 // The concepts in the list of one of a set.
 fn listed<S: ConceptSet>(
-    alloc: Global,
-    snapshot: &Snapshot,
-    index: &AncestorIndex,
+    reader: Reader<'_>,
     family: Family,
-    operand: &S,
+    operand: &Answer<S>,
     concepts: &[u32],
     tally: &mut RowTally<'_>,
-) -> Result<S, AllocError>
-    requires over { IsOf snapshot.now.release (S.bound_of operand.now) index.now }
+) -> Result<Answer<S>, AllocError>
+    requires over { IsOf reader.snapshot.now.release (S.bound_of operand.now) reader.indexes.now.hierarchy }
     requires concepts { concepts.now ≡ S.items_of operand.now }
-    ensures items { IfOk result (λ found. S.items_of found ≡ joined (S.bound_of operand.now) (lists_of index.now family) (S.items_of operand.now)) }
+    ensures items { IfOk result (λ found. S.items_of found ≡ joined (S.bound_of operand.now) (lists_of reader.entry.indexes.now.hierarchy family) (S.items_of operand.now)) }
     ensures bound { IfOk result (λ found. S.bound_of found ≡ S.bound_of operand.now) }
     ensures adds { IfOk result (λ found. Adds (S.items_of found) tally.old tally.new) }
 {
     match concepts {
-        [concept] => list_of_one(alloc, index, family, *concept, operand.bound(), tally),
+        [concept] => list_of_one(reader, family, *concept, operand.bound(), tally),
         concepts => {
             tally.forget();
-            union(alloc, snapshot, index, family, concepts, operand)
+            union(reader, family, concepts, operand)
         }
     }
 }
 
 // The same, and the concepts of the set.
 fn listed_or_self<S: ConceptSet>(
-    alloc: Global,
-    snapshot: &Snapshot,
-    index: &AncestorIndex,
+    reader: Reader<'_>,
     family: Family,
-    operand: &S,
+    operand: &Answer<S>,
     concepts: &[u32],
     tally: &mut RowTally<'_>,
-) -> Result<S, AllocError>
-    requires over { IsOf snapshot.now.release (S.bound_of operand.now) index.now }
+) -> Result<Answer<S>, AllocError>
+    requires over { IsOf reader.snapshot.now.release (S.bound_of operand.now) reader.indexes.now.hierarchy }
     requires concepts { concepts.now ≡ S.items_of operand.now }
-    ensures items { IfOk result (λ found. S.items_of found ≡ all_items (S.bound_of operand.now) (S.items_of operand.now) (joined (S.bound_of operand.now) (lists_of index.now family) (S.items_of operand.now))) }
+    ensures items { IfOk result (λ found. S.items_of found ≡ all_items (S.bound_of operand.now) (S.items_of operand.now) (joined (S.bound_of operand.now) (lists_of reader.entry.indexes.now.hierarchy family) (S.items_of operand.now))) }
     ensures bound { IfOk result (λ found. S.bound_of found ≡ S.bound_of operand.now) }
     ensures adds { IfOk result (λ found. Adds (S.items_of found) tally.old tally.new) }
 {
-    let mut found: S = listed(alloc, snapshot, index, family, operand, concepts, tally)?;
+    let mut found: Answer<S> = listed(reader, family, operand, concepts, tally)?;
     tally.add(concepts);
-    found.add_all(alloc, concepts)?;
+    found.add_all(reader.alloc, concepts)?;
     Ok(found)
 }
 
 // The concepts in the list of one concept.
 fn list_of_one<S: ConceptSet>(
-    alloc: Global,
-    index: &AncestorIndex,
+    reader: Reader<'_>,
     family: Family,
     concept: u32,
     count: u32,
     tally: &mut RowTally<'_>,
-) -> Result<S, AllocError>
-    requires over { IsOver count index.now }
+) -> Result<Answer<S>, AllocError>
+    requires over { IsOver count reader.indexes.now.hierarchy }
     requires below { concept < count }
-    ensures items { IfOk result (λ found. S.items_of found ≡ joined count (lists_of index.now family) (concept ∷ [])) }
+    ensures items { IfOk result (λ found. S.items_of found ≡ joined count (lists_of reader.entry.indexes.now.hierarchy family) (concept ∷ [])) }
     ensures bound { IfOk result (λ found. S.bound_of found ≡ count) }
     ensures adds { IfOk result (λ found. Adds (S.items_of found) tally.old tally.new) }
 {
-    let list = family.list(index, concept);
+    let list = family.list(reader, concept);
     if tally.asks_for(list.len()) {
-        let own = tally.read(alloc, list)?;
-        return S::from_items(alloc, own.as_slice(), count);
+        let own = tally.read(reader.alloc, list)?;
+        return Answer::from_items(reader.alloc, own.as_slice(), count);
     }
     tally.forget();
-    match family.words(index, concept) {
-        Some(words) => S::from_words(alloc, words, count),
-        None => S::from_items(alloc, list, count),
+    match family.words(reader, concept) {
+        Some(words) => Answer::from_words(reader.alloc, words, count),
+        None => Answer::from_items(reader.alloc, list, count),
     }
 }
 
 // The concepts in the lists of those of a set.
 fn union<S: ConceptSet>(
-    alloc: Global,
-    snapshot: &Snapshot,
-    index: &AncestorIndex,
+    reader: Reader<'_>,
     family: Family,
     concepts: &[u32],
-    operand: &S,
-) -> Result<S, AllocError>
-    requires over { IsOf snapshot.now.release (S.bound_of operand.now) index.now }
+    operand: &Answer<S>,
+) -> Result<Answer<S>, AllocError>
+    requires over { IsOf reader.snapshot.now.release (S.bound_of operand.now) reader.indexes.now.hierarchy }
     requires concepts { concepts.now ≡ S.items_of operand.now }
-    ensures items { IfOk result (λ found. S.items_of found ≡ joined (S.bound_of operand.now) (lists_of index.now family) (S.items_of operand.now)) }
+    ensures items { IfOk result (λ found. S.items_of found ≡ joined (S.bound_of operand.now) (lists_of reader.entry.indexes.now.hierarchy family) (S.items_of operand.now)) }
     ensures bound { IfOk result (λ found. S.bound_of found ≡ S.bound_of operand.now) }
 {
-    let found = all_listed(alloc, snapshot, index, family, concepts, operand)?;
-    S::from_words(alloc, found.words(), operand.bound())
+    let found = all_listed(reader, family, concepts, operand)?;
+    Answer::from_words(reader.alloc, found.words(), operand.bound())
 }
 
 // The same as words. Where the lists have too many items, one pass over the is-a rows is the shorter way.
 fn all_listed<S: ConceptSet>(
-    alloc: Global,
-    snapshot: &Snapshot,
-    index: &AncestorIndex,
+    reader: Reader<'_>,
     family: Family,
     concepts: &[u32],
-    operand: &S,
+    operand: &Answer<S>,
 ) -> Result<WordSet, AllocError>
-    requires over { IsOf snapshot.now.release (S.bound_of operand.now) index.now }
+    requires over { IsOf reader.snapshot.now.release (S.bound_of operand.now) reader.indexes.now.hierarchy }
     requires concepts { concepts.now ≡ S.items_of operand.now }
-    ensures joined { IfOk result (λ found. AreJoined (lists_of index.now family) (S.items_of operand.now) (⟦<WordSet as ConceptSet>⟧.items_of found)) }
+    ensures joined { IfOk result (λ found. AreJoined (lists_of reader.entry.indexes.now.hierarchy family) (S.items_of operand.now) (⟦<WordSet as ConceptSet>⟧.items_of found)) }
     ensures bound { IfOk result (λ found. ⟦<WordSet as ConceptSet>⟧.bound_of found ≡ S.bound_of operand.now) }
 {
     let count = operand.bound();
-    let mut left = most_items(index, count).unwrap_or(u64::MAX);
-    if family.is_whole() && has_more_items(index, family, concepts, count, left) {
-        return reached(alloc, snapshot, index, family, operand, concepts);
+    let mut left = most_items(reader, count).unwrap_or(u64::MAX);
+    if family.is_whole() && has_more_items(reader, family, concepts, count, left) {
+        return reached(reader, family, operand, concepts);
     }
-    let mut found = WordSet::from_items(alloc, &[], count)?;
-    let long = add_lists(alloc, index, family, concepts, true, &mut left, &mut found)?;
+    let mut found = WordSet::from_items(reader.alloc, &[], count)?;
+    let long = add_lists(reader, family, concepts, true, &mut left, &mut found)?;
     if !long {
-        return reached(alloc, snapshot, index, family, operand, concepts);
+        return reached(reader, family, operand, concepts);
     }
-    let short = add_lists(alloc, index, family, concepts, false, &mut left, &mut found)?;
+    let short = add_lists(reader, family, concepts, false, &mut left, &mut found)?;
     if !short {
-        return reached(alloc, snapshot, index, family, operand, concepts);
+        return reached(reader, family, operand, concepts);
     }
     Ok(found)
 }
 
 /// How many items one pass over the is-a rows reads: the concepts in their order, and each row once.
-pub fn items_of_pass(index: &AncestorIndex, count: u32) -> u64
-    ensures { result ≡ full (pass_items index.now count) }
+pub fn items_of_pass(reader: Reader<'_>, count: u32) -> u64
+    ensures { result ≡ full (pass_items reader.entry.indexes.now.hierarchy count) }
 {
-    (index.link_count() as u64).saturating_add(u64::from(count))
+    (reader.link_count() as u64).saturating_add(u64::from(count))
 }
 
 /// How many items of lists are read at the most before the lists are left for a pass over the is-a rows. With those of the
 /// pass they are no more than all lists have; `None` where all lists have no room for a pass.
-pub fn most_items(index: &AncestorIndex, count: u32) -> Option<u64>
-    ensures { IfSome result (λ most. most + pass_items index.now count ≤ length (concat index.now.ancestors)) }
+pub fn most_items(reader: Reader<'_>, count: u32) -> Option<u64>
+    ensures { IfSome result (λ most. most + pass_items reader.entry.indexes.now.hierarchy count ≤ length (concat reader.entry.indexes.now.hierarchy.ancestors)) }
 {
-    let links = index.link_count() as u64;
-    let pairs = index.ancestor_count() as u64;
-    let pass = items_of_pass(index, count);
+    let links = reader.link_count() as u64;
+    let pairs = reader.ancestor_count() as u64;
+    let pass = items_of_pass(reader, count);
     if pass < pairs {
         Some(links.saturating_mul(PASS).min(pairs - pass))
     } else {
@@ -209,35 +193,35 @@ pub fn most_items(index: &AncestorIndex, count: u32) -> Option<u64>
 // Whether the lists of some concepts have more items than so many, so that not all are read. Of descendants this shows as they
 // are read: most often one list has the others in it.
 fn has_more_items(
-    index: &AncestorIndex,
+    reader: Reader<'_>,
     family: Family,
     concepts: &[u32],
     count: u32,
     most: u64,
 ) -> bool
-    requires over { IsOver count index.now }
+    requires over { IsOver count reader.indexes.now.hierarchy }
     requires below { All (λ concept. concept < count) concepts.now }
 {
     matches!(family, Family::Ancestors)
-        && items_of_lists(index, family, concepts, count, most) > most
+        && items_of_lists(reader, family, concepts, count, most) > most
 }
 
 /// How many items the lists of some concepts have, if these are no more than so many; else a number above that.
 pub fn items_of_lists(
-    index: &AncestorIndex,
+    reader: Reader<'_>,
     family: Family,
     concepts: &[u32],
     count: u32,
     most: u64,
 ) -> u64
-    requires over { IsOver count index.now }
+    requires over { IsOver count reader.indexes.now.hierarchy }
     requires below { All (λ concept. concept < count) concepts.now }
-    ensures few { result ≤ items_in (lists_of index.now family) concepts.now }
-    ensures all { result ≤ most → full (items_in (lists_of index.now family) concepts.now) ≤ result }
+    ensures few { result ≤ items_in (lists_of reader.entry.indexes.now.hierarchy family) concepts.now }
+    ensures all { result ≤ most → full (items_in (lists_of reader.entry.indexes.now.hierarchy family) concepts.now) ≤ result }
 {
     let mut items = 0u64;
     for concept in concepts {
-        items = items.saturating_add(family.list(index, *concept).len() as u64);
+        items = items.saturating_add(family.list(reader, *concept).len() as u64);
         if items > most {
             return items;
         }
@@ -248,29 +232,28 @@ pub fn items_of_lists(
 // Adds to a set the lists of those concepts whose lists are long, or are not. Tells whether it has added all: of lists that
 // hold those of their own concepts no more items are read than are left of some.
 fn add_lists<S: ConceptSet>(
-    alloc: Global,
-    index: &AncestorIndex,
+    reader: Reader<'_>,
     family: Family,
     concepts: &[u32],
     long: bool,
     left: &mut u64,
     found: &mut S,
 ) -> Result<bool, AllocError>
-    requires over { IsOver (S.bound_of found.old) index.now }
+    requires over { IsOver (S.bound_of found.old) reader.indexes.now.hierarchy }
     requires below { All (λ concept. concept < S.bound_of found.old) concepts.now }
-    ensures joined { IfOk result (λ all. all ≡ true → (before : List ℕ) → AreJoined (lists_of index.now family) before (S.items_of found.old)
-        → AreJoined (lists_of index.now family) (before ++ with_length (lists_of index.now family) long concepts.now) (S.items_of found.new)) }
+    ensures joined { IfOk result (λ all. all ≡ true → (before : List ℕ) → AreJoined (lists_of reader.entry.indexes.now.hierarchy family) before (S.items_of found.old)
+        → AreJoined (lists_of reader.entry.indexes.now.hierarchy family) (before ++ with_length (lists_of reader.entry.indexes.now.hierarchy family) long concepts.now) (S.items_of found.new)) }
     ensures whole { IfOk result (λ all. all ≡ false → is_whole_of family ≡ true) }
     ensures bound { S.bound_of found.new ≡ S.bound_of found.old }
 {
     for concept in concepts {
-        let list = family.list(index, *concept);
+        let list = family.list(reader, *concept);
         if is_long(list) == long {
             let is_there = found.has(*concept);
             if !may_be_read(family, list.len() as u64, is_there, left) {
                 return Ok(false);
             }
-            add_list(alloc, index, family, *concept, found)?;
+            add_list(reader, family, *concept, found)?;
         }
     }
     Ok(true)
@@ -291,29 +274,28 @@ fn may_be_read(family: Family, items: u64, is_there: bool, left: &mut u64) -> bo
 
 // Adds the list of a concept to a set, unless the set has the concept, and with it its list.
 fn add_list<S: ConceptSet>(
-    alloc: Global,
-    index: &AncestorIndex,
+    reader: Reader<'_>,
     family: Family,
     concept: u32,
     found: &mut S,
 ) -> Result<(), AllocError>
-    requires over { IsOver (S.bound_of found.old) index.now }
+    requires over { IsOver (S.bound_of found.old) reader.indexes.now.hierarchy }
     requires below { concept < S.bound_of found.old }
-    ensures joined { OnOk result ((before : List ℕ) → AreJoined (lists_of index.now family) before (S.items_of found.old)
-        → AreJoined (lists_of index.now family) (before ++ concept ∷ []) (S.items_of found.new)) }
+    ensures joined { OnOk result ((before : List ℕ) → AreJoined (lists_of reader.entry.indexes.now.hierarchy family) before (S.items_of found.old)
+        → AreJoined (lists_of reader.entry.indexes.now.hierarchy family) (before ++ concept ∷ []) (S.items_of found.new)) }
     ensures bound { S.bound_of found.new ≡ S.bound_of found.old }
 {
     if family.is_whole() && found.has(concept) {
         return Ok(());
     }
-    match family.words(index, concept) {
+    match family.words(reader, concept) {
         Some(words) => {
-            let wide = S::from_words(alloc, words, found.bound())?;
-            let both = found.or(alloc, &wide)?;
+            let wide = S::from_words(reader.alloc, words, found.bound())?;
+            let both = found.or(reader.alloc, &wide)?;
             *found = both;
             Ok(())
         }
-        None => found.add_all(alloc, family.list(index, concept)),
+        None => found.add_all(reader.alloc, family.list(reader, concept)),
     }
 }
 
@@ -326,99 +308,81 @@ fn is_long(list: &[u32]) -> bool
 
 // The concepts of a set none of which is in their list.
 fn apart<S: ConceptSet>(
-    alloc: Global,
-    snapshot: &Snapshot,
-    index: &AncestorIndex,
+    reader: Reader<'_>,
     family: Family,
-    operand: &S,
+    operand: &Answer<S>,
     concepts: &[u32],
     near_first: Option<u64>,
-) -> Result<S, AllocError>
-    requires over { IsOf snapshot.now.release (S.bound_of operand.now) index.now }
+) -> Result<Answer<S>, AllocError>
+    requires over { IsOf reader.snapshot.now.release (S.bound_of operand.now) reader.indexes.now.hierarchy }
     requires whole { is_whole_of family ≡ true }
     requires concepts { concepts.now ≡ S.items_of operand.now }
-    ensures items { IfOk result (λ found. S.items_of found ≡ apart_of (lists_of index.now family) (S.items_of operand.now)) }
+    ensures items { IfOk result (λ found. S.items_of found ≡ apart_of (lists_of reader.entry.indexes.now.hierarchy family) (S.items_of operand.now)) }
     ensures bound { IfOk result (λ found. S.bound_of found ≡ S.bound_of operand.now) }
 {
-    let kept = kept_apart(
-        alloc, snapshot, index, family, concepts, operand, near_first,
-    )?;
-    S::from_items(alloc, kept.as_slice(), operand.bound())
+    let kept = kept_apart(reader, family, concepts, operand, near_first)?;
+    Answer::from_items(reader.alloc, kept.as_slice(), operand.bound())
 }
 
 // Those of the concepts of a set whose list has none of it. Where that is asked for, the concepts one is-a row away are looked at
 // first: most often one of them is in the set, and the whole list lies far off in memory.
 fn kept_apart<S: ConceptSet>(
-    alloc: Global,
-    snapshot: &Snapshot,
-    index: &AncestorIndex,
+    reader: Reader<'_>,
     family: Family,
     concepts: &[u32],
-    set: &S,
+    set: &Answer<S>,
     near_first: Option<u64>,
 ) -> Result<Vec<u32>, AllocError>
-    requires over { IsOf snapshot.now.release (S.bound_of set.now) index.now }
+    requires over { IsOf reader.snapshot.now.release (S.bound_of set.now) reader.indexes.now.hierarchy }
     requires whole { is_whole_of family ≡ true }
     requires concepts { concepts.now ≡ S.items_of set.now }
     requires below { All (λ concept. concept < S.bound_of set.now) concepts.now }
-    ensures { IfOk result (λ kept. kept.items ≡ filter (λ concept. not (list_any (has (S.items_of set.now)) (list_of (lists_of index.now family) concept))) concepts.now) }
+    ensures { IfOk result (λ kept. kept.items ≡ filter (λ concept. not (list_any (has (S.items_of set.now)) (list_of (lists_of reader.entry.indexes.now.hierarchy family) concept))) concepts.now) }
 {
     let Some(room) = near_first else {
-        return kept_by_lists(alloc, index, family, concepts, set);
+        return kept_by_lists(reader, family, concepts, set);
     };
-    let left = kept_by_lists(alloc, index, family.near(), concepts, set)?;
-    kept_in_room(
-        alloc,
-        snapshot,
-        index,
-        family,
-        left.as_slice(),
-        set,
-        concepts,
-        room,
-    )
+    let left = kept_by_lists(reader, family.near(), concepts, set)?;
+    kept_in_room(reader, family, left.as_slice(), set, concepts, room)
 }
 
 // Those of some concepts whose list has none of a set, which is given as a list too. Where the lists have more items than there is
 // room for, one pass over the is-a rows takes their place.
 fn kept_in_room<S: ConceptSet>(
-    alloc: Global,
-    snapshot: &Snapshot,
-    index: &AncestorIndex,
+    reader: Reader<'_>,
     family: Family,
     concepts: &[u32],
-    set: &S,
+    set: &Answer<S>,
     own: &[u32],
     room: u64,
 ) -> Result<Vec<u32>, AllocError>
-    requires over { IsOf snapshot.now.release (S.bound_of set.now) index.now }
+    requires over { IsOf reader.snapshot.now.release (S.bound_of set.now) reader.indexes.now.hierarchy }
     requires whole { is_whole_of family ≡ true }
     requires own { own.now ≡ S.items_of set.now }
     requires below { All (λ concept. concept < S.bound_of set.now) concepts.now }
-    ensures { IfOk result (λ kept. kept.items ≡ filter (λ concept. not (list_any (has (S.items_of set.now)) (list_of (lists_of index.now family) concept))) concepts.now) }
+    ensures { IfOk result (λ kept. kept.items ≡ filter (λ concept. not (list_any (has (S.items_of set.now)) (list_of (lists_of reader.entry.indexes.now.hierarchy family) concept))) concepts.now) }
 {
-    if items_of_lists(index, family, concepts, set.bound(), room) > room {
-        let found = reached(alloc, snapshot, index, family.back(), set, own)?;
-        return kept_outside(alloc, concepts, &found);
+    if items_of_lists(reader, family, concepts, set.bound(), room) > room {
+        let found = reached(reader, family.back(), set, own)?;
+        return kept_outside(reader.alloc, concepts, &found);
     }
-    kept_by_lists(alloc, index, family, concepts, set)
+    kept_by_lists(reader, family, concepts, set)
 }
 
 // The same, by the list of each.
 fn kept_by_lists<S: ConceptSet>(
-    alloc: Global,
-    index: &AncestorIndex,
+    reader: Reader<'_>,
     family: Family,
     concepts: &[u32],
-    set: &S,
+    set: &Answer<S>,
 ) -> Result<Vec<u32>, AllocError>
-    requires over { IsOver (S.bound_of set.now) index.now }
+    requires over { IsOver (S.bound_of set.now) reader.indexes.now.hierarchy }
     requires below { All (λ concept. concept < S.bound_of set.now) concepts.now }
-    ensures { IfOk result (λ kept. kept.items ≡ filter (λ concept. not (list_any (has (S.items_of set.now)) (list_of (lists_of index.now family) concept))) concepts.now) }
+    ensures { IfOk result (λ kept. kept.items ≡ filter (λ concept. not (list_any (has (S.items_of set.now)) (list_of (lists_of reader.entry.indexes.now.hierarchy family) concept))) concepts.now) }
 {
-    let mut kept = Vec::new(alloc);
+    let mut kept = Vec::new(reader.alloc);
     for concept in concepts {
-        if !meets(family.list(index, *concept), set) {
+        if !meets(family.list(reader, *concept), set) {
             kept.push(*concept)?;
         }
     }
@@ -443,7 +407,7 @@ fn kept_outside<S: ConceptSet>(
 }
 
 /// Whether a set has one of the concepts of a list.
-pub fn meets<S: ConceptSet>(list: &[u32], set: &S) -> bool
+pub fn meets<S: ConceptSet>(list: &[u32], set: &Answer<S>) -> bool
     ensures { result ≡ list_any (has (S.items_of set.now)) list.now }
 {
     list.iter().any(|concept| set.has(*concept))

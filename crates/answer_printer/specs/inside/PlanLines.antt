@@ -1,15 +1,18 @@
 -- The lines of a plan, where the bounds of its nodes stand in a list, a node before its children.
 use Rattle.std.specs.Prelude.{ℕ, ◌++◌, List, [], ◌∷◌, drop}
-use Rattle.set_algebra.specs.declared.choice.Choice.{Choice}
-use Rattle.set_algebra.specs.Plan.{Plan, empty_plan, all_plan, one_plan, walk_plan, members_plan, and_plan, or_plan, minus_plan, values_plan, pairs_plan, units_plan, PlanOfUnits, nothing_unit, every_unit, and_units, or_units, minus_units, pairs_units}
-use Rattle.plan_bounds.specs.Leaves.{group_leaves, leaves, test_choices, type_choices}
-use Rattle.answer_printer.specs.PlanText.{NodeText, bound_line, group_outline, group_words, groups_outline, node_words, outline, plans_outline, test_outline}
+use Rattle.set_algebra.specs.Physical.{Physical, physical_empty, physical_all, physical_one, physical_walk}
+use Rattle.set_algebra.specs.Physical.{physical_members, physical_and, physical_or, physical_minus, physical_values}
+use Rattle.set_algebra.specs.Physical.{physical_pairs, physical_units, PhysicalUnits, physical_nothing}
+use Rattle.set_algebra.specs.Physical.{physical_every, physical_units_and, physical_units_or, physical_units_minus}
+use Rattle.set_algebra.specs.Physical.{physical_units_pairs}
+use Rattle.answer_printer.specs.PlanText.{NodeText, bound_line, group_outline, group_words, groups_outline}
+use Rattle.answer_printer.specs.PlanText.{node_words, outline, plans_outline, test_outline}
 
 -- what stands before the bound of a node
 abbrev pub before_bound : NodeText
 before_bound = record {
-  of_plan = λ spaces choices plan. spaces ++ node_words choices plan;
-  of_group = λ spaces choices plan. spaces ++ group_words choices plan;
+  of_plan = λ spaces plan. spaces ++ node_words plan;
+  of_group = λ spaces plan. spaces ++ group_words plan;
 }
 
 -- the first of some bounds, or 0 where there is none
@@ -23,28 +26,27 @@ with_bounds [] bounds = []
 with_bounds (before ∷ others) bounds = bound_line before (first_bound bounds) ++ with_bounds others (drop 1 bounds)
 
 -- the outline of what stands below a node, behind some spaces
-abbrev pub below : NodeText → List ℕ → List Choice → Plan → List (List ℕ)
-below node spaces choices empty_plan = []
-below node spaces choices all_plan = []
-below node spaces choices (one_plan number) = []
-below node spaces choices (walk_plan operator operand) = outline node spaces choices operand
-below node spaces choices (members_plan operand) = outline node spaces choices operand
-below node spaces choices (and_plan parts) = plans_outline node spaces choices parts
-below node spaces choices (or_plan parts) = plans_outline node spaces choices parts
-below node spaces choices (minus_plan first second) =
-    outline node spaces choices first ++ outline node spaces (drop (leaves first) choices) second
-below node spaces choices (values_plan start names) =
-    outline node spaces choices start ++ plans_outline node spaces (drop (leaves start) choices) names
-below node spaces choices (pairs_plan back count types test) =
-    outline node spaces (type_choices choices) types ++ test_outline node spaces (test_choices choices types) test
-below node spaces choices (units_plan count units) = group_outline node spaces choices units
+abbrev pub below : NodeText → List ℕ → Physical → List (List ℕ)
+below node spaces physical_empty = []
+below node spaces physical_all = []
+below node spaces (physical_one number) = []
+below node spaces (physical_walk operator operand) = outline node spaces operand
+below node spaces (physical_members operand) = outline node spaces operand
+below node spaces (physical_and parts) = plans_outline node spaces parts
+below node spaces (physical_or parts) = plans_outline node spaces parts
+below node spaces (physical_minus first second) = outline node spaces first ++ outline node spaces second
+below node spaces (physical_values start names) =
+    outline node spaces start ++ plans_outline node spaces names
+below node spaces (physical_pairs back count types test choice) =
+    outline node spaces types ++ test_outline node spaces test
+below node spaces (physical_units count units) = group_outline node spaces units
 
-abbrev pub below_group : NodeText → List ℕ → List Choice → PlanOfUnits → List (List ℕ)
-below_group node spaces choices nothing_unit = []
-below_group node spaces choices every_unit = []
-below_group node spaces choices (and_units parts) = groups_outline node spaces choices parts
-below_group node spaces choices (or_units parts) = groups_outline node spaces choices parts
-below_group node spaces choices (minus_units first second) =
-    group_outline node spaces choices first ++ group_outline node spaces (drop (group_leaves first) choices) second
-below_group node spaces choices (pairs_units count types test) =
-    outline node spaces (type_choices choices) types ++ test_outline node spaces (test_choices choices types) test
+abbrev pub below_group : NodeText → List ℕ → PhysicalUnits → List (List ℕ)
+below_group node spaces physical_nothing = []
+below_group node spaces physical_every = []
+below_group node spaces (physical_units_and parts) = groups_outline node spaces parts
+below_group node spaces (physical_units_or parts) = groups_outline node spaces parts
+below_group node spaces (physical_units_minus first second) =
+    group_outline node spaces first ++ group_outline node spaces second
+below_group node spaces (physical_units_pairs count types test choice) =
+    outline node spaces types ++ test_outline node spaces test

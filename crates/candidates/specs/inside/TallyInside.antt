@@ -1,7 +1,14 @@
 -- What the fields of a tally say.
-use Rattle.std.specs.Option.{option_copied}
+use Rattle.std.specs.Prelude.{Option, None, Some}
+use Rattle.postings.specs.Indexed.{Indexed}
+use Rattle.reading.specs.declared.reader.Reader.{Reader}
 use Rattle.candidates.specs.Tallies.{Tally}
 use Rattle.candidates.specs.declared.tally.RowTally.TheInside.{Inside}
 
+-- the indexes of a reader, where there is one
+abbrev pub indexes_told : Option Reader → Option Indexed
+indexes_told None = None
+indexes_told (Some reader) = Some reader.indexes.now
+
 abbrev pub tally_in : Inside → Tally
-tally_in inside = record { indexed = option_copied inside.indexes; back = inside.back; rows = inside.rows }
+tally_in inside = record { indexed = indexes_told inside.reader; back = inside.back; rows = inside.rows }

@@ -6,11 +6,13 @@ use Rattle.postings.specs.Groups.{all_groups}
 use Rattle.set_algebra.specs.Meaning.{unit_means, leads, means}
 use Rattle.set_algebra.specs.declared.plan.ConceptPlan.{ConceptPlan}
 use Rattle.set_algebra.specs.declared.plan.UnitPlan.{UnitPlan}
-use Rattle.set_algebra.specs.Plan.{Plan, unit_plan_of, unit_plans_of, plan_of, plans_of}
+use Rattle.set_algebra.specs.Plan.{Plan}
+use Rattle.set_algebra.specs.Physical.{physical_units_list_of, physicals_of}
+use Rattle.executor.specs.inside.Logical.{logical_of, logical_units_of, logicals_of}
 use Rattle.plan_bounds.specs.Bounds.{own_number, values_bound}
 use Rattle.plan_bounds.specs.Floors.{floor_number}
 use Rattle.plan_bounds.specs.Sizes.{group_sizes, sizes, total}
-use Rattle.plan_bounds.proofs.LoopLemmas.{concept_sum, of_concepts, of_groups, unit_sum}
+use Rattle.plan_bounds.proofs.LoopLemmas.{concept_sum, unit_sum}
 use Rattle.candidates.specs.Groups.{some_group_in}
 use Rattle.candidates.specs.Numbers.{numbers_in}
 use Rattle.executor.specs.inside.Lead.{leads_off, leads_off_groups}
@@ -31,72 +33,87 @@ use Rattle.executor.proofs.+execute.Given as goal
 abbrev pub invariant-joined_plans::in_all-loop-place : goal.invariant-joined_plans::in_all-loop-place
 invariant-joined_plans::in_all-loop-place g l = record {
   items : g.S.ConceptSet.items_of l.found
-      ≡ numbers_where (length l.snapshot.release.concepts)
-      (λ n. (may_be g.S.ConceptSet.items_of l.candidates n && leads_off l.snapshot.release (slice_get l.parts l.lead) (get_or l.snapshot.release.concepts n 0))
-      && list_all (λ part. means l.snapshot.release (plan_of part) (get_or l.snapshot.release.concepts n 0)) (take l.place l.parts));
-  bound : g.S.ConceptSet.bound_of l.found ≡ length l.snapshot.release.concepts;
-  work : AllSoFar ConceptPlan of_concepts (concept_sum (floor_number l.indexes)) (concepts_read l.indexes) l.choices l.parts l.lead l.place
-      l.fn.visits.count l.visits.count l.rest;
+      ≡ numbers_where (length l.reader.snapshot.now.release.concepts)
+      (λ n. (may_be g.S.ConceptSet.items_of l.candidates n && leads_off l.reader.snapshot.now.release
+      (slice_get l.parts l.lead) (get_or l.reader.snapshot.now.release.concepts n 0))
+      && list_all (λ part. means l.reader.snapshot.now.release (logical_of part)
+      (get_or l.reader.snapshot.now.release.concepts n 0)) (take l.place l.parts));
+  bound : g.S.ConceptSet.bound_of l.found ≡ length l.reader.snapshot.now.release.concepts;
+  work : AllSoFar (concept_sum (floor_number l.reader.indexes.now)) (concepts_read l.reader.indexes.now) l.parts l.lead
+      l.place
+      l.fn.visits.count l.visits.count;
 }
 
 -- what is in one of those so far
 abbrev pub invariant-joined_plans::in_some-loop-part : goal.invariant-joined_plans::in_some-loop-part
 invariant-joined_plans::in_some-loop-part g l = record {
   items : g.S.ConceptSet.items_of l.found
-      ≡ numbers_where (length l.snapshot.release.concepts)
+      ≡ numbers_where (length l.reader.snapshot.now.release.concepts)
       (λ n. may_be g.S.ConceptSet.items_of l.candidates n
-      && list_any (λ part. means l.snapshot.release (plan_of part) (get_or l.snapshot.release.concepts n 0)) (take l.part-index l.parts));
-  bound : g.S.ConceptSet.bound_of l.found ≡ length l.snapshot.release.concepts;
+      && list_any (λ part. means l.reader.snapshot.now.release (logical_of part)
+      (get_or l.reader.snapshot.now.release.concepts n 0)) (take l.part-index l.parts));
+  bound : g.S.ConceptSet.bound_of l.found ≡ length l.reader.snapshot.now.release.concepts;
   adds : Adds (g.S.ConceptSet.items_of l.found) l.fn.tally l.tally;
-  work : SomeSoFar ConceptPlan of_concepts (concept_sum (floor_number l.indexes)) (concept_sum (own_number l.indexes))
-      (λ place. place * total (sizes l.indexes l.choices (plans_of l.parts))) l.choices l.parts l.part-index
-      l.fn.visits.count l.visits.count l.rest;
+  work : SomeSoFar (concept_sum (floor_number l.reader.indexes.now)) (concept_sum (own_number l.reader.indexes.now))
+      (λ place. place * total (sizes l.reader.indexes.now (physicals_of l.parts))) l.parts l.part-index
+      l.fn.visits.count l.visits.count;
 }
 
 -- the same of groups
 abbrev pub invariant-unit_plans::groups_in_all-loop-place : goal.invariant-unit_plans::groups_in_all-loop-place
 invariant-unit_plans::groups_in_all-loop-place g l = record {
   items : g.S.ConceptSet.items_of l.groups
-      ≡ numbers_where (length (all_groups l.snapshot.release))
-      (λ n. (may_be g.S.ConceptSet.items_of l.candidates n && some_group_in l.snapshot.release
-      (leads_off_groups l.snapshot.release (slice_get l.parts l.lead)) (slice_get (all_groups l.snapshot.release) n))
-      && list_all (λ part. some_group_in l.snapshot.release (unit_means l.snapshot.release (unit_plan_of part))
-      (slice_get (all_groups l.snapshot.release) n)) (take l.place l.parts));
-  bound : g.S.ConceptSet.bound_of l.groups ≡ length (all_groups l.snapshot.release);
-  work : AllSoFar UnitPlan of_groups (unit_sum (floor_number l.indexes)) (groups_read l.indexes) l.choices l.parts l.lead l.place
-      l.fn.visits.count l.visits.count l.rest;
+      ≡ numbers_where (length (all_groups l.reader.snapshot.now.release))
+      (λ n. (may_be g.S.ConceptSet.items_of l.candidates n && some_group_in l.reader.snapshot.now.release
+      (leads_off_groups l.reader.snapshot.now.release (slice_get l.parts l.lead))
+      (slice_get (all_groups l.reader.snapshot.now.release) n))
+      && list_all (λ part. some_group_in l.reader.snapshot.now.release
+      (unit_means l.reader.snapshot.now.release (logical_units_of part))
+      (slice_get (all_groups l.reader.snapshot.now.release) n)) (take l.place l.parts));
+  bound : g.S.ConceptSet.bound_of l.groups ≡ length (all_groups l.reader.snapshot.now.release);
+  work : AllSoFar (unit_sum (floor_number l.reader.indexes.now)) (groups_read l.reader.indexes.now) l.parts l.lead
+      l.place
+      l.fn.visits.count l.visits.count;
 }
 
 abbrev pub invariant-unit_plans::groups_in_some-loop-part : goal.invariant-unit_plans::groups_in_some-loop-part
 invariant-unit_plans::groups_in_some-loop-part g l = record {
   items : g.S.ConceptSet.items_of l.groups
-      ≡ numbers_where (length (all_groups l.snapshot.release))
+      ≡ numbers_where (length (all_groups l.reader.snapshot.now.release))
       (λ n. may_be g.S.ConceptSet.items_of l.candidates n
-      && list_any (λ part. some_group_in l.snapshot.release (unit_means l.snapshot.release (unit_plan_of part))
-      (slice_get (all_groups l.snapshot.release) n)) (take l.part-index l.parts));
-  bound : g.S.ConceptSet.bound_of l.groups ≡ length (all_groups l.snapshot.release);
-  work : SomeSoFar UnitPlan of_groups (unit_sum (floor_number l.indexes)) (unit_sum (own_number l.indexes))
-      (λ place. place * total (group_sizes l.indexes l.choices (unit_plans_of l.parts))) l.choices l.parts l.part-index
-      l.fn.visits.count l.visits.count l.rest;
+      && list_any (λ part. some_group_in l.reader.snapshot.now.release
+      (unit_means l.reader.snapshot.now.release (logical_units_of part))
+      (slice_get (all_groups l.reader.snapshot.now.release) n)) (take l.part-index l.parts));
+  bound : g.S.ConceptSet.bound_of l.groups ≡ length (all_groups l.reader.snapshot.now.release);
+  work : SomeSoFar (unit_sum (floor_number l.reader.indexes.now)) (unit_sum (own_number l.reader.indexes.now))
+      (λ place. place * total (group_sizes l.reader.indexes.now (physical_units_list_of l.parts))) l.parts l.part-index
+      l.fn.visits.count l.visits.count;
 }
 
 -- where the names so far lead
 abbrev pub invariant-dotted_plans::led_along-loop-name : goal.invariant-dotted_plans::led_along-loop-name
 invariant-dotted_plans::led_along-loop-name g l = record {
-  items : (plan : Plan) → g.S.ConceptSet.items_of l.initial.found ≡ numbers_in l.snapshot.release (means l.snapshot.release plan)
+  items : (plan : Plan) → g.S.ConceptSet.items_of l.initial.found
+      ≡ numbers_in l.reader.snapshot.now.release (means l.reader.snapshot.now.release plan)
       → g.S.ConceptSet.items_of l.found
-      ≡ numbers_in l.snapshot.release (leads l.snapshot.release (means l.snapshot.release plan) (plans_of (take l.name-index l.names)));
-  bound : g.S.ConceptSet.bound_of l.found ≡ length l.snapshot.release.concepts;
-  few : 0 < l.name-index → length (g.S.ConceptSet.items_of l.found) ≤ min (length l.indexes.concepts) (length l.indexes.rows);
-  start : l.name-index ≡ 0 → length (g.S.ConceptSet.items_of l.found) ≡ length (g.S.ConceptSet.items_of l.initial.found);
-  work : SomeSoFar ConceptPlan of_concepts (concept_sum (floor_number l.indexes)) (concept_sum (own_number l.indexes))
-      (λ place. values_bound l.indexes place (length (g.S.ConceptSet.items_of l.initial.found))) l.choices l.names l.name-index
-      l.fn.visits.count l.visits.count l.rest;
-  known : IfSome l.known (λ known. HasNamed l.snapshot.release (plan_of known.0.now) (g.S.ConceptSet.items_of known.1) (g.S.ConceptSet.bound_of known.1));
+      ≡ numbers_in l.reader.snapshot.now.release
+      (leads l.reader.snapshot.now.release (means l.reader.snapshot.now.release plan)
+      (logicals_of (take l.name-index l.names)));
+  bound : g.S.ConceptSet.bound_of l.found ≡ length l.reader.snapshot.now.release.concepts;
+  few : 0 < l.name-index → length (g.S.ConceptSet.items_of l.found)
+      ≤ min (length l.reader.indexes.now.concepts) (length l.reader.indexes.now.rows);
+  start : l.name-index ≡ 0 → length (g.S.ConceptSet.items_of l.found)
+      ≡ length (g.S.ConceptSet.items_of l.initial.found);
+  work : SomeSoFar (concept_sum (floor_number l.reader.indexes.now)) (concept_sum (own_number l.reader.indexes.now))
+      (λ place. values_bound l.reader.indexes.now place (length (g.S.ConceptSet.items_of l.initial.found))) l.names
+      l.name-index
+      l.fn.visits.count l.visits.count;
+  known : IfSome l.known (λ known. HasNamed l.reader.snapshot.now.release (logical_of known.0.now)
+      (g.S.ConceptSet.items_of known.1) (g.S.ConceptSet.bound_of known.1));
 }
 
--- ---- what gets less from call to call: the depth of what a function goes down, of two parts that of the deeper, and of two functions for
--- one plan the first is ranked above the second
+-- ---- what gets less from call to call: the depth of what a function goes down, of two parts that of the deeper, and
+-- of two functions for one plan the first is ranked above the second
 abbrev deepest : List ConceptPlan → ℕ
 deepest parts = most {X = concept_data} (λ x. concept_plan.the_size x) parts
 
@@ -116,7 +133,8 @@ abbrev pub decreases-plans::members_of : goal.decreases-plans::members_of
 decreases-plans::members_of g l = 6 * (concept_plan.the_size l.operand.now) + 3
 
 abbrev pub decreases-plans::in_first_alone : goal.decreases-plans::in_first_alone
-decreases-plans::in_first_alone g l = 6 * (max (concept_plan.the_size l.first.now) (concept_plan.the_size l.second.now)) + 3
+decreases-plans::in_first_alone g l = 6 * (max (concept_plan.the_size l.first.now) (concept_plan.the_size l.second.now))
+    + 3
 
 abbrev pub decreases-plans::pairs_within : goal.decreases-plans::pairs_within
 decreases-plans::pairs_within g l = 6 * (max (concept_plan.the_size l.types.now) (value_test.the_size l.test.now)) + 3
@@ -158,10 +176,12 @@ abbrev pub decreases-unit_plans::execute_groups : goal.decreases-unit_plans::exe
 decreases-unit_plans::execute_groups g l = 6 * (unit_plan.the_size l.plan.now) + 1
 
 abbrev pub decreases-unit_plans::groups_in_first_alone : goal.decreases-unit_plans::groups_in_first_alone
-decreases-unit_plans::groups_in_first_alone g l = 6 * (max (unit_plan.the_size l.first.now) (unit_plan.the_size l.second.now)) + 2
+decreases-unit_plans::groups_in_first_alone g l = 6
+    * (max (unit_plan.the_size l.first.now) (unit_plan.the_size l.second.now)) + 2
 
 abbrev pub decreases-unit_plans::groups_with_pairs : goal.decreases-unit_plans::groups_with_pairs
-decreases-unit_plans::groups_with_pairs g l = 6 * (max (concept_plan.the_size l.types.now) (value_test.the_size l.test.now)) + 3
+decreases-unit_plans::groups_with_pairs g l = 6
+    * (max (concept_plan.the_size l.types.now) (value_test.the_size l.test.now)) + 3
 
 abbrev pub decreases-unit_plans::groups_in_all : goal.decreases-unit_plans::groups_in_all
 decreases-unit_plans::groups_in_all g l = 6 * (deepest_units l.parts.now) + 3

@@ -3,18 +3,18 @@ use Rattle.std.specs.Prelude.{ℕ, Bool, true, List, Option, None, Some}
 use Rattle.rf2_rows.specs.Pairs.{Pair}
 use Rattle.rf2_rows.specs.Release.{Release}
 use Rattle.set_algebra.specs.Meaning.{unit_means, means}
-use Rattle.set_algebra.specs.Plan.{unit_plan_of, plan_of}
 use Rattle.set_algebra.specs.declared.plan.ConceptPlan.{ConceptPlan}
 use Rattle.set_algebra.specs.declared.plan.UnitPlan.{UnitPlan}
+use Rattle.executor.specs.inside.Logical.{logical_of, logical_units_of}
 
 -- what the part means that is executed first, where there is one
 abbrev pub leads_off : Release → Option ConceptPlan → ℕ → Bool
 leads_off release None concept = true
-leads_off release (Some part) concept = means release (plan_of part) concept
+leads_off release (Some part) concept = means release (logical_of part) concept
 
 abbrev pub leads_off_groups : Release → Option UnitPlan → List Pair → Bool
 leads_off_groups release None pairs = true
-leads_off_groups release (Some part) pairs = unit_means release (unit_plan_of part) pairs
+leads_off_groups release (Some part) pairs = unit_means release (logical_units_of part) pairs
 
 -- what is counted of the part that is executed first, where there is one
 abbrev pub of_lead : {Part : Type 0} → (Part → ℕ) → Option Part → ℕ

@@ -3,7 +3,8 @@ use Rattle.std.specs.Prelude.{ℕ, ◌≡◌, ◌==◌, ◌&&◌, List, None, le
 use Rattle.rf2_rows.specs.Release.{Release}
 use Rattle.set_algebra.specs.Meaning.{means}
 use Rattle.constraint_tree.specs.Walks.{has_concept}
-use Rattle.set_algebra.specs.Plan.{Plan, empty_plan, all_plan, one_plan, walk_plan, members_plan, and_plan, or_plan, minus_plan, values_plan, pairs_plan, units_plan}
+use Rattle.set_algebra.specs.Plan.{Plan, empty_plan, all_plan, one_plan, walk_plan, members_plan, and_plan, or_plan}
+use Rattle.set_algebra.specs.Plan.{minus_plan, values_plan, pairs_plan, units_plan}
 use Rattle.candidates.specs.Tallies.{Adds, Tally}
 use Rattle.candidates.specs.Numbers.{numbers_in}
 
@@ -12,11 +13,12 @@ pub record HasNamed (release : Release) (plan : Plan) (items : List ℕ) (bound 
   pub items_are : items ≡ numbers_in release (means release plan)
   pub bound_is : bound ≡ length release.concepts
 
--- what is known of the rows of values before a plan is executed that finds them. The rows of the one concept that a plan names are
--- added. Nothing is changed before a walk or an OR, which adds rows as it finds values. Before any other plan it is no longer known
--- how many there are
+-- what is known of the rows of values before a plan is executed that finds them. The rows of the one concept that a
+-- plan names are added. Nothing is changed before a walk or an OR, which adds rows as it finds values. Before any other
+-- plan it is no longer known how many there are
 abbrev pub AddsNamed : Release → Plan → Tally → Tally → Type 0
-AddsNamed release (one_plan id) early late = Adds (numbers_in release (λ concept. has_concept release concept && (concept == id))) early late
+AddsNamed release (one_plan id) early late = Adds
+    (numbers_in release (λ concept. has_concept release concept && (concept == id))) early late
 AddsNamed release (walk_plan operator operand) early late = late ≡ early
 AddsNamed release (or_plan parts) early late = late ≡ early
 AddsNamed release empty_plan early late = late ≡ record early { rows = None }

@@ -8,4 +8,5 @@ use Rattle.pair_sets.specs.Owned.{groups_owned}
 
 -- the concepts so many of whose groups are among some
 abbrev pub with_units : Release → Cardinality → List ℕ → List ℕ
-with_units release count groups = numbers_where (length release.concepts) (λ number. lies_in count (groups_owned release groups number))
+with_units release count groups = numbers_where (length release.concepts)
+    (λ number. lies_in count (groups_owned release groups number))

@@ -5,7 +5,7 @@ use Rattle.constraint_tree.specs.Passing.{is_within}
 use Rattle.number_lists.specs.Rising.{IsRisingBelow}
 use Rattle.postings.specs.Indexed.{Indexed, types_of}
 use Rattle.postings.specs.Stats.{type_row_count}
-use Rattle.candidates.specs.Counted.{full, full_sum}
+use Rattle.reading.specs.Counted.{full, full_sum}
 use Rattle.candidates.specs.Numbers.{is_one_of}
 use Rattle.candidates.specs.RowCounts.{extent_items, row_count_of}
 use Rattle.candidates.specs.declared.candidates.Extent.{Extent}

@@ -1,8 +1,8 @@
 -- What the fields of a plan with its choices say, and what they keep.
-use Rattle.plan_bounds.specs.Physical.{IsPhysical, Physical}
+use Rattle.plan_bounds.specs.PlanWithChoices.{IsPhysical, PlanWithChoices}
 use Rattle.plan_bounds.specs.declared.physical.PhysicalPlan.TheInside.{Inside}
 
-abbrev pub physical_in : Inside → Physical
+abbrev pub physical_in : Inside → PlanWithChoices
 physical_in inside = record {
   plan = inside.plan;
   choices = inside.choices.items;

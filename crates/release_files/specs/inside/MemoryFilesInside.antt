@@ -1,5 +1,5 @@
 -- What the fields of files in memory say, and what they keep.
-use Rattle.std.specs.Prelude.{◌≤◌, map}
+use Rattle.std.specs.Prelude.{◌≤◌, map, option_map}
 use Rattle.release_files.specs.MemorySource.{MemorySource}
 use Rattle.release_files.specs.Source.{file_text}
 use Rattle.release_files.specs.declared.memory_files.MemoryFiles.TheInside.{Inside}
@@ -11,7 +11,14 @@ source_in inside = record {
   piece = inside.piece;
   fail_at = inside.fail_at;
   calls = inside.calls;
-  failures = inside.failures;
+  history = record {
+    failures = inside.failures;
+    opened = option_map (λ name. name.now) inside.opened;
+    failed = option_map (λ name. name.now) inside.failed;
+    taken = inside.taken;
+    most = inside.most;
+    unlisted = inside.unlisted;
+  };
 }
 
 -- a read gives some bytes

@@ -5,13 +5,13 @@ use Rattle.candidates.proofs.candidates.extent_of.Goals as goal
 pub extent_among-requires : goal.extent_among-requires
 extent_among-requires g c =
     let items = g.S.ConceptSet.items_of c.args.concepts.now in
-    subst (All (λ concept. concept < length c.args.indexes.now.concepts))
+    subst (All (λ concept. concept < length c.args.reader.indexes.now.concepts))
     (sym (c.as_slice.ensures.value ∙ c.in_ok-own.ensures))
     (subst (λ (bound : ℕ). All (λ concept. concept < bound) items)
-    (c.requires.bound ∙ ap (λ (ids : List ℕ). length ids) (sym c.requires.index.concepts))
+    (c.requires.bound ∙ ap (λ (ids : List ℕ). length ids) (sym c.args.reader.index.concepts))
     (all_below (g.S.ConceptSet.bound_of c.args.concepts.now) items (g.met.S.ConceptSet.rising c.args.concepts.now)))
 
 pub returns-then-are_many_beside : goal.returns-then-are_many_beside
 returns-then-are_many_beside g c =
-    c.uncounted.ensures.concepts c.args.indexes.now (g.S.ConceptSet.items_of c.args.concepts.now)
+    c.uncounted.ensures.concepts c.args.reader.indexes.now (g.S.ConceptSet.items_of c.args.concepts.now)
     (sym c.count-count.ensures)

@@ -1,8 +1,8 @@
 use Rattle.std.proofs.Common.{◌≤◌, take}
-use Rattle.candidates.specs.Counted.{full_sum}
+use Rattle.reading.specs.Counted.{full_sum}
 use Rattle.candidates.specs.Extents.{group_row_count}
 use Rattle.candidates.proofs.candidates.group_extent_among.Given as goal
 
 -- the rows of the groups so far
 abbrev pub invariant-loop-group : goal.invariant-loop-group
-invariant-loop-group l = full_sum (group_row_count l.indexes) (take l.group-index l.groups) ≤ l.rows
+invariant-loop-group l = full_sum (group_row_count l.reader.indexes.now) (take l.group-index l.groups) ≤ l.rows

@@ -7,15 +7,15 @@ use Rattle.candidates.proofs.candidates.group_extent_of.Goals as goal
 pub group_extent_among-requires : goal.group_extent_among-requires
 group_extent_among-requires g c =
     let items = g.S.ConceptSet.items_of c.args.groups.now in
-    subst (All (λ group. group < length (groups_in c.args.indexes.now)))
+    subst (All (λ group. group < length (groups_in c.args.reader.indexes.now)))
     (sym (c.as_slice.ensures.value ∙ c.in_ok-own.ensures))
     (subst (λ (bound : ℕ). All (λ group. group < bound) items)
     (c.requires.bound
     ∙ ap (λ (groups : List ConceptGroup). length groups)
-    (sym (groups_are c.args.indexes.now c.args.snapshot.now.release c.requires.index c.concept_count.ensures.rising)))
+    (sym (groups_are c.args.reader.indexes.now c.args.reader.snapshot.now.release c.args.reader.index c.concept_count.ensures.rising)))
     (all_below (g.S.ConceptSet.bound_of c.args.groups.now) items (g.met.S.ConceptSet.rising c.args.groups.now)))
 
 pub returns-then-are_many_beside : goal.returns-then-are_many_beside
 returns-then-are_many_beside g c =
-    c.uncounted.ensures.groups c.args.indexes.now (g.S.ConceptSet.items_of c.args.groups.now)
+    c.uncounted.ensures.groups c.args.reader.indexes.now (g.S.ConceptSet.items_of c.args.groups.now)
     (sym c.count-count.ensures)

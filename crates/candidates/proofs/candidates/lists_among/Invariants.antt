@@ -4,4 +4,4 @@ use Rattle.candidates.proofs.candidates.lists_among.Given as goal
 
 -- the lists of the concepts so far
 abbrev pub invariant-loop-concept : goal.invariant-loop-concept
-invariant-loop-concept l = AreListed l.hierarchy (take l.concept-index l.concepts) l.lists
+invariant-loop-concept l = AreListed l.reader.indexes.now.hierarchy (take l.concept-index l.concepts) l.lists

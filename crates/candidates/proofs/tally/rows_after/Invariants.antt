@@ -1,10 +1,10 @@
 use Rattle.std.proofs.Common.{◌≡◌, ◌+◌, take}
 use Rattle.std.specs.List.{sum_by}
-use Rattle.candidates.specs.Counted.{full}
+use Rattle.reading.specs.Counted.{full}
 use Rattle.candidates.specs.RowCounts.{row_count_of}
 use Rattle.candidates.proofs.tally.rows_after.Given as goal
 
 -- with those of the concepts so far
 abbrev pub invariant-loop-concept : goal.invariant-loop-concept
 invariant-loop-concept l =
-    l.rows ≡ full (l.before + sum_by (row_count_of l.indexes l.back) (take l.concept-index l.concepts))
+    l.rows ≡ full (l.before + sum_by (row_count_of l.reader.indexes.now l.back) (take l.concept-index l.concepts))

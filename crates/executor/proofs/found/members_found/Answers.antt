@@ -1,6 +1,6 @@
 use Rattle.std.proofs.Common.{ℕ, ◌≤◌, ◌∙◌, subst, sym, arith}
 use Rattle.number_lists.specs.Rising.{IsRisingBelow}
-use Rattle.set_algebra.specs.Plan.{plan_of}
+use Rattle.set_algebra.specs.Physical.{physical_of}
 use Rattle.plan_bounds.specs.Counts.{one_of}
 use Rattle.plan_bounds.specs.Sizes.{size}
 use Rattle.executor.proofs.CountingLemmas.{members_more}
@@ -10,23 +10,25 @@ use Rattle.executor.proofs.found.members_found.Goals as goal
 -- what is read is within the bound of the node, and so is its floor
 pub returns-in_err-found-clause-counted : goal.returns-in_err-found-clause-counted
 returns-in_err-found-clause-counted g c =
-    let indexed = c.args.indexes.now in
+    let indexed = c.args.reader.indexes.now in
     let items = g.S.ConceptSet.items_of c.args.from.now in
-    let plan = plan_of c.args.operand.now in
+    let plan = physical_of c.args.operand.now in
     let read =
-    members_read c.args.snapshot.now.release indexed c.requires.index c.concept_count.ensures.rising c.stats.ensures.members items
+    members_read c.args.reader.snapshot.now.release indexed c.args.reader.index c.concept_count.ensures.rising
+    c.args.reader.members items
     (subst (λ (bound : ℕ). IsRisingBelow bound items) c.requires.bound (g.met.S.ConceptSet.rising c.args.from.now))
-    (size indexed c.args._choices.now plan) c.requires.size plan c.requires.from in
+    (size indexed plan) c.requires.size plan c.requires.from in
     record { grows = omega arith; within = omega (arith, read) }
 
 pub returns-clause-counted : goal.returns-clause-counted
 returns-clause-counted g c =
-    let indexed = c.args.indexes.now in
+    let indexed = c.args.reader.indexes.now in
     let items = g.S.ConceptSet.items_of c.args.from.now in
-    let plan = plan_of c.args.operand.now in
-    let most : ℕ = size indexed c.args._choices.now plan in
+    let plan = physical_of c.args.operand.now in
+    let most : ℕ = size indexed plan in
     let read =
-    members_read c.args.snapshot.now.release indexed c.requires.index c.concept_count.ensures.rising c.stats.ensures.members items
+    members_read c.args.reader.snapshot.now.release indexed c.args.reader.index c.concept_count.ensures.rising
+    c.args.reader.members items
     (subst (λ (bound : ℕ). IsRisingBelow bound items) c.requires.bound (g.met.S.ConceptSet.rising c.args.from.now))
     most c.requires.size plan c.requires.from in
     let more =

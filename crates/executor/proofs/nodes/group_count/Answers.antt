@@ -7,4 +7,5 @@ pub returns : goal.returns
 returns c =
     c.group_count.ensures.count
     ∙ ap (λ (groups : List ConceptGroup). length groups)
-    (groups_are c.args.indexes.now c.args.snapshot.now.release c.requires c.concept_count.ensures.rising)
+    (groups_are c.args.reader.indexes.now c.args.reader.snapshot.now.release c.args.reader.index
+    c.concept_count.ensures.rising)

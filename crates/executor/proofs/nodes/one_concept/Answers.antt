@@ -5,11 +5,12 @@ use Rattle.executor.proofs.nodes.one_concept.Goals as goal
 
 pub returns-in-Some-clause-items : goal.returns-in-Some-clause-items
 returns-in-Some-clause-items g c = IfOk-weaker c.from_items.result _ _
-    (λ found items. items ∙ one_in c.args.snapshot.now.release c.concept_count-count.ensures.rising c.args.id
-    (Some c.in-Some.concept) (sym c.index_of.ensures ∙ c.in-Some.is))
+    (λ found items. items ∙ one_in c.args.reader.snapshot.now.release c.concept_count-count.ensures.rising c.args.id
+    (Some c.in-Some.concept) (sym c.index_of.ensures.release ∙ c.in-Some.is))
     c.from_items.ensures.items
 
 pub returns-in-None-clause-items : goal.returns-in-None-clause-items
 returns-in-None-clause-items g c = IfOk-weaker c.from_items-in-None.result _ _
-    (λ found items. items ∙ one_in c.args.snapshot.now.release c.concept_count-count.ensures.rising c.args.id None (sym c.index_of.ensures ∙ c.in-None.is))
+    (λ found items. items ∙ one_in c.args.reader.snapshot.now.release c.concept_count-count.ensures.rising c.args.id
+    None (sym c.index_of.ensures.release ∙ c.in-None.is))
     c.from_items-in-None.ensures.items

@@ -6,12 +6,14 @@ use Rattle.executor.proofs.plans.tally_named.Goals as goal
 
 pub returns-in-Some : goal.returns-in-Some
 returns-in-Some c =
-    adds_named c.args.snapshot.now.release c.concept_count.ensures.rising c.in-One.id (Some c.in-Some.concept)
-    (sym c.index_of.ensures ∙ c.in-Some.is) c.args.tally.now c.add.new.self c.add.ensures (plan_of c.args.plan.now) (ap plan_of c.in-One.is)
+    adds_named c.args.reader.snapshot.now.release c.concept_count.ensures.rising c.in-One.id (Some c.in-Some.concept)
+    (sym c.index_of.ensures.release ∙ c.in-Some.is) c.args.tally.now c.add.new.self c.add.ensures
+    (plan_of c.args.plan.now) (ap plan_of c.in-One.is)
 
 -- of a concept that is not in force there is no row
 pub returns-in_default-index_of : goal.returns-in_default-index_of
 returns-in_default-index_of c =
-    adds_named c.args.snapshot.now.release c.concept_count.ensures.rising c.in-One.id None
-    (sym c.index_of.ensures ∙ c.in_default-index_of.is) c.args.tally.now c.args.tally.now (adds_none c.args.tally.now)
+    adds_named c.args.reader.snapshot.now.release c.concept_count.ensures.rising c.in-One.id None
+    (sym c.index_of.ensures.release ∙ c.in_default-index_of.is) c.args.tally.now c.args.tally.now
+    (adds_none c.args.tally.now)
     (plan_of c.args.plan.now) (ap plan_of c.in-One.is)

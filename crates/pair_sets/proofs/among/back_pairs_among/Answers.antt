@@ -16,7 +16,7 @@ use Rattle.pair_sets.proofs.among.back_pairs_among.Goals.{then-counts_back, else
 
 pub loop-place-preserved : goal.loop-place-preserved
 loop-place-preserved g c =
-    let indexed = c.args.indexes.now in
+    let indexed = c.args.reader.indexes.now in
     let items = g.S.ConceptSet.items_of c.args.types.now in
     let one : ℕ → Bool = is_one_of indexed.concepts (g.S.ConceptSet.items_of c.args.types.now) in
     let passes : Value → Bool = passes_of g.S.ConceptSet.items_of indexed.concepts c.args.tested.now in
@@ -53,7 +53,7 @@ loop-place-preserved g c =
 
 pub returns : goal.returns
 returns g c = λ entries sources are.
-    let indexed = c.args.indexes.now in
+    let indexed = c.args.reader.indexes.now in
     let one : ℕ → Bool = is_one_of indexed.concepts (g.S.ConceptSet.items_of c.args.types.now) in
     let passes : Value → Bool = passes_of g.S.ConceptSet.items_of indexed.concepts c.args.tested.now in
     c.loop-place.invariant.pairs entries sources are

@@ -14,7 +14,7 @@ use Rattle.pair_sets.proofs.among.concepts_among.Goals.{then-lies_in+in_ok-push,
 
 pub loop-concept-preserved : goal.loop-concept-preserved
 loop-concept-preserved g c =
-    let indexed = c.args.indexes.now in
+    let indexed = c.args.reader.indexes.now in
     let one : ℕ → Bool = is_one_of indexed.concepts (g.S.ConceptSet.items_of c.args.types.now) in
     let passes : Value → Bool = passes_of g.S.ConceptSet.items_of indexed.concepts c.args.tested.now in
     let concepts = c.args.concepts.now in
@@ -49,9 +49,9 @@ loop-concept-preserved g c =
 
 pub returns-clause-kept : goal.returns-clause-kept
 returns-clause-kept g c =
-    let indexed = c.args.indexes.now in
+    let indexed = c.args.reader.indexes.now in
     let one : ℕ → Bool = is_one_of indexed.concepts (g.S.ConceptSet.items_of c.args.types.now) in
     let passes : Value → Bool = passes_of g.S.ConceptSet.items_of indexed.concepts c.args.tested.now in
     c.loop-concept.invariant.kept
-    ∙ ap (filter (λ number. lies_in c.args.count (pairs_of_concept c.args.indexes.now c.args.back one passes number)))
+    ∙ ap (filter (λ number. lies_in c.args.count (pairs_of_concept c.args.reader.indexes.now c.args.back one passes number)))
     (take_all c.loop-concept.concept-index c.args.concepts.now (omega arith))

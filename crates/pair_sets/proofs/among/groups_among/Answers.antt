@@ -16,15 +16,15 @@ use Rattle.pair_sets.proofs.among.groups_among.Goals.{then-lies_in+in_ok-push, e
 
 pub pairs_among-pairs-requires-clause-rows : goal.pairs_among-pairs-requires-clause-rows
 pairs_among-pairs-requires-clause-rows g c =
-    let groups = groups_in c.args.indexes.now in
+    let groups = groups_in c.args.reader.indexes.now in
     let group : ℕ = get_or c.args.groups.now c.loop-group.group-index 0 in
-    subst (All (λ n. n < length c.args.indexes.now.rows)) (sym
-    (unit_told c.args.indexes.now group c.unit_rows.result.now (c.requires.groups c.loop-group.group-index 0 c.loop-group-test.true) c.unit_rows.ensures))
-    (unit_below c.args.indexes.now (slice_get groups group))
+    subst (All (λ n. n < length c.args.reader.indexes.now.rows)) (sym
+    (unit_told c.args.reader.indexes.now group c.unit_rows.result.now (c.requires.groups c.loop-group.group-index 0 c.loop-group-test.true) c.unit_rows.ensures))
+    (unit_below c.args.reader.indexes.now (slice_get groups group))
 
 pub loop-group-preserved : goal.loop-group-preserved
 loop-group-preserved g c =
-    let indexed = c.args.indexes.now in
+    let indexed = c.args.reader.indexes.now in
     let one : ℕ → Bool = is_one_of indexed.concepts (g.S.ConceptSet.items_of c.args.types.now) in
     let passes : Value → Bool = passes_of g.S.ConceptSet.items_of indexed.concepts c.args.tested.now in
     let concepts = c.args.groups.now in
@@ -63,10 +63,10 @@ loop-group-preserved g c =
 
 pub returns-clause-kept : goal.returns-clause-kept
 returns-clause-kept g c =
-    let indexed = c.args.indexes.now in
+    let indexed = c.args.reader.indexes.now in
     let one : ℕ → Bool = is_one_of indexed.concepts (g.S.ConceptSet.items_of c.args.types.now) in
     let passes : Value → Bool = passes_of g.S.ConceptSet.items_of indexed.concepts c.args.tested.now in
     c.loop-group.invariant.kept
-    ∙ ap (filter (λ number. lies_in c.args.count (pairs_among c.args.indexes.now true one passes
-    (rows_of_unit c.args.indexes.now (slice_get (groups_in c.args.indexes.now) number)))))
+    ∙ ap (filter (λ number. lies_in c.args.count (pairs_among c.args.reader.indexes.now true one passes
+    (rows_of_unit c.args.reader.indexes.now (slice_get (groups_in c.args.reader.indexes.now) number)))))
     (take_all c.loop-group.group-index c.args.groups.now (omega arith))

@@ -9,8 +9,8 @@ use Rattle.pair_sets.proofs.among.groups_among.Given as goal
 
 abbrev pub invariant-loop-group : goal.invariant-loop-group
 invariant-loop-group g l = record {
-  within : All (λ number. number < length (groups_in l.indexes)) l.kept.items;
-  kept : l.kept.items ≡ filter (λ number. lies_in l.count (pairs_among l.indexes true (is_one_of l.indexes.concepts (g.S.ConceptSet.items_of l.types))
-      (passes_of g.S.ConceptSet.items_of l.indexes.concepts l.tested)
-      (rows_of_unit l.indexes (slice_get (groups_in l.indexes) number)))) (take l.group-index l.groups);
+  within : All (λ number. number < length (groups_in l.reader.indexes.now)) l.kept.items;
+  kept : l.kept.items ≡ filter (λ number. lies_in l.count (pairs_among l.reader.indexes.now true (is_one_of l.reader.indexes.now.concepts (g.S.ConceptSet.items_of l.types))
+      (passes_of g.S.ConceptSet.items_of l.reader.indexes.now.concepts l.tested)
+      (rows_of_unit l.reader.indexes.now (slice_get (groups_in l.reader.indexes.now) number)))) (take l.group-index l.groups);
 }

@@ -15,7 +15,7 @@ use Rattle.pair_sets.proofs.among.pairs_among.Goals.{then-counts, else-counts}
 
 pub loop-n-preserved : goal.loop-n-preserved
 loop-n-preserved g c =
-    let indexed = c.args.indexes.now in
+    let indexed = c.args.reader.indexes.now in
     let items = g.S.ConceptSet.items_of c.args.types.now in
     let one : ℕ → Bool = is_one_of indexed.concepts (g.S.ConceptSet.items_of c.args.types.now) in
     let passes : Value → Bool = passes_of g.S.ConceptSet.items_of indexed.concepts c.args.tested.now in
@@ -40,7 +40,7 @@ loop-n-preserved g c =
 
 pub returns : goal.returns
 returns g c =
-    let indexed = c.args.indexes.now in
+    let indexed = c.args.reader.indexes.now in
     let one : ℕ → Bool = is_one_of indexed.concepts (g.S.ConceptSet.items_of c.args.types.now) in
     let passes : Value → Bool = passes_of g.S.ConceptSet.items_of indexed.concepts c.args.tested.now in
     c.loop-n.invariant.pairs

@@ -11,19 +11,19 @@ use Rattle.pair_sets.proofs.among.pairs_of_concept.Goals as goal
 
 pub pairs_among-requires-clause-rows : goal.pairs_among-requires-clause-rows
 pairs_among-requires-clause-rows g c =
-    subst (All (λ n. n < length c.args.indexes.now.rows)) (sym c.rows_of.ensures)
-    (places_where-within (λ (row : Attribute). row.source == get_or c.args.indexes.now.concepts c.args.concept 0) c.args.indexes.now.rows)
+    subst (All (λ n. n < length c.args.reader.indexes.now.rows)) (sym c.rows_of.ensures)
+    (places_where-within (λ (row : Attribute). row.source == get_or c.args.reader.indexes.now.concepts c.args.concept 0) c.args.reader.indexes.now.rows)
 
 pub back_pairs_among-requires-clause-long : goal.back_pairs_among-requires-clause-long
 back_pairs_among-requires-clause-long g c =
-    let indexed = c.args.indexes.now in
+    let indexed = c.args.reader.indexes.now in
     let columns = c.value_columns-columns in
     sources_long indexed.concepts _ columns.result.sources.now columns.ensures.sources
     ∙ sym (types_long indexed _ columns.result.types.now columns.ensures.types)
 
 pub returns-then-back : goal.returns-then-back
 returns-then-back g c =
-    let indexed = c.args.indexes.now in
+    let indexed = c.args.reader.indexes.now in
     let one : ℕ → Bool = is_one_of indexed.concepts (g.S.ConceptSet.items_of c.args.types.now) in
     let passes : Value → Bool = passes_of g.S.ConceptSet.items_of indexed.concepts c.args.tested.now in
     c.back_pairs_among.ensures (entries_with_value indexed.rows (get_or indexed.concepts c.args.concept 0))
@@ -32,7 +32,7 @@ returns-then-back g c =
 
 pub returns-else-back : goal.returns-else-back
 returns-else-back g c =
-    let indexed = c.args.indexes.now in
+    let indexed = c.args.reader.indexes.now in
     let one : ℕ → Bool = is_one_of indexed.concepts (g.S.ConceptSet.items_of c.args.types.now) in
     let passes : Value → Bool = passes_of g.S.ConceptSet.items_of indexed.concepts c.args.tested.now in
     c.pairs_among.ensures

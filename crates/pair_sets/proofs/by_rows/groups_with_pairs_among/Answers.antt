@@ -15,12 +15,12 @@ numbers_asked-requires g c =
     subst (λ (count : ℕ). AreBelow g.S.ConceptSet.bound_of count c.args.candidates.now)
     (sym (c.group_count-group_count.ensures.count
     ∙ ap (λ (groups : List ConceptGroup). length groups)
-    (groups_are c.args.indexes.now c.args.snapshot.now.release c.requires.index c.concept_count.ensures.rising)))
+    (groups_are c.args.reader.indexes.now c.args.reader.snapshot.now.release c.args.reader.index c.concept_count.ensures.rising)))
     c.requires.candidates
 
 pub groups_among-requires-clause-groups : goal.groups_among-requires-clause-groups
 groups_among-requires-clause-groups g c =
-    subst (All (λ number. number < length (groups_in c.args.indexes.now))) (sym c.as_slice.ensures.value)
+    subst (All (λ number. number < length (groups_in c.args.reader.indexes.now))) (sym c.as_slice.ensures.value)
     (subst (λ (bound : ℕ). All (λ number. number < bound) c.in_ok-asked.asked.items)
     c.group_count-group_count.ensures.count c.in_ok-asked.ensures.within)
 
@@ -32,13 +32,13 @@ from_numbers-requires g c =
 
 pub returns-clause-items : goal.returns-clause-items
 returns-clause-items g c =
-    let release = c.args.snapshot.now.release in
-    let indexed = c.args.indexes.now in
+    let release = c.args.reader.snapshot.now.release in
+    let indexed = c.args.reader.indexes.now in
     let one : ℕ → Bool = is_one_of indexed.concepts (g.S.ConceptSet.items_of c.args.types.now) in
     let passes : Value → Bool = passes_of g.S.ConceptSet.items_of indexed.concepts c.args.tested.now in
     IfOk-weaker c.from_numbers.result _ _
     (λ found found_is.
-    groups_among_within indexed release c.requires.index c.concept_count.ensures.rising c.args.count one passes
+    groups_among_within indexed release c.args.reader.index c.concept_count.ensures.rising c.args.count one passes
     c.group_count-group_count.result c.group_count-group_count.ensures.count (may_be g.S.ConceptSet.items_of c.args.candidates.now)
     c.as_slice.result.now c.as_slice-2.result.now (g.S.ConceptSet.items_of found)
     (λ n within. ap (λ (asked : List ℕ). has asked n) c.as_slice.ensures.value ∙ c.in_ok-asked.ensures.asked n within)
@@ -53,5 +53,5 @@ returns-clause-bound g c =
     (λ found bound.
     bound ∙ c.group_count-group_count.ensures.count
     ∙ ap (λ (groups : List ConceptGroup). length groups)
-    (groups_are c.args.indexes.now c.args.snapshot.now.release c.requires.index c.concept_count.ensures.rising))
+    (groups_are c.args.reader.indexes.now c.args.reader.snapshot.now.release c.args.reader.index c.concept_count.ensures.rising))
     c.from_numbers.ensures.bound

@@ -11,29 +11,29 @@ use Rattle.pair_sets.proofs.by_rows.with_pairs_among.Goals as goal
 
 pub concepts_among-requires-clause-concepts : goal.concepts_among-requires-clause-concepts
 concepts_among-requires-clause-concepts g c =
-    subst (All (λ number. number < length c.args.indexes.now.concepts)) (sym c.as_slice.ensures.value)
+    subst (All (λ number. number < length c.args.reader.indexes.now.concepts)) (sym c.as_slice.ensures.value)
     (subst (λ (bound : ℕ). All (λ number. number < bound) c.in_ok-asked.asked.items)
-    (c.concept_count-concept_count.ensures.count ∙ ap (λ (ids : List ℕ). length ids) (sym c.requires.index.concepts))
+    (c.concept_count-concept_count.ensures.count ∙ ap (λ (ids : List ℕ). length ids) (sym c.args.reader.index.concepts))
     c.in_ok-asked.ensures.within)
 
 pub from_numbers-requires : goal.from_numbers-requires
 from_numbers-requires g c =
-    let count : length c.args.indexes.now.concepts ≡ c.concept_count-concept_count.result =
-    ap (λ (concepts : List ℕ). length concepts) c.requires.index.concepts
+    let count : length c.args.reader.indexes.now.concepts ≡ c.concept_count-concept_count.result =
+    ap (λ (concepts : List ℕ). length concepts) c.args.reader.index.concepts
     ∙ sym c.concept_count-concept_count.ensures.count in
     subst (All (λ number. number < c.concept_count-concept_count.result)) (sym c.as_slice-2.ensures.value)
     (subst (λ (count : ℕ). All (λ number. number < count) c.in_ok-kept.kept.items) count c.in_ok-kept.ensures.within)
 
 pub returns-clause-items : goal.returns-clause-items
 returns-clause-items g c =
-    let release = c.args.snapshot.now.release in
-    let indexed = c.args.indexes.now in
+    let release = c.args.reader.snapshot.now.release in
+    let indexed = c.args.reader.indexes.now in
     let one : ℕ → Bool = is_one_of indexed.concepts (g.S.ConceptSet.items_of c.args.types.now) in
     let passes : Value → Bool = passes_of g.S.ConceptSet.items_of indexed.concepts c.args.tested.now in
     let rising = c.concept_count-concept_count.ensures.rising in
     IfOk-weaker c.from_numbers.result _ _
     (λ found found_is.
-    among_within indexed release c.requires.index rising c.args.count one passes
+    among_within indexed release c.args.reader.index rising c.args.count one passes
     (sources_known release rising c.attribute_count.ensures.by_source) c.args.back
     c.concept_count-concept_count.result c.concept_count-concept_count.ensures.count (may_be g.S.ConceptSet.items_of c.args.candidates.now)
     c.as_slice.result.now c.as_slice-2.result.now (g.S.ConceptSet.items_of found)

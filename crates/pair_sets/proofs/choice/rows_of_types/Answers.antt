@@ -8,5 +8,5 @@ pub loop-id-preserved : goal.loop-id-preserved
 loop-id-preserved c =
     c.saturating_add-rows.ensures
     ∙ ap (λ (rows : List ℕ). min (c.loop-id.rows + length rows) (2 ^ 64 - 1)) c.by_type.ensures
-    ∙ cut_more (type_row_count c.args.indexes.now) c.args.ids.now c.loop-id.id-index (2 ^ 64 - 1) c.loop-id.rows
+    ∙ cut_more (type_row_count c.args.reader.indexes.now) c.args.ids.now c.loop-id.id-index (2 ^ 64 - 1) c.loop-id.rows
     c.loop-id-test.true c.loop-id.invariant

@@ -5,4 +5,4 @@ use Rattle.pair_sets.proofs.choice.rows_of_types.Given as goal
 
 -- those of the types so far
 abbrev pub invariant-loop-id : goal.invariant-loop-id
-invariant-loop-id l = l.rows ≡ min (sum_by (type_row_count l.indexes) (take l.id-index l.ids)) (2 ^ 64 - 1)
+invariant-loop-id l = l.rows ≡ min (sum_by (type_row_count l.reader.indexes.now) (take l.id-index l.ids)) (2 ^ 64 - 1)

@@ -6,7 +6,7 @@ use Rattle.pair_sets.proofs.choice.values_that_pass.Goals as goal
 
 pub rows_of_values-rows-requires : goal.rows_of_values-rows-requires
 rows_of_values-rows-requires g c =
-    let count : ℕ = length c.args.indexes.now.concepts in
+    let count : ℕ = length c.args.reader.indexes.now.concepts in
     let set = c.in-Within.set in
     let same : g.S.ConceptSet.bound_of set ≡ count =
     subst (λ (tested : Tested _). IsTestBelow g.S.ConceptSet.bound_of count tested) c.in-Within.is c.requires in

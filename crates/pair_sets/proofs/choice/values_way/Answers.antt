@@ -7,7 +7,7 @@ use Rattle.pair_sets.proofs.choice.values_way.Goals as goal
 
 pub returns-then-count-rows-clause-within : goal.returns-then-count-rows-clause-within
 returns-then-count-rows-clause-within g c =
-    let indexed = c.args.indexes.now in
+    let indexed = c.args.reader.indexes.now in
     omega (
       arith,
       c.rows_of_types-rows.ensures,

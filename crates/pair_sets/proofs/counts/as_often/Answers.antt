@@ -2,7 +2,6 @@ use Rattle.std.proofs.Common.{◌+◌, ◌==◌, ◌∙◌, ap, arith}
 use Rattle.std.specs.Prelude.{nat_le}
 use Rattle.std.proofs.lemmas.Bool.{le-leb}
 use Rattle.std.proofs.lemmas.List.Sums.{count_by-le-length}
-use Rattle.std.proofs.lemmas.Result.{IfOk-weaker}
 use Rattle.number_lists.proofs.WhereLemmas.{numbers_where-agree}
 use Rattle.idset.proofs.Normal.{other_items-numbers_where}
 use Rattle.idset.specs.Sets.{other_items}
@@ -12,21 +11,20 @@ use Rattle.pair_sets.proofs.TimesLemmas.{allowed, up_to}
 use Rattle.pair_sets.proofs.counts.as_often.Goals as goal
 use Rattle.pair_sets.proofs.counts.as_often.Goals.{in_default-via-in-Some+else-most-numbers, in_default-via-in_default}
 
-pub returns-in_ok-more-in-Some-clause-items : goal.returns-in_ok-more-in-Some-clause-items
-returns-in_ok-more-in-Some-clause-items g c = IfOk-weaker c.without.result _ _
-    (λ found items. items
+pub returns-in_ok-left-in-Some-clause-items : goal.returns-in_ok-left-in-Some-clause-items
+returns-in_ok-left-in-Some-clause-items g c =
+    ap g.S.ConceptSet.items_of c.of.ensures ∙ c.in_ok-left-in-Some.ensures.items
     ∙ (λ i. other_items (c.in_ok-enough.ensures.items i) (c.in_ok-more-in-Some.ensures.items i))
     ∙ other_items-numbers_where c.args.bound
     (λ n. nat_le c.args.count.min (times n c.args.numbers.now)) (λ n. nat_le (c.in-Some.most + 1) (times n c.args.numbers.now))
     ∙ numbers_where-agree c.args.bound _ (λ n. lies_in c.args.count (times n c.args.numbers.now))
-    (λ n within. up_to c.args.count c.in-Some.most (times n c.args.numbers.now) c.in-Some.is))
-    c.without.ensures.items
+    (λ n within. up_to c.args.count c.in-Some.most (times n c.args.numbers.now) c.in-Some.is)
 
 pub returns-in_default-clause-items : goal.returns-in_default-clause-items
 returns-in_default-clause-items g c =
     let numbers = c.args.numbers.now in
     let count = c.args.count in
-    c.in_ok-enough.ensures.items
+    ap g.S.ConceptSet.items_of c.of-in_default.ensures ∙ c.in_ok-enough.ensures.items
     ∙ numbers_where-agree c.args.bound (λ n. nat_le count.min (times n numbers)) (λ n. lies_in count (times n numbers))
     (λ n within.
     let seen = times n numbers in

@@ -11,7 +11,7 @@ use Rattle.pair_sets.proofs.hits.group_hits_by_type.Goals as goal
 
 pub returns-clause-hits : goal.returns-clause-hits
 returns-clause-hits g c =
-    let indexed = c.args.indexes.now in
+    let indexed = c.args.reader.indexes.now in
     let count : ℕ = length (groups_in indexed) in
     let passes : Value → Bool = passes_of g.S.ConceptSet.items_of indexed.concepts c.args.tested.now in
     IfOk-weaker c.owners_by_type.result _ _

@@ -10,16 +10,16 @@ use Rattle.number_lists.proofs.RisingLemmas.{all_below}
 use Rattle.pair_sets.proofs.hits.group_hits_by_value.Goals as goal
 
 pub owners_by_value-requires-clause-values : goal.owners_by_value-requires-clause-values
-owners_by_value-requires-clause-values g c = all_below (length c.args.indexes.now.concepts) c.args.values.now c.requires.values
+owners_by_value-requires-clause-values g c = all_below (length c.args.reader.indexes.now.concepts) c.args.values.now c.requires.values
 
 pub returns-clause-hits : goal.returns-clause-hits
 returns-clause-hits g c =
-    let indexed = c.args.indexes.now in
+    let indexed = c.args.reader.indexes.now in
     let count : ℕ = length (groups_in indexed) in
     let one : ℕ → Bool = is_one_of indexed.concepts (g.S.ConceptSet.items_of c.args.types.now) in
     IfOk-weaker c.owners_by_value.result _ _
     (λ hits are.
     of_values count (λ number (entry : Entry). is_in_some (slice_get (groups_in indexed) number) entry.row)
-    (λ (entry : Entry). entry.is_first_in_group) indexed c.concept_count.ensures.rising one hits.items c.args.values.now c.requires.values
+    (λ (entry : Entry). entry.is_first_in_group) indexed c.concept_count.ensures.numbers_rise one hits.items c.args.values.now c.requires.values
     are)
     c.owners_by_value.ensures.hits

@@ -10,7 +10,7 @@ use Rattle.pair_sets.proofs.hits.hits_by_type.Goals as goal
 
 pub returns-then-back-clause-hits : goal.returns-then-back-clause-hits
 returns-then-back-clause-hits g c =
-    let indexed = c.args.indexes.now in
+    let indexed = c.args.reader.indexes.now in
     let count : ℕ = length indexed.concepts in
     let passes : Value → Bool = passes_of g.S.ConceptSet.items_of indexed.concepts c.args.tested.now in
     IfOk-weaker c.values_by_type.result _ _
@@ -23,7 +23,7 @@ returns-then-back-clause-hits g c =
 
 pub returns-else-back-clause-hits : goal.returns-else-back-clause-hits
 returns-else-back-clause-hits g c =
-    let indexed = c.args.indexes.now in
+    let indexed = c.args.reader.indexes.now in
     let count : ℕ = length indexed.concepts in
     let passes : Value → Bool = passes_of g.S.ConceptSet.items_of indexed.concepts c.args.tested.now in
     IfOk-weaker c.owners_by_type.result _ _

@@ -11,14 +11,14 @@ use Rattle.number_lists.proofs.RisingLemmas.{all_below}
 use Rattle.pair_sets.proofs.hits.hits_by_value.Goals as goal
 
 pub values_by_source-requires-clause-sources : goal.values_by_source-requires-clause-sources
-values_by_source-requires-clause-sources g c = all_below (length c.args.indexes.now.concepts) c.args.values.now c.requires.values
+values_by_source-requires-clause-sources g c = all_below (length c.args.reader.indexes.now.concepts) c.args.values.now c.requires.values
 
 pub owners_by_value-requires-clause-values : goal.owners_by_value-requires-clause-values
-owners_by_value-requires-clause-values g c = all_below (length c.args.indexes.now.concepts) c.args.values.now c.requires.values
+owners_by_value-requires-clause-values g c = all_below (length c.args.reader.indexes.now.concepts) c.args.values.now c.requires.values
 
 pub returns-then-back-clause-hits : goal.returns-then-back-clause-hits
 returns-then-back-clause-hits g c =
-    let indexed = c.args.indexes.now in
+    let indexed = c.args.reader.indexes.now in
     let count : ℕ = length indexed.concepts in
     let one : ℕ → Bool = is_one_of indexed.concepts (g.S.ConceptSet.items_of c.args.types.now) in
     IfOk-weaker c.values_by_source.result _ _
@@ -26,13 +26,13 @@ returns-then-back-clause-hits g c =
     subst (λ (back : Bool). AreHits count (counts_for_concept back indexed.concepts one (is_within (is_one_of indexed.concepts c.args.values.now)))
     (entries_of indexed.rows) hits.items) (sym c.if-back.true)
     (of_sources count (λ number (entry : Entry). value_eq entry.row.value (concept_value (get_or indexed.concepts number 0)))
-    (λ (entry : Entry). entry.is_first) indexed c.concept_count.ensures.rising one hits.items c.args.values.now c.requires.values
+    (λ (entry : Entry). entry.is_first) indexed c.concept_count.ensures.numbers_rise one hits.items c.args.values.now c.requires.values
     are))
     c.values_by_source.ensures.hits
 
 pub returns-else-back-clause-hits : goal.returns-else-back-clause-hits
 returns-else-back-clause-hits g c =
-    let indexed = c.args.indexes.now in
+    let indexed = c.args.reader.indexes.now in
     let count : ℕ = length indexed.concepts in
     let one : ℕ → Bool = is_one_of indexed.concepts (g.S.ConceptSet.items_of c.args.types.now) in
     IfOk-weaker c.owners_by_value.result _ _
@@ -40,6 +40,6 @@ returns-else-back-clause-hits g c =
     subst (λ (back : Bool). AreHits count (counts_for_concept back indexed.concepts one (is_within (is_one_of indexed.concepts c.args.values.now)))
     (entries_of indexed.rows) hits.items) (sym c.if-back.false)
     (of_values count (λ number (entry : Entry). entry.row.source == get_or indexed.concepts number 0)
-    (λ (entry : Entry). entry.is_first) indexed c.concept_count.ensures.rising one hits.items c.args.values.now c.requires.values
+    (λ (entry : Entry). entry.is_first) indexed c.concept_count.ensures.numbers_rise one hits.items c.args.values.now c.requires.values
     are))
     c.owners_by_value.ensures.hits

@@ -10,10 +10,10 @@ use Rattle.pair_sets.proofs.hits.owners_by_type.Goals as goal
 
 pub loop-id-init : goal.loop-id-init
 loop-id-init g c = record {
-  within = subst (All (λ number. number < owner_count c.args.owner c.args.indexes.now)) (sym c.in_ok-hits.ensures.items)
+  within = subst (All (λ number. number < owner_count c.args.owner c.args.reader.indexes.now)) (sym c.in_ok-hits.ensures.items)
       (λ k d within. absurd (omega (arith, within)));
   hits =
-      let indexed = c.args.indexes.now in
+      let indexed = c.args.reader.indexes.now in
       let passes : Value → Bool = passes_of g.S.ConceptSet.items_of indexed.concepts c.args.tested.now in
       subst (AreHits (owner_count c.args.owner indexed) (counts_for_owner c.args.owner indexed (λ row. passes row.value)) [])
       (sym c.in_ok-hits.ensures.items)
@@ -22,7 +22,7 @@ loop-id-init g c = record {
 
 pub push_passing-requires-clause-long : goal.push_passing-requires-clause-long
 push_passing-requires-clause-long g c =
-    let indexed = c.args.indexes.now in
+    let indexed = c.args.reader.indexes.now in
     let columns = c.type_columns-columns in
     let owners = c.owners_in-owners in
     owners_long c.args.owner indexed _ owners.result.now (owners.ensures indexed _ columns.ensures.sources columns.ensures.groups)
@@ -30,7 +30,7 @@ push_passing-requires-clause-long g c =
 
 pub loop-id-preserved : goal.loop-id-preserved
 loop-id-preserved g c =
-    let indexed = c.args.indexes.now in
+    let indexed = c.args.reader.indexes.now in
     let passes : Value → Bool = passes_of g.S.ConceptSet.items_of indexed.concepts c.args.tested.now in
     let columns = c.type_columns-columns in
     let owners = c.owners_in-owners in
@@ -46,7 +46,7 @@ loop-id-preserved g c =
           (owned_hits (λ row. passes row.value) (λ n. passes (value_of indexed n)) _ owners.result.now columns.result.values.now
           (values_long indexed _ columns.result.values.now columns.ensures.values)
           (values_told indexed _ columns.result.values.now columns.ensures.values passes)
-          c.args.owner indexed c.concept_count.ensures.rising are);
+          c.args.owner indexed c.concept_count.ensures.numbers_rise are);
     }
 
 pub returns-clause-within : goal.returns-clause-within
@@ -54,7 +54,7 @@ returns-clause-within g c = c.loop-id.invariant.within
 
 pub returns-clause-hits : goal.returns-clause-hits
 returns-clause-hits g c =
-    let indexed = c.args.indexes.now in
+    let indexed = c.args.reader.indexes.now in
     let passes : Value → Bool = passes_of g.S.ConceptSet.items_of indexed.concepts c.args.tested.now in
     subst (λ (ids : List ℕ). AreHits (owner_count c.args.owner indexed) (counts_for_owner c.args.owner indexed (λ row. passes row.value))
     (entries_with_types indexed.rows ids) c.loop-id.hits.items)

@@ -6,8 +6,8 @@ use Rattle.pair_sets.proofs.hits.owners_by_type.Given as goal
 -- the numbers so far are those of the types so far
 abbrev pub invariant-loop-id : goal.invariant-loop-id
 invariant-loop-id g l = record {
-  within : All (λ number. number < owner_count l.owner l.indexes) l.hits.items;
-  hits : AreHits (owner_count l.owner l.indexes)
-      (counts_for_owner l.owner l.indexes (λ row. passes_of g.S.ConceptSet.items_of l.indexes.concepts l.tested row.value))
-      (entries_with_types l.indexes.rows (take l.id-index l.ids)) l.hits.items;
+  within : All (λ number. number < owner_count l.owner l.reader.indexes.now) l.hits.items;
+  hits : AreHits (owner_count l.owner l.reader.indexes.now)
+      (counts_for_owner l.owner l.reader.indexes.now (λ row. passes_of g.S.ConceptSet.items_of l.reader.indexes.now.concepts l.tested row.value))
+      (entries_with_types l.reader.indexes.now.rows (take l.id-index l.ids)) l.hits.items;
 }

@@ -11,10 +11,10 @@ use Rattle.pair_sets.proofs.hits.owners_by_value.Goals as goal
 
 pub loop-value-init : goal.loop-value-init
 loop-value-init g c = record {
-  within = subst (All (λ number. number < owner_count c.args.owner c.args.indexes.now)) (sym c.new-hits.ensures.items)
+  within = subst (All (λ number. number < owner_count c.args.owner c.args.reader.indexes.now)) (sym c.new-hits.ensures.items)
       (λ k d within. absurd (omega (arith, within)));
   hits =
-      let indexed = c.args.indexes.now in
+      let indexed = c.args.reader.indexes.now in
       let one : ℕ → Bool = is_one_of indexed.concepts (g.S.ConceptSet.items_of c.args.types.now) in
       subst (AreHits (owner_count c.args.owner indexed) (counts_for_owner c.args.owner indexed (λ row. one row.type_id)) [])
       (sym c.new-hits.ensures.items)
@@ -23,7 +23,7 @@ loop-value-init g c = record {
 
 pub push_typed-requires-clause-long : goal.push_typed-requires-clause-long
 push_typed-requires-clause-long g c =
-    let indexed = c.args.indexes.now in
+    let indexed = c.args.reader.indexes.now in
     let columns = c.value_columns-columns in
     let owners = c.owners_in-owners in
     owners_long c.args.owner indexed _ owners.result.now (owners.ensures indexed _ columns.ensures.sources columns.ensures.groups)
@@ -31,7 +31,7 @@ push_typed-requires-clause-long g c =
 
 pub loop-value-preserved : goal.loop-value-preserved
 loop-value-preserved g c =
-    let indexed = c.args.indexes.now in
+    let indexed = c.args.reader.indexes.now in
     let items : List ℕ = g.S.ConceptSet.items_of c.args.types.now in
     let one : ℕ → Bool = is_one_of indexed.concepts items in
     let columns = c.value_columns-columns in
@@ -50,7 +50,7 @@ loop-value-preserved g c =
           (types_long indexed _ columns.result.types.now columns.ensures.types)
           (types_told indexed _ columns.result.types.now columns.ensures.types one (is_type_in indexed items)
           (type_tells indexed items))
-          c.args.owner indexed c.concept_count.ensures.rising are);
+          c.args.owner indexed c.concept_count.ensures.numbers_rise are);
     }
 
 pub returns-clause-within : goal.returns-clause-within
@@ -58,7 +58,7 @@ returns-clause-within g c = c.loop-value.invariant.within
 
 pub returns-clause-hits : goal.returns-clause-hits
 returns-clause-hits g c =
-    let indexed = c.args.indexes.now in
+    let indexed = c.args.reader.indexes.now in
     let one : ℕ → Bool = is_one_of indexed.concepts (g.S.ConceptSet.items_of c.args.types.now) in
     subst (λ (values : List ℕ). AreHits (owner_count c.args.owner indexed) (counts_for_owner c.args.owner indexed (λ row. one row.type_id))
     (entries_with_values indexed values) c.loop-value.hits.items)

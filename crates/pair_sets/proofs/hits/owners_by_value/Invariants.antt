@@ -6,8 +6,8 @@ use Rattle.pair_sets.proofs.hits.owners_by_value.Given as goal
 -- the numbers so far are those of the values so far
 abbrev pub invariant-loop-value : goal.invariant-loop-value
 invariant-loop-value g l = record {
-  within : All (λ number. number < owner_count l.owner l.indexes) l.hits.items;
-  hits : AreHits (owner_count l.owner l.indexes)
-      (counts_for_owner l.owner l.indexes (λ row. is_one_of l.indexes.concepts (g.S.ConceptSet.items_of l.types) row.type_id))
-      (entries_with_values l.indexes (take l.value-index l.values)) l.hits.items;
+  within : All (λ number. number < owner_count l.owner l.reader.indexes.now) l.hits.items;
+  hits : AreHits (owner_count l.owner l.reader.indexes.now)
+      (counts_for_owner l.owner l.reader.indexes.now (λ row. is_one_of l.reader.indexes.now.concepts (g.S.ConceptSet.items_of l.types) row.type_id))
+      (entries_with_values l.reader.indexes.now (take l.value-index l.values)) l.hits.items;
 }

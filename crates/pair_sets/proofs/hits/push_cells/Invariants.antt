@@ -8,7 +8,7 @@ abbrev pub invariant-loop-place : goal.invariant-loop-place
 invariant-loop-place g l =
     l.hits.items
     ≡ l.fn.hits.items
-    ++ picked (λ mark cell. ltb cell (length l.indexes.concepts)
-    && (mark.is_first && passes_of g.S.ConceptSet.items_of l.indexes.concepts l.tested
-    (value_of l.indexes mark.number))) (λ mark cell. cell)
+    ++ picked (λ mark cell. ltb cell (length l.reader.indexes.now.concepts)
+    && (mark.is_first && passes_of g.S.ConceptSet.items_of l.reader.indexes.now.concepts l.tested
+    (value_of l.reader.indexes.now mark.number))) (λ mark cell. cell)
     (take l.place l.marks) (take l.place l.cells)

@@ -12,7 +12,7 @@ loop-place-init g c = sym (append-nil c.args.hits.now.items)
 
 pub loop-place-preserved : goal.loop-place-preserved
 loop-place-preserved g c =
-    let indexed = c.args.indexes.now in
+    let indexed = c.args.reader.indexes.now in
     let marks = c.args.marks.now in
     let cells = c.args.cells.now in
     let k = c.loop-place.place in
@@ -45,6 +45,6 @@ returns g c =
     c.loop-place.invariant
     ∙ (λ i. c.args.hits.now.items
     ++ picked (λ mark cell. mark.is_first
-    && passes_of g.S.ConceptSet.items_of c.args.indexes.now.concepts c.args.tested.now
-    (value_of c.args.indexes.now cell)) (λ mark cell. mark.number)
+    && passes_of g.S.ConceptSet.items_of c.args.reader.indexes.now.concepts c.args.tested.now
+    (value_of c.args.reader.indexes.now cell)) (λ mark cell. mark.number)
     (take_all c.loop-place.place c.args.marks.now (omega arith) i) (take_all c.loop-place.place c.args.cells.now (omega arith) i))

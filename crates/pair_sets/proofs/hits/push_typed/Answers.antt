@@ -11,7 +11,7 @@ loop-place-init g c = sym (append-nil c.args.hits.now.items)
 
 pub loop-place-preserved : goal.loop-place-preserved
 loop-place-preserved g c =
-    let indexed = c.args.indexes.now in
+    let indexed = c.args.reader.indexes.now in
     let marks = c.args.marks.now in
     let cells = c.args.cells.now in
     let k = c.loop-place.place in
@@ -41,5 +41,5 @@ pub returns : goal.returns
 returns g c =
     c.loop-place.invariant
     ∙ (λ i. c.args.hits.now.items
-    ++ picked (λ mark cell. mark.is_first && is_type_in c.args.indexes.now (g.S.ConceptSet.items_of c.args.types.now) cell) (λ mark cell. mark.number)
+    ++ picked (λ mark cell. mark.is_first && is_type_in c.args.reader.indexes.now (g.S.ConceptSet.items_of c.args.types.now) cell) (λ mark cell. mark.number)
     (take_all c.loop-place.place c.args.marks.now (omega arith) i) (take_all c.loop-place.place c.args.cells.now (omega arith) i))

@@ -14,12 +14,12 @@ use Rattle.pair_sets.proofs.hits.push_values.Goals.{then-counts+in_ok-push, else
 
 pub loop-n-preserved : goal.loop-n-preserved
 loop-n-preserved g c =
-    let indexed = c.args.indexes.now in
+    let indexed = c.args.reader.indexes.now in
     let rows = c.args.rows.now in
     let k = c.loop-n.n-index in
     let cells = c.cells-row.result in
     let bound : ℕ = length indexed.concepts in
-    let rising = c.concept_count.ensures.rising in
+    let rising = c.concept_count.ensures.numbers_rise in
     let items : List ℕ = g.S.ConceptSet.items_of c.args.types.now in
     let one : ℕ → Bool = is_one_of indexed.concepts items in
     let told : ℕ → Bool = is_type_in indexed items in
@@ -60,10 +60,10 @@ loop-n-preserved g c =
 
 pub returns-clause-times : goal.returns-clause-times
 returns-clause-times g c = λ number inside.
-    let indexed = c.args.indexes.now in
+    let indexed = c.args.reader.indexes.now in
     let items : List ℕ = g.S.ConceptSet.items_of c.args.types.now in
     c.loop-n.invariant.times number inside
     ∙ ap (λ (rows : List ℕ). times number c.args.hits.now.items
-    + count_by (counts_at indexed c.concept_count.ensures.rising (is_one_of indexed.concepts items) (is_type_in indexed items) (type_tells indexed items)
+    + count_by (counts_at indexed c.concept_count.ensures.numbers_rise (is_one_of indexed.concepts items) (is_type_in indexed items) (type_tells indexed items)
     (length indexed.concepts) refl number) rows)
     (take_all c.loop-n.n-index c.args.rows.now (omega arith))

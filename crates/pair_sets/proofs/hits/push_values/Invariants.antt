@@ -10,11 +10,11 @@ use Rattle.pair_sets.proofs.hits.push_values.Given as goal
 -- the numbers pushed so far are those of the rows so far
 abbrev pub invariant-loop-n : goal.invariant-loop-n
 invariant-loop-n g l = record {
-  within : All (λ number. number < length l.indexes.concepts) l.fn.hits.items → All (λ number. number < length l.indexes.concepts) l.hits.items;
-  times : (number : ℕ) → number < length l.indexes.concepts
+  within : All (λ number. number < length l.reader.indexes.now.concepts) l.fn.hits.items → All (λ number. number < length l.reader.indexes.now.concepts) l.hits.items;
+  times : (number : ℕ) → number < length l.reader.indexes.now.concepts
       → times number l.hits.items
       ≡ times number l.fn.hits.items
-      + count_by (λ n. at_entry (counts_for_value l.indexes.concepts (λ row. is_one_of l.indexes.concepts (g.S.ConceptSet.items_of l.types) row.type_id) number)
-      (slice_get (entries_of l.indexes.rows) n))
+      + count_by (λ n. at_entry (counts_for_value l.reader.indexes.now.concepts (λ row. is_one_of l.reader.indexes.now.concepts (g.S.ConceptSet.items_of l.types) row.type_id) number)
+      (slice_get (entries_of l.reader.indexes.now.rows) n))
       (take l.n-index l.rows);
 }

@@ -14,29 +14,29 @@ use Rattle.pair_sets.proofs.hits.values_by_source.Goals as goal
 
 pub loop-source-init : goal.loop-source-init
 loop-source-init g c = record {
-  within = subst (All (λ number. number < length c.args.indexes.now.concepts)) (sym c.new-hits.ensures.items) (λ k d within. absurd (omega (arith, within)));
+  within = subst (All (λ number. number < length c.args.reader.indexes.now.concepts)) (sym c.new-hits.ensures.items) (λ k d within. absurd (omega (arith, within)));
   hits =
-      let one : ℕ → Bool = is_one_of c.args.indexes.now.concepts (g.S.ConceptSet.items_of c.args.types.now) in
-      subst (AreHits (length c.args.indexes.now.concepts) (counts_for_value c.args.indexes.now.concepts (λ row. one row.type_id)) [])
+      let one : ℕ → Bool = is_one_of c.args.reader.indexes.now.concepts (g.S.ConceptSet.items_of c.args.types.now) in
+      subst (AreHits (length c.args.reader.indexes.now.concepts) (counts_for_value c.args.reader.indexes.now.concepts (λ row. one row.type_id)) [])
       (sym c.new-hits.ensures.items)
-      (no_hits (length c.args.indexes.now.concepts) (counts_for_value c.args.indexes.now.concepts (λ row. one row.type_id)));
+      (no_hits (length c.args.reader.indexes.now.concepts) (counts_for_value c.args.reader.indexes.now.concepts (λ row. one row.type_id)));
 }
 
 pub push_values-requires-clause-rows : goal.push_values-requires-clause-rows
 push_values-requires-clause-rows g c =
-    subst (All (λ n. n < length c.args.indexes.now.rows)) (sym c.rows_of.ensures)
-    (places_where-within (λ (row : Attribute). row.source == get_or c.args.indexes.now.concepts
-    (get_or c.args.sources.now c.loop-source.source-index 0) 0) c.args.indexes.now.rows)
+    subst (All (λ n. n < length c.args.reader.indexes.now.rows)) (sym c.rows_of.ensures)
+    (places_where-within (λ (row : Attribute). row.source == get_or c.args.reader.indexes.now.concepts
+    (get_or c.args.sources.now c.loop-source.source-index 0) 0) c.args.reader.indexes.now.rows)
 
 pub loop-source-preserved : goal.loop-source-preserved
 loop-source-preserved g c =
-    let indexed = c.args.indexes.now in
+    let indexed = c.args.reader.indexes.now in
     let source : ℕ = get_or c.args.sources.now c.loop-source.source-index 0 in
     let below = c.in_ok-push_values.ensures.within c.loop-source.invariant.within in
     record {
       within = below;
       hits =
-          let one : ℕ → Bool = is_one_of c.args.indexes.now.concepts (g.S.ConceptSet.items_of c.args.types.now) in
+          let one : ℕ → Bool = is_one_of c.args.reader.indexes.now.concepts (g.S.ConceptSet.items_of c.args.types.now) in
           hits_counted (λ number. entries_where (λ row. row.source == slice_index indexed.concepts number) indexed.rows) c.args.sources.now
           c.loop-source.source-index c.loop-source-test.true
           (length indexed.concepts) (counts_for_value indexed.concepts (λ row. one row.type_id))
@@ -55,7 +55,7 @@ returns-clause-within g c = c.loop-source.invariant.within
 
 pub returns-clause-hits : goal.returns-clause-hits
 returns-clause-hits g c =
-    let one : ℕ → Bool = is_one_of c.args.indexes.now.concepts (g.S.ConceptSet.items_of c.args.types.now) in
-    subst (λ (sources : List ℕ). AreHits (length c.args.indexes.now.concepts) (counts_for_value c.args.indexes.now.concepts (λ row. one row.type_id))
-    (entries_with_sources c.args.indexes.now sources) c.loop-source.hits.items)
+    let one : ℕ → Bool = is_one_of c.args.reader.indexes.now.concepts (g.S.ConceptSet.items_of c.args.types.now) in
+    subst (λ (sources : List ℕ). AreHits (length c.args.reader.indexes.now.concepts) (counts_for_value c.args.reader.indexes.now.concepts (λ row. one row.type_id))
+    (entries_with_sources c.args.reader.indexes.now sources) c.loop-source.hits.items)
     (take_all c.loop-source.source-index c.args.sources.now (omega arith)) c.loop-source.invariant.hits

@@ -6,8 +6,8 @@ use Rattle.pair_sets.proofs.hits.values_by_source.Given as goal
 -- the numbers so far are those of the sources so far
 abbrev pub invariant-loop-source : goal.invariant-loop-source
 invariant-loop-source g l = record {
-  within : All (λ number. number < length l.indexes.concepts) l.hits.items;
-  hits : AreHits (length l.indexes.concepts)
-      (counts_for_value l.indexes.concepts (λ row. is_one_of l.indexes.concepts (g.S.ConceptSet.items_of l.types) row.type_id))
-      (entries_with_sources l.indexes (take l.source-index l.sources)) l.hits.items;
+  within : All (λ number. number < length l.reader.indexes.now.concepts) l.hits.items;
+  hits : AreHits (length l.reader.indexes.now.concepts)
+      (counts_for_value l.reader.indexes.now.concepts (λ row. is_one_of l.reader.indexes.now.concepts (g.S.ConceptSet.items_of l.types) row.type_id))
+      (entries_with_sources l.reader.indexes.now (take l.source-index l.sources)) l.hits.items;
 }

@@ -7,9 +7,9 @@ use Rattle.pair_sets.proofs.hits.values_by_type.Given as goal
 -- the numbers so far are those of the types so far
 abbrev pub invariant-loop-id : goal.invariant-loop-id
 invariant-loop-id g l = record {
-  within : All (λ number. number < length l.indexes.concepts) l.hits.items;
-  hits : AreHits (length l.indexes.concepts)
-      (counts_for_value l.indexes.concepts (λ row. passes_of g.S.ConceptSet.items_of l.indexes.concepts l.tested
+  within : All (λ number. number < length l.reader.indexes.now.concepts) l.hits.items;
+  hits : AreHits (length l.reader.indexes.now.concepts)
+      (counts_for_value l.reader.indexes.now.concepts (λ row. passes_of g.S.ConceptSet.items_of l.reader.indexes.now.concepts l.tested
       (concept_value row.source)))
-      (entries_with_types l.indexes.rows (take l.id-index l.ids)) l.hits.items;
+      (entries_with_types l.reader.indexes.now.rows (take l.id-index l.ids)) l.hits.items;
 }

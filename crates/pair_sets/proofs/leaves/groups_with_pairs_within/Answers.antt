@@ -7,8 +7,8 @@ use Rattle.pair_sets.proofs.leaves.groups_with_pairs_within.Goals as goal
 -- the values that pass in the way that is taken are those that pass the test
 pub returns-clause-found : goal.returns-clause-found
 returns-clause-found g c =
-    let release = c.args.snapshot.now.release in
-    let one : ℕ → Bool = is_one_of c.args.indexes.now.concepts (g.S.ConceptSet.items_of c.args.types.now) in
+    let release = c.args.reader.snapshot.now.release in
+    let one : ℕ → Bool = is_one_of c.args.reader.indexes.now.concepts (g.S.ConceptSet.items_of c.args.types.now) in
     record {
       items =
           c.in_ok-found.ensures.items

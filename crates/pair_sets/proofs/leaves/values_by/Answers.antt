@@ -10,12 +10,12 @@ use Rattle.pair_sets.proofs.leaves.values_by.Goals as goal
 -- the sources that are read are all of the set
 pub returns-in_ok-found-in-BySource-clause-items : goal.returns-in_ok-found-in-BySource-clause-items
 returns-in_ok-found-in-BySource-clause-items g c =
-    let release = c.args.snapshot.now.release in
-    let concepts = c.args.indexes.now.concepts in
+    let release = c.args.reader.snapshot.now.release in
+    let concepts = c.args.reader.indexes.now.concepts in
     let one : ℕ → Bool = is_one_of concepts (g.S.ConceptSet.items_of c.args.types.now) in
     let items : List ℕ = g.S.ConceptSet.items_of c.args.sources in
     let same : c.in-BySource.own.items ≡ items =
-    subst (λ (way : ValuesWay). IsValuesWay (types_of c.args.indexes.now.rows) items one way) c.in-BySource.is
+    subst (λ (way : ValuesWay). IsValuesWay (types_of c.args.reader.indexes.now.rows) items one way) c.in-BySource.is
     c.requires.way in
     c.in_ok-found-in-BySource.ensures.items
     ∙ ap (λ (own : List ℕ). numbers_in release (is_value release (is_one_of concepts own) one))
@@ -24,8 +24,8 @@ returns-in_ok-found-in-BySource-clause-items g c =
 -- and so are the types
 pub returns-in_ok-found-in-ByType-clause-items : goal.returns-in_ok-found-in-ByType-clause-items
 returns-in_ok-found-in-ByType-clause-items g c =
-    let one : ℕ → Bool = is_one_of c.args.indexes.now.concepts (g.S.ConceptSet.items_of c.args.types.now) in
-    let types : List ℕ = types_of c.args.indexes.now.rows in
+    let one : ℕ → Bool = is_one_of c.args.reader.indexes.now.concepts (g.S.ConceptSet.items_of c.args.types.now) in
+    let types : List ℕ = types_of c.args.reader.indexes.now.rows in
     let same : c.in-ByType.ids.items ≡ filter one types =
     subst (λ (way : ValuesWay). IsValuesWay types (g.S.ConceptSet.items_of c.args.sources) one way) c.in-ByType.is
     c.requires.way in

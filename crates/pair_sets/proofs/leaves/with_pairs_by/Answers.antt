@@ -13,8 +13,8 @@ use Rattle.pair_sets.proofs.leaves.with_pairs_by.Goals as goal
 
 pub returns-in_ok-found-in-ByCandidates-clause-items : goal.returns-in_ok-found-in-ByCandidates-clause-items
 returns-in_ok-found-in-ByCandidates-clause-items g c =
-    let release = c.args.snapshot.now.release in
-    let concepts = c.args.indexes.now.concepts in
+    let release = c.args.reader.snapshot.now.release in
+    let concepts = c.args.reader.indexes.now.concepts in
     let one : ℕ → Bool = is_one_of concepts (g.S.ConceptSet.items_of c.args.types.now) in
     let may : ℕ → Bool = may_be g.S.ConceptSet.items_of c.args.candidates.now in
     c.in_ok-found-in-ByCandidates.ensures.items
@@ -24,8 +24,8 @@ returns-in_ok-found-in-ByCandidates-clause-items g c =
 
 pub returns-in_ok-found-in-ByValue-clause-items : goal.returns-in_ok-found-in-ByValue-clause-items
 returns-in_ok-found-in-ByValue-clause-items g c =
-    let release = c.args.snapshot.now.release in
-    let concepts = c.args.indexes.now.concepts in
+    let release = c.args.reader.snapshot.now.release in
+    let concepts = c.args.reader.indexes.now.concepts in
     let one : ℕ → Bool = is_one_of concepts (g.S.ConceptSet.items_of c.args.types.now) in
     let may : ℕ → Bool = may_be g.S.ConceptSet.items_of c.args.candidates.now in
     kept_set release may
@@ -42,12 +42,12 @@ returns-in_ok-found-in-ByValue-clause-items g c =
 
 pub returns-in_ok-found-in-ByType-clause-items : goal.returns-in_ok-found-in-ByType-clause-items
 returns-in_ok-found-in-ByType-clause-items g c =
-    let release = c.args.snapshot.now.release in
-    let concepts = c.args.indexes.now.concepts in
+    let release = c.args.reader.snapshot.now.release in
+    let concepts = c.args.reader.indexes.now.concepts in
     let one : ℕ → Bool = is_one_of concepts (g.S.ConceptSet.items_of c.args.types.now) in
     let may : ℕ → Bool = may_be g.S.ConceptSet.items_of c.args.candidates.now in
-    let ids : c.deref-in-ByType.result.now ≡ filter one (types_of c.args.indexes.now.rows) =
-    c.deref-in-ByType.ensures.value ∙ subst (λ (way : Way _). HasTypes (types_of c.args.indexes.now.rows) one way) c.in-ByType.is c.requires.ids in
+    let ids : c.deref-in-ByType.result.now ≡ filter one (types_of c.args.reader.indexes.now.rows) =
+    c.deref-in-ByType.ensures.value ∙ subst (λ (way : Way _). HasTypes (types_of c.args.reader.indexes.now.rows) one way) c.in-ByType.is c.requires.ids in
     let passes = passes_of g.S.ConceptSet.items_of concepts c.in-ByType.tested in
     kept_set release may (λ concept. has_pairs c.args.count one passes (pairs_of release c.args.back concept))
     (g.S.ConceptSet.items_of c.in_ok-some-in-ByType.some) (g.S.ConceptSet.items_of c.in_ok-found-in-ByType.found)
@@ -60,8 +60,8 @@ returns-in_ok-found-in-ByType-clause-items g c =
 -- all are candidates, so the scan finds each concept
 pub returns-in_ok-found-in-Scan-clause-items : goal.returns-in_ok-found-in-Scan-clause-items
 returns-in_ok-found-in-Scan-clause-items g c =
-    let release = c.args.snapshot.now.release in
-    let concepts = c.args.indexes.now.concepts in
+    let release = c.args.reader.snapshot.now.release in
+    let concepts = c.args.reader.indexes.now.concepts in
     let one : ℕ → Bool = is_one_of concepts (g.S.ConceptSet.items_of c.args.types.now) in
     let may : ℕ → Bool = may_be g.S.ConceptSet.items_of c.args.candidates.now in
     let passes = passes_of g.S.ConceptSet.items_of concepts c.in-Scan.tested in

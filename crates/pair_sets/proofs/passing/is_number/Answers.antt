@@ -7,24 +7,24 @@ use Rattle.pair_sets.proofs.passing.is_number.Goals as goal
 
 pub returns-then-value-concepts : goal.returns-then-value-concepts
 returns-then-value-concepts c =
-    concept_fails c.args.compare c.args.number.0 c.args.indexes.now c.args.value
-    (subst (λ (count : ℕ). c.args.value < count) c.concept_count-concepts.ensures.count c.if-value-concepts.true)
+    concept_fails c.args.compare c.args.number.0 c.args.reader.indexes.now c.args.value
+    (subst (λ (count : ℕ). c.args.value < count) c.concept_count-concepts.ensures.numbers c.if-value-concepts.true)
 
 pub returns-then-place-decimals : goal.returns-then-place-decimals
 returns-then-place-decimals c =
-    let indexed = c.args.indexes.now in
+    let indexed = c.args.reader.indexes.now in
     let k : ℕ = c.args.value - c.concept_count-concepts.result in
-    let whole : length indexed.concepts + k ≡ c.args.value = omega (arith, c.concept_count-concepts.ensures.count, c.if-value-concepts.false) in
+    let whole : length indexed.concepts + k ≡ c.args.value = omega (arith, c.concept_count-concepts.ensures.numbers, c.if-value-concepts.false) in
     past_decimals c.args.compare c.args.number.0 indexed k
     (omega (arith, c.if-place-decimals.true, ap (λ (all : List ℤ). length all) c.decimals-decimals.ensures.decimals))
     ∙ ap (λ (n : ℕ). is_number_that c.args.compare c.args.number.0 (value_of indexed n)) whole
 
 pub returns : goal.returns
 returns c =
-    let indexed = c.args.indexes.now in
+    let indexed = c.args.reader.indexes.now in
     let decimals : List ℤ = c.decimals-decimals.result.now in
     let k : ℕ = c.args.value - c.concept_count-concepts.result in
-    let whole : length indexed.concepts + k ≡ c.args.value = omega (arith, c.concept_count-concepts.ensures.count, c.if-value-concepts.false) in
+    let whole : length indexed.concepts + k ≡ c.args.value = omega (arith, c.concept_count-concepts.ensures.numbers, c.if-value-concepts.false) in
     let same : decimals ≡ indexed.decimals = c.decimals-decimals.ensures.decimals in
     c.meets.ensures
     ∙ ap (meets c.args.compare) c.cmp.ensures

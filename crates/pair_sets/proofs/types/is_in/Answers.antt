@@ -8,11 +8,11 @@ use Rattle.pair_sets.proofs.types.is_in.Goals as goal
 
 pub returns-in-Some : goal.returns-in-Some
 returns-in-Some g c =
-    let concepts = c.args.indexes.now.concepts in
+    let concepts = c.args.reader.indexes.now.concepts in
     let items = g.S.ConceptSet.items_of c.args.set.now in
-    let found = concept_number-Some concepts c.args.id c.in-Some.concept (sym c.index_of.ensures ∙ c.in-Some.is) in
+    let found = concept_number-Some concepts c.args.id c.in-Some.concept (sym c.index_of.ensures.indexed ∙ c.in-Some.is) in
     c.has.ensures
-    ∙ sym (one_by_number concepts c.concept_count.ensures.rising items
+    ∙ sym (one_by_number concepts c.concept_count.ensures.numbers_rise items
     (subst (λ (count : ℕ). All (λ item. item < count) items) c.requires
     (all_below (g.S.ConceptSet.bound_of c.args.set.now) items (g.met.S.ConceptSet.rising c.args.set.now)))
     c.in-Some.concept found.0)
@@ -20,9 +20,9 @@ returns-in-Some g c =
 
 pub returns-in-None : goal.returns-in-None
 returns-in-None g c =
-    let concepts = c.args.indexes.now.concepts in
+    let concepts = c.args.reader.indexes.now.concepts in
     let items = g.S.ConceptSet.items_of c.args.set.now in
     sym (none_by_number concepts items
     (subst (λ (count : ℕ). All (λ item. item < count) items) c.requires
     (all_below (g.S.ConceptSet.bound_of c.args.set.now) items (g.met.S.ConceptSet.rising c.args.set.now)))
-    c.args.id (sym c.index_of.ensures ∙ c.in-None.is))
+    c.args.id (sym c.index_of.ensures.indexed ∙ c.in-None.is))

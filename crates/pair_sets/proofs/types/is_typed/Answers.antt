@@ -7,17 +7,17 @@ use Rattle.pair_sets.proofs.types.is_typed.Goals as goal
 
 pub returns-in-Some : goal.returns-in-Some
 returns-in-Some g c =
-    let indexed = c.args.indexes.now in
+    let indexed = c.args.reader.indexes.now in
     let items = g.S.ConceptSet.items_of c.args.types.now in
     let below = subst (λ (count : ℕ). All (λ item. item < count) items) c.requires
     (all_below (g.S.ConceptSet.bound_of c.args.types.now) items (g.met.S.ConceptSet.rising c.args.types.now)) in
     c.has.ensures
-    ∙ typed indexed c.concept_count.ensures.rising items below (slice_get (types_of indexed.rows) c.args.place) c.in-Some.concept
+    ∙ typed indexed c.concept_count.ensures.numbers_rise items below (slice_get (types_of indexed.rows) c.args.place) c.in-Some.concept
     (sym c.type_concept.ensures ∙ c.in-Some.is)
 
 pub returns-in-None : goal.returns-in-None
 returns-in-None g c =
-    let indexed = c.args.indexes.now in
+    let indexed = c.args.reader.indexes.now in
     let items = g.S.ConceptSet.items_of c.args.types.now in
     let below = subst (λ (count : ℕ). All (λ item. item < count) items) c.requires
     (all_below (g.S.ConceptSet.bound_of c.args.types.now) items (g.met.S.ConceptSet.rising c.args.types.now)) in

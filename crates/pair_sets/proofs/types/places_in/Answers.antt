@@ -5,16 +5,18 @@ use Rattle.pair_sets.specs.inside.Hits.{ArePlacesOf}
 use Rattle.number_lists.proofs.RisingLemmas.{all_below}
 use Rattle.pair_sets.proofs.types.places_in.Goals as goal
 
-pub places_of_concepts-requires-clause-below : goal.places_of_concepts-requires-clause-below
-places_of_concepts-requires-clause-below g c =
-    let items = g.S.ConceptSet.items_of c.args.set.now in
-    subst (All (λ concept. concept < length c.args.indexes.now.concepts)) (sym (c.as_slice.ensures.value ∙ c.in_ok-concepts.ensures))
-    (subst (λ (count : ℕ). All (λ concept. concept < count) items) c.requires.bound
-    (all_below (g.S.ConceptSet.bound_of c.args.set.now) items (g.met.S.ConceptSet.rising c.args.set.now)))
+pub places_of_concepts-requires : goal.places_of_concepts-requires
+places_of_concepts-requires g c = record {
+  below =
+      let items = g.S.ConceptSet.items_of c.args.set.now in
+      subst (All (λ concept. concept < length c.args.reader.indexes.now.concepts)) (sym (c.as_slice.ensures.value ∙ c.in_ok-concepts.ensures))
+      (subst (λ (count : ℕ). All (λ concept. concept < count) items) c.requires.bound
+      (all_below (g.S.ConceptSet.bound_of c.args.set.now) items (g.met.S.ConceptSet.rising c.args.set.now)));
+}
 
 pub returns-in_ok-concepts : goal.returns-in_ok-concepts
 returns-in_ok-concepts g c =
     IfOk-weaker c.places_of_concepts.result _ _
-    (λ places are. subst (λ (concepts : List ℕ). ArePlacesOf c.args.indexes.now concepts places.items)
+    (λ places are. subst (λ (concepts : List ℕ). ArePlacesOf c.args.reader.indexes.now concepts places.items)
     (c.as_slice.ensures.value ∙ c.in_ok-concepts.ensures) are)
     c.places_of_concepts.ensures

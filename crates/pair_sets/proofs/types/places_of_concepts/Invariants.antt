@@ -4,4 +4,4 @@ use Rattle.pair_sets.proofs.types.places_of_concepts.Given as goal
 
 -- those of the concepts so far
 abbrev pub invariant-loop-concept : goal.invariant-loop-concept
-invariant-loop-concept l = ArePlacesOf l.indexes (take l.concept-index l.concepts) l.places.items
+invariant-loop-concept l = ArePlacesOf l.reader.indexes.now (take l.concept-index l.concepts) l.places.items

@@ -14,11 +14,11 @@ use Rattle.pair_sets.proofs.types.places_of_types.Goals.{then-is_in+in_ok-push, 
 -- rows have few types
 pub overflow_cast-place : goal.overflow_cast-place
 overflow_cast-place g c =
-    omega (arith, c.loop-place-test.true, c.row_count.ensures.few, few_types c.args.indexes.now.rows, ap (λ (ids : List ℕ). length ids) c.types-types.ensures)
+    omega (arith, c.loop-place-test.true, c.row_count.ensures.few, few_types c.args.reader.indexes.now.rows, ap (λ (ids : List ℕ). length ids) c.types-types.ensures)
 
 pub loop-place-preserved : goal.loop-place-preserved
 loop-place-preserved g c =
-    let test : ℕ → Bool = is_one_of c.args.indexes.now.concepts (g.S.ConceptSet.items_of c.args.set.now) in
+    let test : ℕ → Bool = is_one_of c.args.reader.indexes.now.concepts (g.S.ConceptSet.items_of c.args.set.now) in
     let types = c.types-types.result.now in
     let k = c.loop-place.place in
     let here : c.number.result ≡ get_or types k 0 =
@@ -36,7 +36,7 @@ loop-place-preserved g c =
 pub returns : goal.returns
 returns g c =
     let types = c.types-types.result.now in
-    let test : ℕ → Bool = is_one_of c.args.indexes.now.concepts (g.S.ConceptSet.items_of c.args.set.now) in
+    let test : ℕ → Bool = is_one_of c.args.reader.indexes.now.concepts (g.S.ConceptSet.items_of c.args.set.now) in
     let at : ℕ → Bool = λ place. test (get_or types place 0) in
     let long : c.loop-place.place ≡ length types = omega arith in
     record {

@@ -6,4 +6,4 @@ use Rattle.pair_sets.proofs.types.places_of_types.Given as goal
 -- those among the types so far
 abbrev pub invariant-loop-place : goal.invariant-loop-place
 invariant-loop-place g l =
-    l.places.items ≡ numbers_where l.place (λ place. is_one_of l.indexes.concepts (g.S.ConceptSet.items_of l.set) (get_or l.types place 0))
+    l.places.items ≡ numbers_where l.place (λ place. is_one_of l.reader.indexes.now.concepts (g.S.ConceptSet.items_of l.set) (get_or l.types place 0))

@@ -10,7 +10,7 @@ use Rattle.pair_sets.proofs.types.types_in.Goals as goal
 -- rows have few types
 pub overflow_cast-types : goal.overflow_cast-types
 overflow_cast-types g c =
-    omega (arith, c.row_count.ensures.few, few_types c.args.indexes.now.rows, ap (λ (ids : List ℕ). length ids) c.types-types.ensures)
+    omega (arith, c.row_count.ensures.few, few_types c.args.reader.indexes.now.rows, ap (λ (ids : List ℕ). length ids) c.types-types.ensures)
 
 pub marks_of-requires : goal.marks_of-requires
 marks_of-requires g c =
@@ -19,12 +19,12 @@ marks_of-requires g c =
 
 pub marked_ids-requires : goal.marked_ids-requires
 marked_ids-requires g c =
-    omega (arith, c.row_count.ensures.few, few_types c.args.indexes.now.rows, ap (λ (ids : List ℕ). length ids) c.types-types.ensures)
+    omega (arith, c.row_count.ensures.few, few_types c.args.reader.indexes.now.rows, ap (λ (ids : List ℕ). length ids) c.types-types.ensures)
 
 pub returns-clause-ids : goal.returns-clause-ids
 returns-clause-ids g c =
-    let types = types_of c.args.indexes.now.rows in
-    let one : ℕ → Bool = is_one_of c.args.indexes.now.concepts (g.S.ConceptSet.items_of c.args.set.now) in
+    let types = types_of c.args.reader.indexes.now.rows in
+    let one : ℕ → Bool = is_one_of c.args.reader.indexes.now.concepts (g.S.ConceptSet.items_of c.args.set.now) in
     let told : (place : ℕ) → place < length types → is_set c.in_ok-places.places.items place ≡ one (get_or types place 0) =
     λ place within. c.in_ok-places.ensures.marked place
     ∙ ap (λ (places : List ℕ). has places place) c.as_slice.ensures.value ∙ c.in_ok-numbers.ensures.told place within in

@@ -9,14 +9,14 @@ use Rattle.pair_sets.proofs.units.concepts_of.Goals as goal
 
 pub loop-group-init : goal.loop-group-init
 loop-group-init c = record {
-  within = subst (All (λ concept. concept < length c.args.indexes.now.concepts)) (sym c.new-found.ensures.items) (λ k d within. absurd (omega (arith, within)));
-  concepts = ap (map (slice_index c.args.indexes.now.concepts)) c.new-found.ensures.items;
+  within = subst (All (λ concept. concept < length c.args.reader.indexes.now.concepts)) (sym c.new-found.ensures.items) (λ k d within. absurd (omega (arith, within)));
+  concepts = ap (map (slice_index c.args.reader.indexes.now.concepts)) c.new-found.ensures.items;
 }
 
 pub loop-group-preserved : goal.loop-group-preserved
 loop-group-preserved c =
-    let concepts = c.args.indexes.now.concepts in
-    let groups = groups_in c.args.indexes.now in
+    let concepts = c.args.reader.indexes.now.concepts in
+    let groups = groups_in c.args.reader.indexes.now in
     let numbers = c.args.groups.now in
     let k = c.loop-group.group-index in
     let concept_at : ℕ → ℕ = λ group. concept_in (slice_get groups group) in
@@ -39,4 +39,4 @@ returns-clause-within c = c.loop-group.invariant.within
 pub returns-clause-concepts : goal.returns-clause-concepts
 returns-clause-concepts c =
     c.loop-group.invariant.concepts
-    ∙ ap (map (λ group. concept_in (slice_get (groups_in c.args.indexes.now) group))) (take_all c.loop-group.group-index c.args.groups.now (omega arith))
+    ∙ ap (map (λ group. concept_in (slice_get (groups_in c.args.reader.indexes.now) group))) (take_all c.loop-group.group-index c.args.groups.now (omega arith))

@@ -5,7 +5,7 @@ use Rattle.pair_sets.proofs.units.concepts_of.Given as goal
 
 abbrev pub invariant-loop-group : goal.invariant-loop-group
 invariant-loop-group l = record {
-  within : All (λ concept. concept < length l.indexes.concepts) l.found.items;
-  concepts : map (slice_index l.indexes.concepts) l.found.items
-      ≡ map (λ group. concept_in (slice_get (groups_in l.indexes) group)) (take l.group-index l.groups);
+  within : All (λ concept. concept < length l.reader.indexes.now.concepts) l.found.items;
+  concepts : map (slice_index l.reader.indexes.now.concepts) l.found.items
+      ≡ map (λ group. concept_in (slice_get (groups_in l.reader.indexes.now) group)) (take l.group-index l.groups);
 }

@@ -12,7 +12,7 @@ use Rattle.pair_sets.proofs.units.numbers_of_groups.Goals as goal
 
 pub loop-concept-preserved : goal.loop-concept-preserved
 loop-concept-preserved c =
-    let indexed = c.args.indexes.now in
+    let indexed = c.args.reader.indexes.now in
     let concepts = c.args.concepts.now in
     let k = c.loop-concept.concept-index in
     let units = c.units_of-units.result in

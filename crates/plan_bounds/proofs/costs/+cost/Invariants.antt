@@ -3,24 +3,20 @@ use denote.Param.Weighed.{most}
 use Rattle.std.proofs.Common.{◌+◌, ◌*◌, max}
 use Rattle.set_algebra.proofs.plan.ConceptPlan.TheLaws as concept_plan
 use Rattle.set_algebra.proofs.plan.ValueTest.TheLaws as value_test
-use Rattle.set_algebra.specs.declared.plan.ConceptPlan.{ConceptPlan}
-use Rattle.set_algebra.specs.declared.plan.UnitPlan.{UnitPlan}
 use Rattle.plan_bounds.specs.Bounds.{own_number}
-use Rattle.plan_bounds.proofs.LoopLemmas.{RestLeft, SizesLeft, SumLeft, concept_sizes, concept_sum, of_concepts, of_groups, unit_sizes, unit_sum}
+use Rattle.plan_bounds.proofs.LoopLemmas.{SizesLeft, SumLeft, concept_sizes, concept_sum, unit_sizes, unit_sum}
 use Rattle.plan_bounds.proofs.costs.+cost.Given as goal
 
 abbrev pub invariant-parts_cost-loop-place : goal.invariant-parts_cost-loop-place
 invariant-parts_cost-loop-place l = record {
-  rest : RestLeft ConceptPlan of_concepts l.choices l.parts l.place l.rest;
-  sizes : SizesLeft ConceptPlan of_concepts (concept_sizes l.indexes) l.all l.choices l.parts l.place l.tally l.rest;
-  sum : SumLeft ConceptPlan of_concepts (concept_sum (own_number l.indexes)) l.choices l.parts l.place l.bound l.rest;
+  sizes : SizesLeft (concept_sizes l.indexes) l.all l.parts l.place l.tally;
+  sum : SumLeft (concept_sum (own_number l.indexes)) l.parts l.place l.bound;
 }
 
 abbrev pub invariant-unit_parts_cost-loop-place : goal.invariant-unit_parts_cost-loop-place
 invariant-unit_parts_cost-loop-place l = record {
-  rest : RestLeft UnitPlan of_groups l.choices l.parts l.place l.rest;
-  sizes : SizesLeft UnitPlan of_groups (unit_sizes l.indexes) l.all l.choices l.parts l.place l.tally l.rest;
-  sum : SumLeft UnitPlan of_groups (unit_sum (own_number l.indexes)) l.choices l.parts l.place l.bound l.rest;
+  sizes : SizesLeft (unit_sizes l.indexes) l.all l.parts l.place l.tally;
+  sum : SumLeft (unit_sum (own_number l.indexes)) l.parts l.place l.bound;
 }
 
 -- the functions go down a plan; what is called for the same plan comes after its caller

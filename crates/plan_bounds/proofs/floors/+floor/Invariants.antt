@@ -2,23 +2,15 @@
 use Rattle.std.proofs.Common.{◌+◌, ◌*◌, max}
 use Rattle.set_algebra.proofs.plan.ConceptPlan.TheLaws as concept_plan
 use Rattle.set_algebra.proofs.plan.ValueTest.TheLaws as value_test
-use Rattle.set_algebra.specs.declared.plan.ConceptPlan.{ConceptPlan}
-use Rattle.set_algebra.specs.declared.plan.UnitPlan.{UnitPlan}
 use Rattle.plan_bounds.specs.Floors.{floor_number}
-use Rattle.plan_bounds.proofs.LoopLemmas.{RestLeft, SumLeft, concept_sum, of_concepts, of_groups, unit_sum}
+use Rattle.plan_bounds.proofs.LoopLemmas.{SumLeft, concept_sum, unit_sum}
 use Rattle.plan_bounds.proofs.floors.+floor.Given as goal
 
-abbrev pub invariant-parts_floor-loop-place : goal.invariant-parts_floor-loop-place
-invariant-parts_floor-loop-place l = record {
-  rest : RestLeft ConceptPlan of_concepts l.choices l.parts l.place l.rest;
-  sum : SumLeft ConceptPlan of_concepts (concept_sum (floor_number l.indexes)) l.choices l.parts l.place l.floor l.rest;
-}
+abbrev pub invariant-parts_floor-loop-part : goal.invariant-parts_floor-loop-part
+invariant-parts_floor-loop-part l = SumLeft (concept_sum (floor_number l.indexes)) l.parts l.part-index l.floor
 
-abbrev pub invariant-unit_parts_floor-loop-place : goal.invariant-unit_parts_floor-loop-place
-invariant-unit_parts_floor-loop-place l = record {
-  rest : RestLeft UnitPlan of_groups l.choices l.parts l.place l.rest;
-  sum : SumLeft UnitPlan of_groups (unit_sum (floor_number l.indexes)) l.choices l.parts l.place l.floor l.rest;
-}
+abbrev pub invariant-unit_parts_floor-loop-part : goal.invariant-unit_parts_floor-loop-part
+invariant-unit_parts_floor-loop-part l = SumLeft (unit_sum (floor_number l.indexes)) l.parts l.part-index l.floor
 
 -- the functions go down a plan; what is called for the same plan comes after its caller
 abbrev pub decreases-plan_floor : goal.decreases-plan_floor

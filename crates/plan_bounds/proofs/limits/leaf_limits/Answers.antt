@@ -1,5 +1,5 @@
 use Rattle.std.proofs.Common.{◌∙◌, ap, arith}
-use Rattle.set_algebra.specs.Plan.{plan_of, test_plan_of}
+use Rattle.set_algebra.specs.Physical.{physical_of, physical_test_of}
 use Rattle.plan_bounds.specs.Alternatives.{leaf_bound}
 use Rattle.plan_bounds.specs.Bounds.{capped}
 use Rattle.plan_bounds.specs.declared.leaf.Leaf.{Leaf}
@@ -12,6 +12,6 @@ returns-clause-ordered c =
       arith,
       c.leaf_floor.ensures,
       c.cost.ensures.bound ∙ ap (λ (leaf : Leaf). capped (leaf_bound leaf c.args.choice)) c.counts_of_leaf-leaf.ensures,
-      leaf-le c.args.indexes.now c.args.all c.args.back c.args.count (plan_of c.args.types.now) (test_plan_of c.args.test.now) c.args.sizes.0
+      leaf-le c.args.indexes.now c.args.all c.args.back c.args.count (physical_of c.args.types.now) (physical_test_of c.args.test.now) c.args.sizes.0
           c.args.sizes.1 c.args.choice,
     )

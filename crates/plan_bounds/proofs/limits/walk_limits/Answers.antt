@@ -1,5 +1,5 @@
 use Rattle.std.proofs.Common.{arith}
-use Rattle.set_algebra.specs.Plan.{plan_of}
+use Rattle.set_algebra.specs.Physical.{physical_of}
 use Rattle.plan_bounds.specs.Counts.{one_of}
 use Rattle.plan_bounds.proofs.FloorLemmas.{walk-le}
 use Rattle.plan_bounds.proofs.limits.walk_limits.Goals as goal
@@ -10,5 +10,5 @@ returns-clause-ordered c =
       arith,
       c.walk_floor.ensures,
       c.cost_of_walk.ensures.bound,
-      walk-le c.args.indexes.now c.args.operator (one_of (plan_of c.args.operand.now)) c.args.size,
+      walk-le c.args.indexes.now c.args.operator (one_of (physical_of c.args.operand.now)) c.args.size,
     )

@@ -1,17 +1,15 @@
-use Rattle.std.proofs.Common.{◌≡◌, ◌+◌, ◌*◌, ◌++◌, ◌∙◌, IfOk, List, drop, refl, subst, sym, ap}
-use Rattle.set_algebra.specs.declared.choice.Choice.{Choice}
-use Rattle.set_algebra.specs.Plan.{plan_of, plans_of, test_plan_of, unit_plan_of, unit_plans_of}
+use Rattle.std.proofs.Common.{◌+◌, ◌*◌, ◌++◌, ◌∙◌, IfOk, refl, subst, sym}
+use Rattle.set_algebra.specs.Physical.{physical_of, physical_test_of, physical_units_list_of, physicals_of}
 use Rattle.plan_bounds.specs.Alternatives.{leaf_bound, leaf_size}
-use Rattle.plan_bounds.specs.Bounds.{capped, own_bounds, own_list, values_bound}
+use Rattle.plan_bounds.specs.Bounds.{capped, values_bound}
 use Rattle.plan_bounds.specs.Counts.{leaf_of}
-use Rattle.plan_bounds.specs.Leaves.{group_count, leaves, plan_count}
-use Rattle.plan_bounds.specs.Nodes.{group_list, plans_list, test_list}
-use Rattle.plan_bounds.specs.Sizes.{group_size, group_sizes, size, sizes, test_size, total, values_size}
+use Rattle.plan_bounds.specs.Leaves.{group_count, plan_count}
+use Rattle.plan_bounds.specs.Sizes.{group_sizes, sizes, total, values_size}
 use Rattle.plan_bounds.proofs.ListLemmas.{at_within, capped_least, capped_product, closed_list, two_behind}
+use Rattle.plan_bounds.proofs.LoopLemmas.{list_end, list_turn, sizes_end, sizes_turn}
+use Rattle.plan_bounds.proofs.PartLemmas.{group_count-parts, plan_count-parts, values_are}
 use Rattle.planner.specs.inside.ListedNodes.{IsNode}
 use Rattle.planner.proofs.ListedLemmas.{listed}
-use Rattle.plan_bounds.proofs.LoopLemmas.{list_end, list_turn, rest_end, rest_turn, sizes_end, sizes_turn}
-use Rattle.plan_bounds.proofs.PartLemmas.{behind_both, behind_leaf, group_count-parts, plan_count-parts, values_are}
 use Rattle.planner.proofs.bound_list.+list.Goals as goal
 
 pub list_parts-loop-place-preserved : goal.list_parts-loop-place-preserved
@@ -19,47 +17,39 @@ list_parts-loop-place-preserved t c =
     let left = c.loop-place.invariant in
     let part = c.in_ok-part.ensures in
     record {
-      rest = rest_turn left.rest c.loop-place-test.true c.index-parts-place.is part.rest;
-      sizes = sizes_turn left.sizes c.loop-place-test.true c.index-parts-place.is part.size part.rest c.with-tally.ensures;
-      bounds = list_turn left.bounds c.loop-place-test.true c.index-parts-place.is part.bounds part.rest;
+      sizes = sizes_turn left.sizes c.loop-place-test.true c.index-parts-place.is part.size c.with-tally.ensures;
+      bounds = list_turn left.bounds c.loop-place-test.true c.index-parts-place.is part.bounds;
     }
 
 pub list_parts-returns : goal.list_parts-returns
-list_parts-returns t c =
-    let left = c.loop-place.invariant in
-    record {
-      bounds = list_end left.bounds c.loop-place-test.false;
-      tally = sizes_end left.sizes c.loop-place-test.false;
-      rest = rest_end left.rest c.loop-place-test.false;
-    }
+list_parts-returns t c = record {
+  bounds = list_end c.loop-place.invariant.bounds c.loop-place-test.false;
+  tally = sizes_end c.loop-place.invariant.sizes c.loop-place-test.false;
+}
 
 pub list_unit_parts-loop-place-preserved : goal.list_unit_parts-loop-place-preserved
 list_unit_parts-loop-place-preserved t c =
     let left = c.loop-place.invariant in
     let part = c.in_ok-part.ensures in
     record {
-      rest = rest_turn left.rest c.loop-place-test.true c.index-parts-place.is part.rest;
-      sizes = sizes_turn left.sizes c.loop-place-test.true c.index-parts-place.is part.size part.rest c.with-tally.ensures;
-      bounds = list_turn left.bounds c.loop-place-test.true c.index-parts-place.is part.bounds part.rest;
+      sizes = sizes_turn left.sizes c.loop-place-test.true c.index-parts-place.is part.size c.with-tally.ensures;
+      bounds = list_turn left.bounds c.loop-place-test.true c.index-parts-place.is part.bounds;
     }
 
 pub list_unit_parts-returns : goal.list_unit_parts-returns
-list_unit_parts-returns t c =
-    let left = c.loop-place.invariant in
-    record {
-      bounds = list_end left.bounds c.loop-place-test.false;
-      tally = sizes_end left.sizes c.loop-place-test.false;
-      rest = rest_end left.rest c.loop-place-test.false;
-    }
+list_unit_parts-returns t c = record {
+  bounds = list_end c.loop-place.invariant.bounds c.loop-place-test.false;
+  tally = sizes_end c.loop-place.invariant.sizes c.loop-place-test.false;
+}
 
 -- ---- a node whose sub-plans are listed
 pub list-returns : goal.list-returns
 list-returns t c =
     let node = c.in_ok-node.ensures in
     record {
-      bounds = closed_list c.args.bounds.now.items c.closed.ensures.bounds node.bounds c.in_ok-at.ensures.bounds c.in_ok-at.ensures.at refl node.bound;
+      bounds = closed_list c.args.bounds.now.items c.closed.ensures.bounds node.bounds c.in_ok-at.ensures.bounds c.in_ok-at.ensures.at refl
+          node.bound;
       size = c.closed.ensures.size ∙ node.size;
-      rest = c.closed.ensures.rest ∙ node.rest;
     }
 
 pub list-closed-requires : goal.list-closed-requires
@@ -69,9 +59,9 @@ pub list_units-returns : goal.list_units-returns
 list_units-returns t c =
     let node = c.in_ok-node.ensures in
     record {
-      bounds = closed_list c.args.bounds.now.items c.closed.ensures.bounds node.bounds c.in_ok-at.ensures.bounds c.in_ok-at.ensures.at refl node.bound;
+      bounds = closed_list c.args.bounds.now.items c.closed.ensures.bounds node.bounds c.in_ok-at.ensures.bounds c.in_ok-at.ensures.at refl
+          node.bound;
       size = c.closed.ensures.size ∙ node.size;
-      rest = c.closed.ensures.rest ∙ node.rest;
     }
 
 pub list_units-closed-requires : goal.list_units-closed-requires
@@ -83,92 +73,63 @@ list_behind-returns-in-Values t c =
     let given = c.args.bounds.now.items in
     let all = c.list_values.new.bounds.items in
     let is = values_are c.in-Values.start c.in-Values.names c.in-Values.is c.deref-in-Values.ensures c.deref-in-Values-2.ensures.value in
-    subst
-    (λ plan. IfOk c.list_values.result (λ node. IsNode c.args.indexes.now c.args.choices.now plan given all node.own node.rest.now))
-    (sym is) c.list_values.ensures
+    subst (λ plan. IfOk c.list_values.result (λ node. IsNode c.args.indexes.now plan given all node)) (sym is) c.list_values.ensures
 
 pub list_or-returns : goal.list_or-returns
 list_or-returns t c =
-    let indexed = c.args.indexes.now in
-    let parts = plans_of c.args.parts.now in
+    let all = total (sizes c.args.indexes.now (physicals_of c.args.parts.now)) in
     let inner = c.in_ok-inner.ensures in
     let count = sym (plan_count-parts c.args.parts.now) in
     listed inner.bounds
     (c.cost_of_some-own.ensures.bound
     ∙ (λ i. capped (inner.tally.sum i * count i))
-    ∙ capped_product (total (sizes indexed c.args.choices.now parts)) (plan_count parts))
-    (capped_least (total (sizes indexed c.args.choices.now parts)) c.cost_of_some-own.ensures.size inner.tally.sum c.concepts-all.ensures
-    c.concepts-all.type_inv)
-    inner.rest
+    ∙ capped_product all (plan_count (physicals_of c.args.parts.now)))
+    (capped_least all c.cost_of_some-own.ensures.size inner.tally.sum c.concepts-all.ensures c.concepts-all.type_inv)
 
 pub list_units_or-returns : goal.list_units_or-returns
 list_units_or-returns t c =
-    let indexed = c.args.indexes.now in
-    let parts = unit_plans_of c.args.parts.now in
+    let all = total (group_sizes c.args.indexes.now (physical_units_list_of c.args.parts.now)) in
     let inner = c.in_ok-inner.ensures in
     let count = sym (group_count-parts c.args.parts.now) in
     listed inner.bounds
     (c.cost_of_some-own.ensures.bound
     ∙ (λ i. capped (inner.tally.sum i * count i))
-    ∙ capped_product (total (group_sizes indexed c.args.choices.now parts)) (group_count parts))
-    (capped_least (total (group_sizes indexed c.args.choices.now parts)) c.cost_of_some-own.ensures.size inner.tally.sum c.groups-all.ensures
-    c.groups-all.type_inv)
-    inner.rest
+    ∙ capped_product all (group_count (physical_units_list_of c.args.parts.now)))
+    (capped_least all c.cost_of_some-own.ensures.size inner.tally.sum c.groups-all.ensures c.groups-all.type_inv)
 
 pub list_minus-returns : goal.list_minus-returns
 list_minus-returns t c =
-    let indexed = c.args.indexes.now in
-    let second = plan_of c.args.second.now in
     let left = c.in_ok-left.ensures in
     let right = c.in_ok-right.ensures in
-    listed
-    (two_behind _ _ _ (right.bounds ∙ (λ i. c.list.new.bounds.items ++ own_bounds indexed (left.rest i) second)) left.bounds)
-    (c.cost_of_first.ensures.bound ∙ (λ i. capped (left.size i + (right.size ∙ ap (λ (rest : List Choice). size indexed rest second) left.rest) i)))
+    listed (two_behind _ _ _ right.bounds left.bounds)
+    (c.cost_of_first.ensures.bound ∙ (λ i. capped (left.size i + right.size i)))
     (c.cost_of_first.ensures.size ∙ left.size)
-    (behind_both _ _ c.args.choices.now refl left.rest right.rest)
 
 pub list_units_minus-returns : goal.list_units_minus-returns
 list_units_minus-returns t c =
-    let indexed = c.args.indexes.now in
-    let second = unit_plan_of c.args.second.now in
     let left = c.in_ok-left.ensures in
     let right = c.in_ok-right.ensures in
-    listed
-    (two_behind _ _ _ (right.bounds ∙ (λ i. c.list_units.new.bounds.items ++ group_list (own_list indexed) (left.rest i) second)) left.bounds)
-    (c.cost_of_first.ensures.bound ∙ (λ i. capped (left.size i + (right.size ∙ ap (λ (rest : List Choice). group_size indexed rest second) left.rest) i)))
+    listed (two_behind _ _ _ right.bounds left.bounds)
+    (c.cost_of_first.ensures.bound ∙ (λ i. capped (left.size i + right.size i)))
     (c.cost_of_first.ensures.size ∙ left.size)
-    (behind_both _ _ c.args.choices.now refl left.rest right.rest)
 
 pub list_values-returns : goal.list_values-returns
 list_values-returns t c =
     let indexed = c.args.indexes.now in
-    let names = plans_of c.args.names.now in
     let from = c.in_ok-from.ensures in
-    let types = c.in_ok-types.ensures in
     let count = sym (plan_count-parts c.args.names.now) in
-    listed
-    (two_behind _ _ _ (types.bounds ∙ (λ i. c.list.new.bounds.items ++ plans_list (own_list indexed) (from.rest i) names)) from.bounds)
+    listed (two_behind _ _ _ c.in_ok-types.ensures.bounds from.bounds)
     (c.cost_of_values-own.ensures.bound ∙ (λ i. capped (values_bound indexed (count i) (from.size i))))
     (c.cost_of_values-own.ensures.size ∙ (λ i. values_size indexed (count i) (from.size i)))
-    (behind_both _ _ c.args.choices.now refl from.rest types.rest)
 
 pub list_pairs-returns : goal.list_pairs-returns
 list_pairs-returns t c =
-    let indexed = c.args.indexes.now in
-    let choices = c.args.choices.now in
-    let test = test_plan_of c.args.test.now in
-    let types = plan_of c.args.types.now in
+    let test = physical_test_of c.args.test.now in
+    let types = physical_of c.args.types.now in
     let of_types = c.in_ok-of_types.ensures in
     let of_test = c.in_ok-of_test.ensures in
-    let inside : c.after_first.result.now ≡ drop 1 choices = c.after_first.ensures in
-    let behind = of_types.rest ∙ ap (drop (leaves types)) inside in
     let leaf = c.counts_of_leaf-leaf.ensures
-    ∙ (λ i. leaf_of indexed c.args.all c.args.back c.args.count types test
-    ((of_types.size ∙ ap (λ (rest : List Choice). size indexed rest types) inside) i)
-    ((of_test.size ∙ ap (λ (rest : List Choice). test_size indexed rest test) behind) i)) in
-    listed
-    (two_behind _ _ _ (of_test.bounds ∙ (λ i. c.list.new.bounds.items ++ test_list (own_list indexed) (behind i) test))
-    (of_types.bounds ∙ (λ i. c.args.bounds.now.items ++ own_bounds indexed (inside i) types)))
-    (c.cost.ensures.bound ∙ (λ i. capped (leaf_bound (leaf i) (c.first_choice.ensures i))))
-    (c.cost.ensures.size ∙ (λ i. leaf_size (leaf i) (c.first_choice.ensures i)))
-    (behind_leaf _ _ choices refl inside of_types.rest of_test.rest)
+    ∙ (λ i. leaf_of c.args.indexes.now c.args.all c.args.back c.args.count types test (of_types.size i) (of_test.size i)) in
+    listed (two_behind _ _ _ of_test.bounds of_types.bounds)
+    (c.cost.ensures.bound ∙ (λ i. capped (leaf_bound (leaf i) c.args.choice)))
+    (c.cost.ensures.size ∙ (λ i. leaf_size (leaf i) c.args.choice))

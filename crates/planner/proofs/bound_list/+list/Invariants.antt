@@ -1,27 +1,23 @@
 -- What is left of the parts, with what was taken, is what all of them are.
-use Rattle.set_algebra.specs.declared.plan.ConceptPlan.{ConceptPlan}
-use Rattle.set_algebra.specs.declared.plan.UnitPlan.{UnitPlan}
 use Rattle.std.proofs.Common.{◌+◌, ◌*◌, max}
 use denote.Param.Weighed.{most}
 use Rattle.set_algebra.proofs.plan.ConceptPlan.TheLaws as concept_plan
 use Rattle.set_algebra.proofs.plan.UnitPlan.TheLaws as unit_plan
 use Rattle.set_algebra.proofs.plan.ValueTest.TheLaws as value_test
 use Rattle.plan_bounds.specs.Bounds.{own_list}
-use Rattle.plan_bounds.proofs.LoopLemmas.{ListLeft, RestLeft, SizesLeft, concept_list, concept_sizes, of_concepts, of_groups, unit_list, unit_sizes}
+use Rattle.plan_bounds.proofs.LoopLemmas.{ListLeft, SizesLeft, concept_list, concept_sizes, unit_list, unit_sizes}
 use Rattle.planner.proofs.bound_list.+list.Given as goal
 
 abbrev pub invariant-list_parts-loop-place : goal.invariant-list_parts-loop-place
 invariant-list_parts-loop-place l = record {
-  rest : RestLeft ConceptPlan of_concepts l.choices l.parts l.place l.rest;
-  sizes : SizesLeft ConceptPlan of_concepts (concept_sizes l.indexes) l.all l.choices l.parts l.place l.tally l.rest;
-  bounds : ListLeft ConceptPlan of_concepts (concept_list (own_list l.indexes)) l.fn.bounds.items l.choices l.parts l.place l.bounds.items l.rest;
+  sizes : SizesLeft (concept_sizes l.indexes) l.all l.parts l.place l.tally;
+  bounds : ListLeft (concept_list (own_list l.indexes)) l.fn.bounds.items l.parts l.place l.bounds.items;
 }
 
 abbrev pub invariant-list_unit_parts-loop-place : goal.invariant-list_unit_parts-loop-place
 invariant-list_unit_parts-loop-place l = record {
-  rest : RestLeft UnitPlan of_groups l.choices l.parts l.place l.rest;
-  sizes : SizesLeft UnitPlan of_groups (unit_sizes l.indexes) l.all l.choices l.parts l.place l.tally l.rest;
-  bounds : ListLeft UnitPlan of_groups (unit_list (own_list l.indexes)) l.fn.bounds.items l.choices l.parts l.place l.bounds.items l.rest;
+  sizes : SizesLeft (unit_sizes l.indexes) l.all l.parts l.place l.tally;
+  bounds : ListLeft (unit_list (own_list l.indexes)) l.fn.bounds.items l.parts l.place l.bounds.items;
 }
 
 -- the functions go down a plan; what is called for the same plan comes after its caller

@@ -1,23 +1,28 @@
-use Rattle.std.proofs.Common.{◌∙◌, [], List, length, ap, subst, sym}
+use Rattle.std.proofs.Common.{◌∙◌, ap, subst, sym}
+use Rattle.set_algebra.specs.Physical.{Physical, physical_of}
+use Rattle.set_algebra.specs.declared.plan.ConceptPlan.{ConceptPlan}
 use Rattle.set_algebra.specs.Plan.{plan_of}
-use Rattle.set_algebra.specs.declared.choice.Choice.{Choice}
+use Rattle.plan_bounds.specs.Leaves.{choices_in}
 use Rattle.plan_bounds.specs.Offered.{AreLeast, AreOffered}
-use Rattle.planner.proofs.FrontLemmas.{length-chosen}
-use Rattle.planner.proofs.OfferedLemmas.{chosen_are_offered, least_choices_are_least, none_refused}
+use Rattle.planner.proofs.ChosenLemmas.{chosen_are_least, chosen_are_offered, plan_kept}
 use Rattle.planner.proofs.physical.choose.Goals as goal
 
 pub new-requires : goal.new-requires
 new-requires c =
-    let indexed = c.args.indexes.now in
-    let plan = plan_of c.args.plan in
-    let given = c.in_ok-chosen.ensures in
-    record {
-      count = ap (λ (choices : List Choice). length choices) given ∙ length-chosen indexed [] [] plan;
-      offered = subst (λ (choices : List Choice). AreOffered choices plan) (sym given)
-          (chosen_are_offered indexed [] [] plan (none_refused plan));
-    }
+    record { offered = subst AreOffered (sym c.assign_choices.ensures.plan) (chosen_are_offered c.args.indexes.now (plan_of c.args.plan)) }
+
+pub returns-clause-plan : goal.returns-clause-plan
+returns-clause-plan c =
+    ap plan_of c.in_ok-physical.ensures.plan
+    ∙ plan_kept c.args.indexes.now (plan_of c.args.plan) c.assign_choices.new.plan c.assign_choices.ensures.plan
+
+pub returns-clause-chosen : goal.returns-clause-chosen
+returns-clause-chosen c = ap physical_of c.in_ok-physical.ensures.plan ∙ c.assign_choices.ensures.plan
+
+pub returns-clause-choices : goal.returns-clause-choices
+returns-clause-choices c = c.in_ok-physical.ensures.choices ∙ ap choices_in c.assign_choices.ensures.plan
 
 pub returns-clause-least : goal.returns-clause-least
 returns-clause-least c =
-    subst (λ (choices : List Choice). AreLeast c.args.indexes.now choices (plan_of c.args.plan)) (sym (c.new.ensures.choices ∙ c.in_ok-chosen.ensures))
-    (least_choices_are_least c.args.indexes.now (plan_of c.args.plan))
+    subst (AreLeast c.args.indexes.now) (sym (ap physical_of c.in_ok-physical.ensures.plan ∙ c.assign_choices.ensures.plan))
+    (chosen_are_least c.args.indexes.now (plan_of c.args.plan))

@@ -16,8 +16,8 @@ returns-clause-all c =
 pub returns-clause-tables : goal.returns-clause-tables
 returns-clause-tables c = record {
   rising = record { decimals_rise = c.in_ok-decimals.ensures.rising; texts_rise = c.in_ok-texts.ensures.rising };
-  decimals_are = c.in_ok-decimals.ensures.members;
-  texts_are = c.in_ok-texts.ensures.members;
+  decimals_are = λ decimal. ∣ c.in_ok-decimals.ensures.members decimal ∣₁;
+  texts_are = λ text. ∣ c.in_ok-texts.ensures.members text ∣₁;
 }
 
 pub returns-clause-few : goal.returns-clause-few

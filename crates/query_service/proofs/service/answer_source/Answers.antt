@@ -1,6 +1,6 @@
 use Rattle.std.proofs.Common.{Global, List, ℕ, Ok, Err, String, inl, map, refl, string_bytes, subst}
 use Rattle.query_service.specs.Serve.{Task, TellsLoadFault}
-use Rattle.query_service.proofs.ServeLemmas.{asked_of_files, counts_device, loaded_not, loaded_whole, refuses_with}
+use Rattle.query_service.proofs.ServeLemmas.{asked_of_files, loaded_not, loaded_whole, refuses_with, within_standard}
 use Rattle.query_service.proofs.service.answer_source.Goals as goal
 
 -- the release was loaded, and served by the run
@@ -16,6 +16,7 @@ returns-in-Ok g c =
           loaded = loaded_whole _ c.standard.result c.args.lang.now names contents c.standard.ensures c.in-Ok.ensures.ok c.in-Ok.ensures.names;
           named = c.in-Ok.ensures.names;
           device = record { failed = tt; calm = c.in-Ok.ensures.calm };
+          bounded = within_standard c.standard.result _ _ c.standard.ensures c.in-Ok.ensures.bounded;
         });
       },
       inl (record { contents = contents; loaded = refl; ended = c.answer_lines.ensures }),
@@ -30,12 +31,10 @@ returns g c =
       record {
         mode_is = refl;
         loaded = asked_of_files c.args.mode c.requires.mode (record {
-          loaded = loaded_not _ c.standard.result c.args.lang.now names c.in-Err.fault c.standard.ensures c.in-Err.ensures.err c.in-Err.ensures.names;
+          loaded = loaded_not _ c.standard.result c.args.lang.now names (g.S.FileSource.history c.load_from.new.source) c.in-Err.fault c.standard.ensures c.in-Err.ensures.err c.in-Err.ensures.names;
           named = c.in-Err.ensures.names;
-          device = record {
-            failed = counts_device string_bytes c.load_from.new.names.items _ _ c.in-Err.fault c.in-Err.ensures.device;
-            calm = c.in-Err.ensures.calm;
-          };
+          device = record { failed = c.in-Err.ensures.device; calm = c.in-Err.ensures.calm };
+          bounded = within_standard c.standard.result _ _ c.standard.ensures c.in-Err.ensures.bounded;
         });
       },
       refuses_with g.R.QueryInput g.W.AnswerOutput g.E.AnswerOutput task c.in-Err.fault c.refuse.result _ _ _ _ refl

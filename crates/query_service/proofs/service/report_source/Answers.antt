@@ -1,7 +1,7 @@
 use Rattle.std.proofs.Common.{Global, List, ℕ, Ok, Err, String, map, refl, string_bytes, subst, ◌∙◌}
 use Rattle.query_service.specs.Serve.{Task, TellsLoadFault}
 use Rattle.command_line.specs.declared.words.Mode.TheVariants.{Check}
-use Rattle.query_service.proofs.ServeLemmas.{counts_device, ends_cut, ends_reported, refuses_with}
+use Rattle.query_service.proofs.ServeLemmas.{ends_cut, ends_reported, refuses_with}
 use Rattle.query_service.proofs.service.report_source.Goals as goal
 
 -- the report was written whole
@@ -17,6 +17,7 @@ returns-in-Ok-write_all g c =
           loaded = loads;
           named = c.in-Ok.ensures.named;
           device = record { failed = tt; calm = c.in-Ok.ensures.calm };
+          bounded = c.in-Ok.ensures.bounded;
         };
       },
       ends_reported g.R.QueryInput g.W.AnswerOutput g.E.AnswerOutput task contents c.as_slice.result.now c.args.input.now
@@ -36,6 +37,7 @@ returns-in-Ok g c =
           loaded = loads;
           named = c.in-Ok.ensures.named;
           device = record { failed = tt; calm = c.in-Ok.ensures.calm };
+          bounded = c.in-Ok.ensures.bounded;
         };
       },
       ends_cut g.R.QueryInput g.W.AnswerOutput g.E.AnswerOutput task contents c.as_slice.result.now c.args.input.now
@@ -54,11 +56,8 @@ returns g c =
         loaded = record {
           loaded = c.in-Err.ensures.err;
           named = c.in-Err.ensures.named;
-          device = record {
-            failed =
-                counts_device string_bytes c.report.new.names.items _ _ c.in-Err.fault c.in-Err.ensures.device;
-            calm = c.in-Err.ensures.calm;
-          };
+          device = record { failed = c.in-Err.ensures.device; calm = c.in-Err.ensures.calm };
+          bounded = c.in-Err.ensures.bounded;
         };
       },
       refuses_with g.R.QueryInput g.W.AnswerOutput g.E.AnswerOutput task c.in-Err.fault c.refuse.result _ _ _ _ refl

@@ -1,8 +1,8 @@
-use Rattle.std.proofs.Common.{◌<◌, ◌∙◌, ℕ, ap, arith, inl, inr, refl, subst, sym}
+use Rattle.std.proofs.Common.{◌<◌, ◌∙◌, ap, inl, inr, length, refl, subst, sym}
 use Rattle.std.proofs.lemmas.Bool.{cases_Bool, false_from_ne_true, false≢true}
 use Rattle.row_lists.specs.ListsRead.{listed_in}
 use Rattle.release_rows.specs.inside.RowsInside.{kept_in}
-use Rattle.release_rows.specs.DeviceFaults.{FileIs, is_device}
+use Rattle.release_rows.specs.DeviceFaults.{AskedFiles, FileIs, is_device}
 use Rattle.row_lists.specs.declared.fault.LoadFault.{LoadFault}
 use Rattle.release_rows.proofs.ReadFromLemmas.{read_unmarked}
 use Rattle.release_rows.proofs.TakingLemmas.{at_told, fails_since, if_err, if_ok, if_told}
@@ -34,17 +34,18 @@ pub returns-in-Err-clause-device : goal.returns-in-Err-clause-device
 returns-in-Err-clause-device g c device = elim (cases_Bool (is_device c.in-Err.fault)) [
   | inl own ↦ rw ((c.first_of_faults.ensures.stays own).0, (c.first_of_faults.ensures.stays own).1) (c.in-Err.ensures.device own)
   | inr other ↦
-      fails_since (g.P.PlaceSource.file_count c.args.files.now) (g.P.PlaceSource.file_count c.take_places.new.self)
-      (g.P.PlaceSource.failure_count c.args.files.now) (g.P.PlaceSource.failure_count c.take_places.new.self)
-      (g.P.PlaceSource.failure_count c.first_of_faults.new.files) c.first_of_faults.result c.in-Err.ensures.files
-      (omega (arith, c.in-Err.ensures.failures)) (c.first_of_faults.ensures.device other device)
+      fails_since (g.P.PlaceSource.asked c.args.files.now).names (g.P.PlaceSource.asked c.take_places.new.self).names
+      (g.P.PlaceSource.history c.args.files.now) (g.P.PlaceSource.history c.take_places.new.self)
+      (g.P.PlaceSource.history c.first_of_faults.new.files) c.first_of_faults.result
+      (ap (λ (asked : AskedFiles). asked.names) c.in-Err.ensures.asked)
+      (c.in-Err.ensures.calm other) (c.first_of_faults.ensures.device other device)
 ]
 
 pub returns-in-Err-clause-named : goal.returns-in-Err-clause-named
 returns-in-Err-clause-named g c =
-    let Names : LoadFault → ℕ → Type 0 = λ fault count. FileIs (λ file. file < count) fault in
-    subst (Names c.first_of_faults.result) c.in-Err.ensures.files
-    (c.first_of_faults.ensures.named (subst (Names c.in-Err.fault) (sym c.in-Err.ensures.files) c.in-Err.ensures.named))
+    let Names : LoadFault → AskedFiles → Type 0 = λ fault asked. FileIs (λ file. file < length asked.names) fault in
+    subst (Names c.first_of_faults.result) c.in-Err.ensures.asked
+    (c.first_of_faults.ensures.named (subst (Names c.in-Err.fault) (sym c.in-Err.ensures.asked) c.in-Err.ensures.named))
 
 pub returns-in-Err-clause-calm : goal.returns-in-Err-clause-calm
 returns-in-Err-clause-calm g c other =

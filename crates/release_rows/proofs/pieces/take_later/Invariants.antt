@@ -1,5 +1,5 @@
 use Rattle.std.proofs.Common.{◌≡◌, ◌<◌, ℕ, List, Some, length, map}
-use Rattle.release_files.specs.Held.{TakesWithin, reachable}
+use Rattle.release_files.specs.Held.{ReadsOn, reachable}
 use Rattle.release_files.specs.PieceLines.{lines_to_come}
 use Rattle.release_rows.specs.Files.{later_line}
 use Rattle.release_rows.proofs.PiecesLemmas.{LinesLeft}
@@ -11,7 +11,7 @@ invariant-loop-turn g l = record {
       → LinesLeft g.T.PlaceTaker.takes g.T.PlaceTaker.refuses l.file l.kind l.initial.taker
       (map (later_line l.file l.kind) (lines_to_come l.fn.lines rest)) l.turns l.turn
       (reachable l.lines.held.left (g.S.FileSource.rest l.source)) l.lines l.taker;
-  takes : TakesWithin (g.S.FileSource.rest l.fn.source) (g.S.FileSource.rest l.source) l.fn.lines.held.left l.lines.held.left;
+  history : ReadsOn (g.S.FileSource.history l.fn.source) (g.S.FileSource.history l.source) l.fn.lines.held.left l.lines.held.left;
   files : g.S.FileSource.files l.source ≡ g.S.FileSource.files l.fn.source;
-  failures : g.S.FileSource.failure_count l.source ≡ g.S.FileSource.failure_count l.fn.source;
+  failures : (g.S.FileSource.history l.source).failures ≡ (g.S.FileSource.history l.fn.source).failures;
 }

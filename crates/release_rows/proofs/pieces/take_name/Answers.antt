@@ -1,5 +1,5 @@
-use Rattle.std.proofs.Common.{inl, refl, sym, ◌∙◌}
-use Rattle.release_rows.proofs.PiecesLemmas.{device_fails, takes_unnamed}
+use Rattle.std.proofs.Common.{inl, sym, ◌∙◌}
+use Rattle.release_rows.proofs.PiecesLemmas.{device_fails_to_open, takes_unnamed}
 use Rattle.release_rows.proofs.pieces.take_name.Goals as goal
 
 pub returns-in-None-clause-goes : goal.returns-in-None-clause-goes
@@ -9,5 +9,5 @@ returns-in-None-clause-goes g c known told =
 
 pub returns-in-Err-clause-goes : goal.returns-in-Err-clause-goes
 returns-in-Err-clause-goes g c known told other =
-    inl (device_fails c.args.file _ _ _ c.in-Err.fault c.fault_of.result c.in-Err.ensures.failures refl
-    c.fault_of.ensures other)
+    inl (device_fails_to_open g.S.FileSource.history c.args.file c.args.name.now _ _ c.in-Err.fault c.fault_of.result
+    c.in-Err.ensures.failures c.fault_of.ensures other)

@@ -1,23 +1,27 @@
 use Rattle.std.proofs.Common.{ap, string_bytes, arith, ◌∙◌}
 use Rattle.release_rows.specs.Files.{places_from, places_of_file}
 use Rattle.release_rows.specs.Pieces.{cut_file, FailsAt, listed, text_named, has_kind_at}
-use Rattle.release_rows.proofs.TakingLemmas.{Leads, Leads-end, if_told}
-use Rattle.release_rows.proofs.PiecesLemmas.{fails_at_file, fails_at_read, kind_at, leads_name, places_from-listed, places_from-none, stops_name}
+use Rattle.release_rows.proofs.TakingLemmas.{Leads, Leads-end, ReadsWithin-trans, if_told}
+use Rattle.release_rows.proofs.PiecesLemmas.{fails_at_one, fails_at_file, fails_at_read, kind_at, leads_name, places_from-listed, places_from-none, stops_name}
 use Rattle.std.proofs.Common.{map, drop, ◌+◌, ◌++◌}
 use Rattle.release_rows.proofs.pieces.take_pieces.Goals as goal
 
 pub loop-file-preserved : goal.loop-file-preserved
-loop-file-preserved g c = record {
-  told = λ known told. leads_name g.T.PlaceTaker.takes g.T.PlaceTaker.refuses _ c.args.taker.now c.loop-file.taker
-      c.take_name.new.taker _ (places_of_file c.loop-file.file
-      (cut_file c.args.byte_limit (text_named known c.as_str.result.now))) _ c.take_name.result c.in-Ok.field-0
-      (rw (← places_from-listed c.args.byte_limit known string_bytes c.loop-file.file c.args.names.now
-      c.index-names-file.result c.as_str.result.now c.loop-file-test.true
-      (c.as_str.ensures.value ∙ ap string_bytes c.index-names-file.is)) (c.loop-file.invariant.told known told))
-      (c.take_name.ensures.goes known (c.loop-file.invariant.files ∙ told)) c.in-Ok.is;
-  files = c.in-Ok.ensures.files ∙ c.loop-file.invariant.files;
-  failures = c.in-Ok.ensures.calm ∙ c.loop-file.invariant.failures;
-}
+loop-file-preserved g c =
+    let H = g.S.FileSource.history in
+    record {
+      told = λ known told. leads_name g.T.PlaceTaker.takes g.T.PlaceTaker.refuses _ c.args.taker.now c.loop-file.taker
+          c.take_name.new.taker _ (places_of_file c.loop-file.file
+          (cut_file c.args.byte_limit (text_named known c.as_str.result.now))) _ c.take_name.result c.in-Ok.field-0
+          (rw (← places_from-listed c.args.byte_limit known string_bytes c.loop-file.file c.args.names.now
+          c.index-names-file.result c.as_str.result.now c.loop-file-test.true
+          (c.as_str.ensures.value ∙ ap string_bytes c.index-names-file.is)) (c.loop-file.invariant.told known told))
+          (c.take_name.ensures.goes known (c.loop-file.invariant.files ∙ told)) c.in-Ok.is;
+      files = c.in-Ok.ensures.files ∙ c.loop-file.invariant.files;
+      failures = c.in-Ok.ensures.calm ∙ c.loop-file.invariant.failures;
+      bounded = ReadsWithin-trans _ (H c.args.source.now) (H c.loop-file.source) (H c.take_name.new.source)
+          c.loop-file.invariant.bounded c.in-Ok.ensures.bounded;
+    }
 
 pub returns-clause-ok : goal.returns-clause-ok
 returns-clause-ok g c = if_told _ (g.S.FileSource.files c.args.source.now)
@@ -30,7 +34,8 @@ returns-clause-ok g c = if_told _ (g.S.FileSource.files c.args.source.now)
     )))
 
 pub returns-in-Err-clause-kind : goal.returns-in-Err-clause-kind
-returns-in-Err-clause-kind g c = fails_at_read (has_kind_at (map string_bytes c.args.names.now)) c.loop-file.file _ _ c.in-Err.fault c.in-Err.ensures.device
+returns-in-Err-clause-kind g c = fails_at_read (has_kind_at (map string_bytes c.args.names.now)) c.loop-file.file (g.S.FileSource.history c.loop-file.source)
+    (g.S.FileSource.history c.take_name.new.source) c.in-Err.fault c.in-Err.ensures.device
     (λ device. kind_at string_bytes c.args.names.now c.loop-file.file c.index-names-file.result c.as_str.result.now
     c.loop-file-test.true (c.as_str.ensures.value ∙ ap string_bytes c.index-names-file.is) ∙ c.in-Err.ensures.kind device)
 
@@ -45,8 +50,17 @@ returns-in-Err-clause-err g c = if_told _ (g.S.FileSource.files c.args.source.no
     c.index-names-file.result c.as_str.result.now c.loop-file-test.true
     (c.as_str.ensures.value ∙ ap string_bytes c.index-names-file.is)) (c.loop-file.invariant.told known told) in
     let stopped = stops_name g.T.PlaceTaker.takes g.T.PlaceTaker.refuses
-    (FailsAt c.loop-file.file (g.S.FileSource.failure_count c.loop-file.source)
-    (g.S.FileSource.failure_count c.take_name.new.source)) c.args.taker.now c.loop-file.taker
+    (FailsAt c.loop-file.file (g.S.FileSource.history c.loop-file.source)
+    (g.S.FileSource.history c.take_name.new.source)) c.args.taker.now c.loop-file.taker
     c.take_name.new.taker all here left c.take_name.result c.in-Err.fault
     ahead (c.take_name.ensures.goes known (c.loop-file.invariant.files ∙ told)) c.in-Err.is other in
-    fails_at_file c.loop-file.file _ _ _ c.in-Err.fault c.loop-file.invariant.failures stopped)
+    fails_at_file c.loop-file.file (g.S.FileSource.history c.args.source.now)
+    (g.S.FileSource.history c.loop-file.source) (g.S.FileSource.history c.take_name.new.source) c.in-Err.fault c.loop-file.invariant.failures stopped)
+
+pub returns-in-Err-clause-device : goal.returns-in-Err-clause-device
+returns-in-Err-clause-device g c device =
+    let H = g.S.FileSource.history in
+    fails_at_one string_bytes c.args.names.now c.loop-file.file c.index-names-file.result c.as_str.result.now
+    (H c.args.source.now) (H c.loop-file.source) (H c.take_name.new.source) c.in-Err.fault c.loop-file-test.true
+    (c.as_str.ensures.value ∙ ap string_bytes c.index-names-file.is) c.loop-file.invariant.failures
+    (c.in-Err.ensures.device device) (c.in-Err.ensures.failed device)

@@ -1,7 +1,8 @@
-use Rattle.std.proofs.Common.{◌≡◌, List, Some, drop, map, string_bytes}
+use Rattle.std.proofs.Common.{◌≡◌, ◌+◌, List, Some, drop, map, string_bytes}
 use Rattle.release_files.specs.Source.{FileText}
 use Rattle.release_rows.specs.Files.{places_from}
 use Rattle.release_rows.specs.Pieces.{cut_file, listed}
+use Rattle.release_rows.specs.DeviceFaults.{ReadsWithin}
 use Rattle.release_rows.proofs.TakingLemmas.{Leads}
 use Rattle.release_rows.proofs.pieces.take_pieces.Given as goal
 
@@ -12,5 +13,6 @@ invariant-loop-file g l = record {
       (places_from 0 (map (cut_file l.byte_limit) (listed known (map string_bytes l.names)))) l.taker
       (places_from l.file (map (cut_file l.byte_limit) (listed known (map string_bytes (drop l.file l.names)))));
   files : g.S.FileSource.files l.source ≡ g.S.FileSource.files l.initial.source;
-  failures : g.S.FileSource.failure_count l.source ≡ g.S.FileSource.failure_count l.initial.source;
+  failures : (g.S.FileSource.history l.source).failures ≡ (g.S.FileSource.history l.initial.source).failures;
+  bounded : ReadsWithin (l.byte_limit + 1) (g.S.FileSource.history l.initial.source) (g.S.FileSource.history l.source);
 }

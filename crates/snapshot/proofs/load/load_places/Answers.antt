@@ -4,6 +4,7 @@ use Rattle.held_release.specs.Contents.{IsFaultOf}
 use Rattle.held_release.specs.Finished.{finished}
 use Rattle.snapshot.proofs.LoadLemmas.{loaded_from-read}
 use Rattle.snapshot.proofs.FaultLemmas.{finished-own, raised_by_none}
+use Rattle.release_rows.specs.Pieces.{has_kind_at}
 use Rattle.release_rows.proofs.TakingLemmas.{at_told, if_err, if_told}
 use Rattle.snapshot.proofs.load.load_places.Goals as goal
 use Rattle.std.proofs.Common.{ℕ, ◌∙◌, List, Result, Ok, Err, IfOk, ap, arith, string_bytes, subst, sym}
@@ -55,13 +56,14 @@ returns-in_ok-language-in-Ok-clause-device g c =
     c.finish.ensures.err
 
 pub returns-in_ok-language-in-Ok-clause-calm : goal.returns-in_ok-language-in-Ok-clause-calm
-returns-in_ok-language-in-Ok-clause-calm g c = raised_by_none c.finish.result c.in-Ok.ensures.calm
+returns-in_ok-language-in-Ok-clause-calm g c = raised_by_none (g.P.PlaceSource.history c.args.files.now)
+    (g.P.PlaceSource.history c.read_rows.new.files) c.finish.result c.in-Ok.ensures.calm
 
 pub returns-in_ok-language-in-Ok-clause-kind : goal.returns-in_ok-language-in-Ok-clause-kind
 returns-in_ok-language-in-Ok-clause-kind g c =
     let own = finished-own (string_bytes c.in_ok-language-in-Ok.language) c.args.kinds c.in-Ok.read.count
     (read_in c.in-Ok.read.lists) in
-    let reads = g.P.PlaceSource.is_read c.args.files.now in
+    let reads = has_kind_at (g.P.PlaceSource.asked c.args.files.now).names in
     if_err _ _ c.finish.result (λ fault said. (own fault said).kind reads) c.finish.ensures.err
 
 pub returns-in_ok-language-in-Ok-clause-named : goal.returns-in_ok-language-in-Ok-clause-named

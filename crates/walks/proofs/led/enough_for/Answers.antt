@@ -21,19 +21,19 @@ pub from_numbers-requires : goal.from_numbers-requires
 from_numbers-requires g c =
     let count = g.S.ConceptSet.bound_of c.args.wanted.now in
     let wanted = g.S.ConceptSet.items_of c.args.wanted.now in
-    let each : ℕ → List ℕ = λ concept. concept ∷ list_of (lists_of c.args.index.now c.asked-family.result) concept in
+    let each : ℕ → List ℕ = λ concept. concept ∷ list_of (lists_of c.args.reader.indexes.now.hierarchy c.asked-family.result) concept in
     let own : c.as_slice.result.now ≡ wanted = c.as_slice.ensures.value ∙ c.in_ok-own.ensures in
     let numbers : c.as_slice-2.result.now ≡ flat_map each wanted = c.as_slice-2.ensures.value ∙ c.in_ok-numbers.ensures ∙ ap (flat_map each) own in
     subst (λ (bound : ℕ). All (λ n. n < bound) c.as_slice-2.result.now) (sym c.bound-2.ensures)
     (subst (All (λ n. n < count)) (sym numbers)
-    (with_lists_below count c.args.index.now c.requires.over c.asked-family.result wanted
+    (with_lists_below count c.args.reader.indexes.now.hierarchy c.requires.over c.asked-family.result wanted
     (all_below count wanted (g.met.S.ConceptSet.rising c.args.wanted.now))))
 
 pub returns-clause-enough : goal.returns-clause-enough
 returns-clause-enough g c =
     let count = g.S.ConceptSet.bound_of c.args.wanted.now in
     let wanted = g.S.ConceptSet.items_of c.args.wanted.now in
-    let hierarchy = c.args.index.now in
+    let hierarchy = c.args.reader.indexes.now.hierarchy in
     let family = c.asked-family.result in
     let each : ℕ → List ℕ = λ concept. concept ∷ list_of (lists_of hierarchy family) concept in
     let own : c.as_slice.result.now ≡ wanted = c.as_slice.ensures.value ∙ c.in_ok-own.ensures in

@@ -11,8 +11,8 @@ returns-then-has g c =
     let items = g.S.ConceptSet.items_of c.args.operand.now in
     let own : has items c.args.concept ≡ true = sym c.has.ensures ∙ c.if-has.true in
     c.if-has.true
-    ∙ sym (λ i. own i || has (joined count (lists_of c.args.index.now c.args.family) items) c.args.concept)
-    ∙ asked_or_self count c.args.index.now c.requires.over items (g.met.S.ConceptSet.rising c.args.operand.now) c.args.family c.args.concept c.requires.below
+    ∙ sym (λ i. own i || has (joined count (lists_of c.args.reader.indexes.now.hierarchy c.args.family) items) c.args.concept)
+    ∙ asked_or_self count c.args.reader.indexes.now.hierarchy c.requires.over items (g.met.S.ConceptSet.rising c.args.operand.now) c.args.family c.args.concept c.requires.below
 
 pub returns-else-has : goal.returns-else-has
 returns-else-has g c =
@@ -20,5 +20,5 @@ returns-else-has g c =
     let items = g.S.ConceptSet.items_of c.args.operand.now in
     let own : has items c.args.concept ≡ false = sym c.has.ensures ∙ c.if-has.false in
     c.is_listed.ensures
-    ∙ sym (λ i. own i || has (joined count (lists_of c.args.index.now c.args.family) items) c.args.concept)
-    ∙ asked_or_self count c.args.index.now c.requires.over items (g.met.S.ConceptSet.rising c.args.operand.now) c.args.family c.args.concept c.requires.below
+    ∙ sym (λ i. own i || has (joined count (lists_of c.args.reader.indexes.now.hierarchy c.args.family) items) c.args.concept)
+    ∙ asked_or_self count c.args.reader.indexes.now.hierarchy c.requires.over items (g.met.S.ConceptSet.rising c.args.operand.now) c.args.family c.args.concept c.requires.below

@@ -14,7 +14,7 @@ is_led_to-requires-clause-below g c = c.requires.below c.loop-concept.concept-in
 pub loop-concept-preserved : goal.loop-concept-preserved
 loop-concept-preserved g c =
     let test : ℕ → Bool =
-    has (stepped (lists_of c.args.index.now c.args.step.family) (g.S.ConceptSet.bound_of c.args.operand.now)
+    has (stepped (lists_of c.args.reader.indexes.now.hierarchy c.args.step.family) (g.S.ConceptSet.bound_of c.args.operand.now)
     c.args.step.reach (g.S.ConceptSet.items_of c.args.operand.now)) in
     let k = c.loop-concept.concept-index in
     elim c.if-is_led_to.branch [
@@ -31,7 +31,7 @@ loop-concept-preserved g c =
 pub returns : goal.returns
 returns g c =
     let test : ℕ → Bool =
-    has (stepped (lists_of c.args.index.now c.args.step.family) (g.S.ConceptSet.bound_of c.args.operand.now)
+    has (stepped (lists_of c.args.reader.indexes.now.hierarchy c.args.step.family) (g.S.ConceptSet.bound_of c.args.operand.now)
     c.args.step.reach (g.S.ConceptSet.items_of c.args.operand.now)) in
     c.loop-concept.invariant
     ∙ ap (filter test) (take_all c.loop-concept.concept-index c.args.concepts.now (omega arith))

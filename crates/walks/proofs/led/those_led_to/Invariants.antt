@@ -7,6 +7,6 @@ use Rattle.walks.proofs.led.those_led_to.Given as goal
 
 abbrev pub invariant-loop-concept : goal.invariant-loop-concept
 invariant-loop-concept g l =
-    l.kept.items ≡ filter (has (stepped (lists_of l.index l.step.family) (g.S.ConceptSet.bound_of l.operand)
+    l.kept.items ≡ filter (has (stepped (lists_of l.reader.indexes.now.hierarchy l.step.family) (g.S.ConceptSet.bound_of l.operand)
     l.step.reach (g.S.ConceptSet.items_of l.operand)))
     (take l.concept-index l.concepts)

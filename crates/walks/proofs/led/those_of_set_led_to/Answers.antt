@@ -20,7 +20,7 @@ pub from_items-requires : goal.from_items-requires
 from_items-requires g c =
     let count = g.S.ConceptSet.bound_of c.args.operand.now in
     let wanted = g.S.ConceptSet.items_of c.args.wanted.now in
-    let led : List ℕ = stepped (lists_of c.args.index.now c.of-step.result.family) count c.of-step.result.reach (g.S.ConceptSet.items_of c.args.operand.now) in
+    let led : List ℕ = stepped (lists_of c.args.reader.indexes.now.hierarchy c.of-step.result.family) count c.of-step.result.reach (g.S.ConceptSet.items_of c.args.operand.now) in
     let kept : c.as_slice-2.result.now ≡ filter (has led) wanted =
     c.as_slice-2.ensures.value ∙ c.in_ok-kept.ensures ∙ ap (filter (has led)) (c.as_slice.ensures.value ∙ c.in_ok-own.ensures) in
     subst (λ (bound : ℕ). IsRisingBelow bound c.as_slice-2.result.now) (sym c.bound.ensures)
@@ -34,12 +34,12 @@ returns-clause-items g c =
     let items = g.S.ConceptSet.items_of c.args.operand.now in
     let wanted = g.S.ConceptSet.items_of c.args.wanted.now in
     let step = c.of-step.result in
-    let led : List ℕ = stepped (lists_of c.args.index.now step.family) count step.reach items in
+    let led : List ℕ = stepped (lists_of c.args.reader.indexes.now.hierarchy step.family) count step.reach items in
     IfOk-weaker c.from_items.result _ _
     (λ found same.
     same ∙ c.as_slice-2.ensures.value ∙ c.in_ok-kept.ensures ∙ ap (filter (has led)) (c.as_slice.ensures.value ∙ c.in_ok-own.ensures)
-    ∙ led_asked count c.args.index.now c.requires.over items (g.met.S.ConceptSet.rising c.args.operand.now)
-    (lists_of c.args.index.now step.family) step.reach wanted
+    ∙ led_asked count c.args.reader.indexes.now.hierarchy c.requires.over items (g.met.S.ConceptSet.rising c.args.operand.now)
+    (lists_of c.args.reader.indexes.now.hierarchy step.family) step.reach wanted
     (subst (λ (bound : ℕ). IsRisingBelow bound wanted) c.requires.wanted (g.met.S.ConceptSet.rising c.args.wanted.now))
-    ∙ ap (filter (has wanted)) (sym (c.of-step.ensures.led c.args.index.now count items)))
+    ∙ ap (filter (has wanted)) (sym (c.of-step.ensures.led c.args.reader.indexes.now.hierarchy count items)))
     c.from_items.ensures.items

@@ -10,5 +10,5 @@ returns-clause-items g c =
     let from = c.args.from.now in
     c.in_ok-left.ensures.items
     ∙ ap (filter may) (c.in_ok-led.ensures.items
-    ∙ led_from_all (g.S.ConceptSet.bound_of from) c.args.index.now c.requires.over c.args.operator (g.S.ConceptSet.items_of from)
+    ∙ led_from_all (g.S.ConceptSet.bound_of from) c.args.reader.indexes.now.hierarchy c.requires.over c.args.operator (g.S.ConceptSet.items_of from)
     (g.met.S.ConceptSet.rising from) c.requires.all)

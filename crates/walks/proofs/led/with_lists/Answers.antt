@@ -27,16 +27,16 @@ list-requires c =
     omega (
       arith,
       c.requires.below c.loop-concept.concept-index 0 c.loop-concept-test.true,
-      over_length c.args._count c.args.index.now c.requires.over c.args.family,
+      over_length c.args._count c.args.reader.indexes.now.hierarchy c.requires.over c.args.family,
     )
 
 pub loop-concept-preserved : goal.loop-concept-preserved
 loop-concept-preserved c =
-    with_lists_more (lists_of c.args.index.now c.args.family) c.args.concepts.now c.loop-concept.concept-index
+    with_lists_more (lists_of c.args.reader.indexes.now.hierarchy c.args.family) c.args.concepts.now c.loop-concept.concept-index
     c.loop-concept-test.true c.loop-concept.invariant c.in_ok-push.ensures.items c.list.ensures (search rules)
 
 pub returns : goal.returns
 returns c =
     c.loop-concept.invariant
-    ∙ ap (flat_map (λ concept. concept ∷ list_of (lists_of c.args.index.now c.args.family) concept))
+    ∙ ap (flat_map (λ concept. concept ∷ list_of (lists_of c.args.reader.indexes.now.hierarchy c.args.family) concept))
     (take_all c.loop-concept.concept-index c.args.concepts.now (omega arith))

@@ -7,4 +7,4 @@ use Rattle.walks.proofs.led.with_lists.Given as goal
 -- the concepts so far, each with its list behind it
 abbrev pub invariant-loop-concept : goal.invariant-loop-concept
 invariant-loop-concept l =
-    l.numbers.items ≡ flat_map (λ concept. concept ∷ list_of (lists_of l.index l.family) concept) (take l.concept-index l.concepts)
+    l.numbers.items ≡ flat_map (λ concept. concept ∷ list_of (lists_of l.reader.indexes.now.hierarchy l.family) concept) (take l.concept-index l.concepts)

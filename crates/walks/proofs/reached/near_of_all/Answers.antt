@@ -19,18 +19,18 @@ pub list-requires : goal.list-requires
 list-requires c =
     let below : get_or c.args.concepts.now c.loop-concept.concept-index 0 < c.args.count =
     c.requires.below c.loop-concept.concept-index 0 c.loop-concept-test.true in
-    omega (arith, below, over_length c.args.count c.args.index.now c.requires.over c.args.near)
+    omega (arith, below, over_length c.args.count c.args.reader.indexes.now.hierarchy c.requires.over c.args.near)
 
 pub add_all-requires : goal.add_all-requires
 add_all-requires c =
     subst (λ (bound : ℕ). IsRisingBelow bound c.list.result.now) (sym c.loop-concept.invariant.bound)
     (subst (λ (list : List ℕ). IsRisingBelow c.args.count list) (sym c.list.ensures)
-    (over_rising c.args.count c.args.index.now c.requires.over c.args.near (get_or c.args.concepts.now c.loop-concept.concept-index 0)
+    (over_rising c.args.count c.args.reader.indexes.now.hierarchy c.requires.over c.args.near (get_or c.args.concepts.now c.loop-concept.concept-index 0)
     (c.requires.below c.loop-concept.concept-index 0 c.loop-concept-test.true)))
 
 pub loop-concept-preserved : goal.loop-concept-preserved
 loop-concept-preserved c =
-    let lists = lists_of c.args.index.now c.args.near in
+    let lists = lists_of c.args.reader.indexes.now.hierarchy c.args.near in
     let concepts = c.args.concepts.now in
     let k = c.loop-concept.concept-index in
     let found : List ℕ = numbers_where c.loop-concept.found.bound (is_set c.loop-concept.found.words.items) in
@@ -41,7 +41,7 @@ loop-concept-preserved c =
           (join_list lists (take k concepts) found c.list.result.now next c.args.count (get_or concepts k 0)
           (subst (λ (bound : ℕ). IsRisingBelow bound found) c.loop-concept.invariant.bound c.loop-concept.found.rising)
           (subst (λ (list : List ℕ). IsRisingBelow c.args.count list) (sym c.list.ensures)
-          (over_rising c.args.count c.args.index.now c.requires.over c.args.near (get_or concepts k 0) (c.requires.below k 0 c.loop-concept-test.true)))
+          (over_rising c.args.count c.args.reader.indexes.now.hierarchy c.requires.over c.args.near (get_or concepts k 0) (c.requires.below k 0 c.loop-concept-test.true)))
           c.list.ensures
           (c.in_ok-add_all.ensures.items ∙ (λ i. all_items (c.loop-concept.invariant.bound i) found c.list.result.now))
           c.loop-concept.invariant.joined);
@@ -50,6 +50,6 @@ loop-concept-preserved c =
 
 pub returns-clause-joined : goal.returns-clause-joined
 returns-clause-joined c =
-    subst (λ (some : List ℕ). AreJoined (lists_of c.args.index.now c.args.near) some
+    subst (λ (some : List ℕ). AreJoined (lists_of c.args.reader.indexes.now.hierarchy c.args.near) some
     (numbers_where c.loop-concept.found.bound (is_set c.loop-concept.found.words.items)))
     (take_all c.loop-concept.concept-index c.args.concepts.now (omega arith)) c.loop-concept.invariant.joined

@@ -8,6 +8,6 @@ use Rattle.walks.proofs.reached.near_of_all.Given as goal
 -- the lists of the concepts so far are there
 abbrev pub invariant-loop-concept : goal.invariant-loop-concept
 invariant-loop-concept l = record {
-  joined : AreJoined (lists_of l.index l.near) (take l.concept-index l.concepts) (numbers_where l.found.bound (is_set l.found.words.items));
+  joined : AreJoined (lists_of l.reader.indexes.now.hierarchy l.near) (take l.concept-index l.concepts) (numbers_where l.found.bound (is_set l.found.words.items));
   bound : l.found.bound ≡ l.count;
 }

@@ -9,7 +9,7 @@ use Rattle.walks.proofs.reached.reached.Given as goal
 -- what is found before a turn
 abbrev pub invariant-loop-turn : goal.invariant-loop-turn
 invariant-loop-turn g l = record {
-  passed : IsPassed (lists_of l.index l.family) (lists_of l.index (near_of l.family))
+  passed : IsPassed (lists_of l.reader.indexes.now.hierarchy l.family) (lists_of l.reader.indexes.now.hierarchy (near_of l.family))
       (λ turn. get_or l.order (turn_of l.family (length l.order) turn) 0) l.turn
       (g.S.ConceptSet.items_of l.set) (numbers_where l.found.bound (is_set l.found.words.items));
   bound : l.found.bound ≡ g.S.ConceptSet.bound_of l.set;

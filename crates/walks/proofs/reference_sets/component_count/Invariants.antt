@@ -1,8 +1,8 @@
 use Rattle.std.proofs.Common.{◌≡◌, take}
-use Rattle.candidates.specs.Counted.{full}
+use Rattle.reading.specs.Counted.{full}
 use Rattle.walks.specs.Families.{items_in}
 use Rattle.walks.proofs.reference_sets.component_count.Given as goal
 
 -- those of the reference sets so far
 abbrev pub invariant-loop-refset : goal.invariant-loop-refset
-invariant-loop-refset l = l.components ≡ full (items_in l.indexes.members (take l.refset-index l.refsets))
+invariant-loop-refset l = l.components ≡ full (items_in l.reader.indexes.now.members (take l.refset-index l.refsets))

@@ -7,7 +7,7 @@ use Rattle.walks.proofs.reference_sets.components.Goals as goal
 
 pub loop-refset-preserved : goal.loop-refset-preserved
 loop-refset-preserved c =
-    let lists = c.args.indexes.now.members in
+    let lists = c.args.reader.indexes.now.members in
     let refsets = c.args.refsets.now in
     let k = c.loop-refset.refset-index in
     c.in_ok-extend_from_slice.ensures.items
@@ -18,4 +18,4 @@ loop-refset-preserved c =
 pub returns : goal.returns
 returns c =
     c.loop-refset.invariant
-    ∙ ap (flat_map (list_of c.args.indexes.now.members)) (take_all c.loop-refset.refset-index c.args.refsets.now (omega arith))
+    ∙ ap (flat_map (list_of c.args.reader.indexes.now.members)) (take_all c.loop-refset.refset-index c.args.refsets.now (omega arith))

@@ -5,4 +5,4 @@ use Rattle.walks.proofs.reference_sets.components.Given as goal
 
 -- the components of the reference sets so far
 abbrev pub invariant-loop-refset : goal.invariant-loop-refset
-invariant-loop-refset l = l.found.items ≡ flat_map (list_of l.indexes.members) (take l.refset-index l.refsets)
+invariant-loop-refset l = l.found.items ≡ flat_map (list_of l.reader.indexes.now.members) (take l.refset-index l.refsets)

@@ -8,7 +8,7 @@ use Rattle.walks.proofs.reference_sets.components_among.Goals.{then-is_component
 
 pub loop-concept-preserved : goal.loop-concept-preserved
 loop-concept-preserved c =
-    let asked : ℕ → Bool = is_in_one_of c.args.indexes.now.members c.args.refsets.now in
+    let asked : ℕ → Bool = is_in_one_of c.args.reader.indexes.now.members c.args.refsets.now in
     let k = c.loop-concept.concept-index in
     elim c.if-is_component.branch [
       | then-is_component+in_ok-push w ↦
@@ -24,5 +24,5 @@ loop-concept-preserved c =
 pub returns : goal.returns
 returns c =
     c.loop-concept.invariant
-    ∙ ap (filter (is_in_one_of c.args.indexes.now.members c.args.refsets.now))
+    ∙ ap (filter (is_in_one_of c.args.reader.indexes.now.members c.args.refsets.now))
     (take_all c.loop-concept.concept-index c.args.concepts.now (omega arith))

@@ -5,15 +5,18 @@ use Rattle.walks.proofs.reference_sets.members_within.Goals as goal
 -- the reference sets are concepts
 pub component_count-components-requires : goal.component_count-components-requires
 component_count-components-requires g c =
-    numbers_below (g.met.S.ConceptSet.rising c.args.from.now) (c.requires.bound ∙ ap (λ (ids : List ℕ). length ids) (sym c.requires.index.concepts))
-    (c.as_slice-refsets.ensures.value ∙ c.in_ok-numbers.ensures)
+    numbers_below (g.met.S.ConceptSet.rising c.args.from.now) (c.requires.bound ∙ ap (λ (ids : List ℕ). length ids) (sym c.args.reader.index.concepts))
+    (c.as_slice-refsets.ensures.value ∙ c.in_ok-numbers.ensures.items)
 
 pub members_among-requires-clause-below : goal.members_among-requires-clause-below
 members_among-requires-clause-below g c =
-    numbers_below (g.met.S.ConceptSet.rising c.args.from.now) (c.requires.bound ∙ ap (λ (ids : List ℕ). length ids) (sym c.requires.index.concepts))
-    (c.as_slice-refsets.ensures.value ∙ c.in_ok-numbers.ensures)
+    numbers_below (g.met.S.ConceptSet.rising c.args.from.now) (c.requires.bound ∙ ap (λ (ids : List ℕ). length ids) (sym c.args.reader.index.concepts))
+    (c.as_slice-refsets.ensures.value ∙ c.in_ok-numbers.ensures.items)
 
-pub members-requires-clause-below : goal.members-requires-clause-below
-members-requires-clause-below g c =
-    numbers_below (g.met.S.ConceptSet.rising c.args.from.now) (c.requires.bound ∙ ap (λ (ids : List ℕ). length ids) (sym c.requires.index.concepts))
-    (c.as_slice-refsets.ensures.value ∙ c.in_ok-numbers.ensures)
+pub members-requires : goal.members-requires
+members-requires g c = record {
+  below =
+      numbers_below (g.met.S.ConceptSet.rising c.args.from.now)
+      (c.requires.bound ∙ ap (λ (ids : List ℕ). length ids) (sym c.args.reader.index.concepts))
+      (c.as_slice-refsets.ensures.value ∙ c.in_ok-numbers.ensures.items);
+}

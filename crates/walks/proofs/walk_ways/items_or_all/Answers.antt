@@ -11,7 +11,7 @@ returns-then-concepts-gt-MANY-clause-read c =
     omega (
       arith,
       c.items_of_all_lists.ensures,
-      set_items c.args.count c.args.index.now c.requires.over c.args.family c.args.concepts.now c.requires.rising,
+      set_items c.args.count c.args.reader.indexes.now.hierarchy c.requires.over c.args.family c.args.concepts.now c.requires.rising,
     )
 
 pub returns-else-concepts-gt-MANY-clause-within : goal.returns-else-concepts-gt-MANY-clause-within
@@ -19,5 +19,5 @@ returns-else-concepts-gt-MANY-clause-within c =
     omega (
       arith,
       c.items_of_lists.ensures.few,
-      items_of_set c.args.count c.args.index.now c.requires.over c.args.family c.args.concepts.now c.requires.rising,
+      items_of_set c.args.count c.args.reader.indexes.now.hierarchy c.requires.over c.args.family c.args.concepts.now c.requires.rising,
     )

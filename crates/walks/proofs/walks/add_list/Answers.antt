@@ -9,30 +9,30 @@ use Rattle.walks.proofs.walks.add_list.Goals as goal
 
 pub returns-then-has-clause-joined : goal.returns-then-has-clause-joined
 returns-then-has-clause-joined g c = λ before joined.
-    join_skipped (g.S.ConceptSet.bound_of c.args.found.now) c.args.index.now c.requires.over c.args.family (sym c.if-is_whole.ensures) before
+    join_skipped (g.S.ConceptSet.bound_of c.args.found.now) c.args.reader.indexes.now.hierarchy c.requires.over c.args.family (sym c.if-is_whole.ensures) before
     (g.S.ConceptSet.items_of c.args.found.now) c.args.concept c.requires.below (sym c.if-has.ensures) joined
 
 pub words-requires : goal.words-requires
-words-requires g c = omega (arith, c.requires.below, over_length (g.S.ConceptSet.bound_of c.args.found.now) c.args.index.now c.requires.over c.args.family)
+words-requires g c = omega (arith, c.requires.below, over_length (g.S.ConceptSet.bound_of c.args.found.now) c.args.reader.indexes.now.hierarchy c.requires.over c.args.family)
 
 pub from_words-requires : goal.from_words-requires
 from_words-requires g c =
     subst (λ (count : ℕ). AreWordsBelow count c.in-Some.words.now)
-    (over_length (g.S.ConceptSet.bound_of c.args.found.now) c.args.index.now c.requires.over c.args.family ∙ sym c.bound.ensures) c.in-Some.ensures.some.below
+    (over_length (g.S.ConceptSet.bound_of c.args.found.now) c.args.reader.indexes.now.hierarchy c.requires.over c.args.family ∙ sym c.bound.ensures) c.in-Some.ensures.some.below
 
 pub list-requires : goal.list-requires
-list-requires g c = omega (arith, c.requires.below, over_length (g.S.ConceptSet.bound_of c.args.found.now) c.args.index.now c.requires.over c.args.family)
+list-requires g c = omega (arith, c.requires.below, over_length (g.S.ConceptSet.bound_of c.args.found.now) c.args.reader.indexes.now.hierarchy c.requires.over c.args.family)
 
 pub add_all-requires : goal.add_all-requires
 add_all-requires g c =
     subst (λ (list : List ℕ). IsRisingBelow (g.S.ConceptSet.bound_of c.args.found.now) list) (sym c.list.ensures)
-    (over_rising (g.S.ConceptSet.bound_of c.args.found.now) c.args.index.now c.requires.over c.args.family c.args.concept c.requires.below)
+    (over_rising (g.S.ConceptSet.bound_of c.args.found.now) c.args.reader.indexes.now.hierarchy c.requires.over c.args.family c.args.concept c.requires.below)
 
 pub returns-in_ok-both-in-Some-clause-joined : goal.returns-in_ok-both-in-Some-clause-joined
 returns-in_ok-both-in-Some-clause-joined g c = λ before joined.
     let count = g.S.ConceptSet.bound_of c.args.found.now in
-    let lists = lists_of c.args.index.now c.args.family in
-    let rises = over_rising count c.args.index.now c.requires.over c.args.family c.args.concept c.requires.below in
+    let lists = lists_of c.args.reader.indexes.now.hierarchy c.args.family in
+    let rises = over_rising count c.args.reader.indexes.now.hierarchy c.requires.over c.args.family c.args.concept c.requires.below in
     let wide : g.S.ConceptSet.items_of c.in_ok-wide-in-Some.wide ≡ list_of lists c.args.concept =
     c.in_ok-wide-in-Some.ensures.items
     ∙ words_list count c.bound.result c.in-Some.words.now
@@ -46,8 +46,8 @@ pub returns-in-None-clause-joined : goal.returns-in-None-clause-joined
 returns-in-None-clause-joined g c = on_ok_weaker c.add_all.result
     (λ added before joined.
     let count = g.S.ConceptSet.bound_of c.args.found.now in
-    let lists = lists_of c.args.index.now c.args.family in
-    let rises = over_rising count c.args.index.now c.requires.over c.args.family c.args.concept c.requires.below in
+    let lists = lists_of c.args.reader.indexes.now.hierarchy c.args.family in
+    let rises = over_rising count c.args.reader.indexes.now.hierarchy c.requires.over c.args.family c.args.concept c.requires.below in
     join_list lists before (g.S.ConceptSet.items_of c.args.found.now) c.list.result.now (g.S.ConceptSet.items_of c.add_all.new.self) count c.args.concept
     (g.met.S.ConceptSet.rising c.args.found.now) (subst (λ (list : List ℕ). IsRisingBelow count list) (sym c.list.ensures) rises) c.list.ensures added joined)
     c.add_all.ensures.items

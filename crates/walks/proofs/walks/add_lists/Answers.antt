@@ -11,7 +11,7 @@ use Rattle.walks.proofs.walks.add_lists.Goals.{then-is_long-long+else-not-may_be
 
 pub loop-concept-init : goal.loop-concept-init
 loop-concept-init g c = record {
-  joined = λ before joined. subst (λ (some : List ℕ). AreJoined (lists_of c.args.index.now c.args.family) some
+  joined = λ before joined. subst (λ (some : List ℕ). AreJoined (lists_of c.args.reader.indexes.now.hierarchy c.args.family) some
       (g.S.ConceptSet.items_of c.args.found.now)) (sym (append-nil before)) joined;
   bound = refl;
 }
@@ -20,10 +20,10 @@ pub list-list-requires : goal.list-list-requires
 list-list-requires g c =
     let below : get_or c.args.concepts.now c.loop-concept.concept-index 0
     < g.S.ConceptSet.bound_of c.args.found.now = c.requires.below c.loop-concept.concept-index 0 c.loop-concept-test.true in
-    omega (arith, below, over_length (g.S.ConceptSet.bound_of c.args.found.now) c.args.index.now c.requires.over c.args.family)
+    omega (arith, below, over_length (g.S.ConceptSet.bound_of c.args.found.now) c.args.reader.indexes.now.hierarchy c.requires.over c.args.family)
 
 pub add_list-requires-clause-over : goal.add_list-requires-clause-over
-add_list-requires-clause-over g c = subst (λ (count : ℕ). IsOver count c.args.index.now) (sym c.loop-concept.invariant.bound) c.requires.over
+add_list-requires-clause-over g c = subst (λ (count : ℕ). IsOver count c.args.reader.indexes.now.hierarchy) (sym c.loop-concept.invariant.bound) c.requires.over
 
 pub add_list-requires-clause-below : goal.add_list-requires-clause-below
 add_list-requires-clause-below g c =
@@ -36,7 +36,7 @@ returns-in_err-add_list-clause-bound g c = c.add_list.ensures.bound ∙ c.loop-c
 
 pub loop-concept-preserved : goal.loop-concept-preserved
 loop-concept-preserved g c =
-    let lists = lists_of c.args.index.now c.args.family in
+    let lists = lists_of c.args.reader.indexes.now.hierarchy c.args.family in
     let k = c.loop-concept.concept-index in
     let concepts = c.args.concepts.now in
     let tested : beq (is_long (list_of lists (get_or concepts k 0))) c.args.long ≡ beq c.is_long.result c.args.long =
@@ -63,8 +63,8 @@ loop-concept-preserved g c =
 
 pub returns-clause-joined : goal.returns-clause-joined
 returns-clause-joined g c = λ _ before joined.
-    subst (λ (some : List ℕ). AreJoined (lists_of c.args.index.now c.args.family)
-    (before ++ with_length (lists_of c.args.index.now c.args.family) c.args.long some)
+    subst (λ (some : List ℕ). AreJoined (lists_of c.args.reader.indexes.now.hierarchy c.args.family)
+    (before ++ with_length (lists_of c.args.reader.indexes.now.hierarchy c.args.family) c.args.long some)
     (g.S.ConceptSet.items_of c.loop-concept.found))
     (take_all c.loop-concept.concept-index c.args.concepts.now (omega arith)) (c.loop-concept.invariant.joined before joined)
 

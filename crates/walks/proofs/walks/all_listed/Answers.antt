@@ -10,7 +10,7 @@ use Rattle.walks.proofs.walks.all_listed.Goals as goal
 
 pub returns-clause-joined : goal.returns-clause-joined
 returns-clause-joined g c =
-    let lists = lists_of c.args.index.now c.args.family in
+    let lists = lists_of c.args.reader.indexes.now.hierarchy c.args.family in
     let concepts = c.args.concepts.now in
     let found = c.add_lists-2.new.found in
     let items : List ℕ = numbers_where found.bound (is_set found.words.items) in

@@ -17,7 +17,7 @@ kept_apart-requires-clause-below g c =
 pub from_items-requires : goal.from_items-requires
 from_items-requires g c =
     let test : ℕ → Bool = λ concept. not (list_any (has (g.S.ConceptSet.items_of c.args.operand.now))
-    (list_of (lists_of c.args.index.now c.args.family) concept)) in
+    (list_of (lists_of c.args.reader.indexes.now.hierarchy c.args.family) concept)) in
     let kept : c.as_slice.result.now ≡ filter test (g.S.ConceptSet.items_of c.args.operand.now) =
     c.as_slice.ensures.value ∙ c.in_ok-kept.ensures ∙ ap (filter test) c.requires.concepts in
     subst (λ (bound : ℕ). IsRisingBelow bound c.as_slice.result.now) (sym c.bound.ensures)
@@ -28,7 +28,7 @@ from_items-requires g c =
 pub returns-clause-items : goal.returns-clause-items
 returns-clause-items g c =
     let test : ℕ → Bool = λ concept. not (list_any (has (g.S.ConceptSet.items_of c.args.operand.now))
-    (list_of (lists_of c.args.index.now c.args.family) concept)) in
+    (list_of (lists_of c.args.reader.indexes.now.hierarchy c.args.family) concept)) in
     IfOk-weaker c.from_items.result _ _
     (λ found same. same ∙ c.as_slice.ensures.value ∙ c.in_ok-kept.ensures ∙ ap (filter test) c.requires.concepts)
     c.from_items.ensures.items

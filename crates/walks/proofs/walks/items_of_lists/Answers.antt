@@ -9,11 +9,11 @@ pub list-requires : goal.list-requires
 list-requires c =
     let below : get_or c.args.concepts.now c.loop-concept.concept-index 0 < c.args.count =
     c.requires.below c.loop-concept.concept-index 0 c.loop-concept-test.true in
-    omega (arith, below, over_length c.args.count c.args.index.now c.requires.over c.args.family)
+    omega (arith, below, over_length c.args.count c.args.reader.indexes.now.hierarchy c.requires.over c.args.family)
 
 pub returns-then-items-most-clause-few : goal.returns-then-items-most-clause-few
 returns-then-items-most-clause-few c =
-    let lists = lists_of c.args.index.now c.args.family in
+    let lists = lists_of c.args.reader.indexes.now.hierarchy c.args.family in
     omega (
       arith,
       c.loop-concept.invariant,

@@ -1,8 +1,8 @@
 use Rattle.std.proofs.Common.{◌≡◌, take}
-use Rattle.candidates.specs.Counted.{full}
+use Rattle.reading.specs.Counted.{full}
 use Rattle.walks.specs.Families.{items_in, lists_of}
 use Rattle.walks.proofs.walks.items_of_lists.Given as goal
 
 -- the lists of the concepts so far
 abbrev pub invariant-loop-concept : goal.invariant-loop-concept
-invariant-loop-concept l = l.items ≡ full (items_in (lists_of l.index l.family) (take l.concept-index l.concepts))
+invariant-loop-concept l = l.items ≡ full (items_in (lists_of l.reader.indexes.now.hierarchy l.family) (take l.concept-index l.concepts))

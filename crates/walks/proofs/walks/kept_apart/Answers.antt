@@ -19,19 +19,19 @@ kept_in_room-requires-clause-below g c =
     let set = has (g.S.ConceptSet.items_of c.args.set.now) in
     subst (λ (concepts : List ℕ). All (λ concept. concept < g.S.ConceptSet.bound_of c.args.set.now) concepts)
     (sym (c.as_slice.ensures.value ∙ c.in_ok-left.ensures))
-    (All-filter (λ concept. not (list_any set (list_of (lists_of c.args.index.now c.near.result) concept)))
+    (All-filter (λ concept. not (list_any set (list_of (lists_of c.args.reader.indexes.now.hierarchy c.near.result) concept)))
     (λ concept. concept < g.S.ConceptSet.bound_of c.args.set.now) c.args.concepts.now c.requires.below)
 
 pub returns : goal.returns
 returns g c =
     let count = g.S.ConceptSet.bound_of c.args.set.now in
     let items = g.S.ConceptSet.items_of c.args.set.now in
-    let over : IsOver count c.args.index.now = record {
-      release = c.args.snapshot.now.release;
+    let over : IsOver count c.args.reader.indexes.now.hierarchy = record {
+      release = c.args.reader.snapshot.now.release;
       hierarchy_is = c.requires.over.hierarchy_is;
       count_is = c.requires.over.count_is;
     } in
-    let none : Family → ℕ → Bool = λ family concept. not (list_any (has items) (list_of (lists_of c.args.index.now family) concept)) in
+    let none : Family → ℕ → Bool = λ family concept. not (list_any (has items) (list_of (lists_of c.args.reader.indexes.now.hierarchy family) concept)) in
     let near = none (near_of c.args.family) in
     let far = none c.args.family in
     IfOk-weaker c.kept_in_room.result _ _
@@ -41,6 +41,6 @@ returns g c =
     ∙ filter-twice far near c.args.concepts.now
     ∙ filter-within (λ concept. near concept && far concept) far c.args.concepts.now
     (λ k d inside.
-    apart_near count c.args.index.now over items (g.met.S.ConceptSet.rising c.args.set.now) c.args.family
+    apart_near count c.args.reader.indexes.now.hierarchy over items (g.met.S.ConceptSet.rising c.args.set.now) c.args.family
     (slice_index_or c.args.concepts.now k d) (c.requires.below k d inside)))
     c.kept_in_room.ensures

@@ -14,12 +14,12 @@ pub list-requires : goal.list-requires
 list-requires g c =
     let below : get_or c.args.concepts.now c.loop-concept.concept-index 0 < g.S.ConceptSet.bound_of c.args.set.now =
     c.requires.below c.loop-concept.concept-index 0 c.loop-concept-test.true in
-    omega (arith, below, over_length (g.S.ConceptSet.bound_of c.args.set.now) c.args.index.now c.requires.over c.args.family)
+    omega (arith, below, over_length (g.S.ConceptSet.bound_of c.args.set.now) c.args.reader.indexes.now.hierarchy c.requires.over c.args.family)
 
 pub loop-concept-preserved : goal.loop-concept-preserved
 loop-concept-preserved g c =
     let none : List ℕ → Bool = λ list. not (list_any (has (g.S.ConceptSet.items_of c.args.set.now)) list) in
-    let lists = lists_of c.args.index.now c.args.family in
+    let lists = lists_of c.args.reader.indexes.now.hierarchy c.args.family in
     let test : ℕ → Bool = λ concept. none (list_of lists concept) in
     let k = c.loop-concept.concept-index in
     let asked : not c.meets.result ≡ test (get_or c.args.concepts.now k 0) =
@@ -38,6 +38,6 @@ loop-concept-preserved g c =
 pub returns : goal.returns
 returns g c =
     let test : ℕ → Bool = λ concept. not (list_any (has (g.S.ConceptSet.items_of c.args.set.now))
-    (list_of (lists_of c.args.index.now c.args.family) concept)) in
+    (list_of (lists_of c.args.reader.indexes.now.hierarchy c.args.family) concept)) in
     c.loop-concept.invariant
     ∙ ap (filter test) (take_all c.loop-concept.concept-index c.args.concepts.now (omega arith))

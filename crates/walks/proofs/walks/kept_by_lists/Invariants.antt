@@ -9,4 +9,4 @@ use Rattle.walks.proofs.walks.kept_by_lists.Given as goal
 abbrev pub invariant-loop-concept : goal.invariant-loop-concept
 invariant-loop-concept g l =
     l.kept.items ≡ filter (λ concept. not (list_any (has (g.S.ConceptSet.items_of l.set))
-    (list_of (lists_of l.index l.family) concept))) (take l.concept-index l.concepts)
+    (list_of (lists_of l.reader.indexes.now.hierarchy l.family) concept))) (take l.concept-index l.concepts)

@@ -22,20 +22,20 @@ pub returns-then-items_of_lists-room : goal.returns-then-items_of_lists-room
 returns-then-items_of_lists-room g c =
     let count = g.S.ConceptSet.bound_of c.args.set.now in
     let items = g.S.ConceptSet.items_of c.args.set.now in
-    let over : IsOver count c.args.index.now = record {
-      release = c.args.snapshot.now.release;
+    let over : IsOver count c.args.reader.indexes.now.hierarchy = record {
+      release = c.args.reader.snapshot.now.release;
       hierarchy_is = c.requires.over.hierarchy_is;
       count_is = c.requires.over.count_is;
     } in
     let found : List ℕ = numbers_where c.in_ok-found.found.bound (is_set c.in_ok-found.found.words.items) in
-    let joined : AreJoined (lists_of c.args.index.now (back_of c.args.family)) items found =
-    subst (λ (family : Family). AreJoined (lists_of c.args.index.now family) items found) c.back.ensures c.in_ok-found.ensures.joined in
+    let joined : AreJoined (lists_of c.args.reader.indexes.now.hierarchy (back_of c.args.family)) items found =
+    subst (λ (family : Family). AreJoined (lists_of c.args.reader.indexes.now.hierarchy family) items found) c.back.ensures c.in_ok-found.ensures.joined in
     IfOk-weaker c.kept_outside.result _ _
     (λ kept same.
     same
     ∙ filter-within (λ concept. not (has found concept))
-    (λ concept. not (list_any (has items) (list_of (lists_of c.args.index.now c.args.family) concept))) c.args.concepts.now
+    (λ concept. not (list_any (has items) (list_of (lists_of c.args.reader.indexes.now.hierarchy c.args.family) concept))) c.args.concepts.now
     (λ k d inside.
-    asked_outside count c.args.index.now over items (g.met.S.ConceptSet.rising c.args.set.now) c.args.family
+    asked_outside count c.args.reader.indexes.now.hierarchy over items (g.met.S.ConceptSet.rising c.args.set.now) c.args.family
     (slice_index_or c.args.concepts.now k d) (c.requires.below k d inside) found joined))
     c.kept_outside.ensures

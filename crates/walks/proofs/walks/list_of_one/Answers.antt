@@ -7,48 +7,48 @@ use Rattle.walks.proofs.JoinedLemmas.{list_joined, over_length, over_rising, wor
 use Rattle.walks.proofs.walks.list_of_one.Goals as goal
 
 pub words-requires : goal.words-requires
-words-requires g c = omega (arith, c.requires.below, over_length c.args.count c.args.index.now c.requires.over c.args.family)
+words-requires g c = omega (arith, c.requires.below, over_length c.args.count c.args.reader.indexes.now.hierarchy c.requires.over c.args.family)
 
 pub from_words-requires : goal.from_words-requires
 from_words-requires g c =
     subst (λ (count : ℕ). AreWordsBelow count c.in-Some.words.now)
-    (over_length c.args.count c.args.index.now c.requires.over c.args.family) c.in-Some.ensures.some.below
+    (over_length c.args.count c.args.reader.indexes.now.hierarchy c.requires.over c.args.family) c.in-Some.ensures.some.below
 
 pub list-list-requires : goal.list-list-requires
-list-list-requires g c = omega (arith, c.requires.below, over_length c.args.count c.args.index.now c.requires.over c.args.family)
+list-list-requires g c = omega (arith, c.requires.below, over_length c.args.count c.args.reader.indexes.now.hierarchy c.requires.over c.args.family)
 
 pub from_items-requires-in-None : goal.from_items-requires-in-None
 from_items-requires-in-None g c =
     subst (λ (list : List ℕ). IsRisingBelow c.args.count list) (sym c.list-list.ensures)
-    (over_rising c.args.count c.args.index.now c.requires.over c.args.family c.args.concept c.requires.below)
+    (over_rising c.args.count c.args.reader.indexes.now.hierarchy c.requires.over c.args.family c.args.concept c.requires.below)
 
 pub returns-in-Some-clause-items : goal.returns-in-Some-clause-items
 returns-in-Some-clause-items g c = IfOk-weaker c.from_words.result _ _
     (λ found items. items ∙ words_joined c.args.count
-    (lists_of c.args.index.now c.args.family) c.args.concept c.in-Some.words.now c.in-Some.ensures.some.marked)
+    (lists_of c.args.reader.indexes.now.hierarchy c.args.family) c.args.concept c.in-Some.words.now c.in-Some.ensures.some.marked)
     c.from_words.ensures.items
 
 pub returns-in-None-clause-items : goal.returns-in-None-clause-items
 returns-in-None-clause-items g c = IfOk-weaker c.from_items-in-None.result _ _
     (λ found items.
     items
-    ∙ list_joined c.args.count (lists_of c.args.index.now c.args.family) c.args.concept c.list-list.result.now
+    ∙ list_joined c.args.count (lists_of c.args.reader.indexes.now.hierarchy c.args.family) c.args.concept c.list-list.result.now
     (subst (λ (list : List ℕ). IsRisingBelow c.args.count list) (sym c.list-list.ensures)
-    (over_rising c.args.count c.args.index.now c.requires.over c.args.family c.args.concept c.requires.below))
+    (over_rising c.args.count c.args.reader.indexes.now.hierarchy c.requires.over c.args.family c.args.concept c.requires.below))
     c.list-list.ensures)
     c.from_items-in-None.ensures.items
 
 pub from_items-requires : goal.from_items-requires
 from_items-requires g c =
     subst (λ (list : List ℕ). IsRisingBelow c.args.count list) (sym (c.as_slice.ensures.value ∙ c.in_ok-own.ensures.items ∙ c.list-list.ensures))
-    (over_rising c.args.count c.args.index.now c.requires.over c.args.family c.args.concept c.requires.below)
+    (over_rising c.args.count c.args.reader.indexes.now.hierarchy c.requires.over c.args.family c.args.concept c.requires.below)
 
 pub returns-then-asks_for-clause-items : goal.returns-then-asks_for-clause-items
 returns-then-asks_for-clause-items g c = IfOk-weaker c.from_items.result _ _
     (λ found items.
     items
-    ∙ list_joined c.args.count (lists_of c.args.index.now c.args.family) c.args.concept c.as_slice.result.now
+    ∙ list_joined c.args.count (lists_of c.args.reader.indexes.now.hierarchy c.args.family) c.args.concept c.as_slice.result.now
     (subst (λ (list : List ℕ). IsRisingBelow c.args.count list) (sym (c.as_slice.ensures.value ∙ c.in_ok-own.ensures.items ∙ c.list-list.ensures))
-    (over_rising c.args.count c.args.index.now c.requires.over c.args.family c.args.concept c.requires.below))
+    (over_rising c.args.count c.args.reader.indexes.now.hierarchy c.requires.over c.args.family c.args.concept c.requires.below))
     (c.as_slice.ensures.value ∙ c.in_ok-own.ensures.items ∙ c.list-list.ensures))
     c.from_items.ensures.items

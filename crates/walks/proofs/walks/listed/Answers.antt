@@ -20,5 +20,5 @@ pub returns-in-len1-clause-items : goal.returns-in-len1-clause-items
 returns-in-len1-clause-items g c =
     let only = only_item c.args.concepts.now c.in-len1.len_at_least c.in-len1.len_below ∙ c.requires.concepts in
     IfOk-weaker c.list_of_one.result _ _
-    (λ found same. same ∙ (λ i. joined (c.bound.ensures i) (lists_of c.args.index.now c.args.family) (only i)))
+    (λ found same. same ∙ (λ i. joined (c.bound.ensures i) (lists_of c.args.reader.indexes.now.hierarchy c.args.family) (only i)))
     c.list_of_one.ensures.items

@@ -19,7 +19,7 @@ pub returns-clause-items : goal.returns-clause-items
 returns-clause-items g c =
     let bound = g.S.ConceptSet.bound_of c.args.operand.now in
     let items = g.S.ConceptSet.items_of c.args.operand.now in
-    let others : List ℕ = joined bound (lists_of c.args.index.now c.args.family) items in
+    let others : List ℕ = joined bound (lists_of c.args.reader.indexes.now.hierarchy c.args.family) items in
     c.in_ok-add_all.ensures.items
     ∙ (λ i. all_items (c.in_ok-found.ensures.bound i) (c.in_ok-found.ensures.items i) (c.requires.concepts i))
     ∙ all_items-swap bound bound items others refl

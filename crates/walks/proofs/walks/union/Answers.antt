@@ -20,6 +20,6 @@ returns-clause-items g c =
     same
     ∙ (λ i. numbers_where ((c.bound.ensures ∙ sym c.in_ok-found.ensures.bound) i) (is_set c.words.result.now))
     ∙ sym c.words.ensures.items
-    ∙ all_joined count (lists_of c.args.index.now c.args.family) (g.S.ConceptSet.items_of c.args.operand.now) items
+    ∙ all_joined count (lists_of c.args.reader.indexes.now.hierarchy c.args.family) (g.S.ConceptSet.items_of c.args.operand.now) items
     (subst (λ (n : ℕ). IsRisingBelow n items) c.in_ok-found.ensures.bound found.rising) c.in_ok-found.ensures.joined)
     c.from_words.ensures.items

@@ -2,7 +2,7 @@
 use Rattle.std.proofs.Common.{◌≡◌, ℕ, length, ap, sym, refl, ◌∙◌, subst, arith}
 use Rattle.release_files.specs.Held.{GrowsBy, reachable}
 use Rattle.release_files.specs.Lines.{HasNoFeed}
-use Rattle.release_files.proofs.HeldLemmas.{begins_ended, begins_last, GrowsBy-clear, GrowsBy-keeps, GrowsBy-length, GrowsBy-none, KeepsBytes-trans, TakesWithin-trans}
+use Rattle.release_files.proofs.HeldLemmas.{begins_ended, begins_last, GrowsBy-clear, GrowsBy-keeps, GrowsBy-length, GrowsBy-none, KeepsBytes-trans, ReadsOn-trans, TakesWithin-trans}
 use Rattle.release_files.proofs.held.Held.find_part.Goals as goal
 
 pub returns-in-Some-clause-part : goal.returns-in-Some-clause-part
@@ -45,6 +45,7 @@ loop-count-preserved g c =
           kept.bounded read.bounded;
       files = read.files ∙ kept.files;
       failures = read.failures ∙ kept.failures;
+      history = ReadsOn-trans _ _ _ _ _ _ kept.history read.history;
     }
 
 pub loop-count-smaller : goal.loop-count-smaller

@@ -1,6 +1,6 @@
 use Rattle.std.proofs.Common.{◌∙◌, ap, arith, length}
 use Rattle.release_files.specs.Held.{reachable}
-use Rattle.release_files.proofs.HeldLemmas.{GrowsBy-keeps, GrowsBy-length, KeepsBytes-trans, TakesWithin-trans}
+use Rattle.release_files.proofs.HeldLemmas.{GrowsBy-keeps, GrowsBy-length, KeepsBytes-trans, ReadsOn-trans, TakesWithin-trans}
 use Rattle.release_files.proofs.held.Held.read_at_least.Goals as goal
 
 pub loop-self-preserved : goal.loop-self-preserved
@@ -21,6 +21,7 @@ loop-self-preserved g c =
           kept.bounded read.bounded;
       files = read.files ∙ kept.files;
       failures = read.failures ∙ kept.failures;
+      history = ReadsOn-trans _ _ _ _ _ _ kept.history read.history;
     }
 
 pub loop-self-smaller : goal.loop-self-smaller

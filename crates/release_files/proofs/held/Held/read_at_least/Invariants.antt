@@ -1,5 +1,5 @@
 use Rattle.std.proofs.Common.{◌≡◌, ◌-◌, length}
-use Rattle.release_files.specs.Held.{KeepsBytes, TakesWithin, reachable}
+use Rattle.release_files.specs.Held.{KeepsBytes, ReadsOn, TakesWithin, reachable}
 use Rattle.release_files.proofs.held.Held.read_at_least.Given as goal
 
 abbrev pub invariant-loop-self : goal.invariant-loop-self
@@ -8,7 +8,8 @@ invariant-loop-self g l = record {
       (reachable l.self.left (g.S.FileSource.rest l.source)) l.fn.self.bytes l.self.bytes;
   bounded : TakesWithin (g.S.FileSource.rest l.fn.source) (g.S.FileSource.rest l.source) l.fn.self.left l.self.left;
   files : g.S.FileSource.files l.source ≡ g.S.FileSource.files l.fn.source;
-  failures : g.S.FileSource.failure_count l.source ≡ g.S.FileSource.failure_count l.fn.source;
+  failures : (g.S.FileSource.history l.source).failures ≡ (g.S.FileSource.history l.fn.source).failures;
+  history : ReadsOn (g.S.FileSource.history l.fn.source) (g.S.FileSource.history l.source) l.fn.self.left l.self.left;
 }
 
 abbrev pub decreases-loop-self : goal.decreases-loop-self

@@ -1,4 +1,5 @@
 use Rattle.std.proofs.Common.{◌≡◌, arith, map}
+use Rattle.release_files.specs.MemorySource.{nothing_done}
 use Rattle.release_files.specs.Source.{file_text}
 use Rattle.snapshot.specs.Load.{load_of, loaded_from}
 use Rattle.release_rows.specs.Files.{places_from}
@@ -47,4 +48,4 @@ returns-clause-err c =
       (kind_count-is file_text c.args.files.now),
     ) in
     if_both _ _ _ c.load_places.result (λ fault said failed. grind
-    (arith, loaded, said, (no_device _ 0 fault (omega arith) failed))) c.load_places.ensures.err c.load_places.ensures.device
+    (arith, loaded, said, (no_device _ nothing_done fault (omega arith) failed))) c.load_places.ensures.err c.load_places.ensures.device

@@ -1,4 +1,4 @@
-use Rattle.std.proofs.Common.{ℕ, ◌≡◌, ◌<◌, ◌∷◌, [], List, arith, ap, length, string_bytes, sym, true, option_map}
+use Rattle.std.proofs.Common.{ℕ, ◌≡◌, ◌<◌, ◌∷◌, [], List, arith, ap, length, map, string_bytes, sym, true, option_map}
 use Rattle.std.proofs.lemmas.Bool.{false≢true}
 use Rattle.std.proofs.lemmas.Bool.Decides.{nat_tests}
 use Rattle.std.proofs.lemmas.Grind.{common_steps}
@@ -9,7 +9,7 @@ use Rattle.snapshot.proofs.load.SnapshotLoadSnapshot.load_named.Goals as goal
 
 -- where a name is that of a Concept file there is a name
 some_name : {Item : Type 0} (name_of : Item → List ℕ) (items : List Item)
-    → true ≡ name_concepts name_of items → 0 < length items
+    → true ≡ name_concepts name_of items → 0 < length (map name_of items)
 some_name name_of [] named = absurd (false≢true (sym named))
 some_name name_of (item ∷ items) named = omega arith
 

@@ -1,0 +1,187 @@
+-- Answers of the nodes of dotted attributes.
+use Rattle.std.proofs.Common.{subst, le_trans, ℕ, List, ◌+◌, ◌∙◌, Bool}
+use Rattle.std.proofs.Common.{length, ap, refl, arith, le_of_lt, Option, rules, ◌-◌}
+use Rattle.std.specs.Prelude.{IfSome}
+use Rattle.std.proofs.lemmas.List.{take_all}
+use Rattle.set_algebra.specs.declared.plan.ConceptPlan.{ConceptPlan}
+use Rattle.set_algebra.specs.Meaning.{leads, means}
+use Rattle.candidates.specs.Numbers.{is_one_of, numbers_in}
+use Rattle.set_algebra.specs.Plan.{Plan}
+use Rattle.set_algebra.specs.Plan.{values_plan}
+use Rattle.set_algebra.specs.Physical.{physical_of}
+use Rattle.executor.specs.inside.Logical.{logical_of, logicals_of}
+use Rattle.candidates.specs.Within.{may_be}
+use Rattle.executor.proofs.NamedLemmas.{named_again}
+use Rattle.executor.specs.inside.Named.{HasNamed}
+use Rattle.plan_bounds.specs.Bounds.{values_bound}
+use Rattle.plan_bounds.proofs.FloorLemmas.{floor-le-bound}
+use Rattle.plan_bounds.proofs.PartLemmas.{plan_count-parts}
+use Rattle.pair_sets.proofs.LeafLemmas.{sources_known}
+use Rattle.executor.proofs.NodeLemmas.{name_step, values_node}
+use Rattle.executor.proofs.PartWork.{few_values}
+use Rattle.executor.proofs.WithinNodes.{kept_node}
+use Rattle.executor.proofs.WorkLemmas.{along_le}
+use Rattle.executor.proofs.WorkLemmas.{along_more}
+use Rattle.executor.proofs.WorkLemmas.{some_end, some_next, some_start, some_turn}
+use Rattle.executor.proofs.+execute.Goals as goal
+
+pub led_along-loop-name-init : goal.dotted_plans::led_along-loop-name-init
+led_along-loop-name-init g t c = record {
+  items = λ plan from. from;
+  bound = c.requires.bound;
+  few = λ some. absurd (omega (arith, some));
+  start = λ none. refl;
+  work = some_start c.args.visits.now.count;
+  known = tt;
+}
+
+pub led_along-loop-name-preserved : goal.dotted_plans::led_along-loop-name-preserved
+led_along-loop-name-preserved g t c =
+    let release = c.args.reader.snapshot.now.release in
+    let indexed = c.args.reader.indexes.now in
+    let sources : ℕ → Bool = is_one_of indexed.concepts (g.S.ConceptSet.items_of c.loop-name.found) in
+    let one : ℕ → Bool = is_one_of indexed.concepts (g.S.ConceptSet.items_of c.in_ok-named.named) in
+    record {
+      items = λ plan from.
+          name_step release plan c.args.names.now c.loop-name.name-index c.name-item.result c.loop-name-test.true
+          c.name-item.is
+          indexed.concepts (g.S.ConceptSet.items_of c.loop-name.found) (g.S.ConceptSet.items_of c.in_ok-named.named)
+          (g.S.ConceptSet.items_of c.in_ok-found.found)
+          c.args.reader.index.concepts c.in_ok-named.ensures.found.items c.in_ok-found.ensures.found.items
+          (c.loop-name.invariant.items plan from);
+      bound = c.in_ok-found.ensures.found.bound;
+      few = λ some.
+          few_values release indexed c.args.reader.index c.concept_count.ensures.rising
+          (sources_known release c.concept_count.ensures.rising c.attribute_count.ensures.by_source) sources one
+          (g.S.ConceptSet.items_of c.in_ok-found.found) c.in_ok-found.ensures.found.items;
+      start = λ none. absurd (omega (arith, none));
+      work = some_turn c.loop-name.invariant.work c.name-item.result c.loop-name-test.true c.name-item.is
+          (length (g.S.ConceptSet.items_of c.loop-name.found) + length indexed.rows)
+          (along_more indexed c.loop-name.name-index (length (g.S.ConceptSet.items_of c.args.from))
+          (length (g.S.ConceptSet.items_of c.loop-name.found)) c.loop-name.invariant.start c.loop-name.invariant.few)
+          (omega (arith, c.named_by.ensures.counted.grows, c.values_along.ensures.counted.grows))
+          (omega (arith, c.named_by.ensures.counted.within, c.values_along.ensures.counted.within))
+          (omega (arith, c.in_ok-named.ensures.found.floor, c.values_along.ensures.counted.grows));
+      known = record { items_are = c.in_ok-named.ensures.found.items; bound_is = c.in_ok-named.ensures.found.bound };
+    }
+
+pub led_along-returns-in_err-named-clause-counted :
+    goal.dotted_plans::led_along-returns-in_err-named-clause-counted
+led_along-returns-in_err-named-clause-counted g t c =
+    let indexed = c.args.reader.indexes.now in
+    let first : ℕ = length (g.S.ConceptSet.items_of c.args.from) in
+    record {
+      grows = le_trans c.loop-name.invariant.work.grows c.named_by.ensures.counted.grows;
+      within = omega (
+        arith,
+        some_next {next = c.named_by.new.visits.count} c.loop-name.invariant.work c.name-item.result
+            c.loop-name-test.true c.name-item.is 0
+            (omega (
+              arith,
+              along_le indexed c.loop-name.name-index (length c.args.names.now) first
+                  (le_of_lt c.loop-name-test.true),
+            ))
+            (omega (arith, c.named_by.ensures.counted.within)),
+        ap (λ (count : ℕ). values_bound indexed count first) (plan_count-parts c.args.names.now),
+      );
+    }
+
+pub led_along-returns-in_err-found-clause-counted :
+    goal.dotted_plans::led_along-returns-in_err-found-clause-counted
+led_along-returns-in_err-found-clause-counted g t c =
+    let indexed = c.args.reader.indexes.now in
+    let first : ℕ = length (g.S.ConceptSet.items_of c.args.from) in
+    let found : ℕ = length (g.S.ConceptSet.items_of c.loop-name.found) in
+    let read = along_more indexed c.loop-name.name-index first found c.loop-name.invariant.start
+    c.loop-name.invariant.few in
+    let more = along_le indexed (c.loop-name.name-index + 1) (length c.args.names.now) first
+    (omega (arith, c.loop-name-test.true)) in
+    record {
+      grows = omega (
+        arith,
+        c.loop-name.invariant.work.grows,
+        c.named_by.ensures.counted.grows,
+        c.values_along.ensures.counted.grows,
+      );
+      within = omega (
+        arith,
+        some_next {next = c.values_along.new.visits.count} c.loop-name.invariant.work c.name-item.result
+            c.loop-name-test.true
+            c.name-item.is (found + length indexed.rows)
+            (omega (arith, read, more)) (omega (
+              arith,
+              c.named_by.ensures.counted.within,
+              c.values_along.ensures.counted.within,
+            )),
+        ap (λ (count : ℕ). values_bound indexed count first) (plan_count-parts c.args.names.now),
+      );
+    }
+
+pub led_along-returns-clause-counted : goal.dotted_plans::led_along-returns-clause-counted
+led_along-returns-clause-counted g t c =
+    let indexed = c.args.reader.indexes.now in
+    let first : ℕ = length (g.S.ConceptSet.items_of c.args.from) in
+    record {
+      grows = c.loop-name.invariant.work.grows;
+      within = omega (
+        arith,
+        (some_end c.loop-name.invariant.work (omega arith)).within,
+        ap (λ (count : ℕ). values_bound indexed count first) (plan_count-parts c.args.names.now),
+      );
+    }
+
+pub led_along-returns-clause-found : goal.dotted_plans::led_along-returns-clause-found
+led_along-returns-clause-found g t c =
+    let release = c.args.reader.snapshot.now.release in
+    λ plan from.
+    record {
+      items = c.loop-name.invariant.items plan from
+          ∙ ap (λ (names : List ConceptPlan). numbers_in release
+          (leads release (means release plan) (logicals_of names)))
+          (take_all c.loop-name.name-index c.args.names.now (omega arith));
+      bound = c.loop-name.invariant.bound;
+      floor = (some_end c.loop-name.invariant.work (omega arith)).floor;
+    }
+
+pub named_by-returns-then-eq-clause-found : goal.dotted_plans::named_by-returns-then-eq-clause-found
+named_by-returns-then-eq-clause-found g t c =
+    let release = c.args.reader.snapshot.now.release in
+    let known = subst (λ (known : Option _). IfSome known (λ known. HasNamed release (logical_of known.0.now)
+    (g.S.ConceptSet.items_of known.1) (g.S.ConceptSet.bound_of known.1))) c.in-Some.is c.requires.known in
+    let named = named_again release c.in-Some.before.now c.args.name.now (c.eq.ensures.data.0 c.if-eq.true) known in
+    record {
+      items = named.items_are;
+      bound = named.bound_is;
+      floor = omega (arith, c.plan_floor.ensures, c.add.ensures.count);
+    }
+
+pub named_by-returns-then-eq-clause-counted : goal.dotted_plans::named_by-returns-then-eq-clause-counted
+named_by-returns-then-eq-clause-counted g t c = record {
+  grows = c.add.ensures.grows;
+  within = omega (
+    arith,
+    c.plan_floor.ensures,
+    c.add.ensures.count,
+    floor-le-bound c.args.reader.indexes.now (physical_of c.args.name.now),
+  );
+}
+
+pub led_from-returns-clause-found : goal.dotted_plans::led_from-returns-clause-found
+led_from-returns-clause-found g t c =
+    let release = c.args.reader.snapshot.now.release in
+    let may : ℕ → Bool = may_be g.S.ConceptSet.items_of c.args.candidates.now in
+    let plan : Plan = values_plan (logical_of c.args.start.now) (logicals_of c.args.names.now) in
+    let led = c.in_ok-led.ensures.found (logical_of c.args.start.now) c.in_ok-from.ensures.found.items in
+    record {
+      items = kept_node release may plan (g.S.ConceptSet.items_of c.in_ok-led.led)
+          (g.S.ConceptSet.items_of c.in_ok-found.found)
+          (values_node release plan (g.S.ConceptSet.items_of c.in_ok-led.led) (logical_of c.args.start.now)
+          c.args.names.now refl led.items)
+          c.in_ok-found.ensures.items;
+      bound = search rules;
+      floor = omega (
+        arith,
+        c.in_ok-from.ensures.found.floor,
+        led.floor,
+      );
+    }

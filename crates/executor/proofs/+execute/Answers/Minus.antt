@@ -1,0 +1,69 @@
+-- Answers of the nodes that mean what their first part means and their second does not.
+use Rattle.std.proofs.Common.{ℕ, Bool}
+use Rattle.std.proofs.Common.{length, get_or, refl, arith, rules, ◌-◌}
+use Rattle.std.specs.Prelude.{slice_get}
+use Rattle.set_algebra.specs.Meaning.{unit_means, means}
+use Rattle.set_algebra.specs.Plan.{Plan, PlanOfUnits, minus_plan, minus_units}
+use Rattle.executor.specs.inside.Logical.{logical_of, logical_units_of}
+use Rattle.postings.specs.Groups.{all_groups}
+use Rattle.candidates.specs.Groups.{some_group_in}
+use Rattle.candidates.specs.Within.{may_be}
+use Rattle.executor.proofs.PartWork.{are_candidates}
+use Rattle.executor.proofs.WithinNodes.{minus_groups, minus_node}
+use Rattle.executor.proofs.+execute.Goals as goal
+
+pub in_first_alone-returns-clause-found : goal.plans::in_first_alone-returns-clause-found
+in_first_alone-returns-clause-found g t c =
+    let release = c.args.reader.snapshot.now.release in
+    let may : ℕ → Bool = may_be g.S.ConceptSet.items_of c.args.candidates.now in
+    let first : Plan = logical_of c.args.first.now in
+    let second : Plan = logical_of c.args.second.now in
+    record {
+      items = minus_node release may (minus_plan first second) first second (g.S.ConceptSet.items_of c.in_ok-left.left)
+          (g.S.ConceptSet.items_of c.in_ok-right.right) (g.S.ConceptSet.items_of c.in_ok-found.found) refl
+          c.in_ok-left.ensures.found.items c.in_ok-right.ensures.found.items c.in_ok-found.ensures.items;
+      bound = search rules;
+      floor = omega (
+        arith,
+        c.in_ok-left.ensures.found.floor,
+        c.second_part.ensures.counted.grows,
+        c.in_ok-right.ensures.found.floor,
+      );
+    }
+
+pub groups_in_first_alone-returns-clause-found : goal.unit_plans::groups_in_first_alone-returns-clause-found
+groups_in_first_alone-returns-clause-found g t c =
+    let release = c.args.reader.snapshot.now.release in
+    let may : ℕ → Bool = may_be g.S.ConceptSet.items_of c.args.candidates.now in
+    let first : PlanOfUnits = logical_units_of c.args.first.now in
+    let second : PlanOfUnits = logical_units_of c.args.second.now in
+    record {
+      items = minus_groups release may (minus_units first second) first second
+          (g.S.ConceptSet.items_of c.in_ok-left.left)
+          (g.S.ConceptSet.items_of c.in_ok-right.right) (g.S.ConceptSet.items_of c.in_ok-groups.groups) refl
+          c.in_ok-left.ensures.found.items c.in_ok-right.ensures.found.items c.in_ok-groups.ensures.items;
+      bound = search rules;
+      floor = omega (
+        arith,
+        c.in_ok-left.ensures.found.floor,
+        c.second_unit_part.ensures.counted.grows,
+        c.in_ok-right.ensures.found.floor,
+      );
+    }
+
+pub in_first_alone-second_part-requires-clause-among :
+    goal.plans::in_first_alone-second_part-requires-clause-among
+in_first_alone-second_part-requires-clause-among g t c =
+    let release = c.args.reader.snapshot.now.release in
+    are_candidates (length release.concepts) (may_be g.S.ConceptSet.items_of c.args.candidates.now)
+    (λ n. means release (logical_of c.args.first.now) (get_or release.concepts n 0))
+    (g.S.ConceptSet.items_of c.in_ok-left.left) c.in_ok-left.ensures.found.items
+
+pub groups_in_first_alone-second_unit_part-requires-clause-among :
+    goal.unit_plans::groups_in_first_alone-second_unit_part-requires-clause-among
+groups_in_first_alone-second_unit_part-requires-clause-among g t c =
+    let release = c.args.reader.snapshot.now.release in
+    are_candidates (length (all_groups release)) (may_be g.S.ConceptSet.items_of c.args.candidates.now)
+    (λ n. some_group_in release (unit_means release (logical_units_of c.args.first.now))
+    (slice_get (all_groups release) n))
+    (g.S.ConceptSet.items_of c.in_ok-left.left) c.in_ok-left.ensures.found.items

@@ -1,0 +1,89 @@
+-- Answers of the nodes that count groups.
+use Rattle.std.proofs.Common.{subst, ℕ, List, ◌∙◌, Bool}
+use Rattle.std.proofs.Common.{length, sym, ap, refl, arith, ◌-◌}
+use Rattle.std.specs.Prelude.{filter, slice_get}
+use Rattle.set_algebra.specs.Meaning.{unit_means, has_groups}
+use Rattle.candidates.specs.declared.candidates.Candidates.{Candidates}
+use Rattle.pair_sets.proofs.UnitLemmas.{units_found, units_within as units_of_candidates}
+use Rattle.executor.specs.inside.Logical.{logical_units_of}
+use Rattle.postings.specs.Groups.{all_groups}
+use Rattle.candidates.specs.Groups.{some_group_in}
+use Rattle.executor.specs.inside.WithUnits.{with_units}
+use Rattle.candidates.specs.Extents.{IsExtentOf}
+use Rattle.candidates.specs.Within.{HaveExtent, may_be, numbers_within}
+use Rattle.candidates.specs.declared.candidates.Candidates.TheVariants as candidates
+use Rattle.executor.proofs.GroupNodeLemmas as groups
+use Rattle.executor.proofs.PartWork.{few_of_candidates}
+use Rattle.candidates.proofs.WithinLemmas.{kept_set}
+use Rattle.executor.proofs.WithinNodes.{units_within as units_as_plan}
+use Rattle.executor.proofs.+execute.Goals as goal
+
+pub units_within-returns-then-has_few_groups-clause-found :
+    goal.plans::units_within-returns-then-has_few_groups-clause-found
+units_within-returns-then-has_few_groups-clause-found g t c =
+    let release = c.args.reader.snapshot.now.release in
+    let some : List ℕ = with_units release c.args.count (g.S.ConceptSet.items_of c.in_ok-groups.groups) in
+    record {
+      items = units_of_candidates release c.concept_count.ensures.rising c.args.count
+          (unit_means release (logical_units_of c.args.units.now))
+          (g.S.ConceptSet.items_of c.in-Within.wanted.now) (g.S.ConceptSet.items_of c.in_ok-own.own)
+          (g.S.ConceptSet.items_of c.in_ok-groups.groups)
+          some (g.S.ConceptSet.items_of c.in_ok-found.found) c.in_ok-own.ensures.groups
+          c.in_ok-groups.ensures.found.items refl
+          (c.in_ok-found.ensures.found.items
+          ∙ ap (λ (candidates : Candidates _). filter (may_be g.S.ConceptSet.items_of candidates) some) c.in-Within.is)
+          ∙ ap (λ (candidates : Candidates _). numbers_within release (may_be g.S.ConceptSet.items_of candidates)
+          (has_groups release c.args.count (unit_means release (logical_units_of c.args.units.now))))
+          (sym c.in-Within.is)
+          ∙ units_as_plan release (may_be g.S.ConceptSet.items_of c.args.candidates.now) c.args.count
+          (logical_units_of c.args.units.now);
+      bound = c.in_ok-found.ensures.found.bound;
+      floor = omega (arith, c.in_ok-groups.ensures.found.floor, c.in_ok-found.ensures.found.floor);
+    }
+
+pub units_within-returns-clause-found : goal.plans::units_within-returns-clause-found
+units_within-returns-clause-found g t c =
+    let release = c.args.reader.snapshot.now.release in
+    let may : ℕ → Bool = may_be g.S.ConceptSet.items_of c.args.candidates.now in
+    let some : List ℕ = with_units release c.args.count (g.S.ConceptSet.items_of c.in_ok-groups-2.groups) in
+    record {
+      items = kept_set release may
+          (has_groups release c.args.count (unit_means release (logical_units_of c.args.units.now)))
+          some (g.S.ConceptSet.items_of c.in_ok-found-2.found)
+          (units_found release c.concept_count.ensures.rising c.args.count
+          (unit_means release (logical_units_of c.args.units.now))
+          (g.S.ConceptSet.items_of c.in_ok-groups-2.groups) some c.in_ok-groups-2.ensures.found.items refl)
+          c.in_ok-found-2.ensures.found.items
+          ∙ units_as_plan release (may_be g.S.ConceptSet.items_of c.args.candidates.now) c.args.count
+          (logical_units_of c.args.units.now);
+      bound = c.in_ok-found-2.ensures.found.bound;
+      floor = omega (arith, c.in_ok-groups-2.ensures.found.floor, c.in_ok-found-2.ensures.found.floor);
+    }
+
+pub units_within-units_found-requires-clause-room : goal.plans::units_within-units_found-requires-clause-room
+units_within-units_found-requires-clause-room g t c =
+    let release = c.args.reader.snapshot.now.release in
+    let indexed = c.args.reader.indexes.now in
+    let own = g.S.ConceptSet.items_of c.in_ok-own.own in
+    let extent : HaveExtent g.S.ConceptSet.items_of (IsExtentOf indexed)
+    (candidates.Within c.in-Within.wanted c.in-Within.extent) =
+    subst (HaveExtent g.S.ConceptSet.items_of (IsExtentOf indexed)) c.in-Within.is c.requires.candidates.extent in
+    omega (
+      arith,
+      c.unit_size-most.ensures,
+      c.items_of_groups-items.ensures,
+      c.from.ensures,
+      c.count.ensures,
+      c.has_few_groups.ensures c.if-has_few_groups.true c.from.result
+          (omega (
+            arith,
+            c.from.ensures,
+            c.count.ensures,
+            c.in_ok-own.ensures.few,
+            extent.groups,
+            few_of_candidates (length (all_groups release)) own
+                (λ n. some_group_in release (unit_means release (logical_units_of c.args.units.now))
+                (slice_get (all_groups release) n))
+                (g.S.ConceptSet.items_of c.in_ok-groups.groups) c.in_ok-groups.ensures.found.items,
+          )),
+    )

@@ -1,0 +1,93 @@
+-- Answers of the nodes that walk.
+use Rattle.std.proofs.Common.{subst, ℕ, List, ◌*◌, ◌≤◌, ◌∙◌, Bool}
+use Rattle.std.proofs.Common.{refl, arith, rules, ◌-◌}
+use Rattle.candidates.specs.declared.candidates.Candidates.{Candidates}
+use Rattle.set_algebra.specs.Plan.{Plan}
+use Rattle.set_algebra.specs.Plan.{walk_plan}
+use Rattle.set_algebra.specs.Physical.{physical_of}
+use Rattle.executor.specs.inside.Logical.{logical_of}
+use Rattle.number_lists.specs.Members.{has}
+use Rattle.walks.specs.Led.{led_to}
+use Rattle.walks.specs.Reads.{AreAsked}
+use Rattle.candidates.specs.Within.{may_be}
+use Rattle.candidates.specs.declared.candidates.Candidates.TheVariants as candidates
+use Rattle.plan_bounds.specs.Sizes.{size}
+use Rattle.executor.proofs.NodeLemmas.{walk_node}
+use Rattle.executor.proofs.NodeWork.{counted_thrice}
+use Rattle.plan_bounds.specs.Counts.{lists_length, one_of}
+use Rattle.executor.proofs.WalkWork.{all_along, not_one, several_bound, several_floor}
+use Rattle.executor.proofs.WithinNodes.{kept_node}
+use Rattle.executor.proofs.WithinNodes.{walk_of_part}
+use Rattle.executor.proofs.+execute.Goals as goal
+
+pub walk_to_few-returns-clause-found : goal.walk_plans::walk_to_few-returns-clause-found
+walk_to_few-returns-clause-found g t c =
+    let indexed = c.args.reader.indexes.now in
+    let may : ℕ → Bool = has (g.S.ConceptSet.items_of c.args.wanted.now) in
+    let enough : ℕ → Bool = has (g.S.ConceptSet.items_of c.in_ok-enough.enough) in
+    let from = c.in_ok-from.from in
+    let items = g.S.ConceptSet.items_of from in
+    let bound = g.S.ConceptSet.bound_of from in
+    record {
+      items = walk_of_part c.args.reader.snapshot.now.release (logical_of c.args.operand.now) c.args.operator
+          indexed.hierarchy bound
+          may enough items (g.S.ConceptSet.items_of c.in_ok-found.found)
+          c.args.reader.index.hierarchy c.in_ok-from.ensures.found.bound
+          c.in_ok-enough.ensures.enough
+          c.in_ok-from.ensures.found.items
+          c.in_ok-found.ensures.found.items;
+      bound = c.in_ok-found.ensures.found.bound ∙ c.in_ok-from.ensures.found.bound;
+      floor = omega (
+        arith,
+        c.enough_for.ensures.counted.grows,
+        c.in_ok-from.ensures.found.floor,
+        c.led_among.ensures.counted.grows,
+        several_floor indexed c.args.operator (one_of (physical_of c.args.operand.now)) c.requires.several,
+      );
+    }
+
+pub walk_to_few-returns-clause-counted : goal.walk_plans::walk_to_few-returns-clause-counted
+walk_to_few-returns-clause-counted g t c =
+    let indexed = c.args.reader.indexes.now in
+    let plan = physical_of c.args.operand.now in
+    counted_thrice c.enough_for.ensures.counted c.execute_within.ensures.counted c.led_among.ensures.counted
+    (omega (
+      arith,
+      c.requires.room,
+      several_bound indexed c.args.operator (one_of plan) (size indexed plan)
+          c.requires.several,
+    ))
+
+pub walk_from-walk_to_few-requires : goal.walk_plans::walk_from-walk_to_few-requires
+walk_from-walk_to_few-requires g t c =
+    let several = not_one (one_of (physical_of c.args.operand.now)) c.rows_without-rows.result
+    c.rows_without-rows.ensures c.in-Some.ensures.some in
+    let room : 2 * c.in-Some.items ≤ lists_length c.args.reader.indexes.now c.args.operator =
+    omega (arith, c.in-Some.ensures.all, all_along c.args.reader.indexes.now c.args.operator) in
+    let read : AreAsked g.S.ConceptSet.items_of c.args.reader.indexes.now.hierarchy c.args.operator
+    (candidates.Within c.in-Within.wanted c.in-Within.field-1)
+    c.in-Some.items =
+    subst (λ (candidates : Candidates _). AreAsked g.S.ConceptSet.items_of c.args.reader.indexes.now.hierarchy
+    c.args.operator candidates c.in-Some.items)
+    c.in-Within.is c.in-Some.ensures.told in
+    search rules
+
+pub walk_from-returns-clause-found : goal.walk_plans::walk_from-returns-clause-found
+walk_from-returns-clause-found g t c =
+    let release = c.args.reader.snapshot.now.release in
+    let hierarchy = c.args.reader.indexes.now.hierarchy in
+    let operand = logical_of c.args.operand.now in
+    let plan : Plan = walk_plan c.args.operator operand in
+    let from = c.in_ok-from.from in
+    let items = g.S.ConceptSet.items_of from in
+    let led : List ℕ = led_to hierarchy (g.S.ConceptSet.bound_of from) c.args.operator items in
+    record {
+      items = kept_node release (may_be g.S.ConceptSet.items_of c.args.candidates.now) plan led
+          (g.S.ConceptSet.items_of c.in_ok-found-2.found)
+          (walk_node release plan led operand c.args.operator hierarchy (g.S.ConceptSet.bound_of from) items refl
+          c.args.reader.index.hierarchy
+          c.in_ok-from.ensures.found.bound c.in_ok-from.ensures.found.items refl)
+          c.in_ok-found-2.ensures.found.items;
+      bound = c.in_ok-found-2.ensures.found.bound;
+      floor = omega (arith, c.in_ok-from.ensures.found.floor, c.in_ok-found-2.ensures.found.floor);
+    }

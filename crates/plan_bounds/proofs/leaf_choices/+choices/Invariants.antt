@@ -1,0 +1,29 @@
+-- Behind what was added, what is left of the parts gives the choices of all.
+use Rattle.std.proofs.Common.{◌+◌, ◌*◌, max}
+use Rattle.set_algebra.proofs.plan.ConceptPlan.TheLaws as concept_plan
+use Rattle.set_algebra.proofs.plan.ValueTest.TheLaws as value_test
+use Rattle.plan_bounds.proofs.LoopLemmas.{ListLeft, concept_choices, unit_choices}
+use Rattle.plan_bounds.proofs.leaf_choices.+choices.Given as goal
+
+abbrev pub invariant-add_each-loop-part : goal.invariant-add_each-loop-part
+invariant-add_each-loop-part l = ListLeft concept_choices l.initial.choices.items l.parts l.part-index l.choices.items
+
+abbrev pub invariant-add_each_units-loop-part : goal.invariant-add_each_units-loop-part
+invariant-add_each_units-loop-part l = ListLeft unit_choices l.initial.choices.items l.parts l.part-index l.choices.items
+
+-- the functions go down a plan; what is called for the same plan comes after its caller
+abbrev pub decreases-add_choices : goal.decreases-add_choices
+decreases-add_choices l = 3 * goal.size-add_choices l
+
+abbrev pub decreases-add_units : goal.decreases-add_units
+decreases-add_units l = 3 * goal.size-add_units l
+
+abbrev pub decreases-add_each : goal.decreases-add_each
+decreases-add_each l = 3 * goal.size-add_each l + 1
+
+abbrev pub decreases-add_each_units : goal.decreases-add_each_units
+decreases-add_each_units l = 3 * goal.size-add_each_units l + 1
+
+-- two sub-plans are as deep as the deeper of them
+abbrev pub decreases-add_leaf : goal.decreases-add_leaf
+decreases-add_leaf l = 3 * max (concept_plan.the_size l.types.now) (value_test.the_size l.test.now) + 1

@@ -1,0 +1,40 @@
+-- The parts so far have their choices, the others are as they were, and of the list there is what those so far have left.
+use Rattle.std.proofs.Common.{◌≡◌, ◌+◌, ◌*◌, max, take}
+use Rattle.set_algebra.proofs.plan.ConceptPlan.TheLaws as concept_plan
+use Rattle.set_algebra.proofs.plan.ValueTest.TheLaws as value_test
+use Rattle.planner.proofs.PassLemmas.{Each, asking_concepts, asking_groups}
+use Rattle.planner.proofs.asking.+put.Given as goal
+
+abbrev pub invariant-put_in_each-loop-place : goal.invariant-put_in_each-loop-place
+invariant-put_in_each-loop-place l = record {
+  unvisited : goal.unvisited-put_in_each-loop-place l;
+  each : Each asking_concepts l.asked l.parts.items l.initial.parts.items l.place;
+  left : l.rest ≡ asking_concepts.rest l.asked (take l.place l.initial.parts.items);
+}
+
+abbrev pub invariant-put_in_each_units-loop-place : goal.invariant-put_in_each_units-loop-place
+invariant-put_in_each_units-loop-place l = record {
+  unvisited : goal.unvisited-put_in_each_units-loop-place l;
+  each : Each asking_groups l.asked l.parts.items l.initial.parts.items l.place;
+  left : l.rest ≡ asking_groups.rest l.asked (take l.place l.initial.parts.items);
+}
+
+-- the functions go down a plan; what is called for the same plan comes after its caller
+abbrev pub decreases-put_asked : goal.decreases-put_asked
+decreases-put_asked l = 4 * goal.size-put_asked l
+
+abbrev pub decreases-put_in_units : goal.decreases-put_in_units
+decreases-put_in_units l = 4 * goal.size-put_in_units l
+
+abbrev pub decreases-put_in_test : goal.decreases-put_in_test
+decreases-put_in_test l = 4 * goal.size-put_in_test l + 1
+
+abbrev pub decreases-put_in_each : goal.decreases-put_in_each
+decreases-put_in_each l = 4 * goal.size-put_in_each l + 1
+
+abbrev pub decreases-put_in_each_units : goal.decreases-put_in_each_units
+decreases-put_in_each_units l = 4 * goal.size-put_in_each_units l + 1
+
+-- two sub-plans are as deep as the deeper of them
+abbrev pub decreases-put_in_leaf : goal.decreases-put_in_leaf
+decreases-put_in_leaf l = 4 * max (concept_plan.the_size l.types.now) (value_test.the_size l.test.now) + 2

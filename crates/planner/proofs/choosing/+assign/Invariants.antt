@@ -1,0 +1,45 @@
+-- The parts so far have their choices, the others are as they were, and the sizes of those that are left are those that they will have.
+use denote.Param.Weighed.{most}
+use Rattle.std.proofs.Common.{◌+◌, ◌*◌, max}
+use Rattle.set_algebra.proofs.plan.ConceptPlan.TheLaws as concept_plan
+use Rattle.set_algebra.proofs.plan.ValueTest.TheLaws as value_test
+use Rattle.plan_bounds.proofs.LoopLemmas.{SizesLeft}
+use Rattle.planner.proofs.PassLemmas.{Each, choosing_concepts, choosing_groups, chosen_sizes, group_chosen_sizes}
+use Rattle.planner.proofs.choosing.+assign.Given as goal
+
+abbrev pub invariant-assign_parts-loop-place : goal.invariant-assign_parts-loop-place
+invariant-assign_parts-loop-place l = record {
+  unvisited : goal.unvisited-assign_parts-loop-place l;
+  each : Each (choosing_concepts l.indexes) tt l.parts.items l.initial.parts.items l.place;
+  sizes : SizesLeft (chosen_sizes l.indexes) l.all l.initial.parts.items l.place l.tally;
+}
+
+abbrev pub invariant-assign_unit_parts-loop-place : goal.invariant-assign_unit_parts-loop-place
+invariant-assign_unit_parts-loop-place l = record {
+  unvisited : goal.unvisited-assign_unit_parts-loop-place l;
+  each : Each (choosing_groups l.indexes) tt l.parts.items l.initial.parts.items l.place;
+  sizes : SizesLeft (group_chosen_sizes l.indexes) l.all l.initial.parts.items l.place l.tally;
+}
+
+-- the functions go down a plan; what is called for the same plan comes after its caller
+abbrev pub decreases-assign_choices : goal.decreases-assign_choices
+decreases-assign_choices l = 4 * goal.size-assign_choices l
+
+abbrev pub decreases-assign_units : goal.decreases-assign_units
+decreases-assign_units l = 4 * goal.size-assign_units l
+
+abbrev pub decreases-assign_test : goal.decreases-assign_test
+decreases-assign_test l = 4 * goal.size-assign_test l + 1
+
+abbrev pub decreases-assign_parts : goal.decreases-assign_parts
+decreases-assign_parts l = 4 * goal.size-assign_parts l + 1
+
+abbrev pub decreases-assign_unit_parts : goal.decreases-assign_unit_parts
+decreases-assign_unit_parts l = 4 * goal.size-assign_unit_parts l + 1
+
+-- two sub-plans are as deep as the deeper of them
+abbrev pub decreases-assign_leaf : goal.decreases-assign_leaf
+decreases-assign_leaf l = 4 * max (concept_plan.the_size l.types.now) (value_test.the_size l.test.now) + 2
+
+abbrev pub decreases-assign_values : goal.decreases-assign_values
+decreases-assign_values l = 4 * max (concept_plan.the_size l.start.now) (most concept_plan.the_size l.names.now.items) + 2

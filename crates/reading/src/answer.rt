@@ -1,0 +1,209 @@
+//! What a part of a plan has found.
+ghost use Rattle.std.specs.Prelude.{◌≡◌, ◌≤◌, ◌<◌, ◌+◌, All, IfOk, length, OnErr, OnOk};
+ghost use Rattle.std.specs.List.{range_with_len};
+ghost use Rattle.idset.specs.Sets.{all_items, common_items, other_items};
+ghost use Rattle.number_lists.specs.Members.{has};
+ghost use Rattle.number_lists.specs.Rising.{IsRisingBelow, listed_numbers, numbers_where};
+ghost use Rattle.idset.specs.Words.{AreWordsBelow, is_set};
+ghost use Rattle.reading.specs.Counted.{full};
+
+use crate::counter::Counter;
+use idset::ConceptSet;
+use std::alloc::{AllocError, Global};
+use std::marker::Model;
+
+/// What a part of a plan has found: a set of its own, whose items are counted as they are handed out. Contracts see it as the set.
+///
+/// A call that answers `AllocError` found no memory; what it would have read is counted.
+#[derive(Drop)]
+pub struct Answer<S> {
+    set: S,
+}
+
+impl<S> Model for Answer<S> {
+    ghost Value = { S };
+
+    ghost view = { λ answer. answer.set };
+}
+
+impl<S: ConceptSet> Answer<S> {
+    /// A set that was found.
+    pub fn of(set: S) -> Answer<S>
+        ensures { result ≡ set }
+    {
+        Answer { set }
+    }
+
+    /// The set of the items of a rising list.
+    pub fn from_items(alloc: Global, items: &[u32], bound: u32) -> Result<Answer<S>, AllocError>
+        requires { IsRisingBelow bound items.now }
+        ensures items { IfOk result (λ found. S.items_of found ≡ items.now) }
+        ensures bound { IfOk result (λ found. S.bound_of found ≡ bound) }
+    {
+        let set = S::from_items(alloc, items, bound)?;
+        Ok(Answer { set })
+    }
+
+    /// The set of the numbers of a list in any order, which may name a number more than once.
+    pub fn from_numbers(alloc: Global, numbers: &[u32], bound: u32) -> Result<Answer<S>, AllocError>
+        requires { All (λ number. number < bound) numbers.now }
+        ensures items { IfOk result (λ found. S.items_of found ≡ listed_numbers bound numbers.now) }
+        ensures bound { IfOk result (λ found. S.bound_of found ≡ bound) }
+    {
+        let set = S::from_numbers(alloc, numbers, bound)?;
+        Ok(Answer { set })
+    }
+
+    /// The set of the numbers whose bit is set in words of 64 bits, the lowest bit first.
+    pub fn from_words(alloc: Global, words: &[u64], bound: u32) -> Result<Answer<S>, AllocError>
+        requires { AreWordsBelow bound words.now }
+        ensures items { IfOk result (λ found. S.items_of found ≡ numbers_where bound (is_set words.now)) }
+        ensures bound { IfOk result (λ found. S.bound_of found ≡ bound) }
+    {
+        let set = S::from_words(alloc, words, bound)?;
+        Ok(Answer { set })
+    }
+
+    /// Adds the items of a rising list.
+    pub fn add_all(&mut self, alloc: Global, items: &[u32]) -> Result<(), AllocError>
+        requires { IsRisingBelow (S.bound_of self.old) items.now }
+        ensures items { OnOk result
+            (S.items_of self.new ≡ all_items (S.bound_of self.old) (S.items_of self.old) items.now) }
+        ensures err { OnErr result (S.items_of self.new ≡ S.items_of self.old) }
+        ensures bound { S.bound_of self.new ≡ S.bound_of self.old }
+    {
+        self.set.add_all(alloc, items)
+    }
+
+    /// The set of all numbers below a bound.
+    pub fn every(alloc: Global, bound: u32) -> Result<Answer<S>, AllocError>
+        ensures items { IfOk result (λ found. S.items_of found ≡ range_with_len 0 bound) }
+        ensures bound { IfOk result (λ found. S.bound_of found ≡ bound) }
+    {
+        let set = S::every(alloc, bound)?;
+        Ok(Answer { set })
+    }
+
+    /// The set, for who asked for it.
+    pub(crate) fn into_set(self) -> S
+        ensures { result ≡ self }
+    {
+        self.set
+    }
+
+    /// The set.
+    pub fn set(&self) -> &S
+        ensures { result.now ≡ self.now }
+    {
+        &self.set
+    }
+
+    /// The items in rising order, as a list of their own. They are counted.
+    pub fn items(&self, alloc: Global, visits: &mut Counter) -> Result<Vec<u32>, AllocError>
+        ensures items { IfOk result (λ items. items.items ≡ S.items_of self.now) }
+        ensures count { visits.new.count ≡ full (visits.old.count + length (S.items_of self.now)) }
+        ensures grows { visits.old.count ≤ visits.new.count }
+    {
+        visits.add(u64::from(self.set.count()));
+        self.set.items(alloc)
+    }
+
+    /// The items in rising order, as a list of their own.
+    pub fn items_uncounted(&self, alloc: Global) -> Result<Vec<u32>, AllocError>
+        ensures { IfOk result (λ items. items.items ≡ S.items_of self.now) }
+    {
+        self.set.items(alloc)
+    }
+
+    /// The items that one of two answers has, or both. The items of both are counted.
+    pub fn or(
+        &self,
+        alloc: Global,
+        other: &Answer<S>,
+        visits: &mut Counter,
+    ) -> Result<Answer<S>, AllocError>
+        requires { S.bound_of self.now ≡ S.bound_of other.now }
+        ensures items { IfOk result
+            (λ found. S.items_of found ≡ all_items (S.bound_of self.now) (S.items_of self.now) (S.items_of other.now)) }
+        ensures bound { IfOk result (λ found. S.bound_of found ≡ S.bound_of self.now) }
+        ensures count { visits.new.count
+            ≡ full (visits.old.count + (length (S.items_of self.now) + length (S.items_of other.now))) }
+        ensures grows { visits.old.count ≤ visits.new.count }
+    {
+        visits.add(u64::from(self.set.count()) + u64::from(other.set.count()));
+        let set = self.set.or(alloc, &other.set)?;
+        Ok(Answer { set })
+    }
+
+    /// The items that this answer has and another has not. The items of both are counted.
+    pub fn minus(
+        &self,
+        alloc: Global,
+        other: &Answer<S>,
+        visits: &mut Counter,
+    ) -> Result<Answer<S>, AllocError>
+        requires { S.bound_of self.now ≡ S.bound_of other.now }
+        ensures items { IfOk result
+            (λ found. S.items_of found ≡ other_items (S.items_of self.now) (S.items_of other.now)) }
+        ensures bound { IfOk result (λ found. S.bound_of found ≡ S.bound_of self.now) }
+        ensures count { visits.new.count
+            ≡ full (visits.old.count + (length (S.items_of self.now) + length (S.items_of other.now))) }
+        ensures grows { visits.old.count ≤ visits.new.count }
+    {
+        visits.add(u64::from(self.set.count()) + u64::from(other.set.count()));
+        let set = self.set.minus(alloc, &other.set)?;
+        Ok(Answer { set })
+    }
+
+    /// The items that this answer has and another has not.
+    pub fn minus_uncounted(&self, alloc: Global, other: &Answer<S>) -> Result<Answer<S>, AllocError>
+        requires { S.bound_of self.now ≡ S.bound_of other.now }
+        ensures items { IfOk result
+            (λ found. S.items_of found ≡ other_items (S.items_of self.now) (S.items_of other.now)) }
+        ensures bound { IfOk result (λ found. S.bound_of found ≡ S.bound_of self.now) }
+    {
+        let set = self.set.minus(alloc, &other.set)?;
+        Ok(Answer { set })
+    }
+
+    /// The items of this answer that are in another: each is tested, and a test counts nothing.
+    pub fn and(&self, alloc: Global, other: &Answer<S>) -> Result<Answer<S>, AllocError>
+        requires { S.bound_of self.now ≡ S.bound_of other.now }
+        ensures items { IfOk result
+            (λ found. S.items_of found ≡ common_items (S.items_of self.now) (S.items_of other.now)) }
+        ensures bound { IfOk result (λ found. S.bound_of found ≡ S.bound_of self.now) }
+    {
+        let set = self.set.and(alloc, &other.set)?;
+        Ok(Answer { set })
+    }
+
+    /// The same answer, in the form in which it is asked soonest whether it has a number: for tests of many numbers.
+    pub fn for_asking(self, alloc: Global) -> Result<Answer<S>, AllocError>
+        ensures items { IfOk result (λ found. S.items_of found ≡ S.items_of self) }
+        ensures bound { IfOk result (λ found. S.bound_of found ≡ S.bound_of self) }
+    {
+        let set = self.set.for_asking(alloc)?;
+        Ok(Answer { set })
+    }
+
+    /// The bound: every item is below it.
+    pub fn bound(&self) -> u32
+        ensures { result ≡ S.bound_of self.now }
+    {
+        self.set.bound()
+    }
+
+    /// Whether a number is among the items: a test, which counts nothing. One that is not below the bound is not.
+    pub fn has(&self, number: u32) -> bool
+        ensures { result ≡ has (S.items_of self.now) number }
+    {
+        self.set.has(number)
+    }
+
+    /// How many items there are. None is read.
+    pub fn count(&self) -> u32
+        ensures { result ≡ length (S.items_of self.now) }
+    {
+        self.set.count()
+    }
+}

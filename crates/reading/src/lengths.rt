@@ -1,0 +1,215 @@
+//! Lengths of lists, and look-ups by number: nothing is counted for them, since no item of a list is handed out.
+ghost use Rattle.std.specs.Prelude.{◌≡◌, ◌<◌, ◌+◌, ◌^◌, IfSome, length, nat_eq, position, slice_get, slice_index};
+ghost use Rattle.std.specs.List.{concat};
+ghost use Rattle.std.specs.List.Sorted.{IsStrictlyIncreasing};
+ghost use Rattle.number_lists.specs.KeyedLists.{list_of};
+ghost use Rattle.held_release.specs.AttributesBySource.{attributes_by_source};
+ghost use Rattle.held_release.specs.Numbering.{concept_number};
+ghost use Rattle.postings.specs.Entries.{entries_of};
+ghost use Rattle.postings.specs.Groups.{groups_before, groups_in, rows_of_group};
+ghost use Rattle.postings.specs.Indexed.{concept_of_type, rows_by_source, rows_by_type, rows_by_value, types_of};
+ghost use Rattle.postings.specs.RowColumns.{AreRowCells};
+
+use crate::reader::Reader;
+use held_release::Snapshot;
+use postings::{Indexes, RowCells};
+use sctid::SctId;
+use std::ops::Range;
+
+impl<'a> Reader<'a> {
+    /// The release.
+    pub fn snapshot(self) -> &'a Snapshot
+        ensures { result.now ≡ self.entry.snapshot.now }
+    {
+        self.snapshot
+    }
+
+    /// The indexes.
+    pub fn indexes(self) -> &'a Indexes
+        ensures { result.now ≡ self.entry.indexes.now }
+    {
+        self.indexes
+    }
+
+    /// How many concepts are in force: the number of each is below.
+    pub fn concept_count(self) -> u32
+        ensures count { result ≡ length self.entry.snapshot.now.release.concepts }
+        ensures few { length self.entry.snapshot.now.release.concepts < 2 ^ 31 }
+        ensures rising { IsStrictlyIncreasing self.entry.snapshot.now.release.concepts }
+        ensures numbers { result ≡ length self.entry.indexes.now.concepts }
+        ensures numbers_few { length self.entry.indexes.now.concepts < 2 ^ 31 }
+        ensures numbers_rise { IsStrictlyIncreasing self.entry.indexes.now.concepts }
+    {
+        self.indexes.concept_count();
+        self.snapshot.concept_count()
+    }
+
+    /// The number of the concept with an identifier, or `None` where there is none in force.
+    pub fn index_of(self, id: u64) -> Option<u32>
+        ensures release { result ≡ concept_number self.entry.snapshot.now.release.concepts id }
+        ensures indexed { result ≡ concept_number self.entry.indexes.now.concepts id }
+    {
+        self.snapshot.index_of(id)
+    }
+
+    /// The identifier of a concept by its number.
+    pub fn id_at(self, concept: u32) -> SctId
+        requires { concept < length self.snapshot.now.release.concepts }
+        ensures { result ≡ slice_index self.entry.snapshot.now.release.concepts concept }
+    {
+        self.snapshot.id_at(concept)
+    }
+
+    /// How many pairs of a concept and one of its ancestors there are.
+    pub fn ancestor_count(self) -> usize
+        ensures { result ≡ length (concat self.entry.indexes.now.hierarchy.ancestors) }
+    {
+        self.indexes.hierarchy().ancestor_count()
+    }
+
+    /// How many pairs of a concept and one of its parents there are.
+    pub fn link_count(self) -> usize
+        ensures { result ≡ length (concat self.entry.indexes.now.hierarchy.parents) }
+    {
+        self.indexes.hierarchy().link_count()
+    }
+
+    /// How many attribute rows are in force.
+    pub fn row_count(self) -> u32
+        ensures count { result ≡ length self.entry.indexes.now.rows }
+        ensures few { length self.entry.indexes.now.rows < 2 ^ 31 }
+    {
+        self.indexes.row_count()
+    }
+
+    /// How many attribute rows are in force, as many as by source.
+    pub fn attribute_count(self) -> u32
+        ensures count { result ≡ length self.entry.snapshot.now.release.attributes }
+        ensures few { length self.entry.snapshot.now.release.attributes < 2 ^ 31 }
+        ensures by_source { length (attributes_by_source self.entry.snapshot.now.release) ≡ length self.entry.snapshot.now.release.attributes }
+    {
+        self.snapshot.attribute_count()
+    }
+
+    /// What a query tests of a row, by its number.
+    pub fn cells(self, n: u32) -> RowCells
+        requires { n < length self.indexes.now.rows }
+        ensures { IfSome (slice_get (entries_of self.entry.indexes.now.rows) n) (AreRowCells self.entry.indexes.now result) }
+    {
+        self.indexes.cells(n)
+    }
+
+    /// The place of a type among the types of all rows, or `None` where no row has it. Any number may be asked for.
+    pub fn type_place(self, id: u64) -> Option<u32>
+        ensures { result ≡ position (nat_eq id) (types_of self.entry.indexes.now.rows) }
+    {
+        self.indexes.type_place(id)
+    }
+
+    /// The number of the concept that is a type of rows, by the place of the type among the types of all rows; `None` where it is no
+    /// concept in force. Any place may be asked for.
+    pub fn type_concept(self, place: u32) -> Option<u32>
+        ensures { result ≡ concept_of_type self.entry.indexes.now (slice_get (types_of self.entry.indexes.now.rows) place) }
+    {
+        self.indexes.type_concept(place)
+    }
+
+    /// How many groups all concepts have.
+    pub fn group_count(self) -> u32
+        ensures count { result ≡ length (groups_in self.entry.indexes.now) }
+        ensures few { length (groups_in self.entry.indexes.now) < 2 ^ 31 }
+    {
+        self.indexes.group_count()
+    }
+
+    /// The numbers of the groups of a concept.
+    pub fn units_of(self, concept: u32) -> Range<u32>
+        requires { concept < length self.indexes.now.concepts }
+        ensures start { result.start ≡ length (groups_before self.entry.indexes.now concept) }
+        ensures end { result.end ≡ length (groups_before self.entry.indexes.now (concept + 1)) }
+    {
+        self.indexes.units_of(concept)
+    }
+
+    /// The concept of a group.
+    pub fn unit_concept(self, unit: u32) -> u32
+        requires { unit < length (groups_in self.indexes.now) }
+        ensures within { result < length self.entry.indexes.now.concepts }
+        ensures concept { IfSome (slice_get (groups_in self.entry.indexes.now) unit)
+            (λ group. slice_index self.entry.indexes.now.concepts result ≡ group.concept) }
+    {
+        self.indexes.unit_concept(unit)
+    }
+
+    /// How many rows have a concept as their source.
+    pub fn source_row_count(self, concept: u32) -> u64
+        requires { concept < length self.indexes.now.concepts }
+        ensures { result ≡ length (rows_by_source self.entry.indexes.now concept) }
+    {
+        self.indexes.rows_of(concept).len() as u64
+    }
+
+    /// How many rows have a concept as their value.
+    pub fn value_row_count(self, concept: u32) -> u64
+        requires { concept < length self.indexes.now.concepts }
+        ensures { result ≡ length (rows_by_value self.entry.indexes.now concept) }
+    {
+        self.indexes.by_value(concept).len() as u64
+    }
+
+    /// How many rows have a type. Any number may be asked for.
+    pub fn type_row_count(self, id: u64) -> u64
+        ensures { result ≡ length (rows_by_type self.entry.indexes.now id) }
+    {
+        self.indexes.by_type(id).len() as u64
+    }
+
+    /// How many rows a group has.
+    pub fn unit_row_count(self, unit: u32) -> u64
+        requires { unit < length (groups_in self.indexes.now) }
+        ensures { IfSome (slice_get (groups_in self.entry.indexes.now) unit)
+            (λ group. result ≡ length (rows_of_group self.entry.indexes.now group)) }
+    {
+        self.indexes.unit_rows(unit).len() as u64
+    }
+
+    /// How many components a reference set has.
+    pub fn member_count(self, concept: u32) -> u64
+        requires { concept < length self.indexes.now.concepts }
+        ensures { result ≡ length (list_of self.entry.indexes.now.members concept) }
+    {
+        self.indexes.members(concept).len() as u64
+    }
+
+    /// How many ancestors a concept has.
+    pub fn ancestor_count_of(self, concept: u32) -> u64
+        requires { concept < length self.indexes.now.concepts }
+        ensures { result ≡ length (list_of self.entry.indexes.now.hierarchy.ancestors concept) }
+    {
+        self.indexes.hierarchy().ancestors(concept).len() as u64
+    }
+
+    /// How many descendants a concept has.
+    pub fn descendant_count_of(self, concept: u32) -> u64
+        requires { concept < length self.indexes.now.concepts }
+        ensures { result ≡ length (list_of self.entry.indexes.now.hierarchy.descendants concept) }
+    {
+        self.indexes.hierarchy().descendants(concept).len() as u64
+    }
+
+    /// How many parents a concept has.
+    pub fn parent_count_of(self, concept: u32) -> u64
+        requires { concept < length self.indexes.now.concepts }
+        ensures { result ≡ length (list_of self.entry.indexes.now.hierarchy.parents concept) }
+    {
+        self.indexes.hierarchy().parents(concept).len() as u64
+    }
+
+    /// How many children a concept has.
+    pub fn child_count_of(self, concept: u32) -> u64
+        requires { concept < length self.indexes.now.concepts }
+        ensures { result ≡ length (list_of self.entry.indexes.now.hierarchy.children concept) }
+    {
+        self.indexes.hierarchy().children(concept).len() as u64
+    }
+}

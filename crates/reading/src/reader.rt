@@ -1,0 +1,55 @@
+//! A release that is opened to be read.
+ghost use Rattle.std.specs.Prelude.{◌≡◌, length};
+ghost use Rattle.std.specs.List.Sorted.{IsStrictlyIncreasing};
+ghost use Rattle.std.proofs.Props.{props};
+ghost use Rattle.held_release.specs.AttributesBySource.{attributes_by_source};
+ghost use Rattle.postings.specs.Indexed.{HasListsFor, IsIndexOf};
+
+use crate::counter::{Counter, Visits};
+use held_release::Snapshot;
+use postings::Indexes;
+use std::alloc::Global;
+
+/// A release with its indexes, and where memory is taken. What executes a plan has the lists of both in a reader alone, whose fields
+/// are its own: so no list is read that is not counted.
+#[derive(Clone, Copy)]
+pub struct Reader<'a> {
+    /// Where memory is taken.
+    pub alloc: Global,
+    pub(crate) snapshot: &'a Snapshot,
+    pub indexes: &'a Indexes,
+    // the indexes are those of the release, whose concepts rise
+    pub ghost index: { IsIndexOf indexes.now snapshot.now.release } by { Prim.hlevel props },
+    pub ghost rising: { IsStrictlyIncreasing snapshot.now.release.concepts } by { Prim.hlevel props },
+    // the sources of all attribute rows are in force
+    pub ghost by_source: { length (attributes_by_source snapshot.now.release) ≡ length snapshot.now.release.attributes },
+    // each concept has its lists, and its components
+    pub ghost lists: { HasListsFor (length indexes.now.concepts) indexes.now.hierarchy } by { Prim.hlevel props },
+    pub ghost members: { length indexes.now.members ≡ length indexes.now.concepts },
+}
+
+impl<'a> Reader<'a> {
+    /// Opens a release and its indexes to be read, and makes what counts what is read, beginning with what was counted before.
+    pub fn open(
+        alloc: Global,
+        snapshot: &'a Snapshot,
+        indexes: &'a Indexes,
+        visits: Visits,
+    ) -> (Reader<'a>, Counter)
+        requires { IsIndexOf indexes.now snapshot.now.release }
+        ensures snapshot { result.0.snapshot.now ≡ snapshot.now }
+        ensures indexes { result.0.indexes.now ≡ indexes.now }
+        ensures count { result.1.count ≡ visits.count }
+    {
+        // the concepts rise, and each has its lists
+        snapshot.concept_count();
+        snapshot.attribute_count();
+        indexes.stats();
+        let reader = Reader {
+            alloc,
+            snapshot,
+            indexes,
+        };
+        (reader, Counter::from(visits))
+    }
+}

@@ -1,0 +1,9 @@
+use Rattle.std.proofs.Common.{map, string_bytes}
+use Rattle.streams.specs.Walk.{AreFilesOf}
+use Rattle.streams.proofs.WalkLemmas.{given_ok}
+use Rattle.streams.proofs.folder.FolderSourceFileSource.list.Goals as goal
+
+pub returns-clause-listed : goal.returns-clause-listed
+returns-clause-listed g c tree told =
+    given_ok (λ names. AreFilesOf tree c.args.self.now.folders.now (map string_bytes names.items)) c.counted.result
+    c.list_seeded-names.result c.counted.ensures.value (c.list_seeded-names.ensures tree told)

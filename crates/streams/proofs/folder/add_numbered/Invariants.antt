@@ -1,0 +1,8 @@
+use Rattle.std.proofs.Common.{◌≡◌, ◌++◌, map, string_bytes, take}
+use Rattle.streams.specs.Walk.{numbered_name}
+use Rattle.streams.proofs.folder.add_numbered.Given as goal
+
+abbrev pub invariant-loop-name : goal.invariant-loop-name
+invariant-loop-name l =
+    map string_bytes l.names.items
+    ≡ map string_bytes l.fn.names.items ++ map (numbered_name l.number) (map string_bytes (take l.name-index l.own))

@@ -1,0 +1,11 @@
+use Rattle.std.proofs.Common.{◌≡◌, ℕ, List, Some, drop, map, string_bytes}
+use Rattle.streams.specs.Walk.{EntersAll, FolderTree, Found}
+use Rattle.streams.specs.inside.WalkInside.{found_by}
+use Rattle.streams.proofs.walk.Walk.enter_all.Given as goal
+
+-- to enter the folders ahead ends as to enter all does
+abbrev pub invariant-loop-below : goal.invariant-loop-below
+invariant-loop-below g l =
+    (tree : FolderTree) (last : List ℕ) (new : Found) → g.R.FolderSystem.tree l.rt ≡ Some tree
+    → EntersAll tree l.folder (map string_bytes (drop l.below-index l.level)) l.self.entered (found_by l.self) last new
+    → EntersAll tree l.folder (map string_bytes l.level) l.fn.self.entered (found_by l.fn.self) last new

@@ -1,0 +1,13 @@
+use Rattle.std.proofs.Common.{◌≡◌, Some, drop, map, string_bytes}
+use Rattle.streams.specs.Walk.{FolderTree, found_in}
+use Rattle.streams.specs.inside.WalkInside.{found_by}
+use Rattle.streams.proofs.walk.Walk.take_all.Given as goal
+
+-- what is found under the names ahead is what is found under all
+abbrev pub invariant-loop-name : goal.invariant-loop-name
+invariant-loop-name g l = record {
+  ahead : (tree : FolderTree) → g.R.FolderSystem.tree l.rt ≡ Some tree
+      → found_in tree l.folder l.below (map string_bytes l.names) (found_by l.fn.self)
+      ≡ found_in tree l.folder l.below (map string_bytes (drop l.name-index l.names)) (found_by l.self);
+  entered : l.self.entered ≡ l.fn.self.entered;
+}

@@ -1,0 +1,13 @@
+use Rattle.std.proofs.Common.{◌≡◌, ◌-◌, [], List, ℕ, Some, map, string_bytes}
+use Rattle.streams.specs.Walk.{AreFilesBelow, Descends, FolderTree}
+use Rattle.streams.specs.inside.WalkInside.{found_by}
+use Rattle.streams.proofs.walk.list_files.Given as goal
+
+-- to go through the levels that are left ends as to go through all does
+abbrev pub invariant-loop-turn : goal.invariant-loop-turn
+invariant-loop-turn g l = record {
+  ahead : (tree : FolderTree) (names : List (List ℕ)) → g.R.FolderSystem.tree l.rt ≡ Some tree
+      → Descends tree l.folder (17 - l.turn) (map string_bytes l.level.items) l.walk.entered (found_by l.walk).files names
+      → AreFilesBelow tree l.folder names;
+  none : (found_by l.walk).folders ≡ [];
+}
