@@ -119,4 +119,18 @@ impl AncestorIndex {
     {
         self.children.of(concept)
     }
+
+    /// The parents of all concepts, a list for each.
+    pub fn all_parents(&self) -> &KeyedLists
+        ensures { result.now ≡ self.now.parents }
+    {
+        &self.parents
+    }
+
+    /// The children of all concepts, a list for each.
+    pub fn all_children(&self) -> &KeyedLists
+        ensures { result.now ≡ self.now.children }
+    {
+        &self.children
+    }
 }

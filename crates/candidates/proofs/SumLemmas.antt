@@ -1,12 +1,14 @@
 -- Sums over lists of numbers, and over some of them.
-use Rattle.std.proofs.Common.{ℕ, ◌+◌, ◌∷◌, [], ◌≡◌, ◌≤◌, ◌∙◌, Bool, true, false, cond, not, List, length, refl, ap, arith}
-use Rattle.std.specs.Prelude.{filter, ◌||◌}
+use Rattle.std.proofs.Common.{ℕ, zero, suc, ◌+◌, ◌∷◌, [], ◌≡◌, ◌<◌, ◌≤◌, ◌∙◌, inl, inr, Bool, true, false, cond, not, List, length, refl, ap, arith}
+use Rattle.std.specs.Prelude.{filter, ◌==◌, ◌||◌}
 use Rattle.std.specs.List.{range_with_len, sum_by}
+use Rattle.std.proofs.lemmas.Bool.{cases_eq, ne_eqb}
 use Rattle.std.proofs.lemmas.List.Filters.{sum_by-filter_both}
 use Rattle.std.proofs.lemmas.List.Sums.{sum_by-cons}
 use Rattle.idset.specs.Sets.{all_items}
 use Rattle.number_lists.specs.Members.{has}
-use Rattle.number_lists.specs.Rising.{IsRisingBelow}
+use Rattle.number_lists.specs.Rising.{IsRisingBelow, listed_numbers, numbers_where}
+use Rattle.number_lists.proofs.WhereLemmas.{numbers_where-none}
 use Rattle.number_lists.proofs.RisingLemmas.{rising_is_numbers_where}
 
 pub no_sum : (numbers : List ℕ) → sum_by (λ n. 0) numbers ≡ 0
@@ -51,4 +53,45 @@ sum_of_both f bound items others rising others_rising =
       sum_of_either f (has items) (has others) (range_with_len 0 bound),
       ap (sum_by f) (rising_is_numbers_where bound items rising),
       ap (sum_by f) (rising_is_numbers_where bound others others_rising),
+    )
+
+-- ---- a number stands at one place of a range at the most
+none_before : (n low count : ℕ) → n < low → length (filter (λ m. n == m) (range_with_len low count)) ≡ 0
+none_before n low zero less = refl
+none_before n low (suc count) less =
+    ap (λ (b : Bool). length (cond b (low ∷ filter (λ m. n == m) (range_with_len (low + 1) count)) (filter (λ m. n == m) (range_with_len (low + 1) count))))
+    (ne_eqb n low (λ same. omega (arith, same, less)))
+    ∙ none_before n (low + 1) count (omega (arith, less))
+
+one_at_most : (n low count : ℕ) → length (filter (λ m. n == m) (range_with_len low count)) ≤ 1
+one_at_most n low zero = omega arith
+one_at_most n low (suc count) = elim (cases_eq n low) [
+  | inl same ↦ omega (arith, one_more (n == low) low rest, none_before n (low + 1) count (omega (arith, same)))
+  | inr other ↦
+      omega (
+        arith,
+        one_at_most n (low + 1) count,
+        ap (λ (b : Bool). length (cond b (low ∷ rest) rest)) (ne_eqb n low other),
+      )
+]
+  where
+    rest : List ℕ
+    rest = filter (λ m. n == m) (range_with_len (low + 1) count)
+
+    one_more : (b : Bool) (x : ℕ) (xs : List ℕ) → length (cond b (x ∷ xs) xs) ≤ 1 + length xs
+    one_more true x xs = omega arith
+    one_more false x xs = omega arith
+
+-- of numbers that are listed there are no more than the list has
+pub listed_few : (bound : ℕ) (numbers : List ℕ) → length (listed_numbers bound numbers) ≤ length numbers
+listed_few bound [] = omega (arith, ap (λ (xs : List ℕ). length xs) (numbers_where-none bound))
+listed_few bound (n ∷ numbers) =
+    omega (
+      arith,
+      sum_of_either (λ m. 1) (λ m. n == m) (has numbers) (range_with_len 0 bound),
+      sum_of_ones (numbers_where bound (has (n ∷ numbers))),
+      sum_of_ones (numbers_where bound (λ m. n == m)),
+      sum_of_ones (numbers_where bound (has numbers)),
+      one_at_most n 0 bound,
+      listed_few bound numbers,
     )

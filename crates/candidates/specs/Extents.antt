@@ -1,10 +1,11 @@
 -- How much there is of some concepts or groups, at most: of each what its lists have. Sums stand still at the largest number of 64 bits.
-use Rattle.std.specs.Prelude.{ℕ, ◌≤◌, ◌+◌, ◌-◌, false, true, List, Option, Some, None, length, slice_get}
+use Rattle.std.specs.Prelude.{ℕ, ◌≡◌, ◌<◌, ◌≤◌, ◌+◌, ◌-◌, ◌*◌, false, true, List, Option, Some, None, length, slice_get}
 use Rattle.number_lists.specs.KeyedLists.{list_of}
 use Rattle.ancestor_index.specs.HierarchyLists.{Hierarchy}
 use Rattle.postings.specs.Groups.{ConceptGroup, groups_before, groups_in, rows_of_group}
 use Rattle.postings.specs.Indexed.{Indexed}
-use Rattle.reading.specs.Counted.{full_sum}
+use Rattle.reading.specs.Counted.{CountsWithin, full_sum}
+use Rattle.reading.specs.declared.counter.Counter.{Counter}
 use Rattle.candidates.specs.RowCounts.{row_count_of}
 use Rattle.candidates.specs.declared.candidates.Extent.{Extent}
 use Rattle.candidates.specs.declared.candidates.ListExtent.{ListExtent}
@@ -24,6 +25,12 @@ rows_in_group indexed None = 0
 
 abbrev pub group_row_count : Indexed → ℕ → ℕ
 group_row_count indexed number = rows_in_group indexed (slice_get (groups_in indexed) number)
+
+-- to see how much there is of so many items, from which something is to be taken, these are read once where they may be read three
+-- times, by what is found at most of two parts; else none is
+pub record IsReadToTake (items : ℕ) (sizes : ℕ × ℕ) (early late : Counter) : Type 0 where
+  pub once : CountsWithin items early late
+  pub none : sizes.0 + sizes.1 < items * 3 → late.count ≡ early.count
 
 -- the lists of some concepts in a hierarchy
 pub record AreListed (hierarchy : Hierarchy) (concepts : List ℕ) (lists : ListExtent) : Type 0 where

@@ -1,13 +1,13 @@
 //! Of which concepts or groups it is asked whether they are in a set.
-ghost use Rattle.std.specs.Prelude.{ℕ, ◌≡◌, ◌≤◌, ◌<◌, ◌+◌, All, Bool, false, true, filter, IfOk, List, length, min};
+ghost use Rattle.std.specs.Prelude.{ℕ, ◌≡◌, ◌≤◌, ◌<◌, ◌+◌, ◌*◌, All, Bool, false, true, filter, IfOk, List, length, min};
 ghost use Rattle.postings.specs.Groups.{all_groups, groups_in};
 ghost use Rattle.postings.specs.Indexed.{Indexed};
-ghost use Rattle.reading.specs.Counted.{full};
-ghost use Rattle.candidates.specs.Extents.{AreListed, IsExtentOf, IsGroupExtentOf};
+ghost use Rattle.reading.specs.Counted.{CountsWithin, full};
+ghost use Rattle.candidates.specs.Extents.{AreListed, IsExtentOf, IsGroupExtentOf, IsReadToTake};
 ghost use Rattle.candidates.specs.Within.{AreBelow, AreConcepts, AreGroups, HaveExtent, extent_told, may_be};
 
 use idset::ConceptSet;
-use reading::{Answer, Reader};
+use reading::{Answer, Counter, Reader};
 use std::alloc::AllocError;
 
 // To ask a concept by its own list takes about as long as to go through so many concepts, and to ask so few takes no longer
@@ -151,20 +151,22 @@ pub fn restricted<S: ConceptSet>(
 }
 
 /// How much there is of the concepts of a set, for what reads so many rows without it. It is looked up only where they are few beside
-/// these, or so few that their lists are counted. The items of the set are read once, their lists are not.
+/// these, or so few that their lists are counted. The items of the set are read once then, and counted; their lists are not.
 pub fn extent_of<S: ConceptSet>(
     reader: Reader<'_>,
     concepts: &Answer<S>,
     rows: u64,
+    visits: &mut Counter,
 ) -> Result<Extent, AllocError>
     requires bound { S.bound_of concepts.now ≡ length reader.snapshot.now.release.concepts }
-    ensures { IfOk result (IsExtentOf reader.entry.indexes.now (S.items_of concepts.now)) }
+    ensures extent { IfOk result (IsExtentOf reader.entry.indexes.now (S.items_of concepts.now)) }
+    ensures counted { CountsWithin (length (S.items_of concepts.now)) visits.old visits.new }
 {
     let count = concepts.count();
     if are_many_beside(count, rows / WIDE) {
         return Ok(uncounted(count));
     }
-    let own = concepts.items_uncounted(reader.alloc)?;
+    let own = concepts.items(reader.alloc, visits)?;
     Ok(extent_among(reader, own.as_slice()))
 }
 
@@ -173,14 +175,17 @@ fn are_many_beside(candidates: u32, most: u64) -> bool {
     candidates as usize > LISTED && u64::from(candidates) > most
 }
 
-/// The same of the groups of a set.
+/// How much there is of the groups of a set, for what reads so many rows without it. It is looked up only where they are few beside
+/// these. The items of the set are read once then, and counted.
 pub fn group_extent_of<S: ConceptSet>(
     reader: Reader<'_>,
     groups: &Answer<S>,
     rows: u64,
+    visits: &mut Counter,
 ) -> Result<Extent, AllocError>
     requires bound { S.bound_of groups.now ≡ length (all_groups reader.snapshot.now.release) }
-    ensures { IfOk result (IsGroupExtentOf reader.entry.indexes.now (S.items_of groups.now)) }
+    ensures extent { IfOk result (IsGroupExtentOf reader.entry.indexes.now (S.items_of groups.now)) }
+    ensures counted { CountsWithin (length (S.items_of groups.now)) visits.old visits.new }
 {
     let count = groups.count();
     if are_many_beside(count, rows / WIDE_GROUPS) {
@@ -188,51 +193,58 @@ pub fn group_extent_of<S: ConceptSet>(
     }
     // the concepts rise, so that each has its groups once
     reader.concept_count();
-    let own = groups.items_uncounted(reader.alloc)?;
+    let own = groups.items(reader.alloc, visits)?;
     Ok(group_extent_among(reader, own.as_slice()))
 }
 
 /// How much there is of a set of some candidates, from which something is to be taken. Its rows are counted where the set may be read
-/// thrice, by what both parts of MINUS find at most; else it has no more than the candidates.
+/// thrice, by what both parts of MINUS find at most; else it has no more than the candidates, and is not read.
 pub fn extent_to_take<S: ConceptSet>(
     reader: Reader<'_>,
     candidates: &Candidates<'_, S>,
     concepts: &Answer<S>,
     sizes: (u64, u64),
+    visits: &mut Counter,
 ) -> Result<Extent, AllocError>
     requires bound { S.bound_of concepts.now ≡ length reader.snapshot.now.release.concepts }
     requires candidates { AreConcepts S.ConceptSet reader.snapshot.now.release reader.indexes.now candidates.now }
     requires among { All (λ number. may_be S.items_of candidates.now number ≡ true) (S.items_of concepts.now) }
-    ensures { IfOk result (IsExtentOf reader.entry.indexes.now (S.items_of concepts.now)) }
+    ensures extent { IfOk result (IsExtentOf reader.entry.indexes.now (S.items_of concepts.now)) }
+    ensures counted { IsReadToTake (length (S.items_of concepts.now)) sizes visits.old visits.new }
 {
     if may_be_read_thrice(concepts.count(), sizes) {
-        extent_of(reader, concepts, u64::from(reader.row_count()))
+        extent_of(reader, concepts, u64::from(reader.row_count()), visits)
     } else {
         Ok(extent_left(candidates, concepts))
     }
 }
 
-/// The same of groups.
+/// How much there is of a set of some candidates, which are groups, from which something is to be taken. Its rows are counted where
+/// the set may be read thrice; else it has no more than the candidates, and is not read.
 pub fn group_extent_to_take<S: ConceptSet>(
     reader: Reader<'_>,
     candidates: &Candidates<'_, S>,
     groups: &Answer<S>,
     sizes: (u64, u64),
+    visits: &mut Counter,
 ) -> Result<Extent, AllocError>
     requires bound { S.bound_of groups.now ≡ length (all_groups reader.snapshot.now.release) }
     requires candidates { AreGroups S.ConceptSet reader.snapshot.now.release reader.indexes.now candidates.now }
     requires among { All (λ number. may_be S.items_of candidates.now number ≡ true) (S.items_of groups.now) }
-    ensures { IfOk result (IsGroupExtentOf reader.entry.indexes.now (S.items_of groups.now)) }
+    ensures extent { IfOk result (IsGroupExtentOf reader.entry.indexes.now (S.items_of groups.now)) }
+    ensures counted { IsReadToTake (length (S.items_of groups.now)) sizes visits.old visits.new }
 {
     if may_be_read_thrice(groups.count(), sizes) {
-        group_extent_of(reader, groups, u64::from(reader.row_count()))
+        group_extent_of(reader, groups, u64::from(reader.row_count()), visits)
     } else {
         Ok(extent_left(candidates, groups))
     }
 }
 
 // Whether so many items may be read three times.
-fn may_be_read_thrice(items: u32, sizes: (u64, u64)) -> bool {
+fn may_be_read_thrice(items: u32, sizes: (u64, u64)) -> bool
+    ensures { result ≡ true → items * 3 ≤ sizes.0 + sizes.1 }
+{
     items as u64 * 3 <= sizes.0.saturating_add(sizes.1)
 }
 

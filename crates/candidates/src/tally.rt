@@ -113,8 +113,8 @@ impl<'a> RowTally<'a> {
     }
 
     /// Whether the rows of a list of so many items are to be added.
-    pub fn asks_for(&self, items: usize) -> bool {
-        self.rows.is_some() && items as u64 <= self.most
+    pub fn asks_for(&self, items: u64) -> bool {
+        self.rows.is_some() && items <= self.most
     }
 
     /// The items of a list, whose rows are added. The list is read once.

@@ -32,9 +32,10 @@ use Rattle.pair_sets.specs.declared.tested.Tested.TheVariants as tests
 use Rattle.executor.proofs.LeafWork.{values_read}
 use Rattle.executor.proofs.NodeLemmas.{outside_passes, within_passes}
 use Rattle.executor.proofs.WorkLemmas.{along_from}
-use Rattle.reading.specs.Counted.{CountsWithin, IsFound}
+use Rattle.reading.specs.Counted.{CountsWithin, HandsOut, IsFound}
+use Rattle.reading.proofs.CountLemmas.{counted_both, counted_thrice}
 use Rattle.executor.specs.inside.Executed.{AnswersAll, AnswersPlan, AnswersTest, AnswersUnits, CountsPlan, CountsTest}
-use Rattle.executor.specs.inside.Executed.{CountsUnits}
+use Rattle.executor.specs.inside.Executed.{CountsBeside, CountsUnits}
 
 -- ---- which node a plan is, for nodes of one part
 pub walk_is : (operator : Operator) (operand : Box ConceptPlan Global) {plan from : ConceptPlan}
@@ -140,27 +141,6 @@ leaf_found sets visits (Ok found) below none next items bound =
     record { items = next (sets.items_of found) items; bound = bound; floor = omega (arith, none) }
 leaf_found sets visits (Err error) below none next items bound = tt
 
--- what one call counts, and the next
-pub counted_both : {first second all : ℕ} {early between late : Counter} → CountsWithin first early between →
-    CountsWithin second between late
-    → first + second ≤ all → CountsWithin all early late
-counted_both one other room = record {
-  grows = omega (arith, one.grows, other.grows);
-  within = omega (arith, one.within, other.within, room);
-}
-
-pub counted_thrice : {first second third all : ℕ} {early one two late : Counter} → CountsWithin first early one →
-    CountsWithin second one two
-    → CountsWithin third two late → (first + second) + third ≤ all → CountsWithin all early late
-counted_thrice one other last room = record {
-  grows = omega (arith, one.grows, other.grows, last.grows);
-  within = omega (arith, one.within, other.within, last.within, room);
-}
-
-pub counted_in : {first all : ℕ} {early late : Counter} → CountsWithin first early late → first
-    ≤ all → CountsWithin all early late
-counted_in one room = record { grows = one.grows; within = omega (arith, one.within, room) }
-
 -- of no parts nothing is counted
 pub no_floor : (indexed : Indexed) {parts : List ConceptPlan} (before : ℕ) → parts ≡ []
     → min (before + plans_sum (floor_number indexed) (physicals_of parts)) (2 ^ 64 - 1) ≤ before
@@ -196,3 +176,23 @@ pub led_reads : (indexed : Indexed) (start : Physical) (names : Physicals) {foun
     → found ≤ size indexed start → CountsPlan indexed (physical_values start names) early late
 led_reads indexed start names {found = found} first along few =
     counted_both first along (omega (arith, along_from indexed (plan_count names) found (size indexed start) few))
+
+-- what MINUS counts beside its two parts: what it has room for beside both, and then what both have found
+pub counted_minus : {first second left right most own all : ℕ} {early one two three late : Counter}
+    → CountsWithin first early one → CountsBeside left most own one two → CountsWithin second two three
+    → HandsOut (left + right) three late → right ≤ left → right ≤ most → left + min most left ≤ own
+    → (first + own) + second ≤ all → CountsWithin all early late
+counted_minus counted_first beside counted_second read few small room in_all = record {
+  grows = omega (arith, counted_first.grows, beside.grows, counted_second.grows, read.grows);
+  within = omega (
+    arith,
+    counted_first.within,
+    beside.within,
+    counted_second.within,
+    read.count,
+    few,
+    small,
+    room,
+    in_all,
+  );
+}

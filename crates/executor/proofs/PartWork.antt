@@ -35,7 +35,7 @@ use Rattle.plan_bounds.proofs.SizeLemmas.{group_numbers-le, numbers-le}
 use Rattle.candidates.specs.Groups.{groups_where, some_group_in}
 use Rattle.candidates.specs.Numbers.{numbers_in}
 use Rattle.candidates.specs.Within.{groups_within, numbers_within}
-use Rattle.pair_sets.proofs.OwnedLemmas.{listed_few}
+use Rattle.candidates.proofs.SumLemmas.{listed_few}
 use Rattle.executor.specs.inside.Logical.{logical_of, logical_units_list_of, logical_units_of, logicals_of}
 use Rattle.executor.proofs.GroupNodeLemmas as groups
 use Rattle.executor.proofs.NodeLemmas.{or_node}

@@ -2,10 +2,10 @@
 //! parts have read.
 ghost use Rattle.std.specs.Prelude.{◌≡◌, ◌≤◌, IfOk, filter, length};
 ghost use Rattle.postings.specs.Groups.{all_groups};
-ghost use Rattle.set_algebra.specs.Physical.{logical, physical_units_of, physical_members, physical_of, physical_units, physical_walk};
+ghost use Rattle.set_algebra.specs.Physical.{logical, physical_members, physical_of, physical_walk};
 ghost use Rattle.plan_bounds.specs.Bounds.{own_bound};
 ghost use Rattle.plan_bounds.specs.Floors.{own_floor};
-ghost use Rattle.plan_bounds.specs.Sizes.{group_size, size as size_of};
+ghost use Rattle.plan_bounds.specs.Sizes.{size as size_of};
 ghost use Rattle.walks.specs.Components.{components_of};
 ghost use Rattle.walks.specs.Led.{led_to};
 ghost use Rattle.executor.specs.inside.WithUnits.{with_units};
@@ -21,7 +21,7 @@ use idset::ConceptSet;
 use pair_sets::with_groups;
 use plan_bounds::{members_limits, walk_limits};
 use reading::{Answer, Counter, Reader};
-use set_algebra::{ConceptPlan, UnitPlan};
+use set_algebra::ConceptPlan;
 use std::alloc::AllocError;
 use walks::{members_within, walk_within};
 
@@ -81,28 +81,23 @@ pub fn members_found<S: ConceptSet>(
     Ok(found)
 }
 
-/// The candidates among the concepts so many of whose groups are among some, which a plan has found. So many items are read, those
-/// groups and what was looked up to find them.
+/// The candidates among the concepts so many of whose groups are among some, which a plan has found. These are counted.
 pub fn units_found<S: ConceptSet>(
     reader: Reader<'_>,
     count: Cardinality,
-    units: &UnitPlan,
     groups: &Answer<S>,
-    items: u64,
     candidates: &Candidates<'_, S>,
     visits: &mut Counter,
 ) -> Result<Answer<S>, AllocError>
     requires candidates { AreConcepts S.ConceptSet reader.snapshot.now.release reader.indexes.now candidates.now }
     requires bound { S.bound_of groups.now ≡ length (all_groups reader.snapshot.now.release) }
-    requires read { length (S.items_of groups.now) ≤ items }
-    requires room { items ≤ group_size reader.indexes.now (physical_units_of units.now) }
-    ensures counted { CountsWithin (own_bound reader.entry.indexes.now (physical_units count (physical_units_of units.now))) visits.old visits.new }
+    ensures counted { CountsWithin (length (S.items_of groups.now)) visits.old visits.new }
     ensures found { IfOk result (IsFound S.ConceptSet (length reader.entry.snapshot.now.release.concepts)
-        (filter (may_be S.items_of candidates.now) (with_units reader.entry.snapshot.now.release count (S.items_of groups.now)))
-        items visits.old visits.new) }
+        (filter (may_be S.items_of candidates.now)
+        (with_units reader.entry.snapshot.now.release count (S.items_of groups.now)))
+        (length (S.items_of groups.now)) visits.old visits.new) }
 {
-    visits.add(items);
-    let some = with_groups(reader, count, groups)?;
+    let some = with_groups(reader, count, groups, visits)?;
     let found = restricted(reader, some, candidates)?;
     Ok(found)
 }

@@ -224,6 +224,32 @@ pub fn rows_without(plan: &ConceptPlan, indexes: &Indexes) -> u64
     }
 }
 
+/// How many rows that part reads which is executed next, from a place on, where another was executed first; none where no part is left.
+pub fn rows_behind(parts: &[ConceptPlan], place: usize, first: usize, indexes: &Indexes) -> u64 {
+    match parts.get(place_behind(place, first)) {
+        Some(part) => rows_without(part, indexes),
+        None => 0,
+    }
+}
+
+/// How many rows that part of groups reads which is executed next, from a place on, where another was executed first; none where no
+/// part is left.
+pub fn unit_rows_behind(parts: &[UnitPlan], place: usize, first: usize, indexes: &Indexes) -> u64 {
+    match parts.get(place_behind(place, first)) {
+        Some(part) => unit_rows_without(part, indexes),
+        None => 0,
+    }
+}
+
+// The place of the part that is executed next, from a place on, where another was executed first.
+fn place_behind(place: usize, first: usize) -> usize {
+    if place == first {
+        place.saturating_add(1)
+    } else {
+        place
+    }
+}
+
 /// The same of a plan of groups.
 pub fn unit_rows_without(plan: &UnitPlan, indexes: &Indexes) -> u64 {
     match plan {

@@ -192,7 +192,7 @@ fn in_first_alone<S: ConceptSet>(
     let extent = second_part(reader, first, second, &left, candidates, visits)?;
     let still = Candidates::Within(&left, extent);
     let right: Answer<S> = execute_within(reader, second, &still, visits)?;
-    let found = left.minus_uncounted(reader.alloc, &right)?;
+    let found = left.minus(reader.alloc, &right, visits)?;
     Ok(found)
 }
 
@@ -276,19 +276,17 @@ fn units_within<S: ConceptSet>(
     if let Candidates::Within(wanted, extent) = candidates {
         let most = unit_size(units, reader.indexes);
         if extent.has_few_groups(guess_of_groups(units, reader.indexes), most) {
-            let own: Answer<S> = groups_of(reader, *wanted)?;
-            let theirs_extent = group_extent_of(reader, &own, u64::MAX)?;
+            let own: Answer<S> = groups_of(reader, *wanted, visits)?;
+            let theirs_extent = group_extent_of(reader, &own, u64::MAX, visits)?;
             let theirs = Candidates::Within(&own, theirs_extent);
             let groups: Answer<S> = execute_groups(reader, units, &theirs, visits)?;
-            let items = extent.items_of_groups(u64::from(groups.count()));
-            let found = units_found(reader, count, units, &groups, items, candidates, visits)?;
+            let found = units_found(reader, count, &groups, candidates, visits)?;
             return Ok(found);
         }
     }
     let all = Candidates::All;
     let groups: Answer<S> = execute_groups(reader, units, &all, visits)?;
-    let items = u64::from(groups.count());
-    let found = units_found(reader, count, units, &groups, items, candidates, visits)?;
+    let found = units_found(reader, count, &groups, candidates, visits)?;
     Ok(found)
 }
 

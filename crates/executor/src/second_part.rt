@@ -1,15 +1,14 @@
-//! What MINUS does between its two parts: it counts what it reads of what they find, and sees how much there is of what the first has
-//! found, for which alone the second is executed.
+//! What MINUS does between its two parts: it sees how much there is of what the first has found, for which alone the second is
+//! executed.
 ghost use Rattle.std.specs.Prelude.{◌≡◌, ◌≤◌, All, IfOk, length, true};
 ghost use Rattle.postings.specs.Groups.{all_groups};
 ghost use Rattle.set_algebra.specs.Physical.{physical_minus, physical_units_minus, physical_of, physical_units_of};
 ghost use Rattle.plan_bounds.specs.Bounds.{group_own_bound, own_bound};
 ghost use Rattle.plan_bounds.specs.Sizes.{group_size, size as size_of};
-ghost use Rattle.reading.specs.Counted.{CountsWithin};
+ghost use Rattle.executor.specs.inside.Executed.{CountsBeside};
 ghost use Rattle.candidates.specs.Extents.{IsExtentOf, IsGroupExtentOf};
 ghost use Rattle.candidates.specs.Within.{AreConcepts, AreGroups, may_be};
 
-use crate::counting::minus_reads;
 use candidates::{Candidates, Extent, extent_to_take, group_extent_to_take};
 use idset::ConceptSet;
 use plan_bounds::{plan_size, unit_size};
@@ -31,14 +30,15 @@ pub fn second_part<S: ConceptSet>(
     requires among { All (λ number. may_be S.items_of candidates.now number ≡ true) (S.items_of left.now) }
     requires size { length (S.items_of left.now) ≤ size_of reader.indexes.now (physical_of first.now) }
     ensures extent { IfOk result (λ extent. IsExtentOf reader.entry.indexes.now (S.items_of left.now) extent) }
-    ensures counted { CountsWithin (own_bound reader.entry.indexes.now (physical_minus (physical_of first.now) (physical_of second.now))) visits.old visits.new }
+    ensures counted { CountsBeside (length (S.items_of left.now)) (size_of reader.entry.indexes.now (physical_of second.now))
+        (own_bound reader.entry.indexes.now (physical_minus (physical_of first.now) (physical_of second.now)))
+        visits.old visits.new }
 {
     let sizes = (
         plan_size(first, reader.indexes),
         plan_size(second, reader.indexes),
     );
-    visits.add(minus_reads(left.count(), sizes));
-    let extent = extent_to_take(reader, candidates, left, sizes)?;
+    let extent = extent_to_take(reader, candidates, left, sizes, visits)?;
     Ok(extent)
 }
 
@@ -56,13 +56,14 @@ pub fn second_unit_part<S: ConceptSet>(
     requires among { All (λ number. may_be S.items_of candidates.now number ≡ true) (S.items_of left.now) }
     requires size { length (S.items_of left.now) ≤ group_size reader.indexes.now (physical_units_of first.now) }
     ensures extent { IfOk result (λ extent. IsGroupExtentOf reader.entry.indexes.now (S.items_of left.now) extent) }
-    ensures counted { CountsWithin (group_own_bound reader.entry.indexes.now (physical_units_minus (physical_units_of first.now) (physical_units_of second.now))) visits.old visits.new }
+    ensures counted { CountsBeside (length (S.items_of left.now)) (group_size reader.entry.indexes.now (physical_units_of second.now))
+        (group_own_bound reader.entry.indexes.now (physical_units_minus (physical_units_of first.now) (physical_units_of second.now)))
+        visits.old visits.new }
 {
     let sizes = (
         unit_size(first, reader.indexes),
         unit_size(second, reader.indexes),
     );
-    visits.add(minus_reads(left.count(), sizes));
-    let extent = group_extent_to_take(reader, candidates, left, sizes)?;
+    let extent = group_extent_to_take(reader, candidates, left, sizes, visits)?;
     Ok(extent)
 }

@@ -9,8 +9,8 @@ ghost use Rattle.candidates.specs.Within.{AreGroups};
 ghost use Rattle.reading.specs.Counted.{CountsWithin};
 ghost use Rattle.executor.specs.inside.Executed.{AnswersUnits, CountsUnits};
 
-use crate::counting::{count_part, leaf_limits_within};
-use crate::guesses::{group_lead_of, rows_of_types, unit_rows_without};
+use crate::counting::leaf_limits_within;
+use crate::guesses::{group_lead_of, rows_of_types, unit_rows_behind};
 use crate::nodes::{every_candidate_group, no_group};
 use crate::plans::{execute_within, tested_of};
 use crate::second_part::second_unit_part;
@@ -99,7 +99,7 @@ fn groups_in_first_alone<S: ConceptSet>(
     let extent = second_unit_part(reader, first, second, &left, candidates, visits)?;
     let still = Candidates::Within(&left, extent);
     let right: Answer<S> = execute_groups(reader, second, &still, visits)?;
-    let groups = left.minus_uncounted(reader.alloc, &right)?;
+    let groups = left.minus(reader.alloc, &right, visits)?;
     Ok(groups)
 }
 
@@ -163,37 +163,19 @@ fn groups_in_all<S: ConceptSet>(
         return Ok(every);
     }
     let lead = group_lead_of(parts, reader.indexes).min(parts.len() - 1);
-    let mut groups: Answer<S> = groups_led_by(reader, &parts[lead], candidates, visits)?;
+    let mut groups: Answer<S> = execute_groups(reader, &parts[lead], candidates, visits)?;
+    let rows = unit_rows_behind(parts, 0, lead, reader.indexes);
+    let mut extent = group_extent_of(reader, &groups, rows, visits)?;
     for place in 0..parts.len() {
         let part = &parts[place];
         if place != lead {
-            let rows = unit_rows_without(part, reader.indexes);
-            let extent = group_extent_of(reader, &groups, rows)?;
             let still = Candidates::Within(&groups, extent);
             let next: Answer<S> = execute_groups(reader, part, &still, visits)?;
-            count_part(&next, visits);
+            let rows = unit_rows_behind(parts, place + 1, lead, reader.indexes);
+            extent = group_extent_of(reader, &next, rows, visits)?;
             groups = next;
         }
     }
-    Ok(groups)
-}
-
-// The candidates among the groups that a plan means. What it has found is gone through twice.
-#[cycle(execute)]
-fn groups_led_by<S: ConceptSet>(
-    reader: Reader<'_>,
-    plan: &UnitPlan,
-    candidates: &Candidates<'_, S>,
-    visits: &mut Counter,
-) -> Result<Answer<S>, AllocError>
-    requires candidates { AreGroups S.ConceptSet reader.snapshot.now.release reader.indexes.now candidates.now }
-    ensures counted { CountsWithin (2 * group_size reader.entry.indexes.now (physical_units_of plan.now) + group_sum (own_number reader.entry.indexes.now) (physical_units_of plan.now))
-        visits.old visits.new }
-    ensures found { IfOk result (AnswersUnits S.ConceptSet reader.entry.snapshot.now.release reader.entry.indexes.now candidates.now
-        (physical_units_of plan.now) visits.old visits.new) }
-{
-    let groups: Answer<S> = execute_groups(reader, plan, candidates, visits)?;
-    count_part(&groups, visits);
     Ok(groups)
 }
 

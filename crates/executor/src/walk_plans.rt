@@ -1,5 +1,5 @@
 //! Walks of a plan.
-ghost use Rattle.std.specs.Prelude.{◌≡◌, ◌≤◌, ◌*◌, IfOk, None, length};
+ghost use Rattle.std.specs.Prelude.{◌≡◌, ◌≤◌, ◌/◌, IfOk, None, length};
 ghost use Rattle.number_lists.specs.Members.{has};
 ghost use Rattle.set_algebra.specs.Meaning.{means};
 ghost use Rattle.set_algebra.specs.Physical.{logical, physical_of, physical_walk};
@@ -21,7 +21,7 @@ use idset::ConceptSet;
 use reading::{Answer, Counter, Reader};
 use set_algebra::ConceptPlan;
 use std::alloc::AllocError;
-use walks::{enough_for, items_enough, led_among};
+use walks::{are_enough, enough_for, led_among};
 
 /// The candidates among the concepts that an operator leads to from those that a plan means. Where few candidates are asked, it is
 /// executed for what is in the lists by which they are asked alone. The rows are added of what is found from one concept, if the tally
@@ -44,9 +44,9 @@ pub fn walk_from<S: ConceptSet>(
     let count = reader.concept_count();
     if let Candidates::Within(wanted, _) = candidates {
         let rows = rows_without(operand, reader.indexes);
-        if let Some(items) = items_enough(reader, operator, count, rows, candidates) {
+        if are_enough(reader, operator, count, rows, candidates) {
             tally.forget();
-            let found = walk_to_few(reader, operator, operand, *wanted, items, rows, visits)?;
+            let found = walk_to_few(reader, operator, operand, *wanted, rows, visits)?;
             return Ok(found);
         }
     }
@@ -56,31 +56,30 @@ pub fn walk_from<S: ConceptSet>(
     Ok(found)
 }
 
-// Those of a set, which are few. They and their lists, so many items, are read twice: to see for which concepts the plan has to be executed,
-// which are enough for them, and to ask them.
+// Those of a set, which are few. They and the lists by which they are asked are read to see for which concepts the plan has to be
+// executed, which are enough for them; these may be read to see how much there is of them; and the few are asked.
 #[cycle(execute)]
 fn walk_to_few<S: ConceptSet>(
     reader: Reader<'_>,
     operator: Operator,
     operand: &ConceptPlan,
     wanted: &Answer<S>,
-    items: u64,
     rows: u64,
     visits: &mut Counter,
 ) -> Result<Answer<S>, AllocError>
     requires bound { S.bound_of wanted.now ≡ length reader.snapshot.now.release.concepts }
     requires several { one_of (physical_of operand.now) ≡ None }
-    requires read { full (asked_items reader.indexes.now.hierarchy operator (S.items_of wanted.now)) ≤ items }
-    requires room { 2 * items ≤ lists_length reader.indexes.now operator }
+    requires room { full (asked_items reader.indexes.now.hierarchy operator (S.items_of wanted.now))
+        ≤ lists_length reader.indexes.now operator / 3 }
     ensures counted { CountsPlan reader.entry.indexes.now (physical_walk operator (physical_of operand.now)) visits.old visits.new }
     ensures found { IfOk result (IsFound S.ConceptSet (length reader.entry.snapshot.now.release.concepts)
         (numbers_within reader.entry.snapshot.now.release (has (S.items_of wanted.now)) (means reader.entry.snapshot.now.release (logical (physical_walk operator (physical_of operand.now)))))
         (node_sum (floor_number reader.entry.indexes.now) (physical_walk operator (physical_of operand.now))) visits.old visits.new) }
 {
-    let enough: Answer<S> = enough_for(reader, operator, wanted, items, visits)?;
-    let extent = extent_of(reader, &enough, rows)?;
+    let enough: Answer<S> = enough_for(reader, operator, wanted, visits)?;
+    let extent = extent_of(reader, &enough, rows, visits)?;
     let theirs = Candidates::Within(&enough, extent);
     let from: Answer<S> = execute_within(reader, operand, &theirs, visits)?;
-    let found = led_among(reader, operator, &from, wanted, items, visits)?;
+    let found = led_among(reader, operator, &from, wanted, visits)?;
     Ok(found)
 }

@@ -17,6 +17,7 @@ use Rattle.postings.specs.Places.{places_from, places_where}
 use Rattle.postings.proofs.EntryLemmas.{rows_of_entries}
 use Rattle.postings.proofs.PlaceLemmas.{places_where-within}
 use Rattle.std.proofs.lemmas.List.Elements.{All-nil}
+use Rattle.candidates.specs.Extents.{rows_in_group}
 use Rattle.set_algebra.specs.Meaning.{has_pairs, pairs_of}
 use Rattle.pair_sets.specs.inside.Among.{at_entry, pair_counts, pairs_among, pairs_of_concept, rows_of_unit}
 use Rattle.candidates.specs.Groups.{some_group_in}
@@ -161,3 +162,8 @@ unit_told indexed n rows within told = by_case (slice_get (groups_in indexed) n)
 pub unit_below : (indexed : Indexed) (at : Option ConceptGroup) → All (λ n. n < length indexed.rows) (rows_of_unit indexed at)
 unit_below indexed None = All-nil (λ n. n < length indexed.rows)
 unit_below indexed (Some group) = places_where-within (is_in_group group) indexed.rows
+
+-- the rows of a group that is there are as many as the group has
+pub unit_count : (indexed : Indexed) (group : Option ConceptGroup) → length (rows_of_unit indexed group) ≡ rows_in_group indexed group
+unit_count indexed None = refl
+unit_count indexed (Some group) = refl

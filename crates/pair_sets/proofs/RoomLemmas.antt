@@ -1,21 +1,33 @@
 -- The rows of distinct types, of distinct sources and of distinct values are no more than all rows.
-use Rattle.std.proofs.Common.{ℕ, suc, ◌+◌, ◌∷◌, [], ◌≡◌, ◌≤◌, ◌<◌, ◌∙◌, inl, inr, Bool, true, false, cond, List}
+use Rattle.std.proofs.Common.{ℕ, suc, ◌+◌, ◌∷◌, [], ◌≡◌, ◌≤◌, ◌<◌, ◌∙◌, Bool, true, false, not, cond, List}
 use Rattle.std.proofs.Common.{length, get_or, refl, sym, ap, arith}
-use Rattle.std.specs.Prelude.{count_by, filter, ◌&&◌, ◌==◌}
+use Rattle.std.specs.Prelude.{Option, None, Some, count_by, filter, slice_get, ◌&&◌, ◌==◌}
 use Rattle.std.specs.List.{flat_map, sum_by}
 use Rattle.std.specs.List.Sorted.{IsStrictlyIncreasing}
-use Rattle.std.proofs.lemmas.Bool.{cases_eq, ne_eqb}
+use Rattle.std.proofs.lemmas.Bool.{eqb-true, ne_eqb}
+use Rattle.std.proofs.lemmas.Option.{slice_get-get_or}
+use Rattle.std.proofs.lemmas.List.Elements.{All-get_or}
 use Rattle.std.proofs.lemmas.List.Concat.{length-flat_map}
 use Rattle.std.proofs.lemmas.List.Sums.{count_by-le-length, sum_by-cons}
 use Rattle.number_lists.specs.Members.{has}
 use Rattle.number_lists.specs.Rising.{IsRisingBelow, rises_within}
 use Rattle.number_lists.proofs.RisingLemmas.{rises_on}
 use Rattle.rf2_rows.specs.Pairs.{value_eq}
-use Rattle.rf2_rows.specs.Release.{Attribute, Value, concept_value, number_value, text_value}
+use Rattle.rf2_rows.specs.Release.{Attribute, Release, Value, concept_value, number_value, text_value}
+use Rattle.number_lists.proofs.ListLemmas.{same_place}
+use Rattle.postings.specs.Groups.{ConceptGroup, group_of, groups_in, is_in_group, rows_alone}
+use Rattle.postings.proofs.KeyLemmas.{IsTold, groups_once, groups_told_apart, in_one_group}
+use Rattle.reading.specs.Counted.{full}
+use Rattle.candidates.specs.Extents.{IsExtentOf, IsGroupExtentOf, group_row_count, rows_in_group}
+use Rattle.candidates.specs.Within.{HaveExtent, extent_told}
+use Rattle.candidates.specs.declared.candidates.Candidates.{Candidates}
+use Rattle.candidates.specs.declared.candidates.Candidates.TheVariants as candidates
+use Rattle.pair_sets.specs.Room.{candidate_items}
+use Rattle.pair_sets.specs.inside.Ways.{AreListedFor, candidates_listed}
 use Rattle.postings.specs.Indexed.{Indexed, types_of}
 use Rattle.postings.specs.Stats.{type_row_count}
 use Rattle.postings.proofs.PlaceLemmas.{length-places_from}
-use Rattle.candidates.specs.RowCounts.{row_count_of}
+use Rattle.candidates.specs.RowCounts.{extent_items, row_count_of}
 use Rattle.candidates.proofs.Normal.{same_by_number}
 use Rattle.candidates.proofs.SumLemmas.{no_sum, two_sums}
 use Rattle.pair_sets.proofs.LeafLemmas.{count_by_keys, types_apart}
@@ -66,50 +78,48 @@ rows_once has_key keys once (x ∷ xs) =
     by true ys = omega arith
     by false ys = omega arith
 
--- ---- identifiers by the numbers of rising concepts
-module _ (concepts : List ℕ) (rising : IsStrictlyIncreasing concepts) (id : ℕ) where
-  none_later : (lowest : ℕ) (numbers : List ℕ)
-      → ((n : ℕ) → lowest ≤ n → n < length concepts → (id == get_or concepts n 0) ≡ false)
-      → rises_within lowest (length concepts) numbers ≡ true → count_by (λ n. id == get_or concepts n 0) numbers ≡ 0
-  none_later lowest [] apart rises = refl
-  none_later lowest (n ∷ numbers) apart rises =
-      let on = rises_on lowest (length concepts) n numbers rises in
+-- where no number behind one that passes a test does, one of some rising numbers passes at the most
+module _ (count : ℕ) (test : ℕ → Bool)
+    (apart : (n m : ℕ) → n < m → m < count → test n ≡ true → test m ≡ false) where
+  none_behind : (n lowest : ℕ) (numbers : List ℕ) → n < lowest → test n ≡ true → rises_within lowest count numbers ≡ true
+      → count_by test numbers ≡ 0
+  none_behind n lowest [] before passes rises = refl
+  none_behind n lowest (m ∷ numbers) before passes rises =
+      let on = rises_on lowest count m numbers rises in
       omega (
         arith,
-        sum_by-cons (λ n. cond (id == get_or concepts n 0) 1 0) n numbers,
-        ap (λ (b : Bool). cond {A = ℕ} b 1 0) (apart n on.above on.below),
-        none_later (suc n) numbers (λ m later within. apart m (omega (arith, later, on.above)) within) on.rest,
+        sum_by-cons (λ k. cond (test k) 1 0) m numbers,
+        ap (λ (b : Bool). cond {A = ℕ} b 1 0) (apart n m (omega (arith, before, on.above)) on.below passes),
+        none_behind n (suc m) numbers (omega (arith, before, on.above)) passes on.rest,
       )
 
-  -- an identifier is that of one of the numbers at the most
-  one_number : (lowest : ℕ) (numbers : List ℕ) → rises_within lowest (length concepts) numbers ≡ true
-      → count_by (λ n. id == get_or concepts n 0) numbers ≤ 1
-  one_number lowest [] rises = omega arith
-  one_number lowest (n ∷ numbers) rises =
-      let on = rises_on lowest (length concepts) n numbers rises in
-      elim (cases_eq id (get_or concepts n 0)) [
-        | inl same ↦
-            omega (
-              arith,
-              sum_by-cons (λ n. cond (id == get_or concepts n 0) 1 0) n numbers,
-              one_at_most (id == get_or concepts n 0),
-              none_later (suc n) numbers
-                  (λ m later within. ap (λ (k : ℕ). k == get_or concepts m 0) same
-                  ∙ same_by_number concepts rising n m on.below within
-                  ∙ ne_eqb n m (λ equal. omega (arith, equal, later))) on.rest,
-            )
-        | inr other ↦
-            omega (
-              arith,
-              sum_by-cons (λ n. cond (id == get_or concepts n 0) 1 0) n numbers,
-              ap (λ (b : Bool). cond {A = ℕ} b 1 0) (ne_eqb id (get_or concepts n 0) other),
-              one_number (suc n) numbers on.rest,
-            )
-      ]
+  one_passes : (lowest : ℕ) (numbers : List ℕ) → rises_within lowest count numbers ≡ true → count_by test numbers ≤ 1
+  one_passes lowest [] rises = omega arith
+  one_passes lowest (n ∷ numbers) rises =
+      let rest = (rises_on lowest count n numbers rises).rest in
+      by (test n) refl (none_behind n (suc n) numbers (omega arith)) (one_passes (suc n) numbers rest) rest
     where
-      one_at_most : (b : Bool) → cond {A = ℕ} b 1 0 ≤ 1
-      one_at_most true = omega arith
-      one_at_most false = omega arith
+      by : (b : Bool) → test n ≡ b → (test n ≡ true → rises_within (suc n) count numbers ≡ true → count_by test numbers ≡ 0)
+          → count_by test numbers ≤ 1 → rises_within (suc n) count numbers ≡ true → count_by test (n ∷ numbers) ≤ 1
+      by true passes none one rest =
+          omega (
+            arith,
+            sum_by-cons (λ k. cond (test k) 1 0) n numbers,
+            ap (λ (b : Bool). cond {A = ℕ} b 1 0) passes,
+            none passes rest,
+          )
+      by false fails none one rest =
+          omega (arith, sum_by-cons (λ k. cond (test k) 1 0) n numbers, ap (λ (b : Bool). cond {A = ℕ} b 1 0) fails, one)
+
+-- an identifier is that of one of the numbers of rising concepts at the most
+one_number : (concepts : List ℕ) → IsStrictlyIncreasing concepts → (id lowest : ℕ) (numbers : List ℕ)
+    → rises_within lowest (length concepts) numbers ≡ true → count_by (λ n. id == get_or concepts n 0) numbers ≤ 1
+one_number concepts rising id =
+    one_passes (length concepts) (λ n. id == get_or concepts n 0)
+    (λ n m before within same.
+    ap (λ (k : ℕ). k == get_or concepts m 0) (eqb-true id (get_or concepts n 0) same)
+    ∙ same_by_number concepts rising n m (omega (arith, before, within)) within
+    ∙ ne_eqb n m (λ equal. omega (arith, equal, before)))
 
 -- no row has two sources, so the rows of some sources are no more than all rows
 pub source_rows_few : (indexed : Indexed) → IsStrictlyIncreasing indexed.concepts → (numbers : List ℕ)
@@ -150,3 +160,80 @@ pub rows_few : (indexed : Indexed) → IsStrictlyIncreasing indexed.concepts →
     → IsRisingBelow (length indexed.concepts) numbers → (back : Bool) → sum_by (row_count_of indexed back) numbers ≤ length indexed.rows
 rows_few indexed rising numbers rises true = source_rows_few indexed rising numbers rises
 rows_few indexed rising numbers rises false = value_rows_few indexed rising numbers rises
+
+-- nor is a row in two groups, so the rows of some groups are no more than all rows
+pub group_rows_few : (indexed : Indexed) → IsStrictlyIncreasing indexed.concepts → (numbers : List ℕ)
+    → IsRisingBelow (length (groups_in indexed)) numbers → sum_by (group_row_count indexed) numbers ≤ length indexed.rows
+group_rows_few indexed rising numbers rises =
+    omega (
+      arith,
+      ap (λ (count : ℕ → ℕ). sum_by count numbers) each,
+      rows_once (λ (row : Attribute) (n : ℕ). in_some (slice_get groups n) row) numbers
+          (λ row. one_passes (length groups) (λ n. in_some (slice_get groups n) row) (apart row) 0 numbers rises) indexed.rows,
+    )
+  where
+    release : Release
+    release = rows_alone indexed.concepts indexed.rows
+
+    groups : List ConceptGroup
+    groups = groups_in indexed
+
+    in_some : Option ConceptGroup → Attribute → Bool
+    in_some None row = false
+    in_some (Some group) row = is_in_group group row
+
+    own : (group : Option ConceptGroup) → rows_in_group indexed group ≡ length (filter (in_some group) indexed.rows)
+    own None = none indexed.rows
+      where
+        none : (rows : List Attribute) → 0 ≡ length (filter (λ row. false) rows)
+        none [] = refl
+        none (row ∷ rows) = none rows
+    own (Some group) = length-places_from (is_in_group group) 0 indexed.rows
+
+    each : group_row_count indexed ≡ (λ n. length (filter (in_some (slice_get groups n)) indexed.rows))
+    each = λ i n. own (slice_get groups n) i
+
+    group_at : (n : ℕ) (d : ConceptGroup) → n < length groups → slice_get groups n ≡ Some (get_or groups n d)
+    group_at n d within = slice_get-get_or groups n d within
+
+    its_group : (row : Attribute) (n : ℕ) → n < length groups → in_some (slice_get groups n) row ≡ true
+        → get_or groups n (group_of row) ≡ group_of row
+    its_group row n within passes =
+        in_one_group (get_or groups n (group_of row)) row
+        (All-get_or (λ (group : ConceptGroup). IsTold group.key) groups n (group_of row) within (groups_told_apart release indexed.concepts))
+        (ap (λ (group : Option ConceptGroup). in_some group row) (sym (group_at n (group_of row) within)) ∙ passes)
+
+    apart : (row : Attribute) (n m : ℕ) → n < m → m < length groups → in_some (slice_get groups n) row ≡ true
+        → in_some (slice_get groups m) row ≡ false
+    apart row n m before within passes = by (in_some (slice_get groups m) row) refl
+      where
+        by : (b : Bool) → in_some (slice_get groups m) row ≡ b → b ≡ false
+        by false fails = refl
+        by true also =
+            absurd (omega (
+              arith,
+              before,
+              same_place groups (groups_once release rising) n m (group_of row) (omega (arith, before, within)) within
+                  (its_group row n (omega (arith, before, within)) passes ∙ sym (its_group row m within also)),
+            ))
+
+-- where no more of the candidates is than is said, they and their rows are no more than that
+pub concepts_fit : {S : Type 0} (items_of : S → List ℕ) (indexed : Indexed) (back : Bool) (candidates : Candidates S)
+    → HaveExtent items_of (IsExtentOf indexed) candidates
+    → full (candidate_items items_of indexed (row_count_of indexed (not back)) candidates) ≤ extent_items (extent_told back candidates)
+concepts_fit items_of indexed back candidates.All extent = omega arith
+concepts_fit items_of indexed true (candidates.Within set extent) is = omega (arith, is.items, is.back_rows)
+concepts_fit items_of indexed false (candidates.Within set extent) is = omega (arith, is.items, is.rows)
+
+pub groups_fit : {S : Type 0} (items_of : S → List ℕ) (indexed : Indexed) (candidates : Candidates S)
+    → HaveExtent items_of (IsGroupExtentOf indexed) candidates
+    → full (candidate_items items_of indexed (group_row_count indexed) candidates) ≤ extent_items (extent_told false candidates)
+groups_fit items_of indexed candidates.All extent = omega arith
+groups_fit items_of indexed (candidates.Within set extent) is = omega (arith, is.items, is.rows)
+
+-- what is read of candidates that are listed, and then by so many rows each
+pub asked_fit : {S : Type 0} (items_of : S → List ℕ) (indexed : Indexed) (rows : ℕ → ℕ) (candidates : Candidates S) (numbers : List ℕ)
+    → AreListedFor items_of candidates numbers → sum_by rows numbers ≤ length indexed.rows
+    → candidates_listed items_of candidates + sum_by rows numbers ≤ candidate_items items_of indexed rows candidates
+asked_fit items_of indexed rows candidates.All numbers listed few = omega (arith, few)
+asked_fit items_of indexed rows (candidates.Within set extent) numbers listed few = omega (arith, ap (sum_by rows) listed)

@@ -5,6 +5,8 @@ use Rattle.postings.specs.Stats.{type_row_count}
 use Rattle.reading.specs.Counted.{full_sum}
 use Rattle.candidates.specs.Numbers.{is_one_of}
 use Rattle.candidates.specs.RowCounts.{row_count_of}
+use Rattle.candidates.specs.declared.candidates.Candidates.{Candidates}
+use Rattle.candidates.specs.declared.candidates.Candidates.TheVariants as candidates
 use Rattle.set_algebra.specs.declared.choice.Choice.{Choice}
 use Rattle.set_algebra.specs.declared.choice.Choice.TheVariants.{ByValue, ByType, Scan}
 use Rattle.pair_sets.specs.declared.tested.Tested.{Tested}
@@ -31,6 +33,12 @@ abbrev pub leaf_items : {S : Type 0} → (S → List ℕ) → Indexed → Bool �
 leaf_items items_of indexed back ByValue types test = value_items items_of indexed back test
 leaf_items items_of indexed back ByType types test = type_items indexed types
 leaf_items items_of indexed back Scan types test = length indexed.rows
+
+-- how many items are read of candidates that have so many rows each: these and their rows, and where all are candidates all rows
+abbrev pub candidate_items : {S : Type 0} → (S → List ℕ) → Indexed → (ℕ → ℕ) → Candidates S → ℕ
+candidate_items items_of indexed rows candidates.All = length indexed.rows
+candidate_items items_of indexed rows (candidates.Within set extent) =
+    length (items_of set.now) + sum_by rows (items_of set.now)
 
 -- where it is said how many rows the concepts of a test have, they have no more
 abbrev pub AreTold : {S : Type 0} → (S → List ℕ) → Indexed → Bool → Tested S → Option ℕ → Type 0

@@ -1,5 +1,6 @@
 //! The candidates with so many pairs, by the rows of the candidates.
-ghost use Rattle.std.specs.Prelude.{◌≡◌, ◌<◌, ◌&&◌, All, List, cond, count_by, true, IfOk, filter, length, slice_get};
+ghost use Rattle.std.specs.Prelude.{◌≡◌, ◌<◌, ◌&&◌, All, List, cond, count_by, not, true, IfOk, filter, length, slice_get};
+ghost use Rattle.std.specs.List.{sum_by};
 ghost use Rattle.constraint_tree.specs.Passing.{lies_in as lies_in_of};
 ghost use Rattle.postings.specs.Columns.{AreSources, AreTypes};
 ghost use Rattle.postings.specs.Entries.{Entry};
@@ -7,7 +8,10 @@ ghost use Rattle.postings.specs.Groups.{groups_in};
 ghost use Rattle.postings.specs.Indexed.{types_of};
 ghost use Rattle.pair_sets.specs.inside.Among.{pairs_among as pairs_among_of, pairs_of_concept as pairs_of_concept_of, rows_of_unit};
 ghost use Rattle.pair_sets.specs.inside.Hits.{has_source_in, is_type_in, value_of};
+ghost use Rattle.candidates.specs.Extents.{group_row_count};
 ghost use Rattle.candidates.specs.Numbers.{is_one_of};
+ghost use Rattle.candidates.specs.RowCounts.{row_count_of};
+ghost use Rattle.reading.specs.Counted.{CountsWithin, HandsOut};
 ghost use Rattle.pair_sets.specs.Tested.{IsTestBelow, passes_of};
 
 use crate::passing::passes;
@@ -16,7 +20,7 @@ use crate::types::is_typed;
 use constraint_tree::Cardinality;
 use idset::ConceptSet;
 use postings::{FlaggedNumber, RowCells};
-use reading::{Answer, Reader};
+use reading::{Answer, Counter, Reader};
 use std::alloc::AllocError;
 
 // Whether a number lies in a cardinality.
@@ -126,17 +130,20 @@ fn pairs_of_concept<S: ConceptSet>(
     concept: u32,
     types: &Answer<S>,
     tested: &Tested<S>,
+    visits: &mut Counter,
 ) -> u64
     requires concept { concept < length reader.indexes.now.concepts }
     requires types { S.bound_of types.now ≡ length reader.indexes.now.concepts }
     requires tested { IsTestBelow S.bound_of (length reader.indexes.now.concepts) tested.now }
-    ensures { result ≡ pairs_of_concept_of reader.entry.indexes.now back (is_one_of reader.entry.indexes.now.concepts (S.items_of types.now)) (passes_of S.items_of reader.entry.indexes.now.concepts tested.now) concept }
+    ensures counted { HandsOut (row_count_of reader.entry.indexes.now (not back) concept) visits.old visits.new }
+    ensures pairs { result ≡ pairs_of_concept_of reader.entry.indexes.now back (is_one_of reader.entry.indexes.now.concepts (S.items_of types.now)) (passes_of S.items_of reader.entry.indexes.now.concepts tested.now) concept }
 {
     if back {
-        let columns = reader.value_columns(concept);
+        let columns = reader.value_columns(concept, visits);
         back_pairs_among(reader, columns.sources, columns.types, types, tested)
     } else {
-        pairs_among(reader, reader.rows_of(concept), false, types, tested)
+        let rows = reader.rows_of(concept, visits);
+        pairs_among(reader, rows, false, types, tested)
     }
 }
 
@@ -149,6 +156,7 @@ pub fn concepts_among<S: ConceptSet>(
     concepts: &[u32],
     types: &Answer<S>,
     tested: &Tested<S>,
+    visits: &mut Counter,
 ) -> Result<Vec<u32>, AllocError>
     requires concepts { All (λ number. number < length reader.indexes.now.concepts) concepts.now }
     requires types { S.bound_of types.now ≡ length reader.indexes.now.concepts }
@@ -156,10 +164,11 @@ pub fn concepts_among<S: ConceptSet>(
     ensures within { IfOk result (λ kept. All (λ number. number < length reader.entry.indexes.now.concepts) kept.items) }
     ensures kept { IfOk result (λ kept. kept.items ≡ filter
         (λ number. lies_in_of count (pairs_of_concept_of reader.entry.indexes.now back (is_one_of reader.entry.indexes.now.concepts (S.items_of types.now)) (passes_of S.items_of reader.entry.indexes.now.concepts tested.now) number)) concepts.now) }
+    ensures counted { CountsWithin (sum_by (row_count_of reader.entry.indexes.now (not back)) concepts.now) visits.old visits.new }
 {
     let mut kept = Vec::new(reader.alloc);
     for concept in concepts {
-        let pairs = pairs_of_concept(reader, back, *concept, types, tested);
+        let pairs = pairs_of_concept(reader, back, *concept, types, tested, visits);
         if lies_in(count, pairs) {
             kept.push(*concept)?;
         }
@@ -174,6 +183,7 @@ pub fn groups_among<S: ConceptSet>(
     groups: &[u32],
     types: &Answer<S>,
     tested: &Tested<S>,
+    visits: &mut Counter,
 ) -> Result<Vec<u32>, AllocError>
     requires groups { All (λ number. number < length (groups_in reader.indexes.now)) groups.now }
     requires types { S.bound_of types.now ≡ length reader.indexes.now.concepts }
@@ -181,10 +191,12 @@ pub fn groups_among<S: ConceptSet>(
     ensures within { IfOk result (λ kept. All (λ number. number < length (groups_in reader.entry.indexes.now)) kept.items) }
     ensures kept { IfOk result (λ kept. kept.items ≡ filter
         (λ number. lies_in_of count (pairs_among_of reader.entry.indexes.now true (is_one_of reader.entry.indexes.now.concepts (S.items_of types.now)) (passes_of S.items_of reader.entry.indexes.now.concepts tested.now) (rows_of_unit reader.entry.indexes.now (slice_get (groups_in reader.entry.indexes.now) number)))) groups.now) }
+    ensures counted { CountsWithin (sum_by (group_row_count reader.entry.indexes.now) groups.now) visits.old visits.new }
 {
     let mut kept = Vec::new(reader.alloc);
     for group in groups {
-        let pairs = pairs_among(reader, reader.unit_rows(*group), true, types, tested);
+        let rows = reader.unit_rows(*group, visits);
+        let pairs = pairs_among(reader, rows, true, types, tested);
         if lies_in(count, pairs) {
             kept.push(*group)?;
         }

@@ -1,13 +1,19 @@
 //! The concepts and the groups with so many pairs, by the rows of some values, of some types or of the candidates.
-ghost use Rattle.std.specs.Prelude.{ℕ, ◌≡◌, ◌<◌, All, Bool, IfOk, filter, length};
-ghost use Rattle.std.specs.List.{range_with_len};
+ghost use Rattle.std.specs.Prelude.{ℕ, ◌≡◌, ◌<◌, All, Bool, IfOk, false, filter, length, not};
+ghost use Rattle.std.specs.List.{range_with_len, sum_by};
 ghost use Rattle.constraint_tree.specs.Passing.{is_within};
 ghost use Rattle.number_lists.specs.Rising.{IsRisingBelow};
 ghost use Rattle.number_lists.specs.Members.{has};
 ghost use Rattle.postings.specs.Groups.{all_groups};
 ghost use Rattle.postings.specs.Indexed.{types_of};
 ghost use Rattle.set_algebra.specs.Meaning.{has_pairs, pairs_of};
+ghost use Rattle.postings.specs.Stats.{type_row_count};
+ghost use Rattle.reading.specs.Counted.{CountsWithin};
+ghost use Rattle.candidates.specs.Extents.{group_row_count};
 ghost use Rattle.candidates.specs.Groups.{groups_where};
+ghost use Rattle.candidates.specs.RowCounts.{row_count_of};
+ghost use Rattle.pair_sets.specs.Room.{candidate_items};
+ghost use Rattle.pair_sets.specs.inside.Ways.{AreListedFor, candidates_listed};
 ghost use Rattle.candidates.specs.Numbers.{is_one_of, numbers_in};
 ghost use Rattle.pair_sets.specs.Tested.{IsTestBelow, passes_of};
 ghost use Rattle.candidates.specs.Within.{AreBelow, groups_within, may_be, numbers_within};
@@ -19,7 +25,7 @@ use crate::tested::Tested;
 use candidates::Candidates;
 use constraint_tree::Cardinality;
 use idset::ConceptSet;
-use reading::{Answer, Reader};
+use reading::{Answer, Counter, Reader};
 use std::alloc::{AllocError, Global};
 
 /// By the rows of some concepts, which rise: the concepts so many of whose pairs have a type that is one of some and one of
@@ -30,16 +36,19 @@ pub fn with_pairs_by_value<S: ConceptSet>(
     count: Cardinality,
     types: &Answer<S>,
     values: &[u32],
+    visits: &mut Counter,
 ) -> Result<Answer<S>, AllocError>
     requires types { S.bound_of types.now ≡ length reader.indexes.now.concepts }
     requires values { IsRisingBelow (length reader.indexes.now.concepts) values.now }
+    ensures counted { CountsWithin (sum_by (row_count_of reader.entry.indexes.now back) values.now)
+        visits.old visits.new }
     ensures items { IfOk result (λ found. S.items_of found ≡ numbers_in reader.entry.snapshot.now.release
         (λ concept. has_pairs count (is_one_of reader.entry.indexes.now.concepts (S.items_of types.now)) (is_within (is_one_of reader.entry.indexes.now.concepts values.now)) (pairs_of reader.entry.snapshot.now.release back concept))) }
     ensures bound { IfOk result (λ found. S.bound_of found ≡ length reader.entry.snapshot.now.release.concepts) }
 {
     // all attribute rows are by source, so their sources are in force
     reader.attribute_count();
-    let hits = hits_by_value(reader, back, types, values)?;
+    let hits = hits_by_value(reader, back, types, values, visits)?;
     as_often(reader.alloc, hits.as_slice(), reader.concept_count(), count)
 }
 
@@ -51,15 +60,18 @@ pub fn with_pairs_by_type<S: ConceptSet>(
     count: Cardinality,
     ids: &[u64],
     tested: &Tested<S>,
+    visits: &mut Counter,
 ) -> Result<Answer<S>, AllocError>
     requires tested { IsTestBelow S.bound_of (length reader.indexes.now.concepts) tested.now }
+    ensures counted { CountsWithin (sum_by (type_row_count reader.entry.indexes.now) ids.now)
+        visits.old visits.new }
     ensures items { IfOk result (λ found. (one : ℕ → Bool) → ids.now ≡ filter one (types_of reader.entry.indexes.now.rows)
         → S.items_of found ≡ numbers_in reader.entry.snapshot.now.release (λ concept. has_pairs count one (passes_of S.items_of reader.entry.indexes.now.concepts tested.now) (pairs_of reader.entry.snapshot.now.release back concept))) }
     ensures bound { IfOk result (λ found. S.bound_of found ≡ length reader.entry.snapshot.now.release.concepts) }
 {
     // all attribute rows are by source, so their sources are in force
     reader.attribute_count();
-    let hits = hits_by_type(reader, back, ids, tested)?;
+    let hits = hits_by_type(reader, back, ids, tested, visits)?;
     as_often(reader.alloc, hits.as_slice(), reader.concept_count(), count)
 }
 
@@ -72,10 +84,13 @@ pub fn with_pairs_among<S: ConceptSet>(
     types: &Answer<S>,
     tested: &Tested<S>,
     candidates: &Candidates<'_, S>,
+    visits: &mut Counter,
 ) -> Result<Answer<S>, AllocError>
     requires types { S.bound_of types.now ≡ length reader.indexes.now.concepts }
     requires tested { IsTestBelow S.bound_of (length reader.indexes.now.concepts) tested.now }
     requires candidates { AreBelow S.bound_of (length reader.snapshot.now.release.concepts) candidates.now }
+    ensures counted { CountsWithin (candidate_items S.items_of reader.entry.indexes.now (row_count_of reader.entry.indexes.now (not back)) candidates.now)
+        visits.old visits.new }
     ensures items { IfOk result (λ found. S.items_of found ≡ numbers_within reader.entry.snapshot.now.release (may_be S.items_of candidates.now)
         (λ concept. has_pairs count (is_one_of reader.entry.indexes.now.concepts (S.items_of types.now)) (passes_of S.items_of reader.entry.indexes.now.concepts tested.now) (pairs_of reader.entry.snapshot.now.release back concept))) }
     ensures bound { IfOk result (λ found. S.bound_of found ≡ length reader.entry.snapshot.now.release.concepts) }
@@ -83,8 +98,8 @@ pub fn with_pairs_among<S: ConceptSet>(
     // all attribute rows are by source, so their sources are in force
     reader.attribute_count();
     let concept_count = reader.concept_count();
-    let asked = numbers_asked(reader.alloc, concept_count, candidates)?;
-    let kept = concepts_among(reader, back, count, asked.as_slice(), types, tested)?;
+    let asked = numbers_asked(reader.alloc, concept_count, candidates, visits)?;
+    let kept = concepts_among(reader, back, count, asked.as_slice(), types, tested, visits)?;
     Answer::from_numbers(reader.alloc, kept.as_slice(), concept_count)
 }
 
@@ -95,15 +110,18 @@ pub fn groups_with_pairs_by_value<S: ConceptSet>(
     count: Cardinality,
     types: &Answer<S>,
     values: &[u32],
+    visits: &mut Counter,
 ) -> Result<Answer<S>, AllocError>
     requires types { S.bound_of types.now ≡ length reader.indexes.now.concepts }
     requires values { IsRisingBelow (length reader.indexes.now.concepts) values.now }
+    ensures counted { CountsWithin (sum_by (row_count_of reader.entry.indexes.now false) values.now)
+        visits.old visits.new }
     ensures items { IfOk result (λ found. S.items_of found ≡ groups_where reader.entry.snapshot.now.release
         (has_pairs count (is_one_of reader.entry.indexes.now.concepts (S.items_of types.now)) (is_within (is_one_of reader.entry.indexes.now.concepts values.now)))) }
     ensures bound { IfOk result (λ found. S.bound_of found ≡ length (all_groups reader.entry.snapshot.now.release)) }
 {
     reader.concept_count();
-    let hits = group_hits_by_value(reader, types, values)?;
+    let hits = group_hits_by_value(reader, types, values, visits)?;
     as_often(reader.alloc, hits.as_slice(), reader.group_count(), count)
 }
 
@@ -113,14 +131,17 @@ pub fn groups_with_pairs_by_type<S: ConceptSet>(
     count: Cardinality,
     ids: &[u64],
     tested: &Tested<S>,
+    visits: &mut Counter,
 ) -> Result<Answer<S>, AllocError>
     requires tested { IsTestBelow S.bound_of (length reader.indexes.now.concepts) tested.now }
+    ensures counted { CountsWithin (sum_by (type_row_count reader.entry.indexes.now) ids.now)
+        visits.old visits.new }
     ensures items { IfOk result (λ found. (one : ℕ → Bool) → ids.now ≡ filter one (types_of reader.entry.indexes.now.rows)
         → S.items_of found ≡ groups_where reader.entry.snapshot.now.release (has_pairs count one (passes_of S.items_of reader.entry.indexes.now.concepts tested.now))) }
     ensures bound { IfOk result (λ found. S.bound_of found ≡ length (all_groups reader.entry.snapshot.now.release)) }
 {
     reader.concept_count();
-    let hits = group_hits_by_type(reader, ids, tested)?;
+    let hits = group_hits_by_type(reader, ids, tested, visits)?;
     as_often(reader.alloc, hits.as_slice(), reader.group_count(), count)
 }
 
@@ -132,18 +153,21 @@ pub fn groups_with_pairs_among<S: ConceptSet>(
     types: &Answer<S>,
     tested: &Tested<S>,
     candidates: &Candidates<'_, S>,
+    visits: &mut Counter,
 ) -> Result<Answer<S>, AllocError>
     requires types { S.bound_of types.now ≡ length reader.indexes.now.concepts }
     requires tested { IsTestBelow S.bound_of (length reader.indexes.now.concepts) tested.now }
     requires candidates { AreBelow S.bound_of (length (all_groups reader.snapshot.now.release)) candidates.now }
+    ensures counted { CountsWithin (candidate_items S.items_of reader.entry.indexes.now (group_row_count reader.entry.indexes.now) candidates.now)
+        visits.old visits.new }
     ensures items { IfOk result (λ found. S.items_of found ≡ groups_within reader.entry.snapshot.now.release (may_be S.items_of candidates.now)
         (has_pairs count (is_one_of reader.entry.indexes.now.concepts (S.items_of types.now)) (passes_of S.items_of reader.entry.indexes.now.concepts tested.now))) }
     ensures bound { IfOk result (λ found. S.bound_of found ≡ length (all_groups reader.entry.snapshot.now.release)) }
 {
     reader.concept_count();
     let group_count = reader.group_count();
-    let asked = numbers_asked(reader.alloc, group_count, candidates)?;
-    let kept = groups_among(reader, count, asked.as_slice(), types, tested)?;
+    let asked = numbers_asked(reader.alloc, group_count, candidates, visits)?;
+    let kept = groups_among(reader, count, asked.as_slice(), types, tested, visits)?;
     Answer::from_numbers(reader.alloc, kept.as_slice(), group_count)
 }
 
@@ -152,8 +176,12 @@ fn numbers_asked<S: ConceptSet>(
     alloc: Global,
     bound: u32,
     candidates: &Candidates<'_, S>,
+    visits: &mut Counter,
 ) -> Result<Vec<u32>, AllocError>
     requires { AreBelow S.bound_of bound candidates.now }
+    ensures counted { CountsWithin (candidates_listed S.items_of candidates.now) visits.old visits.new }
+    ensures rising { IfOk result (λ numbers. IsRisingBelow bound numbers.items) }
+    ensures items { IfOk result (λ numbers. AreListedFor S.items_of candidates.now numbers.items) }
     ensures within { IfOk result (λ numbers. All (λ number. number < bound) numbers.items) }
     ensures asked { IfOk result (λ numbers. (number : ℕ) → number < bound → has numbers.items number ≡ may_be S.items_of candidates.now number) }
 {
@@ -163,7 +191,7 @@ fn numbers_asked<S: ConceptSet>(
             Ok(numbers)
         }
         Candidates::Within(set, _) => {
-            let numbers = set.items_uncounted(alloc)?;
+            let numbers = set.items(alloc, visits)?;
             Ok(numbers)
         }
     }

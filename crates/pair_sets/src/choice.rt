@@ -1,24 +1,25 @@
-//! In which way a leaf is read, and how many items that reads.
+//! In which way a leaf is read.
 //!
 //! What is read to find the way is counted too, and is read only where the bound of the leaf has room for it.
-ghost use Rattle.std.specs.Prelude.{ℕ, true, ◌≡◌, ◌≤◌, ◌+◌, ◌<◌, All, Bool, IfOk, IfSome, List, Some, length};
+ghost use Rattle.std.specs.Prelude.{ℕ, true, ◌≡◌, ◌≤◌, ◌+◌, ◌<◌, All, Bool, IfOk, IfSome, Some, length};
+ghost use Rattle.std.specs.List.{sum_by};
 ghost use Rattle.postings.specs.Indexed.{types_of};
 ghost use Rattle.postings.specs.Stats.{type_row_count};
-ghost use Rattle.reading.specs.Counted.{full, full_sum};
+ghost use Rattle.reading.specs.Counted.{CountsWithin, HandsOut, full, full_sum};
 ghost use Rattle.candidates.specs.Numbers.{is_one_of};
 ghost use Rattle.candidates.specs.RowCounts.{row_count_of};
 ghost use Rattle.candidates.specs.Within.{extent_told};
 ghost use Rattle.pair_sets.specs.Room.{AreTold, leaf_items, type_items, types_read, value_items};
 ghost use Rattle.pair_sets.specs.Tested.{IsTestBelow, passes_of};
-ghost use Rattle.pair_sets.specs.inside.Ways.{AreAllThatPass, AreFewer, AreLookedUp, IsValuesWay, IsWayFor};
-ghost use Rattle.pair_sets.specs.inside.Ways.{items_by_value, values_way_items, way_items};
+ghost use Rattle.pair_sets.specs.inside.Ways.{AreAllThatPass, AreLookedUp, IsValuesWay, IsWayFor, LeavesRoom};
+ghost use Rattle.pair_sets.specs.inside.Ways.{items_by_value, looked_up, rest_beside, rest_items, values_rest};
 
 use crate::tested::{Tested, count_of_test};
 use crate::types::{types_in, types_to_read};
-use crate::ways::{LeafReads, PassingValues, Way, items_among, values_are_read_before};
+use crate::ways::{LeafReads, PassingValues, Way, values_are_read_before};
 use candidates::{Candidates, Extent, are_read_before, extent_for, look_ups, rows_of_value};
 use idset::ConceptSet;
-use reading::{Answer, Reader};
+use reading::{Answer, Counter, Reader};
 use set_algebra::Choice;
 use std::alloc::AllocError;
 
@@ -28,32 +29,35 @@ const VALUE: u64 = 4;
 // Where there are as many values as rows, divided by this, all rows are read as soon as those of the values.
 const SHARE: u64 = 2;
 
-/// The way in which a leaf is read. Beside it stands how many items are read, also to find the way.
+/// The way in which a leaf is read. What is read to find it is counted, and there is room for what is read then.
 pub fn leaf_way<S: ConceptSet>(
     reader: Reader<'_>,
     reads: LeafReads,
     types: &Answer<S>,
     tested: Tested<S>,
     candidates: &Candidates<'_, S>,
-) -> Result<(Way<S>, u64), AllocError>
+    visits: &mut Counter,
+) -> Result<Way<S>, AllocError>
     requires types { S.bound_of types.now ≡ length reader.indexes.now.concepts }
     requires tested { IsTestBelow S.bound_of (length reader.indexes.now.concepts) tested }
     requires told { AreTold S.items_of reader.indexes.now reads.back tested reads.value_rows }
-    requires room { full (leaf_items S.items_of reader.indexes.now reads.back reads.choice (S.items_of types.now) tested) ≤ reads.bound }
-    ensures way { IfOk result (λ made. IsWayFor S.items_of S.bound_of reader.entry.indexes.now
-        (is_one_of reader.entry.indexes.now.concepts (S.items_of types.now)) tested made.0) }
-    ensures reads { IfOk result (λ made. full (way_items reader.entry.indexes.now reads.back (S.items_of types.now)
-        (extent_told reads.back candidates.now) made.0) ≤ made.1) }
-    ensures within { IfOk result (λ made. made.1 ≤ reads.bound) }
+    requires room { full (leaf_items S.items_of reader.indexes.now reads.back reads.choice (S.items_of types.now) tested)
+        ≤ reads.bound }
+    ensures way { IfOk result (IsWayFor S.items_of S.bound_of reader.entry.indexes.now
+        (is_one_of reader.entry.indexes.now.concepts (S.items_of types.now)) tested) }
+    ensures rest { IfOk result (λ way. LeavesRoom
+        (rest_items reader.entry.indexes.now reads.back (extent_told reads.back candidates.now) way) reads.bound
+        visits.old visits.new) }
+    ensures counted { CountsWithin reads.bound visits.old visits.new }
 {
     let extent = extent_for(candidates, reads.back);
     match reads.choice {
         Choice::ByValue if are_most(reader, reads, types, &tested) => {
-            by_type(reader, reads, types, tested, extent)
+            by_type(reader, reads, types, tested, extent, visits)
         }
-        Choice::ByValue => by_value(reader, reads, tested, extent),
-        Choice::ByType => by_type(reader, reads, types, tested, extent),
-        Choice::Scan => by_scan(reader, reads, tested, extent),
+        Choice::ByValue => by_value(reader, reads, tested, extent, visits),
+        Choice::ByType => by_type(reader, reads, types, tested, extent, visits),
+        Choice::Scan => by_scan(reader, reads, tested, extent, visits),
     }
 }
 
@@ -64,7 +68,8 @@ fn are_most<S: ConceptSet>(
     types: &Answer<S>,
     tested: &Tested<S>,
 ) -> bool
-    ensures { result ≡ true → full (length reader.entry.indexes.now.rows + types_read reader.entry.indexes.now (S.items_of types.now)) ≤ reads.bound }
+    ensures { result ≡ true → full (length reader.entry.indexes.now.rows
+        + types_read reader.entry.indexes.now (S.items_of types.now)) ≤ reads.bound }
 {
     let rows = u64::from(reader.row_count());
     let whole = rows.saturating_add(types_to_read(reader, types));
@@ -77,24 +82,23 @@ fn by_value<S: ConceptSet>(
     reads: LeafReads,
     tested: Tested<S>,
     candidates: Option<Extent>,
-) -> Result<(Way<S>, u64), AllocError>
+    visits: &mut Counter,
+) -> Result<Way<S>, AllocError>
     requires tested { IsTestBelow S.bound_of (length reader.indexes.now.concepts) tested }
     requires room { full (value_items S.items_of reader.indexes.now reads.back tested) ≤ reads.bound }
-    ensures way { IfOk result (λ made. (one : ℕ → Bool) → IsWayFor S.items_of S.bound_of reader.entry.indexes.now one tested made.0) }
-    ensures reads { IfOk result
-        (λ made. (types : List ℕ) → full (way_items reader.entry.indexes.now reads.back types candidates made.0) ≤ made.1) }
-    ensures within { IfOk result (λ made. made.1 ≤ reads.bound) }
+    ensures way { IfOk result (λ way. (one : ℕ → Bool) → IsWayFor S.items_of S.bound_of reader.entry.indexes.now one tested way) }
+    ensures rest { IfOk result (λ way. LeavesRoom (rest_items reader.entry.indexes.now reads.back candidates way) reads.bound
+        visits.old visits.new) }
+    ensures counted { CountsWithin reads.bound visits.old visits.new }
 {
-    let all = values_that_pass(reader, reads.back, &tested)?;
+    let all = values_that_pass(reader, reads.back, &tested, visits)?;
     match all {
-        None => Ok((Way::Scan(tested), u64::from(reader.row_count()))),
+        None => Ok(Way::Scan(tested)),
         Some(values) => {
             if are_read_before(candidates, values.rows) {
-                let items = values.count().saturating_add(items_among(candidates));
-                return Ok((Way::ByCandidates(tested), items));
+                return Ok(Way::ByCandidates(tested));
             }
-            let items = values.items();
-            Ok((Way::ByValue(values.numbers), items))
+            Ok(Way::ByValue(values.numbers))
         }
     }
 }
@@ -106,34 +110,31 @@ fn by_type<S: ConceptSet>(
     types: &Answer<S>,
     tested: Tested<S>,
     candidates: Option<Extent>,
-) -> Result<(Way<S>, u64), AllocError>
+    visits: &mut Counter,
+) -> Result<Way<S>, AllocError>
     requires types { S.bound_of types.now ≡ length reader.indexes.now.concepts }
     requires tested { IsTestBelow S.bound_of (length reader.indexes.now.concepts) tested }
     requires told { AreTold S.items_of reader.indexes.now reads.back tested reads.value_rows }
     requires room { full (type_items reader.indexes.now (S.items_of types.now)) ≤ reads.bound }
-    ensures way { IfOk result (λ made. IsWayFor S.items_of S.bound_of reader.entry.indexes.now
-        (is_one_of reader.entry.indexes.now.concepts (S.items_of types.now)) tested made.0) }
-    ensures reads { IfOk result
-        (λ made. full (way_items reader.entry.indexes.now reads.back (S.items_of types.now) candidates made.0) ≤ made.1) }
-    ensures within { IfOk result (λ made. made.1 ≤ reads.bound) }
+    ensures way { IfOk result (IsWayFor S.items_of S.bound_of reader.entry.indexes.now
+        (is_one_of reader.entry.indexes.now.concepts (S.items_of types.now)) tested) }
+    ensures rest { IfOk result (λ way. LeavesRoom (rest_items reader.entry.indexes.now reads.back candidates way) reads.bound
+        visits.old visits.new) }
+    ensures counted { CountsWithin reads.bound visits.old visits.new }
 {
-    let typed = types_in(reader, types)?;
-    let rows = rows_of_types(reader, typed.ids.as_slice());
-    let whole = typed.read.saturating_add(rows);
+    // 64 bits hold how many types there are, and their rows
+    reader.type_count();
+    reader.row_count();
+    let left = reads.bound.saturating_sub(types_to_read(reader, types));
+    let ids = types_in(reader, types, visits)?;
+    let rows = rows_of_types(reader, ids.as_slice());
     if are_read_before(candidates, rows) {
-        let items = typed.read.saturating_add(items_among(candidates));
-        return Ok((Way::ByCandidates(tested), items));
+        return Ok(Way::ByCandidates(tested));
     }
-    let few = few_values(reader, reads, &tested, rows, whole)?;
-    match few.values {
-        None => Ok((
-            Way::ByType(typed.ids, tested),
-            whole.saturating_add(few.looked_up),
-        )),
-        Some(values) => {
-            let items = typed.read.saturating_add(values.items());
-            Ok((Way::ByValue(values.numbers), items))
-        }
+    let few = few_values(reader, reads, &tested, rows, left, visits)?;
+    match few {
+        None => Ok(Way::ByType(ids, tested)),
+        Some(values) => Ok(Way::ByValue(values.numbers)),
     }
 }
 
@@ -143,64 +144,51 @@ fn by_scan<S: ConceptSet>(
     reads: LeafReads,
     tested: Tested<S>,
     candidates: Option<Extent>,
-) -> Result<(Way<S>, u64), AllocError>
+    visits: &mut Counter,
+) -> Result<Way<S>, AllocError>
     requires tested { IsTestBelow S.bound_of (length reader.indexes.now.concepts) tested }
     requires told { AreTold S.items_of reader.indexes.now reads.back tested reads.value_rows }
     requires room { full (length reader.indexes.now.rows) ≤ reads.bound }
-    ensures way { IfOk result (λ made. (one : ℕ → Bool) → IsWayFor S.items_of S.bound_of reader.entry.indexes.now one tested made.0) }
-    ensures reads { IfOk result
-        (λ made. (types : List ℕ) → full (way_items reader.entry.indexes.now reads.back types candidates made.0) ≤ made.1) }
-    ensures within { IfOk result (λ made. made.1 ≤ reads.bound) }
+    ensures way { IfOk result (λ way. (one : ℕ → Bool) → IsWayFor S.items_of S.bound_of reader.entry.indexes.now one tested way) }
+    ensures rest { IfOk result (λ way. LeavesRoom (rest_items reader.entry.indexes.now reads.back candidates way) reads.bound
+        visits.old visits.new) }
+    ensures counted { CountsWithin reads.bound visits.old visits.new }
 {
     let rows = u64::from(reader.row_count());
     if are_read_before(candidates, rows) {
-        return Ok((Way::ByCandidates(tested), items_among(candidates)));
+        return Ok(Way::ByCandidates(tested));
     }
-    let few = few_values(reader, reads, &tested, rows, rows)?;
-    match few.values {
-        None => Ok((Way::Scan(tested), rows.saturating_add(few.looked_up))),
-        Some(values) => {
-            let items = values.items();
-            Ok((Way::ByValue(values.numbers), items))
-        }
+    let few = few_values(reader, reads, &tested, rows, reads.bound, visits)?;
+    match few {
+        None => Ok(Way::Scan(tested)),
+        Some(values) => Ok(Way::ByValue(values.numbers)),
     }
 }
 
-// Values that pass, if they are read before other rows, and how many were looked up in vain. No answer depends on how many.
-#[derive(Drop)]
-struct FewValues {
-    values: Option<PassingValues>,
-    looked_up: u64,
-}
-
-// The values that pass, where their rows are read sooner than so many others. If it is known how many rows they have at most, none is
-// looked up in vain, so no room is needed for them beside so many items.
+// The values that pass, where their rows are read sooner than so many others, for which there is room among so many items that are left.
+// If it is known how many rows they have at most, none is looked up in vain, so no room is needed for them beside the others.
 fn few_values<S: ConceptSet>(
     reader: Reader<'_>,
     reads: LeafReads,
     tested: &Tested<S>,
     rows: u64,
-    items: u64,
-) -> Result<FewValues, AllocError>
+    left: u64,
+    visits: &mut Counter,
+) -> Result<Option<PassingValues>, AllocError>
     requires tested { IsTestBelow S.bound_of (length reader.indexes.now.concepts) tested.now }
     requires told { AreTold S.items_of reader.indexes.now reads.back tested.now reads.value_rows }
-    requires room { items ≤ reads.bound }
-    ensures values { IfOk result (λ few. IfSome few.values
-        (AreFewer reader.entry.indexes.now reads.back (passes_of S.items_of reader.entry.indexes.now.concepts tested.now) rows)) }
-    ensures within { IfOk result (λ few. items + few.looked_up ≤ reads.bound) }
+    requires room { rows ≤ left }
+    ensures pass { IfOk result (λ few. IfSome few (λ values. AreAllThatPass reader.entry.indexes.now.concepts
+        (passes_of S.items_of reader.entry.indexes.now.concepts tested.now) values.numbers.items)) }
+    ensures rest { IfOk result (λ few. LeavesRoom (rest_beside reader.entry.indexes.now reads.back rows few) left
+        visits.old visits.new) }
+    ensures counted { CountsWithin left visits.old visits.new }
 {
     match reads.value_rows {
-        Some(own) => {
-            let values = values_told(reader, reads.back, tested, own, rows)?;
-            Ok(FewValues {
-                values,
-                looked_up: 0,
-            })
-        }
+        Some(own) => values_told(reader, reads.back, tested, own, rows, visits),
         None => {
-            let most = reads.room_beside(items);
-            let few = values_looked_up(reader, reads.back, tested, rows, most)?;
-            Ok(few)
+            let most = left.saturating_sub(rows);
+            values_looked_up(reader, reads.back, tested, rows, most, visits)
         }
     }
 }
@@ -212,17 +200,20 @@ fn values_told<S: ConceptSet>(
     tested: &Tested<S>,
     own: u64,
     rows: u64,
+    visits: &mut Counter,
 ) -> Result<Option<PassingValues>, AllocError>
     requires tested { IsTestBelow S.bound_of (length reader.indexes.now.concepts) tested.now }
     requires told { AreTold S.items_of reader.indexes.now back tested.now (Some own) }
-    ensures { IfOk result (λ some. IfSome some
-        (AreFewer reader.entry.indexes.now back (passes_of S.items_of reader.entry.indexes.now.concepts tested.now) rows)) }
+    ensures pass { IfOk result (λ few. IfSome few (λ values. AreAllThatPass reader.entry.indexes.now.concepts
+        (passes_of S.items_of reader.entry.indexes.now.concepts tested.now) values.numbers.items)) }
+    ensures rest { IfOk result (λ few. LeavesRoom (rest_beside reader.entry.indexes.now back rows few) rows
+        visits.old visits.new) }
+    ensures counted { CountsWithin rows visits.old visits.new }
 {
     if !values_are_read_before(back, u64::from(count_of_test(tested)), own, rows) {
         return Ok(None);
     }
-    let found = values_that_pass(reader, back, tested)?;
-    Ok(found)
+    values_that_pass(reader, back, tested, visits)
 }
 
 // The values that pass, if they are few and their rows are read sooner than others. No more than `most` are looked up in vain.
@@ -232,50 +223,42 @@ fn values_looked_up<S: ConceptSet>(
     tested: &Tested<S>,
     rows: u64,
     most: u64,
-) -> Result<FewValues, AllocError>
+    visits: &mut Counter,
+) -> Result<Option<PassingValues>, AllocError>
     requires { IsTestBelow S.bound_of (length reader.indexes.now.concepts) tested.now }
-    ensures values { IfOk result (λ few. IfSome few.values
-        (AreFewer reader.entry.indexes.now back (passes_of S.items_of reader.entry.indexes.now.concepts tested.now) rows)) }
-    ensures within { IfOk result (λ few. few.looked_up ≤ most) }
+    ensures pass { IfOk result (λ few. IfSome few (λ values. AreAllThatPass reader.entry.indexes.now.concepts
+        (passes_of S.items_of reader.entry.indexes.now.concepts tested.now) values.numbers.items)) }
+    ensures rest { IfOk result (λ few. LeavesRoom (rest_beside reader.entry.indexes.now back rows few) (rows + most)
+        visits.old visits.new) }
+    ensures counted { CountsWithin most visits.old visits.new }
 {
     let count = u64::from(count_of_test(tested));
-    let none = FewValues {
-        values: None,
-        looked_up: 0,
-    };
     if count > rows / VALUE || count > most {
-        return Ok(none);
+        return Ok(None);
     }
-    let found = values_that_pass(reader, back, tested)?;
-    let Some(values) = found else {
-        return Ok(none);
-    };
-    if values_are_read_before(back, count, values.rows, rows) {
-        return Ok(FewValues {
-            values: Some(values),
-            looked_up: 0,
-        });
+    let found = values_that_pass(reader, back, tested, visits)?;
+    match found {
+        Some(values) if values_are_read_before(back, count, values.rows, rows) => Ok(Some(values)),
+        _ => Ok(None),
     }
-    Ok(FewValues {
-        values: None,
-        looked_up: count,
-    })
 }
 
-// The values that pass, where these are the concepts of a set.
+// The values that pass, where these are the concepts of a set, which are counted.
 fn values_that_pass<S: ConceptSet>(
     reader: Reader<'_>,
     back: bool,
     tested: &Tested<S>,
+    visits: &mut Counter,
 ) -> Result<Option<PassingValues>, AllocError>
     requires { IsTestBelow S.bound_of (length reader.indexes.now.concepts) tested.now }
     ensures pass { IfOk result (λ some. IfSome some (λ values. AreAllThatPass reader.entry.indexes.now.concepts
         (passes_of S.items_of reader.entry.indexes.now.concepts tested.now) values.numbers.items)) }
     ensures found { IfOk result (AreLookedUp S.items_of reader.entry.indexes.now back tested.now) }
+    ensures counted { HandsOut (looked_up S.items_of tested.now) visits.old visits.new }
 {
     match tested {
         Tested::Within(set) => {
-            let numbers = set.items_uncounted(reader.alloc)?;
+            let numbers = set.items(reader.alloc, visits)?;
             let rows = rows_of_values(reader, back, numbers.as_slice());
             Ok(Some(PassingValues { numbers, rows }))
         }
@@ -292,52 +275,58 @@ pub enum ValuesWay {
     ByType(Vec<u64>),
 }
 
-/// By which rows the values of the sources in a set are read, along the types in another. Beside it stands how many items are
-/// read, also to find it: no more than there are sources and rows.
+/// By which rows the values of the sources in a set are read, along the types in another. What is read to find it is counted: with
+/// these rows no more than there are sources and rows.
 pub fn values_way<S: ConceptSet>(
     reader: Reader<'_>,
     sources: &Answer<S>,
     types: &Answer<S>,
-) -> Result<(ValuesWay, u64), AllocError>
+    visits: &mut Counter,
+) -> Result<ValuesWay, AllocError>
     requires sources { S.bound_of sources.now ≡ length reader.indexes.now.concepts }
     requires types { S.bound_of types.now ≡ length reader.indexes.now.concepts }
-    ensures way { IfOk result (λ made. IsValuesWay (types_of reader.entry.indexes.now.rows) (S.items_of sources.now)
-        (is_one_of reader.entry.indexes.now.concepts (S.items_of types.now)) made.0) }
-    ensures reads { IfOk result (λ made. full (values_way_items reader.entry.indexes.now (S.items_of types.now) made.0) ≤ made.1) }
-    ensures within { IfOk result (λ made. made.1 ≤ length (S.items_of sources.now) + length reader.entry.indexes.now.rows) }
+    ensures way { IfOk result (IsValuesWay (types_of reader.entry.indexes.now.rows) (S.items_of sources.now)
+        (is_one_of reader.entry.indexes.now.concepts (S.items_of types.now))) }
+    ensures rest { IfOk result (λ way. LeavesRoom (values_rest reader.entry.indexes.now way)
+        (length (S.items_of sources.now) + length reader.entry.indexes.now.rows) visits.old visits.new) }
+    ensures counted { CountsWithin (length (S.items_of sources.now) + length reader.entry.indexes.now.rows) visits.old visits.new }
 {
     let count = u64::from(sources.count());
-    if count <= types_to_read(reader, types) {
-        let (own, items) = with_rows(reader, sources)?;
-        return Ok((ValuesWay::BySource(own), items));
+    let typed = types_to_read(reader, types);
+    if count <= typed {
+        let (own, _) = with_rows(reader, sources, visits)?;
+        return Ok(ValuesWay::BySource(own));
     }
-    let typed = types_in(reader, types)?;
-    let rows = rows_of_types(reader, typed.ids.as_slice());
-    let whole = typed.read.saturating_add(rows);
-    if count > rows / VALUE || whole > u64::from(reader.row_count()) {
-        return Ok((ValuesWay::ByType(typed.ids), whole));
+    let ids = types_in(reader, types, visits)?;
+    let rows = rows_of_types(reader, ids.as_slice());
+    if count > rows / VALUE || typed.saturating_add(rows) > u64::from(reader.row_count()) {
+        return Ok(ValuesWay::ByType(ids));
     }
-    let (own, items) = with_rows(reader, sources)?;
+    let (own, items) = with_rows(reader, sources, visits)?;
     if look_ups(items) < rows {
-        Ok((ValuesWay::BySource(own), typed.read.saturating_add(items)))
+        Ok(ValuesWay::BySource(own))
     } else {
-        Ok((ValuesWay::ByType(typed.ids), whole.saturating_add(count)))
+        Ok(ValuesWay::ByType(ids))
     }
 }
 
-// The concepts of a set, and how many items these and their rows are.
+// The concepts of a set, which are counted, and how many items these and their rows are.
 fn with_rows<S: ConceptSet>(
     reader: Reader<'_>,
     concepts: &Answer<S>,
+    visits: &mut Counter,
 ) -> Result<(Vec<u32>, u64), AllocError>
     requires { S.bound_of concepts.now ≡ length reader.indexes.now.concepts }
     ensures items { IfOk result (λ made. made.0.items ≡ S.items_of concepts.now) }
-    ensures reads { IfOk result (λ made. made.1 ≡ full (items_by_value reader.entry.indexes.now true (S.items_of concepts.now))) }
-    ensures within { IfOk result (λ made. made.1 ≤ length (S.items_of concepts.now) + length reader.entry.indexes.now.rows) }
+    ensures reads { IfOk result (λ made. made.1
+        ≡ full (items_by_value reader.entry.indexes.now true (S.items_of concepts.now))) }
+    ensures few { sum_by (row_count_of reader.entry.indexes.now true) (S.items_of concepts.now)
+        ≤ length reader.entry.indexes.now.rows }
+    ensures counted { HandsOut (length (S.items_of concepts.now)) visits.old visits.new }
 {
     // the concepts rise, so that no row has two numbers for its source
     reader.concept_count();
-    let own = concepts.items_uncounted(reader.alloc)?;
+    let own = concepts.items(reader.alloc, visits)?;
     let rows = rows_of_values(reader, true, own.as_slice());
     let items = rows.saturating_add(own.len() as u64);
     Ok((own, items))
@@ -349,7 +338,7 @@ pub fn rows_of_types(reader: Reader<'_>, ids: &[u64]) -> u64
 {
     let mut rows = 0u64;
     for id in ids {
-        rows = rows.saturating_add(reader.by_type(*id).len() as u64);
+        rows = rows.saturating_add(reader.type_row_count(*id));
     }
     rows
 }

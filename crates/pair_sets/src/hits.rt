@@ -1,5 +1,5 @@
 //! Numbers that stand in a list once for each attribute row that counts for them.
-ghost use Rattle.std.specs.Prelude.{ℕ, ◌≡◌, ◌<◌, ◌+◌, ◌&&◌, ◌++◌, All, Bool, List, IfOk, OnOk, count_by, filter, length, nat_lt, slice_get};
+ghost use Rattle.std.specs.Prelude.{ℕ, ◌≡◌, ◌<◌, ◌+◌, ◌&&◌, ◌++◌, All, Bool, List, IfOk, OnOk, count_by, false, filter, length, nat_lt, slice_get, true};
 ghost use Rattle.rf2_rows.specs.Release.{concept_value};
 ghost use Rattle.constraint_tree.specs.Passing.{is_within};
 ghost use Rattle.number_lists.specs.Rising.{IsRisingBelow};
@@ -13,7 +13,11 @@ ghost use Rattle.pair_sets.specs.inside.Hits.{AreHits, has_pair_in, is_type_in, 
 ghost use Rattle.pair_sets.specs.inside.Hits.{AreOwners, owner_count, counts_for_owner};
 ghost use Rattle.pair_sets.specs.inside.Hits.{counts_for_concept, counts_for_group, counts_for_value};
 ghost use Rattle.pair_sets.specs.inside.Hits.{entries_with_sources, entries_with_types, entries_with_values};
+ghost use Rattle.std.specs.List.{sum_by};
+ghost use Rattle.postings.specs.Stats.{type_row_count};
 ghost use Rattle.candidates.specs.Numbers.{is_one_of};
+ghost use Rattle.candidates.specs.RowCounts.{row_count_of};
+ghost use Rattle.reading.specs.Counted.{CountsWithin};
 ghost use Rattle.pair_sets.specs.Tested.{IsTestBelow, passes_of};
 
 use crate::choice::rows_of_types;
@@ -22,7 +26,7 @@ use crate::tested::Tested;
 use crate::types::is_typed;
 use idset::ConceptSet;
 use postings::{FlaggedNumber, RowCells};
-use reading::{Answer, Reader};
+use reading::{Answer, Counter, Reader};
 use std::alloc::AllocError;
 
 // What a row counts for: its source, or its group.
@@ -39,16 +43,18 @@ pub fn hits_by_type<S: ConceptSet>(
     back: bool,
     ids: &[u64],
     tested: &Tested<S>,
+    visits: &mut Counter,
 ) -> Result<Vec<u32>, AllocError>
     requires { IsTestBelow S.bound_of (length reader.indexes.now.concepts) tested.now }
+    ensures counted { CountsWithin (sum_by (type_row_count reader.entry.indexes.now) ids.now) visits.old visits.new }
     ensures within { IfOk result (λ hits. All (λ number. number < length reader.entry.indexes.now.concepts) hits.items) }
     ensures hits { IfOk result (λ hits. (one : ℕ → Bool) → ids.now ≡ filter one (types_of reader.entry.indexes.now.rows)
         → AreHits (length reader.entry.indexes.now.concepts) (counts_for_concept back reader.entry.indexes.now.concepts one (passes_of S.items_of reader.entry.indexes.now.concepts tested.now)) (entries_of reader.entry.indexes.now.rows) hits.items) }
 {
     if back {
-        values_by_type(reader, ids, tested)
+        values_by_type(reader, ids, tested, visits)
     } else {
-        owners_by_type(reader, Owner::Source, ids, tested)
+        owners_by_type(reader, Owner::Source, ids, tested, visits)
     }
 }
 
@@ -59,9 +65,11 @@ pub fn hits_by_value<S: ConceptSet>(
     back: bool,
     types: &Answer<S>,
     values: &[u32],
+    visits: &mut Counter,
 ) -> Result<Vec<u32>, AllocError>
     requires types { S.bound_of types.now ≡ length reader.indexes.now.concepts }
     requires values { IsRisingBelow (length reader.indexes.now.concepts) values.now }
+    ensures counted { CountsWithin (sum_by (row_count_of reader.entry.indexes.now back) values.now) visits.old visits.new }
     ensures within { IfOk result (λ hits. All (λ number. number < length reader.entry.indexes.now.concepts) hits.items) }
     ensures hits { IfOk result (λ hits. AreHits (length reader.entry.indexes.now.concepts)
         (counts_for_concept back reader.entry.indexes.now.concepts (is_one_of reader.entry.indexes.now.concepts (S.items_of types.now)) (is_within (is_one_of reader.entry.indexes.now.concepts values.now))) (entries_of reader.entry.indexes.now.rows) hits.items) }
@@ -69,9 +77,9 @@ pub fn hits_by_value<S: ConceptSet>(
     // the concepts rise, so none has two numbers
     reader.concept_count();
     if back {
-        values_by_source(reader, values, types)
+        values_by_source(reader, values, types, visits)
     } else {
-        owners_by_value(reader, Owner::Source, values, types)
+        owners_by_value(reader, Owner::Source, values, types, visits)
     }
 }
 
@@ -82,8 +90,10 @@ fn owners_by_type<S: ConceptSet>(
     owner: Owner,
     ids: &[u64],
     tested: &Tested<S>,
+    visits: &mut Counter,
 ) -> Result<Vec<u32>, AllocError>
     requires { IsTestBelow S.bound_of (length reader.indexes.now.concepts) tested.now }
+    ensures counted { CountsWithin (sum_by (type_row_count reader.entry.indexes.now) ids.now) visits.old visits.new }
     ensures within { IfOk result (λ hits. All (λ number. number < owner_count owner reader.entry.indexes.now) hits.items) }
     ensures hits { IfOk result (λ hits. AreHits (owner_count owner reader.entry.indexes.now)
         (counts_for_owner owner reader.entry.indexes.now (λ row. passes_of S.items_of reader.entry.indexes.now.concepts tested.now row.value)) (entries_with_types reader.entry.indexes.now.rows ids.now) hits.items) }
@@ -92,7 +102,7 @@ fn owners_by_type<S: ConceptSet>(
     reader.concept_count();
     let mut hits = Vec::with_capacity(reader.alloc, rows_of_types(reader, ids) as usize)?;
     for id in ids {
-        let columns = reader.type_columns(*id);
+        let columns = reader.type_columns(*id, visits);
         let owners = owners_in(owner, columns.sources, columns.groups);
         push_passing(reader, &mut hits, owners, columns.values, tested)?;
     }
@@ -106,9 +116,11 @@ fn owners_by_value<S: ConceptSet>(
     owner: Owner,
     values: &[u32],
     types: &Answer<S>,
+    visits: &mut Counter,
 ) -> Result<Vec<u32>, AllocError>
     requires types { S.bound_of types.now ≡ length reader.indexes.now.concepts }
     requires values { All (λ number. number < length reader.indexes.now.concepts) values.now }
+    ensures counted { CountsWithin (sum_by (row_count_of reader.entry.indexes.now false) values.now) visits.old visits.new }
     ensures within { IfOk result (λ hits. All (λ number. number < owner_count owner reader.entry.indexes.now) hits.items) }
     ensures hits { IfOk result (λ hits. AreHits (owner_count owner reader.entry.indexes.now)
         (counts_for_owner owner reader.entry.indexes.now (λ row. is_one_of reader.entry.indexes.now.concepts (S.items_of types.now) row.type_id)) (entries_with_values reader.entry.indexes.now values.now) hits.items) }
@@ -117,7 +129,7 @@ fn owners_by_value<S: ConceptSet>(
     reader.concept_count();
     let mut hits = Vec::new(reader.alloc);
     for value in values {
-        let columns = reader.value_columns(*value);
+        let columns = reader.value_columns(*value, visits);
         let owners = owners_in(owner, columns.sources, columns.groups);
         push_typed(reader, &mut hits, owners, columns.types, types)?;
     }
@@ -145,8 +157,10 @@ fn values_by_type<S: ConceptSet>(
     reader: Reader<'_>,
     ids: &[u64],
     tested: &Tested<S>,
+    visits: &mut Counter,
 ) -> Result<Vec<u32>, AllocError>
     requires { IsTestBelow S.bound_of (length reader.indexes.now.concepts) tested.now }
+    ensures counted { CountsWithin (sum_by (type_row_count reader.entry.indexes.now) ids.now) visits.old visits.new }
     ensures within { IfOk result (λ hits. All (λ number. number < length reader.entry.indexes.now.concepts) hits.items) }
     ensures hits { IfOk result (λ hits. AreHits (length reader.entry.indexes.now.concepts)
         (counts_for_value reader.entry.indexes.now.concepts (λ row. passes_of S.items_of reader.entry.indexes.now.concepts tested.now (concept_value row.source))) (entries_with_types reader.entry.indexes.now.rows ids.now) hits.items) }
@@ -154,7 +168,7 @@ fn values_by_type<S: ConceptSet>(
     reader.concept_count();
     let mut hits = Vec::with_capacity(reader.alloc, rows_of_types(reader, ids) as usize)?;
     for id in ids {
-        let columns = reader.type_columns(*id);
+        let columns = reader.type_columns(*id, visits);
         push_cells(reader, &mut hits, columns.sources, columns.values, tested)?;
     }
     Ok(hits)
@@ -166,16 +180,19 @@ fn values_by_source<S: ConceptSet>(
     reader: Reader<'_>,
     sources: &[u32],
     types: &Answer<S>,
+    visits: &mut Counter,
 ) -> Result<Vec<u32>, AllocError>
     requires types { S.bound_of types.now ≡ length reader.indexes.now.concepts }
     requires sources { All (λ number. number < length reader.indexes.now.concepts) sources.now }
+    ensures counted { CountsWithin (sum_by (row_count_of reader.entry.indexes.now true) sources.now) visits.old visits.new }
     ensures within { IfOk result (λ hits. All (λ number. number < length reader.entry.indexes.now.concepts) hits.items) }
     ensures hits { IfOk result (λ hits. AreHits (length reader.entry.indexes.now.concepts)
         (counts_for_value reader.entry.indexes.now.concepts (λ row. is_one_of reader.entry.indexes.now.concepts (S.items_of types.now) row.type_id)) (entries_with_sources reader.entry.indexes.now sources.now) hits.items) }
 {
     let mut hits = Vec::new(reader.alloc);
     for source in sources {
-        push_values(reader, &mut hits, reader.rows_of(*source), types)?;
+        let rows = reader.rows_of(*source, visits);
+        push_values(reader, &mut hits, rows, types)?;
     }
     Ok(hits)
 }
@@ -186,13 +203,15 @@ pub fn group_hits_by_type<S: ConceptSet>(
     reader: Reader<'_>,
     ids: &[u64],
     tested: &Tested<S>,
+    visits: &mut Counter,
 ) -> Result<Vec<u32>, AllocError>
     requires { IsTestBelow S.bound_of (length reader.indexes.now.concepts) tested.now }
+    ensures counted { CountsWithin (sum_by (type_row_count reader.entry.indexes.now) ids.now) visits.old visits.new }
     ensures within { IfOk result (λ hits. All (λ number. number < length (groups_in reader.entry.indexes.now)) hits.items) }
     ensures hits { IfOk result (λ hits. (one : ℕ → Bool) → ids.now ≡ filter one (types_of reader.entry.indexes.now.rows)
         → AreHits (length (groups_in reader.entry.indexes.now)) (counts_for_group (groups_in reader.entry.indexes.now) (has_pair_in one (passes_of S.items_of reader.entry.indexes.now.concepts tested.now))) (entries_of reader.entry.indexes.now.rows) hits.items) }
 {
-    owners_by_type(reader, Owner::Group, ids, tested)
+    owners_by_type(reader, Owner::Group, ids, tested, visits)
 }
 
 /// By value: the same, where the values that pass are some concepts, which rise.
@@ -200,16 +219,18 @@ pub fn group_hits_by_value<S: ConceptSet>(
     reader: Reader<'_>,
     types: &Answer<S>,
     values: &[u32],
+    visits: &mut Counter,
 ) -> Result<Vec<u32>, AllocError>
     requires types { S.bound_of types.now ≡ length reader.indexes.now.concepts }
     requires values { IsRisingBelow (length reader.indexes.now.concepts) values.now }
+    ensures counted { CountsWithin (sum_by (row_count_of reader.entry.indexes.now false) values.now) visits.old visits.new }
     ensures within { IfOk result (λ hits. All (λ number. number < length (groups_in reader.entry.indexes.now)) hits.items) }
     ensures hits { IfOk result (λ hits. AreHits (length (groups_in reader.entry.indexes.now))
         (counts_for_group (groups_in reader.entry.indexes.now) (has_pair_in (is_one_of reader.entry.indexes.now.concepts (S.items_of types.now)) (is_within (is_one_of reader.entry.indexes.now.concepts values.now)))) (entries_of reader.entry.indexes.now.rows) hits.items) }
 {
     // the concepts rise, so none has two numbers
     reader.concept_count();
-    owners_by_value(reader, Owner::Group, values, types)
+    owners_by_value(reader, Owner::Group, values, types, visits)
 }
 
 // Pushes the numbers of the marks that are first and whose cell is the number of a value that passes.

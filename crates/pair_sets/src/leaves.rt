@@ -1,5 +1,8 @@
 //! The concepts and the groups with so many pairs of a type and a value.
-ghost use Rattle.std.specs.Prelude.{ℕ, false, ◌≡◌, ◌≤◌, ◌+◌, Bool, IfOk, filter, length, max};
+ghost use Rattle.std.specs.Prelude.{ℕ, false, true, ◌≡◌, ◌≤◌, ◌+◌, Bool, IfOk, filter, length};
+ghost use Rattle.std.specs.List.{sum_by};
+ghost use Rattle.postings.specs.Stats.{type_row_count};
+ghost use Rattle.candidates.specs.RowCounts.{row_count_of};
 ghost use Rattle.constraint_tree.specs.Denotation.{is_value};
 ghost use Rattle.number_lists.specs.Rising.{IsRisingBelow};
 ghost use Rattle.postings.specs.Groups.{all_groups};
@@ -9,8 +12,8 @@ ghost use Rattle.candidates.specs.Numbers.{is_one_of, numbers_in};
 ghost use Rattle.reading.specs.Counted.{CountsWithin, IsFound, full};
 ghost use Rattle.pair_sets.specs.Room.{AreTold, leaf_items};
 ghost use Rattle.pair_sets.specs.Tested.{IsTestBelow, passes_of};
-ghost use Rattle.pair_sets.specs.inside.Ways.{HasTypes, IsValuesWay, IsWayBelow, passes_by, values_way_items, way_items};
-ghost use Rattle.candidates.specs.Within.{AreBelow, AreConcepts, AreGroups, extent_told, groups_within, may_be, numbers_within};
+ghost use Rattle.pair_sets.specs.inside.Ways.{HasTypes, IsValuesWay, IsWayBelow, passes_by, rest_items, values_rest};
+ghost use Rattle.candidates.specs.Within.{AreConcepts, AreGroups, extent_told, groups_within, may_be, numbers_within};
 
 use crate::by_rows::{
     groups_with_pairs_among, groups_with_pairs_by_type, groups_with_pairs_by_value,
@@ -61,10 +64,10 @@ pub fn with_pairs_within<S: ConceptSet>(
         bound: limits.bound,
         value_rows,
     };
-    let (way, read) = leaf_way(reader, reads, types, tested, candidates)?;
-    let found = with_pairs_by(
-        reader, &way, back, count, types, candidates, read, limits, visits,
-    )?;
+    let since = visits.count();
+    let way = leaf_way(reader, reads, types, tested, candidates, visits)?;
+    let found = with_pairs_by(reader, &way, back, count, types, candidates, visits)?;
+    visits.fill(since, limits.floor);
     Ok(found)
 }
 
@@ -101,10 +104,10 @@ pub fn groups_with_pairs_within<S: ConceptSet>(
         bound: limits.bound,
         value_rows,
     };
-    let (way, items) = leaf_way(reader, reads, types, tested, candidates)?;
-    let found = groups_with_pairs_by(
-        reader, &way, count, types, candidates, items, limits, visits,
-    )?;
+    let since = visits.count();
+    let way = leaf_way(reader, reads, types, tested, candidates, visits)?;
+    let found = groups_with_pairs_by(reader, &way, count, types, candidates, visits)?;
+    visits.fill(since, limits.floor);
     Ok(found)
 }
 
@@ -125,40 +128,36 @@ pub fn values_along<S: ConceptSet>(
         (is_one_of reader.entry.indexes.now.concepts (S.items_of types.now))))
         0 visits.old visits.new) }
 {
-    let (way, items) = values_way(reader, &sources, types)?;
-    let found = values_by(reader, way, sources, types, items, visits)?;
+    let way = values_way(reader, &sources, types, visits)?;
+    let found = values_by(reader, way, sources, types, visits)?;
     Ok(found)
 }
 
-// By the rows of the sources or by those of the types. First so many items are counted: no fewer than are read in this way.
+// By the rows of the sources or by those of the types.
 fn values_by<S: ConceptSet>(
     reader: Reader<'_>,
     way: ValuesWay,
     sources: Answer<S>,
     types: &Answer<S>,
-    items: u64,
     visits: &mut Counter,
 ) -> Result<Answer<S>, AllocError>
     requires sources { S.bound_of sources ≡ length reader.indexes.now.concepts }
     requires types { S.bound_of types.now ≡ length reader.indexes.now.concepts }
     requires way { IsValuesWay (types_of reader.indexes.now.rows) (S.items_of sources)
         (is_one_of reader.indexes.now.concepts (S.items_of types.now)) way }
-    requires reads { full (values_way_items reader.indexes.now (S.items_of types.now) way) ≤ items }
     ensures items { IfOk result (λ found. S.items_of found ≡ numbers_in reader.entry.snapshot.now.release
         (is_value reader.entry.snapshot.now.release (is_one_of reader.entry.indexes.now.concepts (S.items_of sources))
         (is_one_of reader.entry.indexes.now.concepts (S.items_of types.now)))) }
     ensures bound { IfOk result (λ found. S.bound_of found ≡ length reader.entry.snapshot.now.release.concepts) }
-    ensures counted { visits.new.count ≡ full (visits.old.count + items) }
-    ensures grows { visits.old.count ≤ visits.new.count }
+    ensures counted { CountsWithin (values_rest reader.entry.indexes.now way) visits.old visits.new }
 {
-    visits.add(items);
     match way {
         ValuesWay::BySource(own) => {
-            let found = values_by_source(reader, own.as_slice(), types)?;
+            let found = values_by_source(reader, own.as_slice(), types, visits)?;
             Ok(found)
         }
         ValuesWay::ByType(ids) => {
-            let found = values_by_type(reader, sources, ids.as_slice())?;
+            let found = values_by_type(reader, sources, ids.as_slice(), visits)?;
             Ok(found)
         }
     }
@@ -169,15 +168,17 @@ fn values_by_type<S: ConceptSet>(
     reader: Reader<'_>,
     sources: Answer<S>,
     ids: &[u64],
+    visits: &mut Counter,
 ) -> Result<Answer<S>, AllocError>
     requires sources { S.bound_of sources ≡ length reader.indexes.now.concepts }
+    ensures counted { CountsWithin (sum_by (type_row_count reader.entry.indexes.now) ids.now) visits.old visits.new }
     ensures items { IfOk result (λ found. (one : ℕ → Bool) → ids.now ≡ filter one (types_of reader.entry.indexes.now.rows)
         → S.items_of found ≡ numbers_in reader.entry.snapshot.now.release (is_value reader.entry.snapshot.now.release (is_one_of reader.entry.indexes.now.concepts (S.items_of sources)) one)) }
     ensures bound { IfOk result (λ found. S.bound_of found ≡ length reader.entry.snapshot.now.release.concepts) }
 {
     let some = Cardinality { min: 1, max: None };
     let tested = Tested::Within(sources);
-    with_pairs_by_type(reader, true, some, ids, &tested)
+    with_pairs_by_type(reader, true, some, ids, &tested, visits)
 }
 
 // By the rows of some sources.
@@ -185,19 +186,21 @@ fn values_by_source<S: ConceptSet>(
     reader: Reader<'_>,
     sources: &[u32],
     types: &Answer<S>,
+    visits: &mut Counter,
 ) -> Result<Answer<S>, AllocError>
     requires sources { IsRisingBelow (length reader.indexes.now.concepts) sources.now }
     requires types { S.bound_of types.now ≡ length reader.indexes.now.concepts }
+    ensures counted { CountsWithin (sum_by (row_count_of reader.entry.indexes.now true) sources.now) visits.old visits.new }
     ensures items { IfOk result (λ found. S.items_of found ≡ numbers_in reader.entry.snapshot.now.release
         (is_value reader.entry.snapshot.now.release (is_one_of reader.entry.indexes.now.concepts sources.now) (is_one_of reader.entry.indexes.now.concepts (S.items_of types.now)))) }
     ensures bound { IfOk result (λ found. S.bound_of found ≡ length reader.entry.snapshot.now.release.concepts) }
 {
     let some = Cardinality { min: 1, max: None };
-    with_pairs_by_value(reader, true, some, types, sources)
+    with_pairs_by_value(reader, true, some, types, sources, visits)
 }
 
 /// The candidates so many of whose distinct pairs, their own or those read backwards, have a type that is one of some and a
-/// value that passes, read in a way. First `read` items are counted, or the floor: no fewer than are read in this way.
+/// value that passes, read in a way. What is read is counted.
 pub fn with_pairs_by<S: ConceptSet>(
     reader: Reader<'_>,
     way: &Way<S>,
@@ -205,43 +208,39 @@ pub fn with_pairs_by<S: ConceptSet>(
     count: Cardinality,
     types: &Answer<S>,
     candidates: &Candidates<'_, S>,
-    read: u64,
-    limits: NodeLimits,
     visits: &mut Counter,
 ) -> Result<Answer<S>, AllocError>
     requires way { IsWayBelow S.bound_of (length reader.indexes.now.concepts) way.now }
     requires ids { HasTypes (types_of reader.indexes.now.rows) (is_one_of reader.indexes.now.concepts (S.items_of types.now)) way.now }
     requires types { S.bound_of types.now ≡ length reader.indexes.now.concepts }
-    requires candidates { AreBelow S.bound_of (length reader.snapshot.now.release.concepts) candidates.now }
-    requires limits { limits.floor ≤ limits.bound }
-    requires reads { full (way_items reader.indexes.now back (S.items_of types.now) (extent_told back candidates.now) way.now) ≤ read }
-    requires within { read ≤ limits.bound }
+    requires candidates { AreConcepts S.ConceptSet reader.snapshot.now.release reader.indexes.now candidates.now }
+    ensures counted { CountsWithin (rest_items reader.entry.indexes.now back (extent_told back candidates.now) way.now)
+        visits.old visits.new }
     ensures items { IfOk result (λ found. S.items_of found ≡ numbers_within reader.entry.snapshot.now.release (may_be S.items_of candidates.now)
         (λ concept. has_pairs count (is_one_of reader.entry.indexes.now.concepts (S.items_of types.now))
         (passes_by S.items_of reader.entry.indexes.now.concepts way.now) (pairs_of reader.entry.snapshot.now.release back concept))) }
     ensures bound { IfOk result (λ found. S.bound_of found ≡ length reader.entry.snapshot.now.release.concepts) }
-    ensures counted { visits.new.count ≡ full (visits.old.count + max read limits.floor) }
-    ensures grows { visits.old.count ≤ visits.new.count }
 {
-    count_node(visits, read, limits);
     match way {
         Way::ByCandidates(tested) => {
-            let found = with_pairs_among(reader, back, count, types, tested, candidates)?;
+            let found = with_pairs_among(reader, back, count, types, tested, candidates, visits)?;
             Ok(found)
         }
         Way::ByValue(values) => {
-            let some = with_pairs_by_value(reader, back, count, types, values)?;
+            let some = with_pairs_by_value(reader, back, count, types, values, visits)?;
             let found = restricted(reader, some, candidates)?;
             Ok(found)
         }
         Way::ByType(ids, tested) => {
-            let some = with_pairs_by_type(reader, back, count, ids, tested)?;
+            let some = with_pairs_by_type(reader, back, count, ids, tested, visits)?;
             let found = restricted(reader, some, candidates)?;
             Ok(found)
         }
         Way::Scan(tested) => {
             let all = Candidates::All;
-            let some: Answer<S> = with_pairs_among(reader, back, count, types, tested, &all)?;
+            let some: Answer<S> = with_pairs_among(
+                reader, back, count, types, tested, &all, visits,
+            )?;
             let found = restricted(reader, some, candidates)?;
             Ok(found)
         }
@@ -249,61 +248,47 @@ pub fn with_pairs_by<S: ConceptSet>(
 }
 
 /// The candidates among the groups so many of whose distinct pairs have a type that is one of some and a value that passes,
-/// read in a way. First so many items are counted, or the floor: no fewer than are read in this way.
+/// read in a way. What is read is counted.
 pub fn groups_with_pairs_by<S: ConceptSet>(
     reader: Reader<'_>,
     way: &Way<S>,
     count: Cardinality,
     types: &Answer<S>,
     candidates: &Candidates<'_, S>,
-    items: u64,
-    limits: NodeLimits,
     visits: &mut Counter,
 ) -> Result<Answer<S>, AllocError>
     requires way { IsWayBelow S.bound_of (length reader.indexes.now.concepts) way.now }
     requires ids { HasTypes (types_of reader.indexes.now.rows) (is_one_of reader.indexes.now.concepts (S.items_of types.now)) way.now }
     requires types { S.bound_of types.now ≡ length reader.indexes.now.concepts }
-    requires candidates { AreBelow S.bound_of (length (all_groups reader.snapshot.now.release)) candidates.now }
-    requires limits { limits.floor ≤ limits.bound }
-    requires reads { full (way_items reader.indexes.now false (S.items_of types.now) (extent_told false candidates.now) way.now) ≤ items }
-    requires within { items ≤ limits.bound }
+    requires candidates { AreGroups S.ConceptSet reader.snapshot.now.release reader.indexes.now candidates.now }
+    ensures counted { CountsWithin (rest_items reader.entry.indexes.now false (extent_told false candidates.now) way.now)
+        visits.old visits.new }
     ensures items { IfOk result (λ found. S.items_of found ≡ groups_within reader.entry.snapshot.now.release (may_be S.items_of candidates.now)
         (has_pairs count (is_one_of reader.entry.indexes.now.concepts (S.items_of types.now)) (passes_by S.items_of reader.entry.indexes.now.concepts way.now))) }
     ensures bound { IfOk result (λ found. S.bound_of found ≡ length (all_groups reader.entry.snapshot.now.release)) }
-    ensures counted { visits.new.count ≡ full (visits.old.count + max items limits.floor) }
-    ensures grows { visits.old.count ≤ visits.new.count }
 {
-    count_node(visits, items, limits);
     match way {
         Way::ByCandidates(tested) => {
-            let found = groups_with_pairs_among(reader, count, types, tested, candidates)?;
+            let found = groups_with_pairs_among(reader, count, types, tested, candidates, visits)?;
             Ok(found)
         }
         Way::ByValue(values) => {
-            let some = groups_with_pairs_by_value(reader, count, types, values)?;
+            let some = groups_with_pairs_by_value(reader, count, types, values, visits)?;
             let found = restricted(reader, some, candidates)?;
             Ok(found)
         }
         Way::ByType(ids, tested) => {
-            let some = groups_with_pairs_by_type(reader, count, ids, tested)?;
+            let some = groups_with_pairs_by_type(reader, count, ids, tested, visits)?;
             let found = restricted(reader, some, candidates)?;
             Ok(found)
         }
         Way::Scan(tested) => {
             let all = Candidates::All;
-            let some: Answer<S> = groups_with_pairs_among(reader, count, types, tested, &all)?;
+            let some: Answer<S> = groups_with_pairs_among(
+                reader, count, types, tested, &all, visits,
+            )?;
             let found = restricted(reader, some, candidates)?;
             Ok(found)
         }
     }
-}
-
-// Counts the items that a node reads, which are no more than its bound; and where they are fewer than its floor, so many.
-fn count_node(visits: &mut Counter, items: u64, limits: NodeLimits)
-    requires ordered { limits.floor ≤ limits.bound }
-    requires within { items ≤ limits.bound }
-    ensures count { visits.new.count ≡ full (visits.old.count + max items limits.floor) }
-    ensures grows { visits.old.count ≤ visits.new.count }
-{
-    visits.add(items.max(limits.floor));
 }

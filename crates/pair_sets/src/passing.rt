@@ -35,12 +35,11 @@ fn is_number(reader: Reader<'_>, compare: Compare, number: Decimal, value: u32) 
         return false;
     }
     // the decimals follow the concepts
-    let decimals = reader.decimals();
-    let place = (value - concepts) as usize;
-    if place >= decimals.len() {
+    let place = value - concepts;
+    if place >= reader.decimal_count() {
         return false;
     }
-    meets(compare, decimals[place].cmp(&number.0))
+    meets(compare, reader.compare_decimal(place, number))
 }
 
 // Whether a number that stands so to another compares with it as is asked.

@@ -1,60 +1,56 @@
 //! The types of attribute rows that are in a set.
-ghost use Rattle.std.specs.Prelude.{ℕ, ◌≡◌, ◌<◌, ◌^◌, All, Bool, IfOk, filter, length, slice_index};
+ghost use Rattle.std.specs.Prelude.{ℕ, ◌≡◌, ◌<◌, All, Bool, IfOk, filter, length, slice_index};
 ghost use Rattle.idset.specs.Words.{is_set};
 ghost use Rattle.postings.specs.Indexed.{types_of};
 ghost use Rattle.pair_sets.specs.inside.Hits.{ArePlacesOf, is_type_in};
 ghost use Rattle.candidates.specs.Numbers.{is_one_of};
 ghost use Rattle.pair_sets.specs.Room.{types_read};
+ghost use Rattle.reading.specs.Counted.{HandsOut};
 
 use idset::{ConceptSet, is_marked, marks_of};
-use reading::{Answer, Reader};
-use sctid::SctId;
-use std::alloc::{AllocError, Global};
+use reading::{Answer, Counter, Reader};
+use std::alloc::AllocError;
 
-/// The types of rows that are in a set.
-#[derive(Drop)]
-pub struct TypesIn {
-    /// Their identifiers, each once.
-    pub ids: Vec<u64>,
-    /// How many items were read to find them. No answer depends on it.
-    pub read: u64,
-}
-
-/// The types of rows that are in a set. As many items are read as the set has, or as many as there are types of rows where these
-/// are fewer.
-pub fn types_in<S: ConceptSet>(reader: Reader<'_>, set: &Answer<S>) -> Result<TypesIn, AllocError>
+/// The types of rows that are in a set, by their identifiers, each once. As many items are read and counted as the set has, or as many
+/// as there are types of rows where these are fewer.
+pub fn types_in<S: ConceptSet>(
+    reader: Reader<'_>,
+    set: &Answer<S>,
+    visits: &mut Counter,
+) -> Result<Vec<u64>, AllocError>
     requires bound { S.bound_of set.now ≡ length reader.indexes.now.concepts }
-    ensures ids { IfOk result (λ types. types.ids.items
+    ensures ids { IfOk result (λ ids. ids.items
         ≡ filter (is_one_of reader.entry.indexes.now.concepts (S.items_of set.now)) (types_of reader.entry.indexes.now.rows)) }
-    ensures read { IfOk result (λ types. types.read ≡ types_read reader.entry.indexes.now (S.items_of set.now)) }
+    ensures counted { HandsOut (types_read reader.entry.indexes.now (S.items_of set.now)) visits.old visits.new }
 {
-    // there are no more types than rows, so 32 bits hold the place of each
-    reader.row_count();
-    let types = reader.types();
-    let numbers = places_in(reader, set)?;
-    let places = marks_of(reader.alloc, numbers.as_slice(), types.len() as u32)?;
-    let ids = marked_ids(reader.alloc, types, &places)?;
-    let read = types_to_read(reader, set);
-    Ok(TypesIn { ids, read })
+    let numbers = places_in(reader, set, visits)?;
+    let places = marks_of(reader.alloc, numbers.as_slice(), reader.type_count())?;
+    let ids = marked_ids(reader, &places)?;
+    Ok(ids)
 }
 
 /// How many items are read to find the types of rows that are in a set.
 pub fn types_to_read<S: ConceptSet>(reader: Reader<'_>, set: &Answer<S>) -> u64
     ensures { result ≡ types_read reader.entry.indexes.now (S.items_of set.now) }
 {
-    u64::from(set.count()).min(reader.types().len() as u64)
+    u64::from(set.count().min(reader.type_count()))
 }
 
 // The places of the types that are in a set, by the concepts of the set or by the types, whichever are fewer.
-fn places_in<S: ConceptSet>(reader: Reader<'_>, set: &Answer<S>) -> Result<Vec<u32>, AllocError>
+fn places_in<S: ConceptSet>(
+    reader: Reader<'_>,
+    set: &Answer<S>,
+    visits: &mut Counter,
+) -> Result<Vec<u32>, AllocError>
     requires bound { S.bound_of set.now ≡ length reader.indexes.now.concepts }
-    ensures { IfOk result (λ places. ArePlacesOf reader.entry.indexes.now (S.items_of set.now) places.items) }
+    ensures places { IfOk result (λ places. ArePlacesOf reader.entry.indexes.now (S.items_of set.now) places.items) }
+    ensures counted { HandsOut (types_read reader.entry.indexes.now (S.items_of set.now)) visits.old visits.new }
 {
-    if (set.count() as usize) < reader.types().len() {
-        let concepts = set.items_uncounted(reader.alloc)?;
+    if set.count() < reader.type_count() {
+        let concepts = set.items(reader.alloc, visits)?;
         places_of_concepts(reader, concepts.as_slice())
     } else {
-        places_of_types(reader, set)
+        places_of_types(reader, set, visits)
     }
 }
 
@@ -73,17 +69,19 @@ fn places_of_concepts(reader: Reader<'_>, concepts: &[u32]) -> Result<Vec<u32>, 
     Ok(places)
 }
 
-// The places of those types that are in a set.
+// The places of those types that are in a set. All types are read.
 fn places_of_types<S: ConceptSet>(
     reader: Reader<'_>,
     set: &Answer<S>,
+    visits: &mut Counter,
 ) -> Result<Vec<u32>, AllocError>
     requires { S.bound_of set.now ≡ length reader.indexes.now.concepts }
-    ensures { IfOk result (λ places. ArePlacesOf reader.entry.indexes.now (S.items_of set.now) places.items) }
+    ensures places { IfOk result (λ places. ArePlacesOf reader.entry.indexes.now (S.items_of set.now) places.items) }
+    ensures counted { HandsOut (length (types_of reader.entry.indexes.now.rows)) visits.old visits.new }
 {
-    // there are no more types than rows, so 32 bits hold the place of each
-    reader.row_count();
-    let types = reader.types();
+    // 32 bits hold the place of each type
+    reader.type_count();
+    let types = reader.types(visits);
     let mut places = Vec::new(reader.alloc);
     for place in 0..types.len() {
         if is_in(reader, types[place].number(), set) {
@@ -93,16 +91,17 @@ fn places_of_types<S: ConceptSet>(
     Ok(places)
 }
 
-// The identifiers of those types whose place is marked.
-fn marked_ids(alloc: Global, types: &[SctId], places: &[u64]) -> Result<Vec<u64>, AllocError>
-    requires { length types.now < 2 ^ 31 }
-    ensures { IfOk result (λ ids. (one : ℕ → Bool) → ((place : ℕ) → place < length types.now → is_set places.now place ≡ one (slice_index types.now place))
-        → ids.items ≡ filter one types.now) }
+// The identifiers of those types whose place is marked. A type is looked up by its place.
+fn marked_ids(reader: Reader<'_>, places: &[u64]) -> Result<Vec<u64>, AllocError>
+    ensures { IfOk result (λ ids. (one : ℕ → Bool)
+        → ((place : ℕ) → place < length (types_of reader.entry.indexes.now.rows)
+        → is_set places.now place ≡ one (slice_index (types_of reader.entry.indexes.now.rows) place))
+        → ids.items ≡ filter one (types_of reader.entry.indexes.now.rows)) }
 {
-    let mut ids = Vec::new(alloc);
-    for place in 0..types.len() {
-        if is_marked(places, place as u32) {
-            ids.push(types[place].number())?;
+    let mut ids = Vec::new(reader.alloc);
+    for place in 0..reader.type_count() {
+        if is_marked(places, place) {
+            ids.push(reader.type_at(place).number())?;
         }
     }
     Ok(ids)

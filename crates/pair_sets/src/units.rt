@@ -9,11 +9,12 @@ ghost use Rattle.constraint_tree.specs.Passing.{lies_in};
 ghost use Rattle.number_lists.specs.Members.{has};
 ghost use Rattle.number_lists.specs.Rising.{numbers_where};
 ghost use Rattle.std.specs.List.{range_with_len, sum_by};
+ghost use Rattle.reading.specs.Counted.{HandsOut};
 
 use crate::counts::as_often;
 use constraint_tree::Cardinality;
 use idset::ConceptSet;
-use reading::{Answer, Reader};
+use reading::{Answer, Counter, Reader};
 use std::alloc::AllocError;
 
 /// The concepts so many of whose groups are among some (Release File Specification, "Relationship file",
@@ -22,14 +23,16 @@ pub fn with_groups<S: ConceptSet>(
     reader: Reader<'_>,
     count: Cardinality,
     groups: &Answer<S>,
+    visits: &mut Counter,
 ) -> Result<Answer<S>, AllocError>
     requires bound { S.bound_of groups.now ≡ length (all_groups reader.snapshot.now.release) }
     ensures items { IfOk result (λ found. S.items_of found ≡ numbers_where (length reader.entry.snapshot.now.release.concepts) (λ number. lies_in count (groups_owned reader.entry.snapshot.now.release (S.items_of groups.now) number))) }
     ensures bound { IfOk result (λ found. S.bound_of found ≡ length reader.entry.snapshot.now.release.concepts) }
+    ensures counted { HandsOut (length (S.items_of groups.now)) visits.old visits.new }
 {
     // the concepts rise, so that each has its groups once
     let concept_count = reader.concept_count();
-    let numbers = groups.items_uncounted(reader.alloc)?;
+    let numbers = groups.items(reader.alloc, visits)?;
     let concepts = concepts_of(reader, numbers.as_slice())?;
     as_often(reader.alloc, concepts.as_slice(), concept_count, count)
 }
@@ -51,15 +54,17 @@ fn concepts_of(reader: Reader<'_>, groups: &[u32]) -> Result<Vec<u32>, AllocErro
 pub fn groups_of<S: ConceptSet>(
     reader: Reader<'_>,
     concepts: &Answer<S>,
+    visits: &mut Counter,
 ) -> Result<Answer<S>, AllocError>
     requires bound { S.bound_of concepts.now ≡ length reader.snapshot.now.release.concepts }
     ensures groups { IfOk result (λ groups. HaveGroupsOf reader.entry.snapshot.now.release (S.items_of concepts.now) (S.items_of groups)) }
     ensures few { IfOk result (λ groups. length (S.items_of groups) ≤ sum_by (group_count_of reader.entry.indexes.now) (S.items_of concepts.now)) }
     ensures bound { IfOk result (λ groups. S.bound_of groups ≡ length (all_groups reader.entry.snapshot.now.release)) }
+    ensures counted { HandsOut (length (S.items_of concepts.now)) visits.old visits.new }
 {
     // the concepts rise, so that each has its groups once
     reader.concept_count();
-    let own = concepts.items_uncounted(reader.alloc)?;
+    let own = concepts.items(reader.alloc, visits)?;
     let numbers = numbers_of_groups(reader, own.as_slice())?;
     Answer::from_numbers(reader.alloc, numbers.as_slice(), reader.group_count())
 }

@@ -2,12 +2,11 @@
 //!
 //! A choice names the rows that are read: those of the values that pass, those of the types, or all. Where the candidates, or
 //! a few values, have fewer, their rows are read in place of these. Each way finds the same, so a bad one costs time alone.
-ghost use Rattle.std.specs.Prelude.{true, ◌≡◌, ◌<◌, ◌+◌, ◌-◌, length};
+ghost use Rattle.std.specs.Prelude.{true, ◌≡◌, ◌<◌, ◌+◌, length};
 ghost use Rattle.reading.specs.Counted.{full};
-ghost use Rattle.candidates.specs.RowCounts.{extent_items};
 
 use crate::tested::Tested;
-use candidates::{Extent, look_ups};
+use candidates::look_ups;
 use set_algebra::Choice;
 
 /// Which rows a leaf reads, and what says which values pass.
@@ -36,15 +35,6 @@ pub struct LeafReads {
     pub value_rows: Option<u64>,
 }
 
-impl LeafReads {
-    /// How many items may be read beside so many.
-    pub fn room_beside(self, items: u64) -> u64
-        ensures { result ≡ self.bound - items }
-    {
-        self.bound.saturating_sub(items)
-    }
-}
-
 /// Values that pass, all of them concepts, and how many rows they have. No answer depends on the rows.
 #[derive(Drop)]
 pub struct PassingValues {
@@ -61,13 +51,6 @@ impl PassingValues {
     {
         self.numbers.len() as u64
     }
-
-    /// How many items are read by value.
-    pub fn items(&self) -> u64
-        ensures { result ≡ full (length self.now.numbers.items + self.now.rows) }
-    {
-        self.count().saturating_add(self.rows)
-    }
 }
 
 /// Whether so many values with so many rows are read sooner than so many rows that stand side by side. The rows of a value stand
@@ -80,15 +63,5 @@ pub fn values_are_read_before(back: bool, values: u64, rows: u64, others: u64) -
         look_ups(items) < others
     } else {
         items < others
-    }
-}
-
-/// How many items are read of candidates, each with its rows.
-pub fn items_among(candidates: Option<Extent>) -> u64
-    ensures { result ≡ extent_items candidates }
-{
-    match candidates {
-        Some(extent) => extent.items_and_rows(),
-        None => 0,
     }
 }

@@ -13,6 +13,11 @@ full number = min number (2 ^ 64 - 1)
 abbrev pub full_sum : (ℕ → ℕ) → List ℕ → ℕ
 full_sum count numbers = full (sum_by count numbers)
 
+-- so many items were handed out, and each is counted
+pub record HandsOut (items : ℕ) (early late : Counter) : Type 0 where
+  pub grows : early.count ≤ late.count
+  pub count : late.count ≡ full (early.count + items)
+
 -- the count grows, by no more than so many items
 pub record CountsWithin (most : ℕ) (early late : Counter) : Type 0 where
   pub grows : early.count ≤ late.count

@@ -1,11 +1,11 @@
 //! What a part of a plan has found.
-ghost use Rattle.std.specs.Prelude.{◌≡◌, ◌≤◌, ◌<◌, ◌+◌, All, IfOk, length, OnErr, OnOk};
+ghost use Rattle.std.specs.Prelude.{◌≡◌, ◌<◌, ◌+◌, All, IfOk, length, OnErr, OnOk};
 ghost use Rattle.std.specs.List.{range_with_len};
 ghost use Rattle.idset.specs.Sets.{all_items, common_items, other_items};
 ghost use Rattle.number_lists.specs.Members.{has};
 ghost use Rattle.number_lists.specs.Rising.{IsRisingBelow, listed_numbers, numbers_where};
 ghost use Rattle.idset.specs.Words.{AreWordsBelow, is_set};
-ghost use Rattle.reading.specs.Counted.{full};
+ghost use Rattle.reading.specs.Counted.{HandsOut};
 
 use crate::counter::Counter;
 use idset::ConceptSet;
@@ -91,28 +91,20 @@ impl<S: ConceptSet> Answer<S> {
         self.set
     }
 
-    /// The set.
-    pub fn set(&self) -> &S
-        ensures { result.now ≡ self.now }
-    {
-        &self.set
-    }
-
     /// The items in rising order, as a list of their own. They are counted.
     pub fn items(&self, alloc: Global, visits: &mut Counter) -> Result<Vec<u32>, AllocError>
         ensures items { IfOk result (λ items. items.items ≡ S.items_of self.now) }
-        ensures count { visits.new.count ≡ full (visits.old.count + length (S.items_of self.now)) }
-        ensures grows { visits.old.count ≤ visits.new.count }
+        ensures counted { HandsOut (length (S.items_of self.now)) visits.old visits.new }
     {
         visits.add(u64::from(self.set.count()));
         self.set.items(alloc)
     }
 
-    /// The items in rising order, as a list of their own.
-    pub fn items_uncounted(&self, alloc: Global) -> Result<Vec<u32>, AllocError>
-        ensures { IfOk result (λ items. items.items ≡ S.items_of self.now) }
+    // Counts the items of two answers, of which both are read.
+    fn count_with(&self, other: &Answer<S>, visits: &mut Counter)
+        ensures { HandsOut (length (S.items_of self.now) + length (S.items_of other.now)) visits.old visits.new }
     {
-        self.set.items(alloc)
+        visits.add(u64::from(self.set.count()) + u64::from(other.set.count()));
     }
 
     /// The items that one of two answers has, or both. The items of both are counted.
@@ -126,11 +118,9 @@ impl<S: ConceptSet> Answer<S> {
         ensures items { IfOk result
             (λ found. S.items_of found ≡ all_items (S.bound_of self.now) (S.items_of self.now) (S.items_of other.now)) }
         ensures bound { IfOk result (λ found. S.bound_of found ≡ S.bound_of self.now) }
-        ensures count { visits.new.count
-            ≡ full (visits.old.count + (length (S.items_of self.now) + length (S.items_of other.now))) }
-        ensures grows { visits.old.count ≤ visits.new.count }
+        ensures counted { HandsOut (length (S.items_of self.now) + length (S.items_of other.now)) visits.old visits.new }
     {
-        visits.add(u64::from(self.set.count()) + u64::from(other.set.count()));
+        self.count_with(other, visits);
         let set = self.set.or(alloc, &other.set)?;
         Ok(Answer { set })
     }
@@ -146,22 +136,9 @@ impl<S: ConceptSet> Answer<S> {
         ensures items { IfOk result
             (λ found. S.items_of found ≡ other_items (S.items_of self.now) (S.items_of other.now)) }
         ensures bound { IfOk result (λ found. S.bound_of found ≡ S.bound_of self.now) }
-        ensures count { visits.new.count
-            ≡ full (visits.old.count + (length (S.items_of self.now) + length (S.items_of other.now))) }
-        ensures grows { visits.old.count ≤ visits.new.count }
+        ensures counted { HandsOut (length (S.items_of self.now) + length (S.items_of other.now)) visits.old visits.new }
     {
-        visits.add(u64::from(self.set.count()) + u64::from(other.set.count()));
-        let set = self.set.minus(alloc, &other.set)?;
-        Ok(Answer { set })
-    }
-
-    /// The items that this answer has and another has not.
-    pub fn minus_uncounted(&self, alloc: Global, other: &Answer<S>) -> Result<Answer<S>, AllocError>
-        requires { S.bound_of self.now ≡ S.bound_of other.now }
-        ensures items { IfOk result
-            (λ found. S.items_of found ≡ other_items (S.items_of self.now) (S.items_of other.now)) }
-        ensures bound { IfOk result (λ found. S.bound_of found ≡ S.bound_of self.now) }
-    {
+        self.count_with(other, visits);
         let set = self.set.minus(alloc, &other.set)?;
         Ok(Answer { set })
     }

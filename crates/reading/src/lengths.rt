@@ -1,8 +1,10 @@
 //! Lengths of lists, and look-ups by number: nothing is counted for them, since no item of a list is handed out.
-ghost use Rattle.std.specs.Prelude.{◌≡◌, ◌<◌, ◌+◌, ◌^◌, IfSome, length, nat_eq, position, slice_get, slice_index};
+ghost use Rattle.std.specs.Prelude.{◌≡◌, ◌<◌, ◌+◌, ◌^◌, IfSome, length, nat_eq, pos, position, slice_get, slice_index, slice_index_or};
 ghost use Rattle.std.specs.List.{concat};
+ghost use Rattle.std.specs.Ordering.{int_cmp};
 ghost use Rattle.std.specs.List.Sorted.{IsStrictlyIncreasing};
 ghost use Rattle.number_lists.specs.KeyedLists.{list_of};
+ghost use Rattle.number_lists.specs.Members.{has};
 ghost use Rattle.held_release.specs.AttributesBySource.{attributes_by_source};
 ghost use Rattle.held_release.specs.Numbering.{concept_number};
 ghost use Rattle.postings.specs.Entries.{entries_of};
@@ -12,8 +14,11 @@ ghost use Rattle.postings.specs.RowColumns.{AreRowCells};
 
 use crate::reader::Reader;
 use held_release::Snapshot;
+use idset::has_number;
 use postings::{Indexes, RowCells};
+use rf2_rows::Decimal;
 use sctid::SctId;
+use std::cmp::Ordering;
 use std::ops::Range;
 
 impl<'a> Reader<'a> {
@@ -99,6 +104,39 @@ impl<'a> Reader<'a> {
         self.indexes.cells(n)
     }
 
+    /// How many types the rows have.
+    pub fn type_count(self) -> u32
+        ensures count { result ≡ length (types_of self.entry.indexes.now.rows) }
+        ensures few { length (types_of self.entry.indexes.now.rows) < 2 ^ 31 }
+    {
+        // there are no more types than rows
+        self.row_count();
+        self.indexes.types().len() as u32
+    }
+
+    /// A type, by its place among the types of all rows.
+    pub fn type_at(self, place: u32) -> SctId
+        requires { place < length (types_of self.indexes.now.rows) }
+        ensures { result ≡ slice_index (types_of self.entry.indexes.now.rows) place }
+    {
+        self.indexes.types()[place as usize]
+    }
+
+    /// How many decimals there are among the values of the rows. Their numbers as values begin at the number of concepts.
+    pub fn decimal_count(self) -> u32
+        ensures { result ≡ length self.entry.indexes.now.decimals }
+    {
+        self.indexes.decimals().len() as u32
+    }
+
+    /// How a decimal, by its place among the decimals of all values, which rise, stands to a number.
+    pub fn compare_decimal(self, place: u32, number: Decimal) -> Ordering
+        requires { place < length self.indexes.now.decimals }
+        ensures { result ≡ int_cmp (slice_index_or self.entry.indexes.now.decimals place (pos 0)) number.0 }
+    {
+        self.indexes.decimals()[place as usize].cmp(&number.0)
+    }
+
     /// The place of a type among the types of all rows, or `None` where no row has it. Any number may be asked for.
     pub fn type_place(self, id: u64) -> Option<u32>
         ensures { result ≡ position (nat_eq id) (types_of self.entry.indexes.now.rows) }
@@ -171,6 +209,16 @@ impl<'a> Reader<'a> {
             (λ group. result ≡ length (rows_of_group self.entry.indexes.now group)) }
     {
         self.indexes.unit_rows(unit).len() as u64
+    }
+
+    /// Whether a concept is a component of a reference set: a test, which counts nothing.
+    pub fn is_member(self, refset: u32, concept: u32) -> bool
+        requires { refset < length self.indexes.now.concepts }
+        ensures { result ≡ has (list_of self.entry.indexes.now.members refset) concept }
+    {
+        // 32 bits hold the number of each concept
+        self.concept_count();
+        has_number(self.indexes.members(refset), concept)
     }
 
     /// How many components a reference set has.

@@ -8,6 +8,7 @@
 
 mod answer;
 mod counter;
+mod counting;
 mod lengths;
 mod lists;
 mod reader;

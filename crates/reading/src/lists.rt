@@ -1,142 +1,168 @@
 //! Lists of a release and of its indexes.
-ghost use Rattle.std.specs.Prelude.{ℕ, ◌≡◌, ◌<◌, ◌+◌, ◌^◌, ◌↔◌, IfSome, IsSome, List, length, map, slice_get};
-ghost use Rattle.std.specs.List.Sorted.{IsSorted};
-ghost use Rattle.std.specs.Ordering.{int_cmp};
+ghost use Rattle.std.specs.Prelude.{◌≡◌, ◌<◌, ◌↔◌, IfSome, IsSome, MatchOption, length, slice_get};
+ghost use Rattle.std.specs.List.{concat};
 ghost use Rattle.number_lists.specs.KeyedLists.{list_of};
-ghost use Rattle.hierarchy.specs.Hierarchy.{IsWithin};
-ghost use Rattle.hierarchy.specs.ParentsFirst.{IsParentsFirst};
-ghost use Rattle.held_release.specs.Numbering.{row_of_numbers};
 ghost use Rattle.ancestor_index.specs.Wide.{AreWordsOf, IsWide};
 ghost use Rattle.postings.specs.Groups.{groups_in, rows_of_group};
 ghost use Rattle.postings.specs.Indexed.{rows_by_source, rows_by_type, rows_by_value, types_of};
 ghost use Rattle.postings.specs.RowColumns.{AreTypeColumns, AreValueColumns};
+ghost use Rattle.reading.specs.Counted.{HandsOut};
+ghost use Rattle.reading.specs.Orders.{IsOrderOf};
 
+use crate::counter::Counter;
 use crate::reader::Reader;
+use number_lists::KeyedLists;
 use postings::{TypeColumns, ValueColumns};
 use sctid::SctId;
 
 impl<'a> Reader<'a> {
-    /// The concepts that a concept reaches by is-a rows.
-    pub fn ancestors(self, concept: u32) -> &'a [u32]
+    /// The concepts that a concept reaches by is-a rows. They are counted.
+    pub fn ancestors(self, concept: u32, visits: &mut Counter) -> &'a [u32]
         requires { concept < length self.indexes.now.hierarchy.ancestors }
-        ensures { result.now ≡ list_of self.entry.indexes.now.hierarchy.ancestors concept }
+        ensures items { result.now ≡ list_of self.entry.indexes.now.hierarchy.ancestors concept }
+        ensures counted { HandsOut (length (list_of self.entry.indexes.now.hierarchy.ancestors concept))
+            visits.old visits.new }
     {
-        self.indexes.hierarchy().ancestors(concept)
+        handed_out(self.indexes.hierarchy().ancestors(concept), visits)
     }
 
-    /// The concepts that reach a concept by is-a rows.
-    pub fn descendants(self, concept: u32) -> &'a [u32]
+    /// The concepts that reach a concept by is-a rows. They are counted.
+    pub fn descendants(self, concept: u32, visits: &mut Counter) -> &'a [u32]
         requires { concept < length self.indexes.now.hierarchy.descendants }
-        ensures { result.now ≡ list_of self.entry.indexes.now.hierarchy.descendants concept }
+        ensures items { result.now ≡ list_of self.entry.indexes.now.hierarchy.descendants concept }
+        ensures counted { HandsOut (length (list_of self.entry.indexes.now.hierarchy.descendants concept))
+            visits.old visits.new }
     {
-        self.indexes.hierarchy().descendants(concept)
+        handed_out(self.indexes.hierarchy().descendants(concept), visits)
     }
 
-    /// The descendants of a concept as words of bits, a bit for each concept, where the index has them so.
-    pub fn descendant_words(self, concept: u32) -> Option<&'a [u64]>
+    /// The descendants of a concept as words of bits, a bit for each concept, where the index has them so. They are counted
+    /// as if they were listed.
+    pub fn descendant_words(self, concept: u32, visits: &mut Counter) -> Option<&'a [u64]>
         requires { concept < length self.indexes.now.hierarchy.descendants }
         ensures some { IfSome result (λ words. AreWordsOf (length self.entry.indexes.now.hierarchy.descendants)
             (list_of self.entry.indexes.now.hierarchy.descendants concept) words.now) }
         ensures wide { IsSome result ↔ IsWide (length self.entry.indexes.now.hierarchy.descendants)
             (list_of self.entry.indexes.now.hierarchy.descendants concept) }
+        ensures counted { MatchOption result (visits.new ≡ visits.old)
+            (λ _. HandsOut (length (list_of self.entry.indexes.now.hierarchy.descendants concept)) visits.old visits.new) }
     {
-        self.indexes.hierarchy().descendant_words(concept)
+        let words = self.indexes.hierarchy().descendant_words(concept)?;
+        visits.add(self.descendant_count_of(concept));
+        Some(words)
     }
 
-    /// The concepts that an is-a row of a concept leads to.
-    pub fn parents(self, concept: u32) -> &'a [u32]
+    /// The concepts that an is-a row of a concept leads to. They are counted.
+    pub fn parents(self, concept: u32, visits: &mut Counter) -> &'a [u32]
         requires { concept < length self.indexes.now.hierarchy.parents }
-        ensures { result.now ≡ list_of self.entry.indexes.now.hierarchy.parents concept }
+        ensures items { result.now ≡ list_of self.entry.indexes.now.hierarchy.parents concept }
+        ensures counted { HandsOut (length (list_of self.entry.indexes.now.hierarchy.parents concept))
+            visits.old visits.new }
     {
-        self.indexes.hierarchy().parents(concept)
+        handed_out(self.indexes.hierarchy().parents(concept), visits)
     }
 
-    /// The concepts from which an is-a row leads to a concept.
-    pub fn children(self, concept: u32) -> &'a [u32]
+    /// The concepts from which an is-a row leads to a concept. They are counted.
+    pub fn children(self, concept: u32, visits: &mut Counter) -> &'a [u32]
         requires { concept < length self.indexes.now.hierarchy.children }
-        ensures { result.now ≡ list_of self.entry.indexes.now.hierarchy.children concept }
+        ensures items { result.now ≡ list_of self.entry.indexes.now.hierarchy.children concept }
+        ensures counted { HandsOut (length (list_of self.entry.indexes.now.hierarchy.children concept))
+            visits.old visits.new }
     {
-        self.indexes.hierarchy().children(concept)
+        handed_out(self.indexes.hierarchy().children(concept), visits)
     }
 
-    /// The numbers of the concepts in an order in which parents come before their children.
-    pub fn parents_first(self) -> &'a [u32]
-        ensures { (rows : List (ℕ × ℕ)) → map (row_of_numbers self.entry.snapshot.now.release.concepts) rows ≡ self.entry.snapshot.now.release.isa
-            → IsWithin (length self.entry.snapshot.now.release.concepts) rows
-            → IsParentsFirst (length self.entry.snapshot.now.release.concepts) rows result.now }
+    /// The parents of all concepts, a list for each. Each is-a link is counted.
+    pub fn all_parents(self, visits: &mut Counter) -> &'a KeyedLists
+        ensures lists { result.now ≡ self.entry.indexes.now.hierarchy.parents }
+        ensures counted { HandsOut (length (concat self.entry.indexes.now.hierarchy.parents)) visits.old visits.new }
     {
-        self.snapshot.parents_first()
+        visits.add(self.link_count() as u64);
+        self.indexes.hierarchy().all_parents()
     }
 
-    /// The is-a rows by the numbers of their concepts.
-    pub fn isa_rows(self) -> &'a [(u32, u32)]
-        ensures rows { map (row_of_numbers self.entry.snapshot.now.release.concepts) result.now ≡ self.entry.snapshot.now.release.isa }
-        ensures within { IsWithin (length self.entry.snapshot.now.release.concepts) result.now }
-        ensures few { length result.now < 2 ^ 31 }
+    /// The children of all concepts, a list for each. Each is-a link is counted.
+    pub fn all_children(self, visits: &mut Counter) -> &'a KeyedLists
+        ensures lists { result.now ≡ self.entry.indexes.now.hierarchy.children }
+        ensures counted { HandsOut (length (concat self.entry.indexes.now.hierarchy.parents)) visits.old visits.new }
     {
-        self.snapshot.isa_rows()
+        visits.add(self.link_count() as u64);
+        self.indexes.hierarchy().all_children()
     }
 
-    /// The components of a reference set.
-    pub fn members(self, concept: u32) -> &'a [u32]
+    /// The numbers of the concepts in an order in which parents come before their children, by the is-a rows. Each concept
+    /// is counted.
+    pub fn parents_first(self, visits: &mut Counter) -> &'a [u32]
+        ensures order { IsOrderOf self.entry.snapshot.now.release result.now }
+        ensures counted { HandsOut (length result.now) visits.old visits.new }
+    {
+        // the order is by the is-a rows
+        self.snapshot.isa_rows();
+        handed_out(self.snapshot.parents_first(), visits)
+    }
+
+    /// The components of a reference set. They are counted.
+    pub fn members(self, concept: u32, visits: &mut Counter) -> &'a [u32]
         requires { concept < length self.indexes.now.concepts }
-        ensures { result.now ≡ list_of self.entry.indexes.now.members concept }
+        ensures items { result.now ≡ list_of self.entry.indexes.now.members concept }
+        ensures counted { HandsOut (length (list_of self.entry.indexes.now.members concept)) visits.old visits.new }
     {
-        self.indexes.members(concept)
+        handed_out(self.indexes.members(concept), visits)
     }
 
-    /// The numbers of the rows of a source.
-    pub fn rows_of(self, concept: u32) -> &'a [u32]
+    /// The numbers of the rows of a source. They are counted.
+    pub fn rows_of(self, concept: u32, visits: &mut Counter) -> &'a [u32]
         requires { concept < length self.indexes.now.concepts }
-        ensures { result.now ≡ rows_by_source self.entry.indexes.now concept }
+        ensures items { result.now ≡ rows_by_source self.entry.indexes.now concept }
+        ensures counted { HandsOut (length (rows_by_source self.entry.indexes.now concept)) visits.old visits.new }
     {
-        self.indexes.rows_of(concept)
+        handed_out(self.indexes.rows_of(concept), visits)
     }
 
-    /// The numbers of the rows of a group.
-    pub fn unit_rows(self, unit: u32) -> &'a [u32]
+    /// The numbers of the rows of a group. They are counted.
+    pub fn unit_rows(self, unit: u32, visits: &mut Counter) -> &'a [u32]
         requires { unit < length (groups_in self.indexes.now) }
-        ensures { IfSome (slice_get (groups_in self.entry.indexes.now) unit) (λ group. result.now ≡ rows_of_group self.entry.indexes.now group) }
+        ensures items { IfSome (slice_get (groups_in self.entry.indexes.now) unit)
+            (λ group. result.now ≡ rows_of_group self.entry.indexes.now group) }
+        ensures counted { HandsOut (length result.now) visits.old visits.new }
     {
-        self.indexes.unit_rows(unit)
+        handed_out(self.indexes.unit_rows(unit), visits)
     }
 
-    /// The numbers of the rows of a type. Any number may be asked for.
-    pub fn by_type(self, id: u64) -> &'a [u32]
-        ensures { result.now ≡ rows_by_type self.entry.indexes.now id }
+    /// The columns of the rows of a type. The rows are counted. Any number may be asked for.
+    pub fn type_columns(self, id: u64, visits: &mut Counter) -> TypeColumns<'a>
+        ensures columns { AreTypeColumns self.entry.indexes.now id result }
+        ensures counted { HandsOut (length (rows_by_type self.entry.indexes.now id)) visits.old visits.new }
     {
-        self.indexes.by_type(id)
-    }
-
-    /// The columns of the rows of a type. Any number may be asked for.
-    pub fn type_columns(self, id: u64) -> TypeColumns<'a>
-        ensures { AreTypeColumns self.entry.indexes.now id result }
-    {
+        visits.add(self.type_row_count(id));
         self.indexes.type_columns(id)
     }
 
-    /// The columns of the rows whose value is a concept.
-    pub fn value_columns(self, concept: u32) -> ValueColumns<'a>
+    /// The columns of the rows whose value is a concept. The rows are counted.
+    pub fn value_columns(self, concept: u32, visits: &mut Counter) -> ValueColumns<'a>
         requires { concept < length self.indexes.now.concepts }
-        ensures { AreValueColumns self.entry.indexes.now concept result }
+        ensures columns { AreValueColumns self.entry.indexes.now concept result }
+        ensures counted { HandsOut (length (rows_by_value self.entry.indexes.now concept)) visits.old visits.new }
     {
+        visits.add(self.value_row_count(concept));
         self.indexes.value_columns(concept)
     }
 
-    /// The types of all rows, each once, in the order of their first rows.
-    pub fn types(self) -> &'a [SctId]
-        ensures { result.now ≡ types_of self.entry.indexes.now.rows }
+    /// The types of all rows, each once, in the order of their first rows. They are counted.
+    pub fn types(self, visits: &mut Counter) -> &'a [SctId]
+        ensures items { result.now ≡ types_of self.entry.indexes.now.rows }
+        ensures counted { HandsOut (length (types_of self.entry.indexes.now.rows)) visits.old visits.new }
     {
+        visits.add(u64::from(self.type_count()));
         self.indexes.types()
     }
+}
 
-    /// The decimals among the values of the rows, rising and once each, as so many times 10^-18. Their numbers as values begin at the
-    /// number of concepts.
-    pub fn decimals(self) -> &'a [i128]
-        ensures decimals { result.now ≡ self.entry.indexes.now.decimals }
-        ensures rising { IsSorted int_cmp self.entry.indexes.now.decimals }
-        ensures few { length self.entry.indexes.now.concepts + length self.entry.indexes.now.decimals < 2 ^ 32 }
-    {
-        self.indexes.decimals()
-    }
+// A list that is handed out: each item is counted.
+fn handed_out<'a>(list: &'a [u32], visits: &mut Counter) -> &'a [u32]
+    ensures items { result.now ≡ list.now }
+    ensures counted { HandsOut (length list.now) visits.old visits.new }
+{
+    visits.add(list.len() as u64);
+    list
 }

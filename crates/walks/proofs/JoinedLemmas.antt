@@ -13,7 +13,7 @@ use Rattle.idset.specs.Sets.{all_items}
 use Rattle.number_lists.specs.Members.{has}
 use Rattle.number_lists.specs.Rising.{IsRisingBelow, numbers_where}
 use Rattle.idset.specs.Words.{is_set}
-use Rattle.number_lists.proofs.WhereLemmas.{has-numbers_where_any, numbers_where-agree, there_where, where_there}
+use Rattle.number_lists.proofs.WhereLemmas.{has-numbers_where_any, numbers_where-agree, numbers_where-none, there_where, where_there}
 use Rattle.idset.proofs.Places.{filter_step}
 use Rattle.number_lists.proofs.RisingLemmas.{has-past_bound, numbers_where-rising, rising_is_numbers_where, rising_is_where}
 use Rattle.number_lists.specs.KeyedLists.{list_of}
@@ -255,3 +255,7 @@ pub words_joined : (count : ℕ) (lists : List (List ℕ)) (concept : ℕ) (word
     → ((n : ℕ) → is_set words n ≡ has (list_of lists concept) n)
     → numbers_where count (is_set words) ≡ joined count lists (concept ∷ [])
 words_joined count lists concept words marked = words_are count words (list_of lists concept) marked ∙ one_joined count lists concept
+
+-- of no concepts no list is joined
+pub joined_none : (count : ℕ) (lists : List (List ℕ)) → joined count lists [] ≡ []
+joined_none count lists = numbers_where-none count

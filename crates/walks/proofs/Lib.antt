@@ -4,4 +4,5 @@ pub mod LedLemmas
 pub mod MemberLemmas
 pub mod ReadLemmas
 pub mod ReachedLemmas
+pub mod SpendLemmas
 pub mod StepLemmas

@@ -105,14 +105,6 @@ members_listed release items below =
     numbers_where-agree (length release.concepts) _ _
     (λ n inside. item_joined (members_of release) items n ∙ component_told release items below n inside)
 
--- the components of a reference set rise
-pub members_rise : (release : Release) (refset : ℕ) → refset < length release.concepts → length release.concepts < 2 ^ 32
-    → IsRising (list_of (members_of release) refset)
-members_rise release refset below small =
-    rising_fits (length release.concepts) (list_of (members_of release) refset)
-    (subst (IsRisingBelow (length release.concepts)) (sym (list_of-where (length release.concepts) (is_member release) refset below))
-    (numbers_where-rising (length release.concepts) (is_member release refset))) small
-
 -- those of a rising list that are in the list of one of some reference sets are the components of these that are in it
 pub members_asked : (release : Release) (items : List ℕ) → All (λ item. item < length release.concepts) items
     → (wanted : List ℕ) → IsRisingBelow (length release.concepts) wanted

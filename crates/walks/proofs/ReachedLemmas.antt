@@ -1,12 +1,13 @@
 -- What one pass over the is-a rows finds, in which each concept has its turn before those that are one row away.
 use Rattle.std.proofs.Common.{ℕ, zero, suc, ◌≡◌, ◌==◌, ◌<◌, [], ◌∷◌, ◌≤◌, ◌+◌, ◌-◌, ◌∙◌, true, false, not, Bool, ◌&&◌, ◌||◌, List, length, get_or, map, take, inl, inr, refl, sym, ap, subst, arith}
 use Rattle.std.specs.Prelude.{Contains, nat_eq}
-use Rattle.std.specs.List.{list_all, list_any}
+use Rattle.std.specs.List.{concat, list_all, list_any}
 use Rattle.std.specs.List.Sorted.{IsStrictlyIncreasing}
-use Rattle.std.proofs.lemmas.Bool.{and_parts, cases_eq, eqb-false, eqb-true, false≢true, or_cases, or_left, or_right}
+use Rattle.std.proofs.lemmas.Bool.{and_parts, cases_eq, eq-eqb, eqb-false, eqb-true, false≢true, or_cases, or_left, or_right}
 use Rattle.std.proofs.lemmas.List.{get_or-take, get_or_default, length-take}
 use Rattle.std.proofs.lemmas.List.Elements.{Contains-get_or}
 use Rattle.std.proofs.lemmas.Map.Keys.{apart_from_distinct}
+use Rattle.std.proofs.lemmas.Map.Steps.{length-le_from_distinct_below}
 use Rattle.rf2_rows.specs.Release.{Release}
 use Rattle.hierarchy.specs.Hierarchy.{IsWithin, Reaches, more_rows, one_row}
 use Rattle.hierarchy.specs.ParentsFirst.{IsParentsFirst}
@@ -21,6 +22,11 @@ use Rattle.ancestor_index.specs.HierarchyLists.{Hierarchy, hierarchy_of, is_chil
 use Rattle.ancestor_index.proofs.BuildLemmas.{same_child, same_reach}
 use Rattle.number_lists.proofs.MemberLemmas.{contains_had, had_contained}
 use Rattle.ancestor_index.proofs.ClosureLemmas.{row_there, there_row}
+use Rattle.reading.specs.Counted.{CountsWithin, HandsOut}
+use Rattle.reading.specs.Orders.{IsOrderOf}
+use Rattle.reading.specs.declared.counter.Counter.{Counter}
+use Rattle.reading.proofs.CountLemmas.{counted_both, counted_out}
+use Rattle.walks.specs.inside.Counts.{pass_items}
 use Rattle.walks.specs.inside.Joined.{AreJoined, is_whole, near_of, turn_of}
 use Rattle.walks.specs.Led.{IsOver}
 use Rattle.walks.specs.Families.{lists_of}
@@ -53,6 +59,26 @@ turn_within turns family.Ancestors turn inside = omega arith
 turn_within turns family.Descendants turn inside = inside
 turn_within turns family.Parents turn inside = omega arith
 turn_within turns family.Children turn inside = inside
+
+-- an order has no more than the concepts
+order_few : (count : ℕ) (rows : List (ℕ × ℕ)) (order : List ℕ) → IsParentsFirst count rows order → length order ≤ count
+order_few count rows order first = length-le_from_distinct_below order count first.once
+    (λ concept there. (first.members concept).0 (contains_had order concept (swapped concept order there)))
+  where
+    swapped : (concept : ℕ) (numbers : List ℕ) → list_any (nat_eq concept) numbers ≡ true → has numbers concept ≡ true
+    swapped concept [] there = there
+    swapped concept (number ∷ numbers) there = elim (or_cases (nat_eq concept number) (list_any (nat_eq concept) numbers) there) [
+      | inl here ↦ or_left (number == concept) (has numbers concept) (eq-eqb number concept (sym (eqb-true concept number here)))
+      | inr later ↦ or_right (number == concept) (has numbers concept) (swapped concept numbers later)
+    ]
+
+-- a pass counts each is-a link, and the concepts in their order
+pub pass_counted : (release : Release) (hierarchy : Hierarchy) (bound : ℕ) (order : List ℕ) {early between late : Counter}
+    → bound ≡ length release.concepts → IsOrderOf release order → HandsOut (length (concat hierarchy.parents)) early between
+    → HandsOut (length order) between late → CountsWithin (pass_items hierarchy bound) early late
+pass_counted release hierarchy bound order counted is links concepts =
+    counted_both {first = length (concat hierarchy.parents)} {second = length order} (counted_out links (omega arith)) (counted_out concepts (omega arith))
+    (omega (arith, counted, order_few (length release.concepts) is.rows order is.first))
 
 module _ (release : Release) (rows : List (ℕ × ℕ)) (order : List ℕ) (rising : IsStrictlyIncreasing release.concepts)
     (within : IsWithin (length release.concepts) rows) (are : map (row_of_numbers release.concepts) rows ≡ release.isa)

@@ -1,5 +1,6 @@
 //! The four families of lists of a hierarchy.
-ghost use Rattle.std.specs.Prelude.{◌≡◌, ◌↔◌, ◌<◌, IfSome, IsSome, length};
+ghost use Rattle.std.specs.Prelude.{◌≡◌, ◌↔◌, ◌<◌, IfSome, IsSome, MatchOption, length};
+ghost use Rattle.std.specs.List.{concat};
 ghost use Rattle.number_lists.specs.Members.{has};
 ghost use Rattle.idset.specs.Words.{MarkedBelow};
 ghost use Rattle.number_lists.specs.KeyedLists.{list_of};
@@ -7,10 +8,12 @@ ghost use Rattle.walks.specs.inside.Joined.{back_of, is_whole as is_whole_of, ne
 ghost use Rattle.walks.specs.inside.Counts.{told_of};
 ghost use Rattle.walks.specs.inside.Steps.{HasWords, IsStepFor, asked_of};
 ghost use Rattle.walks.specs.Families.{lists_of};
+ghost use Rattle.reading.specs.Counted.{HandsOut};
 
 use candidates::ListExtent;
 use constraint_tree::Operator;
-use reading::Reader;
+use number_lists::KeyedLists;
+use reading::{Counter, Reader};
 
 /// A family of lists, one for each concept.
 #[derive(Clone, Copy)]
@@ -46,6 +49,17 @@ impl Family {
         }
     }
 
+    /// The lists of all concepts in the family that is one is-a row away. Each is-a link is counted.
+    pub fn near_lists<'a>(self, reader: Reader<'a>, visits: &mut Counter) -> &'a KeyedLists
+        ensures lists { result.now ≡ lists_of reader.entry.indexes.now.hierarchy (near_of self) }
+        ensures counted { HandsOut (length (concat reader.entry.indexes.now.hierarchy.parents)) visits.old visits.new }
+    {
+        match self {
+            Family::Ancestors | Family::Parents => reader.all_parents(visits),
+            Family::Descendants | Family::Children => reader.all_children(visits),
+        }
+    }
+
     /// The family whose lists lead back.
     pub fn back(self) -> Family
         ensures { result ≡ back_of self }
@@ -70,27 +84,51 @@ impl Family {
         }
     }
 
-    /// The list of a concept.
-    pub fn list(self, reader: Reader<'_>, concept: u32) -> &[u32]
+    /// The list of a concept. Its items are counted.
+    pub fn list<'a>(self, reader: Reader<'a>, concept: u32, visits: &mut Counter) -> &'a [u32]
         requires { concept < length (lists_of reader.indexes.now.hierarchy self) }
-        ensures { result.now ≡ list_of (lists_of reader.entry.indexes.now.hierarchy self) concept }
+        ensures items { result.now ≡ list_of (lists_of reader.entry.indexes.now.hierarchy self) concept }
+        ensures counted { HandsOut (length (list_of (lists_of reader.entry.indexes.now.hierarchy self) concept))
+            visits.old visits.new }
     {
         match self {
-            Family::Ancestors => reader.ancestors(concept),
-            Family::Descendants => reader.descendants(concept),
-            Family::Parents => reader.parents(concept),
-            Family::Children => reader.children(concept),
+            Family::Ancestors => reader.ancestors(concept, visits),
+            Family::Descendants => reader.descendants(concept, visits),
+            Family::Parents => reader.parents(concept, visits),
+            Family::Children => reader.children(concept, visits),
         }
     }
 
-    /// The list of a concept as words of bits, if the index has them.
-    pub fn words(self, reader: Reader<'_>, concept: u32) -> Option<&[u64]>
+    /// How many items the list of a concept has. None is read.
+    pub fn length(self, reader: Reader<'_>, concept: u32) -> u64
         requires { concept < length (lists_of reader.indexes.now.hierarchy self) }
-        ensures some { IfSome result (λ words. MarkedBelow (length (lists_of reader.entry.indexes.now.hierarchy self)) words.now (has (list_of (lists_of reader.entry.indexes.now.hierarchy self) concept))) }
-        ensures wide { IsSome result ↔ HasWords reader.entry.indexes.now.hierarchy self concept }
+        ensures { result ≡ length (list_of (lists_of reader.entry.indexes.now.hierarchy self) concept) }
     {
         match self {
-            Family::Descendants => reader.descendant_words(concept),
+            Family::Ancestors => reader.ancestor_count_of(concept),
+            Family::Descendants => reader.descendant_count_of(concept),
+            Family::Parents => reader.parent_count_of(concept),
+            Family::Children => reader.child_count_of(concept),
+        }
+    }
+
+    /// The list of a concept as words of bits, if the index has them. Its items are counted then.
+    pub fn words<'a>(
+        self,
+        reader: Reader<'a>,
+        concept: u32,
+        visits: &mut Counter,
+    ) -> Option<&'a [u64]>
+        requires { concept < length (lists_of reader.indexes.now.hierarchy self) }
+        ensures some { IfSome result (λ words. MarkedBelow (length (lists_of reader.entry.indexes.now.hierarchy self))
+            words.now (has (list_of (lists_of reader.entry.indexes.now.hierarchy self) concept))) }
+        ensures wide { IsSome result ↔ HasWords reader.entry.indexes.now.hierarchy self concept }
+        ensures counted { MatchOption result (visits.new ≡ visits.old)
+            (λ _. HandsOut (length (list_of (lists_of reader.entry.indexes.now.hierarchy self) concept))
+            visits.old visits.new) }
+    {
+        match self {
+            Family::Descendants => reader.descendant_words(concept, visits),
             Family::Ancestors | Family::Parents | Family::Children => None,
         }
     }

@@ -6,16 +6,17 @@ ghost use Rattle.idset.specs.Sets.{all_items};
 ghost use Rattle.number_lists.specs.Members.{has};
 ghost use Rattle.walks.specs.Asked.{AreEnough, asked_lists};
 ghost use Rattle.walks.specs.Led.{apart as apart_of, IsOf, IsOver, joined, led_to};
-ghost use Rattle.walks.specs.inside.Steps.{stepped};
-ghost use Rattle.walks.specs.Families.{lists_of};
-ghost use Rattle.reading.specs.Counted.{CountsWithin, IsFound, full};
+ghost use Rattle.walks.specs.inside.Joined.{back_of};
+ghost use Rattle.walks.specs.inside.Steps.{asked_of, stepped};
+ghost use Rattle.walks.specs.Families.{items_in, lists_of};
+ghost use Rattle.reading.specs.Counted.{CountsWithin, IsFound};
 ghost use Rattle.candidates.specs.Extents.{IsExtentOf};
 ghost use Rattle.candidates.specs.Tallies.{Adds};
 ghost use Rattle.candidates.specs.Within.{AreBelow, AreConcepts, HaveExtent, may_be};
 ghost use Rattle.walks.specs.Reads.{asked_items, walk_items};
 
 use crate::family::{Family, Reach, Step};
-use crate::walk_ways::{WalkWay, items_of_all_lists, items_unlisted, walk_way};
+use crate::walk_ways::{are_unlisted, walk_way};
 use crate::walks::{meets, walk};
 use candidates::{Candidates, RowTally, restricted};
 use constraint_tree::Operator;
@@ -46,10 +47,9 @@ pub fn walk_within<S: ConceptSet>(
     ensures adds { IfOk result (λ found. Adds (S.items_of found) tally.old tally.new) }
 {
     if let Candidates::Within(wanted, _) = candidates {
-        let asked = items_unlisted(reader, operator, from.count(), from.bound(), candidates);
-        if let Some(items) = asked {
+        if are_unlisted(reader, operator, from.count(), from.bound(), candidates) {
             tally.forget();
-            let found = led_among(reader, operator, from, *wanted, items, visits)?;
+            let found = led_among(reader, operator, from, *wanted, visits)?;
             return Ok(found);
         }
     }
@@ -60,7 +60,7 @@ pub fn walk_within<S: ConceptSet>(
     walk_listed(reader, operator, from, candidates, visits, tally)
 }
 
-// From all concepts: each is asked. They are gone through once, and of a list that is not empty the first item tells.
+// From all concepts: each is asked by its own lists, which together have no more items than all lists of the operator.
 fn walk_from_all<S: ConceptSet>(
     reader: Reader<'_>,
     operator: Operator,
@@ -72,7 +72,6 @@ fn walk_from_all<S: ConceptSet>(
     requires candidates { AreBelow S.bound_of (S.bound_of from.now) candidates.now }
     requires many { 1 < length (S.items_of from.now) }
     requires all { length (S.items_of from.now) ≡ S.bound_of from.now }
-    ensures read { full (visits.old.count + length (S.items_of from.now)) ≤ visits.new.count }
     ensures counted { CountsWithin (length (S.items_of from.now) + walk_items reader.entry.indexes.now.hierarchy operator (S.items_of from.now))
         visits.old visits.new }
     ensures items { IfOk result (λ found. S.items_of found
@@ -80,10 +79,7 @@ fn walk_from_all<S: ConceptSet>(
         (led_to reader.entry.indexes.now.hierarchy (S.bound_of from.now) operator (S.items_of from.now))) }
     ensures bound { IfOk result (λ found. S.bound_of found ≡ S.bound_of from.now) }
 {
-    let all = u64::from(from.count());
-    let lists = items_of_all_lists(reader, Step::of(operator).family);
-    visits.add(all.saturating_add(all.min(lists)));
-    let led = those_of_set_led_to(reader, operator, from, from)?;
+    let led = led_among(reader, operator, from, from, visits)?;
     let left = restricted(reader, led, candidates)?;
     Ok(left)
 }
@@ -108,119 +104,99 @@ fn walk_listed<S: ConceptSet>(
     ensures bound { IfOk result (λ found. S.bound_of found ≡ S.bound_of from.now) }
     ensures adds { IfOk result (λ found. Adds (S.items_of found) tally.old tally.new) }
 {
-    let concepts = from.items_uncounted(reader.alloc)?;
-    let own = concepts.as_slice();
-    let way = walk_way(reader, operator, own, from.bound(), candidates);
-    count_way(from, way, visits);
-    let found = walk_by(reader, operator, from, own, candidates, way, tally)?;
+    let concepts = from.items(reader.alloc, visits)?;
+    let found = walk_by(
+        reader,
+        operator,
+        from,
+        concepts.as_slice(),
+        candidates,
+        visits,
+        tally,
+    )?;
     Ok(found)
 }
 
-// Counts the concepts of a set, and what is read in a way from them.
-fn count_way<S: ConceptSet>(from: &Answer<S>, way: WalkWay, visits: &mut Counter)
-    ensures count { visits.new.count ≡ full (visits.old.count + (length (S.items_of from.now) + way.items)) }
-    ensures grows { visits.old.count ≤ visits.new.count }
-{
-    visits.add(u64::from(from.count()).saturating_add(way.items));
-}
-
-// In a way. The set is given as a list too, since it is gone through once.
+// In the way that reads the fewest items. The set is given as a list too, since it is gone through once.
 fn walk_by<S: ConceptSet>(
     reader: Reader<'_>,
     operator: Operator,
     from: &Answer<S>,
     concepts: &[u32],
     candidates: &Candidates<'_, S>,
-    way: WalkWay,
+    visits: &mut Counter,
     tally: &mut RowTally<'_>,
 ) -> Result<Answer<S>, AllocError>
     requires over { IsOf reader.snapshot.now.release (S.bound_of from.now) reader.indexes.now.hierarchy }
     requires concepts { concepts.now ≡ S.items_of from.now }
     requires candidates { AreBelow S.bound_of (S.bound_of from.now) candidates.now }
+    requires listed { HaveExtent S.items_of (IsExtentOf reader.indexes.now) candidates.now }
+    ensures counted { CountsWithin (walk_items reader.entry.indexes.now.hierarchy operator (S.items_of from.now))
+        visits.old visits.new }
     ensures items { IfOk result (λ found. S.items_of found
         ≡ filter (may_be S.items_of candidates.now)
         (led_to reader.entry.indexes.now.hierarchy (S.bound_of from.now) operator (S.items_of from.now))) }
     ensures bound { IfOk result (λ found. S.bound_of found ≡ S.bound_of from.now) }
     ensures adds { IfOk result (λ found. Adds (S.items_of found) tally.old tally.new) }
 {
+    let way = walk_way(reader, operator, concepts, from.bound(), candidates);
     if way.asks_candidates {
         if let Candidates::Within(wanted, _) = candidates {
             tally.forget();
-            let found = those_of_set_led_to(reader, operator, from, *wanted)?;
+            let found = led_among(reader, operator, from, *wanted, visits)?;
             return Ok(found);
         }
     }
     let step = Step::of(operator);
-    let led = walk(reader, step, from, concepts, way.near_first, tally)?;
+    let led = walk(reader, step, from, concepts, way.near_first, visits, tally)?;
     let found = restricted(reader, led, candidates)?;
     Ok(found)
 }
 
-/// The concepts of a set that an operator leads to from another, each asked by its own lists. So many items are read,
-/// the concepts of the set and their lists.
+/// The concepts of a set that an operator leads to from another, each asked by its own lists. The concepts of the set and
+/// these lists are counted.
 pub fn led_among<S: ConceptSet>(
     reader: Reader<'_>,
     operator: Operator,
     operand: &Answer<S>,
     wanted: &Answer<S>,
-    items: u64,
     visits: &mut Counter,
 ) -> Result<Answer<S>, AllocError>
     requires over { IsOver (S.bound_of operand.now) reader.indexes.now.hierarchy }
     requires wanted { S.bound_of wanted.now ≡ S.bound_of operand.now }
-    requires read { full (asked_items reader.indexes.now.hierarchy operator (S.items_of wanted.now)) ≤ items }
-    ensures counted { CountsWithin items visits.old visits.new }
-    ensures found { IfOk result (IsFound S.ConceptSet (S.bound_of operand.now)
-        (filter (has (S.items_of wanted.now)) (led_to reader.entry.indexes.now.hierarchy (S.bound_of operand.now) operator
-        (S.items_of operand.now)))
-        items visits.old visits.new) }
-{
-    visits.add(items);
-    let found = those_of_set_led_to(reader, operator, operand, wanted)?;
-    Ok(found)
-}
-
-// The concepts of a set that an operator leads to from another, each asked by its own lists.
-fn those_of_set_led_to<S: ConceptSet>(
-    reader: Reader<'_>,
-    operator: Operator,
-    operand: &Answer<S>,
-    wanted: &Answer<S>,
-) -> Result<Answer<S>, AllocError>
-    requires over { IsOver (S.bound_of operand.now) reader.indexes.now.hierarchy }
-    requires wanted { S.bound_of wanted.now ≡ S.bound_of operand.now }
+    ensures counted { CountsWithin (asked_items reader.entry.indexes.now.hierarchy operator (S.items_of wanted.now))
+        visits.old visits.new }
     ensures items { IfOk result (λ found. S.items_of found
         ≡ filter (has (S.items_of wanted.now)) (led_to reader.entry.indexes.now.hierarchy (S.bound_of operand.now) operator
         (S.items_of operand.now))) }
     ensures bound { IfOk result (λ found. S.bound_of found ≡ S.bound_of operand.now) }
 {
     let step = Step::of(operator);
-    let own = wanted.items_uncounted(reader.alloc)?;
-    let kept = those_led_to(reader, step, operand, own.as_slice())?;
+    let own = wanted.items(reader.alloc, visits)?;
+    let kept = those_led_to(reader, step, operand, own.as_slice(), visits)?;
     Answer::from_items(reader.alloc, kept.as_slice(), operand.bound())
 }
 
-/// The concepts of a set, and those in the lists by which it is asked whether an operator leads to them. So many items
-/// are read, the concepts and their lists.
+/// The concepts of a set, and those in the lists by which it is asked whether an operator leads to them. The concepts and
+/// these lists are counted.
 pub fn enough_for<S: ConceptSet>(
     reader: Reader<'_>,
     operator: Operator,
     wanted: &Answer<S>,
-    items: u64,
     visits: &mut Counter,
 ) -> Result<Answer<S>, AllocError>
     requires over { IsOver (S.bound_of wanted.now) reader.indexes.now.hierarchy }
-    requires read { full (asked_items reader.indexes.now.hierarchy operator (S.items_of wanted.now)) ≤ items }
-    ensures counted { CountsWithin items visits.old visits.new }
-    ensures floor { IfOk result (λ _. full (visits.old.count + items) ≤ visits.new.count) }
+    ensures counted { CountsWithin (asked_items reader.entry.indexes.now.hierarchy operator (S.items_of wanted.now))
+        visits.old visits.new }
+    ensures few { IfOk result (λ enough. length (S.items_of enough)
+        ≤ asked_items reader.entry.indexes.now.hierarchy operator (S.items_of wanted.now)) }
     ensures enough { IfOk result (λ enough. AreEnough (asked_lists reader.entry.indexes.now.hierarchy operator) (has (S.items_of wanted.now))
         (has (S.items_of enough))) }
     ensures bound { IfOk result (λ enough. S.bound_of enough ≡ S.bound_of wanted.now) }
 {
-    visits.add(items);
     let family = Step::of(operator).asked();
-    let own = wanted.items_uncounted(reader.alloc)?;
-    let numbers = with_lists(reader, family, own.as_slice(), wanted.bound())?;
+    let own = wanted.items(reader.alloc, visits)?;
+    let numbers = with_lists(reader, family, own.as_slice(), wanted.bound(), visits)?;
     Answer::from_numbers(reader.alloc, numbers.as_slice(), wanted.bound())
 }
 
@@ -230,36 +206,42 @@ fn with_lists(
     family: Family,
     concepts: &[u32],
     _count: u32,
+    visits: &mut Counter,
 ) -> Result<Vec<u32>, AllocError>
     requires over { IsOver _count reader.indexes.now.hierarchy }
     requires below { All (λ concept. concept < _count) concepts.now }
-    ensures { IfOk result (λ numbers. numbers.items
+    ensures counted { CountsWithin (items_in (lists_of reader.entry.indexes.now.hierarchy family) concepts.now)
+        visits.old visits.new }
+    ensures items { IfOk result (λ numbers. numbers.items
         ≡ flat_map (λ concept. concept ∷ list_of (lists_of reader.entry.indexes.now.hierarchy family) concept) concepts.now) }
 {
     let mut numbers = Vec::new(reader.alloc);
     for concept in concepts {
         numbers.push(*concept)?;
-        numbers.extend_from_slice(family.list(reader, *concept))?;
+        numbers.extend_from_slice(family.list(reader, *concept, visits))?;
     }
     Ok(numbers)
 }
 
-// Those of some concepts that a step leads to from a set.
+// Those of some concepts that a step leads to from a set. The lists by which they are asked are counted.
 fn those_led_to<S: ConceptSet>(
     reader: Reader<'_>,
     step: Step,
     operand: &Answer<S>,
     concepts: &[u32],
+    visits: &mut Counter,
 ) -> Result<Vec<u32>, AllocError>
     requires over { IsOver (S.bound_of operand.now) reader.indexes.now.hierarchy }
     requires below { All (λ concept. concept < S.bound_of operand.now) concepts.now }
-    ensures { IfOk result (λ kept. kept.items
+    ensures counted { CountsWithin (items_in (lists_of reader.entry.indexes.now.hierarchy (asked_of step)) concepts.now)
+        visits.old visits.new }
+    ensures items { IfOk result (λ kept. kept.items
         ≡ filter (has (stepped (lists_of reader.entry.indexes.now.hierarchy step.family) (S.bound_of operand.now) step.reach
         (S.items_of operand.now))) concepts.now) }
 {
     let mut kept = Vec::new(reader.alloc);
     for concept in concepts {
-        if is_led_to(reader, step, operand, *concept) {
+        if is_led_to(reader, step, operand, *concept, visits) {
             kept.push(*concept)?;
         }
     }
@@ -272,17 +254,20 @@ fn is_led_to<S: ConceptSet>(
     step: Step,
     operand: &Answer<S>,
     concept: u32,
+    visits: &mut Counter,
 ) -> bool
     requires over { IsOver (S.bound_of operand.now) reader.indexes.now.hierarchy }
     requires below { concept < S.bound_of operand.now }
-    ensures { result ≡ has (stepped (lists_of reader.entry.indexes.now.hierarchy step.family) (S.bound_of operand.now) step.reach
+    ensures counted { CountsWithin (length (list_of (lists_of reader.entry.indexes.now.hierarchy (asked_of step)) concept))
+        visits.old visits.new }
+    ensures led { result ≡ has (stepped (lists_of reader.entry.indexes.now.hierarchy step.family) (S.bound_of operand.now) step.reach
         (S.items_of operand.now)) concept }
 {
     let family = step.family;
     match step.reach {
-        Reach::Listed => is_listed(reader, family, operand, concept),
-        Reach::ListedOrSelf => is_listed_or_self(reader, family, operand, concept),
-        Reach::Apart => is_kept_apart(reader, family, operand, concept),
+        Reach::Listed => is_listed(reader, family, operand, concept, visits),
+        Reach::ListedOrSelf => is_listed_or_self(reader, family, operand, concept, visits),
+        Reach::Apart => is_kept_apart(reader, family, operand, concept, visits),
     }
 }
 
@@ -292,28 +277,34 @@ fn is_listed<S: ConceptSet>(
     family: Family,
     operand: &Answer<S>,
     concept: u32,
+    visits: &mut Counter,
 ) -> bool
     requires over { IsOver (S.bound_of operand.now) reader.indexes.now.hierarchy }
     requires below { concept < S.bound_of operand.now }
-    ensures { result ≡ has (joined (S.bound_of operand.now) (lists_of reader.entry.indexes.now.hierarchy family) (S.items_of operand.now))
+    ensures counted { CountsWithin (length (list_of (lists_of reader.entry.indexes.now.hierarchy (back_of family)) concept))
+        visits.old visits.new }
+    ensures led { result ≡ has (joined (S.bound_of operand.now) (lists_of reader.entry.indexes.now.hierarchy family) (S.items_of operand.now))
         concept }
 {
-    meets(family.back().list(reader, concept), operand)
+    meets(family.back().list(reader, concept, visits), operand)
 }
 
-// The same, or in the set.
+// Whether a concept is in a set, or in the list of one of it.
 fn is_listed_or_self<S: ConceptSet>(
     reader: Reader<'_>,
     family: Family,
     operand: &Answer<S>,
     concept: u32,
+    visits: &mut Counter,
 ) -> bool
     requires over { IsOver (S.bound_of operand.now) reader.indexes.now.hierarchy }
     requires below { concept < S.bound_of operand.now }
-    ensures { result ≡ has (all_items (S.bound_of operand.now) (S.items_of operand.now)
+    ensures counted { CountsWithin (length (list_of (lists_of reader.entry.indexes.now.hierarchy (back_of family)) concept))
+        visits.old visits.new }
+    ensures led { result ≡ has (all_items (S.bound_of operand.now) (S.items_of operand.now)
         (joined (S.bound_of operand.now) (lists_of reader.entry.indexes.now.hierarchy family) (S.items_of operand.now))) concept }
 {
-    operand.has(concept) || is_listed(reader, family, operand, concept)
+    operand.has(concept) || is_listed(reader, family, operand, concept, visits)
 }
 
 // Whether a concept is one of a set that has none of its list.
@@ -322,10 +313,13 @@ fn is_kept_apart<S: ConceptSet>(
     family: Family,
     operand: &Answer<S>,
     concept: u32,
+    visits: &mut Counter,
 ) -> bool
     requires over { IsOver (S.bound_of operand.now) reader.indexes.now.hierarchy }
     requires below { concept < S.bound_of operand.now }
-    ensures { result ≡ has (apart_of (lists_of reader.entry.indexes.now.hierarchy family) (S.items_of operand.now)) concept }
+    ensures counted { CountsWithin (length (list_of (lists_of reader.entry.indexes.now.hierarchy family) concept))
+        visits.old visits.new }
+    ensures led { result ≡ has (apart_of (lists_of reader.entry.indexes.now.hierarchy family) (S.items_of operand.now)) concept }
 {
-    operand.has(concept) && !meets(family.list(reader, concept), operand)
+    operand.has(concept) && !meets(family.list(reader, concept, visits), operand)
 }

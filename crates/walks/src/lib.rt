@@ -13,4 +13,4 @@ mod walks;
 
 pub use crate::led::{enough_for, led_among, walk_within};
 pub use crate::reference_sets::members_within;
-pub use crate::walk_ways::items_enough;
+pub use crate::walk_ways::are_enough;

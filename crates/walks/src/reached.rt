@@ -2,13 +2,16 @@
 ghost use Rattle.std.specs.Prelude.{◌≡◌, ◌<◌, ◌&&◌, not, true, All, IfOk};
 ghost use Rattle.std.specs.List.{list_all};
 ghost use Rattle.number_lists.specs.Members.{has};
-ghost use Rattle.walks.specs.inside.Joined.{AreJoined, is_whole as is_whole_of, turn_of};
+ghost use Rattle.walks.specs.inside.Counts.{pass_items};
+ghost use Rattle.walks.specs.inside.Joined.{AreJoined, is_whole as is_whole_of, near_of, turn_of};
 ghost use Rattle.walks.specs.Led.{IsOf, IsOver};
 ghost use Rattle.walks.specs.Families.{lists_of};
+ghost use Rattle.reading.specs.Counted.{CountsWithin};
 
 use crate::family::Family;
 use idset::{ConceptSet, WordSet};
-use reading::{Answer, Reader};
+use number_lists::KeyedLists;
+use reading::{Answer, Counter, Reader};
 use std::alloc::{AllocError, Global};
 
 /// The concepts that are in the list of one of a set, in a family whose lists hold those of their own concepts. The set is given as a
@@ -16,25 +19,28 @@ use std::alloc::{AllocError, Global};
 ///
 /// What is one is-a row away from a concept of the set is found first. Then each concept has its turn before those that are one row
 /// away: where it was found, and is not in the set, they are found. So all that lead to it have had their turn, and what is one row
-/// away from it is read once. Where all that was found first is in the set, no more is.
+/// away from it is read once. Where all that was found first is in the set, no more is. The order of the concepts and all is-a links
+/// are counted.
 pub fn reached<S: ConceptSet>(
     reader: Reader<'_>,
     family: Family,
     set: &Answer<S>,
     concepts: &[u32],
+    visits: &mut Counter,
 ) -> Result<WordSet, AllocError>
     requires over { IsOf reader.snapshot.now.release (S.bound_of set.now) reader.indexes.now.hierarchy }
     requires whole { is_whole_of family ≡ true }
     requires concepts { concepts.now ≡ S.items_of set.now }
-    ensures joined { IfOk result (λ found. AreJoined (lists_of reader.entry.indexes.now.hierarchy family) (S.items_of set.now) (⟦<WordSet as ConceptSet>⟧.items_of found)) }
+    ensures joined { IfOk result (λ found. AreJoined (lists_of reader.entry.indexes.now.hierarchy family) (S.items_of set.now)
+        (⟦<WordSet as ConceptSet>⟧.items_of found)) }
     ensures bound { IfOk result (λ found. ⟦<WordSet as ConceptSet>⟧.bound_of found ≡ S.bound_of set.now) }
+    ensures counted { CountsWithin (pass_items reader.entry.indexes.now.hierarchy (S.bound_of set.now)) visits.old visits.new }
 {
-    // the rows are those of the concepts, which rise
+    // the concepts rise
     reader.concept_count();
-    reader.isa_rows();
-    let order = reader.parents_first();
-    let near = family.near();
-    let mut found = near_of_all(reader, near, concepts, set.bound())?;
+    let near = family.near_lists(reader, visits);
+    let order = reader.parents_first(visits);
+    let mut found = near_of_all(reader, family, near, concepts, set.bound())?;
     let closed = contains_all(reader.alloc, set, &found)?;
     if closed {
         return Ok(found);
@@ -42,7 +48,7 @@ pub fn reached<S: ConceptSet>(
     for turn in 0..order.len() {
         let concept = order[family.place_of_turn(turn, order.len())];
         if is_in_first_alone(&found, set, concept) {
-            found.add_all(reader.alloc, near.list(reader, concept))?;
+            found.add_all(reader.alloc, near.of(concept))?;
         }
     }
     Ok(found)
@@ -60,21 +66,25 @@ fn contains_all<S: ConceptSet>(
     Ok(items.iter().all(|item| set.has(*item)))
 }
 
-// The concepts in the list of one of some. These are gone through by their numbers, so that lists follow one another in memory.
+// The concepts that are one is-a row away from one of some. These are gone through by their numbers, so that lists follow one another
+// in memory.
 fn near_of_all(
     reader: Reader<'_>,
-    near: Family,
+    _family: Family,
+    near: &KeyedLists,
     concepts: &[u32],
     count: u32,
 ) -> Result<WordSet, AllocError>
     requires over { IsOver count reader.indexes.now.hierarchy }
+    requires near { near.now ≡ lists_of reader.indexes.now.hierarchy (near_of _family) }
     requires below { All (λ concept. concept < count) concepts.now }
-    ensures joined { IfOk result (λ found. AreJoined (lists_of reader.entry.indexes.now.hierarchy near) concepts.now (⟦<WordSet as ConceptSet>⟧.items_of found)) }
+    ensures joined { IfOk result (λ found. AreJoined (lists_of reader.entry.indexes.now.hierarchy (near_of _family)) concepts.now
+        (⟦<WordSet as ConceptSet>⟧.items_of found)) }
     ensures bound { IfOk result (λ found. ⟦<WordSet as ConceptSet>⟧.bound_of found ≡ count) }
 {
     let mut found = WordSet::from_items(reader.alloc, &[], count)?;
     for concept in concepts {
-        found.add_all(reader.alloc, near.list(reader, *concept))?;
+        found.add_all(reader.alloc, near.of(*concept))?;
     }
     Ok(found)
 }

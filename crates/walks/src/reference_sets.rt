@@ -6,11 +6,11 @@ ghost use Rattle.number_lists.specs.Members.{has};
 ghost use Rattle.walks.specs.Components.{components_of};
 ghost use Rattle.walks.specs.inside.Components.{is_in_one_of};
 ghost use Rattle.walks.specs.Families.{items_in};
-ghost use Rattle.reading.specs.Counted.{CountsWithin, IsFound, full};
+ghost use Rattle.reading.specs.Counted.{CountsWithin, HandsOut, IsFound, full};
 ghost use Rattle.candidates.specs.Within.{AreConcepts, may_be};
 
 use candidates::{Candidates, restricted};
-use idset::{ConceptSet, has_number};
+use idset::ConceptSet;
 use reading::{Answer, Counter, Reader};
 use std::alloc::AllocError;
 
@@ -38,13 +38,11 @@ pub fn members_within<S: ConceptSet>(
     let components = component_count(reader, refsets);
     if let Candidates::Within(wanted, extent) = candidates {
         if look_ups(extent.items, refsets) < components {
-            visits.add(extent.items);
-            let found = members_among(reader, refsets, *wanted)?;
+            let found = members_among(reader, refsets, *wanted, visits)?;
             return Ok(found);
         }
     }
-    visits.add(components);
-    let all: Answer<S> = members(reader, refsets)?;
+    let all: Answer<S> = members(reader, refsets, visits)?;
     let found = restricted(reader, all, candidates)?;
     Ok(found)
 }
@@ -63,13 +61,15 @@ fn members_among<S: ConceptSet>(
     reader: Reader<'_>,
     refsets: &[u32],
     wanted: &Answer<S>,
+    visits: &mut Counter,
 ) -> Result<Answer<S>, AllocError>
     requires below { All (λ refset. refset < length reader.indexes.now.concepts) refsets.now }
     requires wanted { S.bound_of wanted.now ≡ length reader.snapshot.now.release.concepts }
+    ensures counted { HandsOut (length (S.items_of wanted.now)) visits.old visits.new }
     ensures items { IfOk result (λ found. S.items_of found ≡ filter (has (S.items_of wanted.now)) (components_of reader.entry.snapshot.now.release refsets.now)) }
     ensures bound { IfOk result (λ found. S.bound_of found ≡ length reader.entry.snapshot.now.release.concepts) }
 {
-    let own = wanted.items_uncounted(reader.alloc)?;
+    let own = wanted.items(reader.alloc, visits)?;
     let kept = components_among(reader, refsets, own.as_slice())?;
     Answer::from_items(reader.alloc, kept.as_slice(), reader.concept_count())
 }
@@ -97,22 +97,25 @@ fn is_component(reader: Reader<'_>, refsets: &[u32], concept: u32) -> bool
     requires below { All (λ refset. refset < length reader.indexes.now.concepts) refsets.now }
     ensures { result ≡ is_in_one_of reader.entry.indexes.now.members refsets.now concept }
 {
-    // 32 bits hold the number of each concept
-    reader.concept_count();
     let mut found = false;
     for refset in refsets {
-        found = found || has_number(reader.members(*refset), concept);
+        found = found || reader.is_member(*refset, concept);
     }
     found
 }
 
 // The concepts that a member row with a reference set among some leads to.
-fn members<S: ConceptSet>(reader: Reader<'_>, refsets: &[u32]) -> Result<Answer<S>, AllocError>
+fn members<S: ConceptSet>(
+    reader: Reader<'_>,
+    refsets: &[u32],
+    visits: &mut Counter,
+) -> Result<Answer<S>, AllocError>
     requires below { All (λ refset. refset < length reader.indexes.now.concepts) refsets.now }
+    ensures counted { CountsWithin (items_in reader.entry.indexes.now.members refsets.now) visits.old visits.new }
     ensures items { IfOk result (λ found. S.items_of found ≡ components_of reader.entry.snapshot.now.release refsets.now) }
     ensures bound { IfOk result (λ found. S.bound_of found ≡ length reader.entry.snapshot.now.release.concepts) }
 {
-    let found = components(reader, refsets)?;
+    let found = components(reader, refsets, visits)?;
     Answer::from_numbers(reader.alloc, found.as_slice(), reader.concept_count())
 }
 
@@ -129,13 +132,18 @@ fn component_count(reader: Reader<'_>, refsets: &[u32]) -> u64
 }
 
 // The components of some reference sets, one set behind the other.
-fn components(reader: Reader<'_>, refsets: &[u32]) -> Result<Vec<u32>, AllocError>
+fn components(
+    reader: Reader<'_>,
+    refsets: &[u32],
+    visits: &mut Counter,
+) -> Result<Vec<u32>, AllocError>
     requires { All (λ refset. refset < length reader.indexes.now.concepts) refsets.now }
-    ensures { IfOk result (λ found. found.items ≡ flat_map (list_of reader.entry.indexes.now.members) refsets.now) }
+    ensures items { IfOk result (λ found. found.items ≡ flat_map (list_of reader.entry.indexes.now.members) refsets.now) }
+    ensures counted { CountsWithin (items_in reader.entry.indexes.now.members refsets.now) visits.old visits.new }
 {
     let mut found = Vec::new(reader.alloc);
     for refset in refsets {
-        found.extend_from_slice(reader.members(*refset))?;
+        found.extend_from_slice(reader.members(*refset, visits))?;
     }
     Ok(found)
 }

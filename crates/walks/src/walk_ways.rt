@@ -1,15 +1,14 @@
-//! In which way the concepts are found that an operator leads to, and how many items that reads.
-ghost use Rattle.std.specs.Prelude.{◌≡◌, ◌≤◌, ◌<◌, ◌*◌, false, IfSome, length, min};
-ghost use Rattle.std.specs.Bool.{OnFalse, OnTrue};
+//! In which way the concepts are found that an operator leads to.
+ghost use Rattle.std.specs.Prelude.{◌≡◌, ◌≤◌, ◌<◌, ◌/◌, false, IfSome, length};
+ghost use Rattle.std.specs.Bool.{OnTrue};
 ghost use Rattle.number_lists.specs.Rising.{IsRisingBelow};
 ghost use Rattle.postings.specs.Indexed.{Indexed};
-ghost use Rattle.reading.specs.Counted.{full};
 ghost use Rattle.candidates.specs.Extents.{IsExtentOf};
 ghost use Rattle.candidates.specs.Within.{HaveExtent};
 ghost use Rattle.walks.specs.Families.{all_items_of, family_of, items_in, lists_of};
 ghost use Rattle.walks.specs.Led.{IsOver};
 ghost use Rattle.walks.specs.Reads.{AreAsked, items_at_most, walk_items};
-ghost use Rattle.walks.specs.inside.Counts.{pass_items};
+ghost use Rattle.walks.specs.inside.Counts.{HasRoom};
 
 use crate::family::{Family, Step};
 use crate::walks::{items_of_lists, items_of_pass, most_items};
@@ -32,50 +31,50 @@ pub struct WalkWay {
     /// Whether, where concepts of a set are looked for in the lists of its own, those one is-a row away are looked at first; and
     /// how many items the whole lists may have that are looked at then, before a pass over the is-a rows stands for them.
     pub near_first: Option<u64>,
-    /// How many items are read: of lists, of the order of the concepts, and of the candidates.
-    pub items: u64,
+    /// How many items are read at the most, but for a way whose bound is that of all lists.
+    items: u64,
 }
 
-/// How many items are read where few candidates are asked one by one, and the concepts, which are not few, are not even listed: no
-/// more than all lists have. `None` where that is not so.
-pub fn items_unlisted<S: ConceptSet>(
+/// Whether few candidates are asked one by one, and the concepts, which are not few, are not even listed: the candidates and the lists
+/// by which they are asked have no more items than all lists.
+pub fn are_unlisted<S: ConceptSet>(
     reader: Reader<'_>,
     operator: Operator,
     concepts: u32,
     count: u32,
     candidates: &Candidates<'_, S>,
-) -> Option<u64>
+) -> bool
     requires { HaveExtent S.items_of (IsExtentOf reader.indexes.now) candidates.now }
-    ensures many { IfSome result (λ _. 1 < concepts) }
-    ensures all { IfSome result (λ items. items ≤ all_items_of reader.entry.indexes.now.hierarchy (family_of operator)) }
-    ensures told { IfSome result (AreAsked S.items_of reader.entry.indexes.now.hierarchy operator candidates.now) }
+    ensures many { OnTrue result (1 < concepts) }
+    ensures room { OnTrue result (AreAsked S.items_of reader.entry.indexes.now.hierarchy operator candidates.now
+        (all_items_of reader.entry.indexes.now.hierarchy (family_of operator))) }
 {
     let all = items_of_all_lists(reader, Step::of(operator).family);
     match items_asked(operator, count, candidates) {
-        Some(items) if concepts as usize > MANY && items <= all => Some(items),
-        _ => None,
+        Some(items) => concepts as usize > MANY && items <= all,
+        None => false,
     }
 }
 
-/// How many items few candidates and the lists have by which they are asked, where these are few beside so many rows, which are read
-/// to find of all concepts those from which an operator leads. The items may be read twice. `None` where that is not so.
-pub fn items_enough<S: ConceptSet>(
+/// Whether few candidates are asked, and before that it is found of all concepts from which of them an operator leads to these: where
+/// the candidates and the lists by which they are asked are few beside so many rows, which are read otherwise. They may be read thrice.
+pub fn are_enough<S: ConceptSet>(
     reader: Reader<'_>,
     operator: Operator,
     count: u32,
     rows: u64,
     candidates: &Candidates<'_, S>,
-) -> Option<u64>
+) -> bool
     requires { HaveExtent S.items_of (IsExtentOf reader.indexes.now) candidates.now }
-    ensures all { IfSome result (λ items. 2 * items ≤ all_items_of reader.entry.indexes.now.hierarchy (family_of operator)) }
-    ensures some { IfSome result (λ _. 0 < rows) }
-    ensures told { IfSome result (AreAsked S.items_of reader.entry.indexes.now.hierarchy operator candidates.now) }
+    ensures some { OnTrue result (0 < rows) }
+    ensures room { OnTrue result (AreAsked S.items_of reader.entry.indexes.now.hierarchy operator candidates.now
+        (all_items_of reader.entry.indexes.now.hierarchy (family_of operator) / 3)) }
 {
     let all = items_of_all_lists(reader, Step::of(operator).family);
     let most = all.min(rows / ROWS);
     match items_asked(operator, count, candidates) {
-        Some(items) if rows > 0 && items <= most / 2 => Some(items),
-        _ => None,
+        Some(items) => rows > 0 && items <= most / 3,
+        None => false,
     }
 }
 
@@ -91,9 +90,9 @@ pub fn walk_way<S: ConceptSet>(
     requires over { IsOver count reader.indexes.now.hierarchy }
     requires rising { IsRisingBelow count concepts.now }
     requires listed { HaveExtent S.items_of (IsExtentOf reader.indexes.now) candidates.now }
-    ensures within { result.items ≤ walk_items reader.entry.indexes.now.hierarchy operator concepts.now }
-    ensures asked { OnTrue result.asks_candidates (AreAsked S.items_of reader.entry.indexes.now.hierarchy operator candidates.now result.items) }
-    ensures read { OnFalse result.asks_candidates (full (min (items_in (lists_of reader.entry.indexes.now.hierarchy (family_of operator)) concepts.now) (pass_items reader.entry.indexes.now.hierarchy count)) ≤ result.items) }
+    ensures asked { OnTrue result.asks_candidates (AreAsked S.items_of reader.entry.indexes.now.hierarchy operator candidates.now
+        (walk_items reader.entry.indexes.now.hierarchy operator concepts.now)) }
+    ensures room { IfSome result.near_first (HasRoom reader.entry.indexes.now.hierarchy (family_of operator) count concepts.now) }
 {
     let step = Step::of(operator);
     let whole = whole_way(reader, step, concepts, count);
@@ -130,7 +129,7 @@ fn whole_way(reader: Reader<'_>, step: Step, concepts: &[u32], count: u32) -> Wa
     requires over { IsOver count reader.indexes.now.hierarchy }
     requires rising { IsRisingBelow count concepts.now }
     ensures within { result.items ≤ items_at_most reader.entry.indexes.now.hierarchy step.family concepts.now }
-    ensures read { full (min (items_in (lists_of reader.entry.indexes.now.hierarchy step.family) concepts.now) (pass_items reader.entry.indexes.now.hierarchy count)) ≤ result.items }
+    ensures room { IfSome result.near_first (HasRoom reader.entry.indexes.now.hierarchy step.family count concepts.now) }
     ensures asks { result.asks_candidates ≡ false }
 {
     let family = step.family;
@@ -150,15 +149,16 @@ fn apart_way(reader: Reader<'_>, family: Family, concepts: &[u32], count: u32) -
     requires over { IsOver count reader.indexes.now.hierarchy }
     requires rising { IsRisingBelow count concepts.now }
     ensures within { result.items ≤ items_at_most reader.entry.indexes.now.hierarchy family concepts.now }
-    ensures read { full (min (items_in (lists_of reader.entry.indexes.now.hierarchy family) concepts.now) (pass_items reader.entry.indexes.now.hierarchy count)) ≤ result.items }
+    ensures room { IfSome result.near_first (HasRoom reader.entry.indexes.now.hierarchy family count concepts.now) }
     ensures asks { result.asks_candidates ≡ false }
 {
     let all = items_of_all_lists(reader, family);
     let own = items_or_all(reader, family, concepts, count);
     let near = items_or_all(reader, family.near(), concepts, count);
     let pass = items_of_pass(reader, count);
-    if concepts.len() > 1 && near.saturating_add(own.min(pass)) <= all {
-        without_candidates(Some(all - near), near.saturating_add(own).min(all))
+    let room = all.saturating_sub(near);
+    if concepts.len() > 1 && own.min(pass) < room {
+        without_candidates(Some(room), near.saturating_add(own).min(all))
     } else {
         without_candidates(None, own)
     }
@@ -169,21 +169,22 @@ fn items_or_all(reader: Reader<'_>, family: Family, concepts: &[u32], count: u32
     requires over { IsOver count reader.indexes.now.hierarchy }
     requires rising { IsRisingBelow count concepts.now }
     ensures within { result ≤ items_at_most reader.entry.indexes.now.hierarchy family concepts.now }
-    ensures read { full (items_in (lists_of reader.entry.indexes.now.hierarchy family) concepts.now) ≤ result }
+    ensures read { items_in (lists_of reader.entry.indexes.now.hierarchy family) concepts.now ≤ result }
 {
+    // 64 bits hold how many items all lists have
+    let all = items_of_all_lists(reader, family);
     if concepts.len() > MANY {
-        items_of_all_lists(reader, family)
-    } else {
-        items_of_lists(reader, family, concepts, count, u64::MAX)
+        return all;
     }
+    items_of_lists(reader, family, concepts, count, u64::MAX)
 }
 
 // How many items are read where the lists of so many concepts have so many: where the lists are left for a pass over the is-a rows,
 // those of the pass too.
 fn with_pass(reader: Reader<'_>, family: Family, concepts: usize, own: u64, count: u32) -> u64
     ensures few { concepts ≤ 1 → result ≡ own }
-    ensures within { own ≤ all_items_of reader.entry.indexes.now.hierarchy family → result ≤ all_items_of reader.entry.indexes.now.hierarchy family }
-    ensures read { min own (pass_items reader.entry.indexes.now.hierarchy count) ≤ result }
+    ensures within { own ≤ all_items_of reader.entry.indexes.now.hierarchy family
+        → result ≤ all_items_of reader.entry.indexes.now.hierarchy family }
 {
     if !family.is_whole() || concepts <= 1 {
         return own;
@@ -196,6 +197,7 @@ fn with_pass(reader: Reader<'_>, family: Family, concepts: usize, own: u64, coun
 
 fn without_candidates(near_first: Option<u64>, items: u64) -> WalkWay
     ensures items { result.items ≡ items }
+    ensures near { result.near_first ≡ near_first }
     ensures asks { result.asks_candidates ≡ false }
 {
     WalkWay {

@@ -1,26 +1,29 @@
 //! Where an operator leads from a set.
-ghost use Rattle.std.specs.Prelude.{ℕ, ◌≡◌, ◌≤◌, ◌<◌, ◌+◌, ◌++◌, ◌∷◌, [], false, not, true, List, All, IfOk, IfSome, OnOk, filter, length};
+ghost use Rattle.std.specs.Prelude.{ℕ, ◌≡◌, ◌≤◌, ◌<◌, ◌+◌, ◌-◌, ◌&&◌, ◌++◌, ◌∷◌, [], false, not, true, List, All, IfOk};
+ghost use Rattle.std.specs.Prelude.{IfSome, IsSome, MatchOption, None, OnOk, Some, filter, length, nat_le};
+ghost use Rattle.std.specs.Bool.{OnTrue};
 ghost use Rattle.std.specs.List.{concat, list_any};
 ghost use Rattle.idset.specs.Sets.{all_items};
 ghost use Rattle.number_lists.specs.Members.{has};
 ghost use Rattle.number_lists.specs.KeyedLists.{list_of};
-ghost use Rattle.walks.specs.inside.Joined.{AreJoined, is_long as is_long_of, is_whole as is_whole_of, with_length};
+ghost use Rattle.walks.specs.inside.Joined.{AreJoined, is_whole as is_whole_of, with_length};
 ghost use Rattle.walks.specs.Led.{apart as apart_of, IsOf, IsOver, joined};
-ghost use Rattle.reading.specs.Counted.{full};
+ghost use Rattle.reading.specs.Counted.{CountsWithin, full};
 ghost use Rattle.candidates.specs.Tallies.{Adds};
-ghost use Rattle.walks.specs.Families.{items_in, lists_of};
-ghost use Rattle.walks.specs.inside.Counts.{pass_items};
+ghost use Rattle.walks.specs.Families.{all_items_of, items_in, lists_of};
+ghost use Rattle.walks.specs.Reads.{items_at_most};
+ghost use Rattle.walks.specs.inside.Counts.{HasRoom, LeavesPass, Spends, pass_items};
 ghost use Rattle.walks.specs.inside.Steps.{stepped};
 
 use crate::family::{Family, Reach, Step};
 use crate::reached::reached;
 use candidates::RowTally;
 use idset::{ConceptSet, WordSet};
-use reading::{Answer, Reader};
+use reading::{Answer, Counter, Reader};
 use std::alloc::{AllocError, Global};
 
 // A list of so many items is joined before the shorter ones: what it has need not be looked at again.
-const LONG: usize = 64;
+const LONG: u64 = 64;
 
 // To go to one is-a row after the other in the order of the hierarchy takes about as long as to read so many items of lists.
 const PASS: u64 = 8;
@@ -34,22 +37,27 @@ pub fn walk<S: ConceptSet>(
     operand: &Answer<S>,
     concepts: &[u32],
     near_first: Option<u64>,
+    visits: &mut Counter,
     tally: &mut RowTally<'_>,
 ) -> Result<Answer<S>, AllocError>
     requires over { IsOf reader.snapshot.now.release (S.bound_of operand.now) reader.indexes.now.hierarchy }
     requires whole { step.reach ≡ Reach.Apart → is_whole_of step.family ≡ true }
     requires concepts { concepts.now ≡ S.items_of operand.now }
+    requires room { IfSome near_first (HasRoom reader.indexes.now.hierarchy step.family (S.bound_of operand.now)
+        (S.items_of operand.now)) }
+    ensures counted { CountsWithin (items_at_most reader.entry.indexes.now.hierarchy step.family (S.items_of operand.now))
+        visits.old visits.new }
     ensures items { IfOk result (λ found. S.items_of found ≡ stepped (lists_of reader.entry.indexes.now.hierarchy step.family) (S.bound_of operand.now) step.reach (S.items_of operand.now)) }
     ensures bound { IfOk result (λ found. S.bound_of found ≡ S.bound_of operand.now) }
     ensures adds { IfOk result (λ found. Adds (S.items_of found) tally.old tally.new) }
 {
     let family = step.family;
     match step.reach {
-        Reach::Listed => listed(reader, family, operand, concepts, tally),
-        Reach::ListedOrSelf => { listed_or_self(reader, family, operand, concepts, tally) }
+        Reach::Listed => listed(reader, family, operand, concepts, visits, tally),
+        Reach::ListedOrSelf => listed_or_self(reader, family, operand, concepts, visits, tally),
         Reach::Apart => {
             tally.forget();
-            apart(reader, family, operand, concepts, near_first)
+            apart(reader, family, operand, concepts, near_first, visits)
         }
     }
 }
@@ -60,38 +68,48 @@ fn listed<S: ConceptSet>(
     family: Family,
     operand: &Answer<S>,
     concepts: &[u32],
+    visits: &mut Counter,
     tally: &mut RowTally<'_>,
 ) -> Result<Answer<S>, AllocError>
     requires over { IsOf reader.snapshot.now.release (S.bound_of operand.now) reader.indexes.now.hierarchy }
     requires concepts { concepts.now ≡ S.items_of operand.now }
+    ensures counted { CountsWithin (items_at_most reader.entry.indexes.now.hierarchy family (S.items_of operand.now))
+        visits.old visits.new }
     ensures items { IfOk result (λ found. S.items_of found ≡ joined (S.bound_of operand.now) (lists_of reader.entry.indexes.now.hierarchy family) (S.items_of operand.now)) }
     ensures bound { IfOk result (λ found. S.bound_of found ≡ S.bound_of operand.now) }
     ensures adds { IfOk result (λ found. Adds (S.items_of found) tally.old tally.new) }
 {
     match concepts {
-        [concept] => list_of_one(reader, family, *concept, operand.bound(), tally),
+        [] => {
+            tally.forget();
+            Answer::from_items(reader.alloc, &[], operand.bound())
+        }
+        [concept] => list_of_one(reader, family, *concept, operand.bound(), visits, tally),
         concepts => {
             tally.forget();
-            union(reader, family, concepts, operand)
+            union(reader, family, concepts, operand, visits)
         }
     }
 }
 
-// The same, and the concepts of the set.
+// The concepts of a set, and those in the list of one of it.
 fn listed_or_self<S: ConceptSet>(
     reader: Reader<'_>,
     family: Family,
     operand: &Answer<S>,
     concepts: &[u32],
+    visits: &mut Counter,
     tally: &mut RowTally<'_>,
 ) -> Result<Answer<S>, AllocError>
     requires over { IsOf reader.snapshot.now.release (S.bound_of operand.now) reader.indexes.now.hierarchy }
     requires concepts { concepts.now ≡ S.items_of operand.now }
+    ensures counted { CountsWithin (items_at_most reader.entry.indexes.now.hierarchy family (S.items_of operand.now))
+        visits.old visits.new }
     ensures items { IfOk result (λ found. S.items_of found ≡ all_items (S.bound_of operand.now) (S.items_of operand.now) (joined (S.bound_of operand.now) (lists_of reader.entry.indexes.now.hierarchy family) (S.items_of operand.now))) }
     ensures bound { IfOk result (λ found. S.bound_of found ≡ S.bound_of operand.now) }
     ensures adds { IfOk result (λ found. Adds (S.items_of found) tally.old tally.new) }
 {
-    let mut found: Answer<S> = listed(reader, family, operand, concepts, tally)?;
+    let mut found: Answer<S> = listed(reader, family, operand, concepts, visits, tally)?;
     tally.add(concepts);
     found.add_all(reader.alloc, concepts)?;
     Ok(found)
@@ -103,23 +121,29 @@ fn list_of_one<S: ConceptSet>(
     family: Family,
     concept: u32,
     count: u32,
+    visits: &mut Counter,
     tally: &mut RowTally<'_>,
 ) -> Result<Answer<S>, AllocError>
     requires over { IsOver count reader.indexes.now.hierarchy }
     requires below { concept < count }
+    ensures counted { CountsWithin (length (list_of (lists_of reader.entry.indexes.now.hierarchy family) concept))
+        visits.old visits.new }
     ensures items { IfOk result (λ found. S.items_of found ≡ joined count (lists_of reader.entry.indexes.now.hierarchy family) (concept ∷ [])) }
     ensures bound { IfOk result (λ found. S.bound_of found ≡ count) }
     ensures adds { IfOk result (λ found. Adds (S.items_of found) tally.old tally.new) }
 {
-    let list = family.list(reader, concept);
-    if tally.asks_for(list.len()) {
+    if tally.asks_for(family.length(reader, concept)) {
+        let list = family.list(reader, concept, visits);
         let own = tally.read(reader.alloc, list)?;
         return Answer::from_items(reader.alloc, own.as_slice(), count);
     }
     tally.forget();
-    match family.words(reader, concept) {
+    match family.words(reader, concept, visits) {
         Some(words) => Answer::from_words(reader.alloc, words, count),
-        None => Answer::from_items(reader.alloc, list, count),
+        None => {
+            let list = family.list(reader, concept, visits);
+            Answer::from_items(reader.alloc, list, count)
+        }
     }
 }
 
@@ -129,41 +153,50 @@ fn union<S: ConceptSet>(
     family: Family,
     concepts: &[u32],
     operand: &Answer<S>,
+    visits: &mut Counter,
 ) -> Result<Answer<S>, AllocError>
     requires over { IsOf reader.snapshot.now.release (S.bound_of operand.now) reader.indexes.now.hierarchy }
     requires concepts { concepts.now ≡ S.items_of operand.now }
+    ensures counted { CountsWithin (all_items_of reader.entry.indexes.now.hierarchy family) visits.old visits.new }
     ensures items { IfOk result (λ found. S.items_of found ≡ joined (S.bound_of operand.now) (lists_of reader.entry.indexes.now.hierarchy family) (S.items_of operand.now)) }
     ensures bound { IfOk result (λ found. S.bound_of found ≡ S.bound_of operand.now) }
 {
-    let found = all_listed(reader, family, concepts, operand)?;
+    let found = all_listed(reader, family, concepts, operand, visits)?;
     Answer::from_words(reader.alloc, found.words(), operand.bound())
 }
 
-// The same as words. Where the lists have too many items, one pass over the is-a rows is the shorter way.
+// The concepts in the lists of those of a set, as words of bits. Where the lists have too many items, one pass over the is-a rows is
+// the shorter way.
 fn all_listed<S: ConceptSet>(
     reader: Reader<'_>,
     family: Family,
     concepts: &[u32],
     operand: &Answer<S>,
+    visits: &mut Counter,
 ) -> Result<WordSet, AllocError>
     requires over { IsOf reader.snapshot.now.release (S.bound_of operand.now) reader.indexes.now.hierarchy }
     requires concepts { concepts.now ≡ S.items_of operand.now }
+    ensures counted { CountsWithin (all_items_of reader.entry.indexes.now.hierarchy family) visits.old visits.new }
     ensures joined { IfOk result (λ found. AreJoined (lists_of reader.entry.indexes.now.hierarchy family) (S.items_of operand.now) (⟦<WordSet as ConceptSet>⟧.items_of found)) }
     ensures bound { IfOk result (λ found. ⟦<WordSet as ConceptSet>⟧.bound_of found ≡ S.bound_of operand.now) }
 {
     let count = operand.bound();
-    let mut left = most_items(reader, count).unwrap_or(u64::MAX);
-    if family.is_whole() && has_more_items(reader, family, concepts, count, left) {
-        return reached(reader, family, operand, concepts);
+    let mut left = limit_of_lists(reader, family, count);
+    if has_more_items(reader, family, concepts, count, left) {
+        return reached(reader, family, operand, concepts, visits);
     }
     let mut found = WordSet::from_items(reader.alloc, &[], count)?;
-    let long = add_lists(reader, family, concepts, true, &mut left, &mut found)?;
+    let long = add_lists(
+        reader, family, concepts, true, &mut left, visits, &mut found,
+    )?;
     if !long {
-        return reached(reader, family, operand, concepts);
+        return reached(reader, family, operand, concepts, visits);
     }
-    let short = add_lists(reader, family, concepts, false, &mut left, &mut found)?;
+    let short = add_lists(
+        reader, family, concepts, false, &mut left, visits, &mut found,
+    )?;
     if !short {
-        return reached(reader, family, operand, concepts);
+        return reached(reader, family, operand, concepts, visits);
     }
     Ok(found)
 }
@@ -190,20 +223,36 @@ pub fn most_items(reader: Reader<'_>, count: u32) -> Option<u64>
     }
 }
 
-// Whether the lists of some concepts have more items than so many, so that not all are read. Of descendants this shows as they
-// are read: most often one list has the others in it.
+// How many items of lists may be read before these are left for a pass over the is-a rows: where lists hold those of their own concepts,
+// and all lists have room for a pass. All may be read else.
+fn limit_of_lists(reader: Reader<'_>, family: Family, count: u32) -> Option<u64>
+    ensures { IfSome result (LeavesPass reader.entry.indexes.now.hierarchy family count) }
+{
+    if !family.is_whole() {
+        return None;
+    }
+    most_items(reader, count)
+}
+
+// Whether the lists of some concepts have more items than may be read. Of descendants this shows as they are read: most often one list
+// has the others in it.
 fn has_more_items(
     reader: Reader<'_>,
     family: Family,
     concepts: &[u32],
     count: u32,
-    most: u64,
+    left: Option<u64>,
 ) -> bool
     requires over { IsOver count reader.indexes.now.hierarchy }
     requires below { All (λ concept. concept < count) concepts.now }
+    ensures { OnTrue result (IsSome left) }
 {
-    matches!(family, Family::Ancestors)
-        && items_of_lists(reader, family, concepts, count, most) > most
+    match left {
+        Some(most) if matches!(family, Family::Ancestors) => {
+            items_of_lists(reader, family, concepts, count, most) > most
+        }
+        _ => false,
+    }
 }
 
 /// How many items the lists of some concepts have, if these are no more than so many; else a number above that.
@@ -221,7 +270,7 @@ pub fn items_of_lists(
 {
     let mut items = 0u64;
     for concept in concepts {
-        items = items.saturating_add(family.list(reader, *concept).len() as u64);
+        items = items.saturating_add(family.length(reader, *concept));
         if items > most {
             return items;
         }
@@ -229,54 +278,71 @@ pub fn items_of_lists(
     items
 }
 
-// Adds to a set the lists of those concepts whose lists are long, or are not. Tells whether it has added all: of lists that
-// hold those of their own concepts no more items are read than are left of some.
+// Adds to a set the lists of those concepts whose lists are long, or are not. Tells whether it has added all: no more items are read
+// than are left of some. A list that the set has already is not read.
 fn add_lists<S: ConceptSet>(
     reader: Reader<'_>,
     family: Family,
     concepts: &[u32],
     long: bool,
-    left: &mut u64,
+    left: &mut Option<u64>,
+    visits: &mut Counter,
     found: &mut S,
 ) -> Result<bool, AllocError>
     requires over { IsOver (S.bound_of found.old) reader.indexes.now.hierarchy }
     requires below { All (λ concept. concept < S.bound_of found.old) concepts.now }
     ensures joined { IfOk result (λ all. all ≡ true → (before : List ℕ) → AreJoined (lists_of reader.entry.indexes.now.hierarchy family) before (S.items_of found.old)
         → AreJoined (lists_of reader.entry.indexes.now.hierarchy family) (before ++ with_length (lists_of reader.entry.indexes.now.hierarchy family) long concepts.now) (S.items_of found.new)) }
-    ensures whole { IfOk result (λ all. all ≡ false → is_whole_of family ≡ true) }
+    ensures limited { IfOk result (λ all. all ≡ false → IsSome left.old) }
     ensures bound { S.bound_of found.new ≡ S.bound_of found.old }
+    ensures counted { CountsWithin (items_in (lists_of reader.entry.indexes.now.hierarchy family)
+        (with_length (lists_of reader.entry.indexes.now.hierarchy family) long concepts.now)) visits.old visits.new }
+    ensures spends { Spends left.old left.new visits.old visits.new }
 {
     for concept in concepts {
-        let list = family.list(reader, *concept);
-        if is_long(list) == long {
-            let is_there = found.has(*concept);
-            if !may_be_read(family, list.len() as u64, is_there, left) {
-                return Ok(false);
+        let items = family.length(reader, *concept);
+        if is_long(items) == long {
+            if !has_list(family, *concept, found) {
+                if !may_be_read(items, left) {
+                    return Ok(false);
+                }
+                add_list(reader, family, *concept, visits, found)?;
             }
-            add_list(reader, family, *concept, found)?;
         }
     }
     Ok(true)
 }
 
-// Whether a list of so many items may still be read, which are taken from what is left. All lists may that hold no lists of
-// their own concepts, since these have no more items together than there are is-a rows, and those that are there already.
-fn may_be_read(family: Family, items: u64, is_there: bool, left: &mut u64) -> bool
-    ensures { result ≡ false → is_whole_of family ≡ true }
+// Whether a set has a concept, and with it its list.
+fn has_list<S: ConceptSet>(family: Family, concept: u32, found: &S) -> bool
+    ensures { result ≡ (is_whole_of family && has (S.items_of found.now) concept) }
 {
-    if is_there || !family.is_whole() {
-        return true;
-    }
-    let is_left = items <= *left;
-    *left = left.saturating_sub(items);
-    is_left
+    family.is_whole() && found.has(concept)
 }
 
-// Adds the list of a concept to a set, unless the set has the concept, and with it its list.
+// Whether a list of so many items may still be read, which are taken from what is left.
+fn may_be_read(items: u64, left: &mut Option<u64>) -> bool
+    ensures limited { result ≡ false → IsSome left.old }
+    ensures taken { result ≡ true → MatchOption left.old (left.new ≡ None)
+        (λ before. (items ≤ before) × (left.new ≡ Some (before - items))) }
+    ensures kept { result ≡ false → left.new ≡ left.old }
+{
+    let Some(most) = *left else {
+        return true;
+    };
+    if items > most {
+        return false;
+    }
+    *left = Some(most - items);
+    true
+}
+
+// Adds the list of a concept to a set.
 fn add_list<S: ConceptSet>(
     reader: Reader<'_>,
     family: Family,
     concept: u32,
+    visits: &mut Counter,
     found: &mut S,
 ) -> Result<(), AllocError>
     requires over { IsOver (S.bound_of found.old) reader.indexes.now.hierarchy }
@@ -284,26 +350,25 @@ fn add_list<S: ConceptSet>(
     ensures joined { OnOk result ((before : List ℕ) → AreJoined (lists_of reader.entry.indexes.now.hierarchy family) before (S.items_of found.old)
         → AreJoined (lists_of reader.entry.indexes.now.hierarchy family) (before ++ concept ∷ []) (S.items_of found.new)) }
     ensures bound { S.bound_of found.new ≡ S.bound_of found.old }
+    ensures counted { CountsWithin (length (list_of (lists_of reader.entry.indexes.now.hierarchy family) concept))
+        visits.old visits.new }
 {
-    if family.is_whole() && found.has(concept) {
-        return Ok(());
-    }
-    match family.words(reader, concept) {
+    match family.words(reader, concept, visits) {
         Some(words) => {
             let wide = S::from_words(reader.alloc, words, found.bound())?;
             let both = found.or(reader.alloc, &wide)?;
             *found = both;
             Ok(())
         }
-        None => found.add_all(reader.alloc, family.list(reader, concept)),
+        None => found.add_all(reader.alloc, family.list(reader, concept, visits)),
     }
 }
 
-// Whether a list is joined before the short ones.
-fn is_long(list: &[u32]) -> bool
-    ensures { result ≡ is_long_of list.now }
+// Whether a list of so many items is joined before the short ones.
+fn is_long(items: u64) -> bool
+    ensures { result ≡ nat_le 64 items }
 {
-    list.len() >= LONG
+    items >= LONG
 }
 
 // The concepts of a set none of which is in their list.
@@ -313,14 +378,20 @@ fn apart<S: ConceptSet>(
     operand: &Answer<S>,
     concepts: &[u32],
     near_first: Option<u64>,
+    visits: &mut Counter,
 ) -> Result<Answer<S>, AllocError>
     requires over { IsOf reader.snapshot.now.release (S.bound_of operand.now) reader.indexes.now.hierarchy }
     requires whole { is_whole_of family ≡ true }
     requires concepts { concepts.now ≡ S.items_of operand.now }
-    ensures items { IfOk result (λ found. S.items_of found ≡ apart_of (lists_of reader.entry.indexes.now.hierarchy family) (S.items_of operand.now)) }
+    requires room { IfSome near_first (HasRoom reader.indexes.now.hierarchy family (S.bound_of operand.now)
+        (S.items_of operand.now)) }
+    ensures counted { CountsWithin (items_at_most reader.entry.indexes.now.hierarchy family (S.items_of operand.now))
+        visits.old visits.new }
+    ensures items { IfOk result (λ found. S.items_of found
+        ≡ apart_of (lists_of reader.entry.indexes.now.hierarchy family) (S.items_of operand.now)) }
     ensures bound { IfOk result (λ found. S.bound_of found ≡ S.bound_of operand.now) }
 {
-    let kept = kept_apart(reader, family, concepts, operand, near_first)?;
+    let kept = kept_apart(reader, family, concepts, operand, near_first, visits)?;
     Answer::from_items(reader.alloc, kept.as_slice(), operand.bound())
 }
 
@@ -332,18 +403,22 @@ fn kept_apart<S: ConceptSet>(
     concepts: &[u32],
     set: &Answer<S>,
     near_first: Option<u64>,
+    visits: &mut Counter,
 ) -> Result<Vec<u32>, AllocError>
     requires over { IsOf reader.snapshot.now.release (S.bound_of set.now) reader.indexes.now.hierarchy }
     requires whole { is_whole_of family ≡ true }
     requires concepts { concepts.now ≡ S.items_of set.now }
     requires below { All (λ concept. concept < S.bound_of set.now) concepts.now }
-    ensures { IfOk result (λ kept. kept.items ≡ filter (λ concept. not (list_any (has (S.items_of set.now)) (list_of (lists_of reader.entry.indexes.now.hierarchy family) concept))) concepts.now) }
+    requires room { IfSome near_first (HasRoom reader.indexes.now.hierarchy family (S.bound_of set.now) concepts.now) }
+    ensures counted { CountsWithin (items_at_most reader.entry.indexes.now.hierarchy family concepts.now) visits.old visits.new }
+    ensures kept { IfOk result (λ kept. kept.items ≡ filter (λ concept. not (list_any (has (S.items_of set.now))
+        (list_of (lists_of reader.entry.indexes.now.hierarchy family) concept))) concepts.now) }
 {
     let Some(room) = near_first else {
-        return kept_by_lists(reader, family, concepts, set);
+        return kept_by_lists(reader, family, concepts, set, visits);
     };
-    let left = kept_by_lists(reader, family.near(), concepts, set)?;
-    kept_in_room(reader, family, left.as_slice(), set, concepts, room)
+    let left = kept_by_lists(reader, family.near(), concepts, set, visits)?;
+    kept_in_room(reader, family, left.as_slice(), set, concepts, room, visits)
 }
 
 // Those of some concepts whose list has none of a set, which is given as a list too. Where the lists have more items than there is
@@ -355,34 +430,43 @@ fn kept_in_room<S: ConceptSet>(
     set: &Answer<S>,
     own: &[u32],
     room: u64,
+    visits: &mut Counter,
 ) -> Result<Vec<u32>, AllocError>
     requires over { IsOf reader.snapshot.now.release (S.bound_of set.now) reader.indexes.now.hierarchy }
     requires whole { is_whole_of family ≡ true }
     requires own { own.now ≡ S.items_of set.now }
     requires below { All (λ concept. concept < S.bound_of set.now) concepts.now }
-    ensures { IfOk result (λ kept. kept.items ≡ filter (λ concept. not (list_any (has (S.items_of set.now)) (list_of (lists_of reader.entry.indexes.now.hierarchy family) concept))) concepts.now) }
+    requires pass { room < items_in (lists_of reader.indexes.now.hierarchy family) concepts.now
+        → pass_items reader.indexes.now.hierarchy (S.bound_of set.now) ≤ room }
+    ensures counted { CountsWithin room visits.old visits.new }
+    ensures kept { IfOk result (λ kept. kept.items ≡ filter (λ concept. not (list_any (has (S.items_of set.now))
+        (list_of (lists_of reader.entry.indexes.now.hierarchy family) concept))) concepts.now) }
 {
     if items_of_lists(reader, family, concepts, set.bound(), room) > room {
-        let found = reached(reader, family.back(), set, own)?;
+        let found = reached(reader, family.back(), set, own, visits)?;
         return kept_outside(reader.alloc, concepts, &found);
     }
-    kept_by_lists(reader, family, concepts, set)
+    kept_by_lists(reader, family, concepts, set, visits)
 }
 
-// The same, by the list of each.
+// Those of some concepts whose list has none of a set. Each list is counted.
 fn kept_by_lists<S: ConceptSet>(
     reader: Reader<'_>,
     family: Family,
     concepts: &[u32],
     set: &Answer<S>,
+    visits: &mut Counter,
 ) -> Result<Vec<u32>, AllocError>
     requires over { IsOver (S.bound_of set.now) reader.indexes.now.hierarchy }
     requires below { All (λ concept. concept < S.bound_of set.now) concepts.now }
-    ensures { IfOk result (λ kept. kept.items ≡ filter (λ concept. not (list_any (has (S.items_of set.now)) (list_of (lists_of reader.entry.indexes.now.hierarchy family) concept))) concepts.now) }
+    ensures counted { CountsWithin (items_in (lists_of reader.entry.indexes.now.hierarchy family) concepts.now)
+        visits.old visits.new }
+    ensures kept { IfOk result (λ kept. kept.items ≡ filter (λ concept. not (list_any (has (S.items_of set.now))
+        (list_of (lists_of reader.entry.indexes.now.hierarchy family) concept))) concepts.now) }
 {
     let mut kept = Vec::new(reader.alloc);
     for concept in concepts {
-        if !meets(family.list(reader, *concept), set) {
+        if !meets(family.list(reader, *concept, visits), set) {
             kept.push(*concept)?;
         }
     }

@@ -17,7 +17,7 @@ use Rattle.candidates.specs.Within.{AreBelow}
 use Rattle.plan_bounds.proofs.PartLemmas.{minus_are, minus_units_are, pairs_are, pairs_units_are, and_are}
 use Rattle.plan_bounds.proofs.PartLemmas.{and_units_are, or_are, or_units_are}
 use Rattle.plan_bounds.proofs.PartLemmas.{units_are, values_are}
-use Rattle.executor.proofs.NodeWork.{counted_both, counted_in, counted_thrice}
+use Rattle.reading.proofs.CountLemmas.{counted_both, counted_in, counted_thrice}
 use Rattle.executor.proofs.NodeWork.{led_reads, members_are}
 use Rattle.executor.proofs.NodeWork.{plan_answers, plan_counts, test_counts, test_outside}
 use Rattle.executor.proofs.NodeWork.{test_within, units_answer, units_count, walk_is}
@@ -75,6 +75,18 @@ walk_plans::walk_to_few-returns-clause-found = walks.walk_to_few-returns-clause-
 pub walk_plans::walk_to_few-returns-clause-counted : goal.walk_plans::walk_to_few-returns-clause-counted
 walk_plans::walk_to_few-returns-clause-counted = walks.walk_to_few-returns-clause-counted
 
+pub walk_plans::walk_to_few-returns-in_err-found-clause-counted :
+    goal.walk_plans::walk_to_few-returns-in_err-found-clause-counted
+walk_plans::walk_to_few-returns-in_err-found-clause-counted = walks.walk_to_few-returns-in_err-found-clause-counted
+
+pub walk_plans::walk_to_few-returns-in_err-from-clause-counted :
+    goal.walk_plans::walk_to_few-returns-in_err-from-clause-counted
+walk_plans::walk_to_few-returns-in_err-from-clause-counted = walks.walk_to_few-returns-in_err-from-clause-counted
+
+pub walk_plans::walk_to_few-returns-in_err-extent-clause-counted :
+    goal.walk_plans::walk_to_few-returns-in_err-extent-clause-counted
+walk_plans::walk_to_few-returns-in_err-extent-clause-counted = walks.walk_to_few-returns-in_err-extent-clause-counted
+
 pub walk_plans::walk_from-walk_to_few-requires : goal.walk_plans::walk_from-walk_to_few-requires
 walk_plans::walk_from-walk_to_few-requires = walks.walk_from-walk_to_few-requires
 
@@ -86,27 +98,13 @@ plans::units_within-returns-then-has_few_groups-clause-found =
 pub plans::units_within-returns-clause-found : goal.plans::units_within-returns-clause-found
 plans::units_within-returns-clause-found = units.units_within-returns-clause-found
 
-pub joined_plans::led_by-returns-clause-found : goal.joined_plans::led_by-returns-clause-found
-joined_plans::led_by-returns-clause-found = all.led_by-returns-clause-found
+pub plans::units_within-returns-then-has_few_groups-clause-counted :
+    goal.plans::units_within-returns-then-has_few_groups-clause-counted
+plans::units_within-returns-then-has_few_groups-clause-counted = units.units_within-returns-then-has_few_groups-clause-counted
 
-pub joined_plans::led_by-returns-clause-counted : goal.joined_plans::led_by-returns-clause-counted
-joined_plans::led_by-returns-clause-counted = all.led_by-returns-clause-counted
-
-pub joined_plans::led_by-returns-in_err-found-clause-counted :
-    goal.joined_plans::led_by-returns-in_err-found-clause-counted
-joined_plans::led_by-returns-in_err-found-clause-counted g t c =
-    counted_in c.execute_within.ensures.counted (omega arith)
-
-pub unit_plans::groups_led_by-returns-clause-found : goal.unit_plans::groups_led_by-returns-clause-found
-unit_plans::groups_led_by-returns-clause-found = all.groups_led_by-returns-clause-found
-
-pub unit_plans::groups_led_by-returns-clause-counted : goal.unit_plans::groups_led_by-returns-clause-counted
-unit_plans::groups_led_by-returns-clause-counted = all.groups_led_by-returns-clause-counted
-
-pub unit_plans::groups_led_by-returns-in_err-groups-clause-counted :
-    goal.unit_plans::groups_led_by-returns-in_err-groups-clause-counted
-unit_plans::groups_led_by-returns-in_err-groups-clause-counted g t c =
-    counted_in c.execute_groups.ensures.counted (omega arith)
+pub plans::units_within-returns-in_err-found-clause-counted :
+    goal.plans::units_within-returns-in_err-found-clause-counted
+plans::units_within-returns-in_err-found-clause-counted = units.units_within-returns-in_err-found-clause-counted
 
 pub joined_plans::in_all-returns-then-is_empty-clause-found :
     goal.joined_plans::in_all-returns-then-is_empty-clause-found
@@ -131,6 +129,10 @@ joined_plans::in_all-returns-in_err-found-clause-counted = all.in_all-returns-in
 pub joined_plans::in_all-returns-in_err-extent-clause-counted :
     goal.joined_plans::in_all-returns-in_err-extent-clause-counted
 joined_plans::in_all-returns-in_err-extent-clause-counted = all.in_all-returns-in_err-extent-clause-counted
+
+pub joined_plans::in_all-returns-in_err-extent-2-clause-counted :
+    goal.joined_plans::in_all-returns-in_err-extent-2-clause-counted
+joined_plans::in_all-returns-in_err-extent-2-clause-counted = all.in_all-returns-in_err-extent-2-clause-counted
 
 pub joined_plans::in_all-returns-in_err-next-clause-counted :
     goal.joined_plans::in_all-returns-in_err-next-clause-counted
@@ -159,6 +161,10 @@ unit_plans::groups_in_all-returns-in_err-groups-clause-counted = all.groups_in_a
 pub unit_plans::groups_in_all-returns-in_err-extent-clause-counted :
     goal.unit_plans::groups_in_all-returns-in_err-extent-clause-counted
 unit_plans::groups_in_all-returns-in_err-extent-clause-counted = all.groups_in_all-returns-in_err-extent-clause-counted
+
+pub unit_plans::groups_in_all-returns-in_err-extent-2-clause-counted :
+    goal.unit_plans::groups_in_all-returns-in_err-extent-2-clause-counted
+unit_plans::groups_in_all-returns-in_err-extent-2-clause-counted = all.groups_in_all-returns-in_err-extent-2-clause-counted
 
 pub unit_plans::groups_in_all-returns-in_err-next-clause-counted :
     goal.unit_plans::groups_in_all-returns-in_err-next-clause-counted
@@ -452,16 +458,13 @@ unit_plans::execute_group_node-returns-in-Pairs-clause-found g t c =
 pub plans::in_first_alone-returns-clause-found : goal.plans::in_first_alone-returns-clause-found
 plans::in_first_alone-returns-clause-found = minus.in_first_alone-returns-clause-found
 
-pub plans::in_first_alone-returns-clause-counted : goal.plans::in_first_alone-returns-clause-counted
-plans::in_first_alone-returns-clause-counted g t c =
-    counted_thrice c.execute_within.ensures.counted c.second_part.ensures.counted c.execute_within-2.ensures.counted
-    (omega arith)
+pub plans::in_first_alone-returns-clause-counted :
+    goal.plans::in_first_alone-returns-clause-counted
+plans::in_first_alone-returns-clause-counted = minus.in_first_alone-returns-clause-counted
 
 pub plans::in_first_alone-returns-in_err-found-clause-counted :
     goal.plans::in_first_alone-returns-in_err-found-clause-counted
-plans::in_first_alone-returns-in_err-found-clause-counted g t c =
-    counted_thrice c.execute_within.ensures.counted c.second_part.ensures.counted c.execute_within-2.ensures.counted
-    (omega arith)
+plans::in_first_alone-returns-in_err-found-clause-counted = minus.in_first_alone-returns-in_err-found-clause-counted
 
 pub plans::in_first_alone-returns-in_err-right-clause-counted :
     goal.plans::in_first_alone-returns-in_err-right-clause-counted
@@ -474,17 +477,11 @@ unit_plans::groups_in_first_alone-returns-clause-found = minus.groups_in_first_a
 
 pub unit_plans::groups_in_first_alone-returns-clause-counted :
     goal.unit_plans::groups_in_first_alone-returns-clause-counted
-unit_plans::groups_in_first_alone-returns-clause-counted g t c =
-    counted_thrice c.execute_groups.ensures.counted c.second_unit_part.ensures.counted
-    c.execute_groups-2.ensures.counted
-    (omega arith)
+unit_plans::groups_in_first_alone-returns-clause-counted = minus.groups_in_first_alone-returns-clause-counted
 
 pub unit_plans::groups_in_first_alone-returns-in_err-groups-clause-counted :
     goal.unit_plans::groups_in_first_alone-returns-in_err-groups-clause-counted
-unit_plans::groups_in_first_alone-returns-in_err-groups-clause-counted g t c =
-    counted_thrice c.execute_groups.ensures.counted c.second_unit_part.ensures.counted
-    c.execute_groups-2.ensures.counted
-    (omega arith)
+unit_plans::groups_in_first_alone-returns-in_err-groups-clause-counted = minus.groups_in_first_alone-returns-in_err-groups-clause-counted
 
 pub unit_plans::groups_in_first_alone-returns-in_err-right-clause-counted :
     goal.unit_plans::groups_in_first_alone-returns-in_err-right-clause-counted
@@ -561,9 +558,6 @@ pub unit_plans::groups_with_pairs-groups_with_pairs_within-requires-clause-room 
     goal.unit_plans::groups_with_pairs-groups_with_pairs_within-requires-clause-room
 unit_plans::groups_with_pairs-groups_with_pairs_within-requires-clause-room =
     pairs.groups_with_pairs-groups_with_pairs_within-requires-clause-room
-
-pub plans::units_within-units_found-requires-clause-room : goal.plans::units_within-units_found-requires-clause-room
-plans::units_within-units_found-requires-clause-room = units.units_within-units_found-requires-clause-room
 
 pub walk_plans::walk_from-returns-clause-found : goal.walk_plans::walk_from-returns-clause-found
 walk_plans::walk_from-returns-clause-found = walks.walk_from-returns-clause-found

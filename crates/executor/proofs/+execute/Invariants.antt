@@ -13,6 +13,7 @@ use Rattle.plan_bounds.specs.Bounds.{own_number, values_bound}
 use Rattle.plan_bounds.specs.Floors.{floor_number}
 use Rattle.plan_bounds.specs.Sizes.{group_sizes, sizes, total}
 use Rattle.plan_bounds.proofs.LoopLemmas.{concept_sum, unit_sum}
+use Rattle.candidates.specs.Extents.{IsExtentOf, IsGroupExtentOf}
 use Rattle.candidates.specs.Groups.{some_group_in}
 use Rattle.candidates.specs.Numbers.{numbers_in}
 use Rattle.executor.specs.inside.Lead.{leads_off, leads_off_groups}
@@ -42,6 +43,7 @@ invariant-joined_plans::in_all-loop-place g l = record {
   work : AllSoFar (concept_sum (floor_number l.reader.indexes.now)) (concepts_read l.reader.indexes.now) l.parts l.lead
       l.place
       l.fn.visits.count l.visits.count;
+  extent : IsExtentOf l.reader.indexes.now (g.S.ConceptSet.items_of l.found) l.extent;
 }
 
 -- what is in one of those so far
@@ -74,6 +76,7 @@ invariant-unit_plans::groups_in_all-loop-place g l = record {
   work : AllSoFar (unit_sum (floor_number l.reader.indexes.now)) (groups_read l.reader.indexes.now) l.parts l.lead
       l.place
       l.fn.visits.count l.visits.count;
+  extent : IsGroupExtentOf l.reader.indexes.now (g.S.ConceptSet.items_of l.groups) l.extent;
 }
 
 abbrev pub invariant-unit_plans::groups_in_some-loop-part : goal.invariant-unit_plans::groups_in_some-loop-part
@@ -148,9 +151,6 @@ decreases-plans::tested_of g l = 6 * (value_test.the_size l.test.now) + 0
 abbrev pub decreases-joined_plans::in_all : goal.decreases-joined_plans::in_all
 decreases-joined_plans::in_all g l = 6 * (deepest l.parts.now) + 4
 
-abbrev pub decreases-joined_plans::led_by : goal.decreases-joined_plans::led_by
-decreases-joined_plans::led_by g l = 6 * (concept_plan.the_size l.plan.now) + 3
-
 abbrev pub decreases-joined_plans::in_some : goal.decreases-joined_plans::in_some
 decreases-joined_plans::in_some g l = 6 * (deepest l.parts.now) + 2
 
@@ -185,9 +185,6 @@ decreases-unit_plans::groups_with_pairs g l = 6
 
 abbrev pub decreases-unit_plans::groups_in_all : goal.decreases-unit_plans::groups_in_all
 decreases-unit_plans::groups_in_all g l = 6 * (deepest_units l.parts.now) + 3
-
-abbrev pub decreases-unit_plans::groups_led_by : goal.decreases-unit_plans::groups_led_by
-decreases-unit_plans::groups_led_by g l = 6 * (unit_plan.the_size l.plan.now) + 2
 
 abbrev pub decreases-unit_plans::groups_in_some : goal.decreases-unit_plans::groups_in_some
 decreases-unit_plans::groups_in_some g l = 6 * (deepest_units l.parts.now) + 2

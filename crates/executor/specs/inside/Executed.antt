@@ -1,6 +1,6 @@
 -- What executing a plan, or a part of it, promises: how much it counts, whether there is an answer or not, and what an
 -- answer is.
-use Rattle.std.specs.Prelude.{ℕ, ◌≡◌, ◌≤◌, ◌+◌, Bool, List, [], length}
+use Rattle.std.specs.Prelude.{ℕ, ◌≡◌, ◌≤◌, ◌+◌, ◌-◌, Bool, List, [], length, min}
 use Rattle.rf2_rows.specs.Release.{Release, Value}
 use Rattle.idset.specs.declared.concept_set.ConceptSet.{Ghosts}
 use Rattle.postings.specs.Groups.{all_groups}
@@ -32,6 +32,10 @@ AnswersPlan sets release indexed candidates plan =
     IsFound sets (length release.concepts) (numbers_within release (may_be sets.items_of candidates)
     (means release (logical plan)))
     (node_sum (floor_number indexed) plan)
+
+-- what is counted leaves room in the bound of a node for so many items, and for as many of these as a second part finds at most
+abbrev pub CountsBeside : ℕ → ℕ → ℕ → Counter → Counter → Type 0
+CountsBeside items second bound = CountsWithin (bound - (items + min second items))
 
 -- each concept being a candidate
 abbrev pub AnswersAll : {S : Type 0} → Ghosts S → Release → Indexed → Physical → Counter → Counter → S → Type 0

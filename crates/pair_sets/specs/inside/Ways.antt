@@ -1,5 +1,5 @@
 -- The ways in which a leaf is read, which all find the same, and how many items are read in each.
-use Rattle.std.specs.Prelude.{ℕ, ◌≡◌, ◌+◌, ◌<◌, Bool, true, List, Option, None, Some, filter, length, sum_by}
+use Rattle.std.specs.Prelude.{ℕ, ◌≡◌, ◌+◌, ◌≤◌, ◌<◌, Bool, true, List, Option, None, Some, filter, length, sum_by}
 use Rattle.rf2_rows.specs.Release.{Value}
 use Rattle.constraint_tree.specs.Passing.{is_within}
 use Rattle.number_lists.specs.Rising.{IsRisingBelow}
@@ -8,8 +8,10 @@ use Rattle.postings.specs.Stats.{type_row_count}
 use Rattle.reading.specs.Counted.{full, full_sum}
 use Rattle.candidates.specs.Numbers.{is_one_of}
 use Rattle.candidates.specs.RowCounts.{extent_items, row_count_of}
+use Rattle.candidates.specs.declared.candidates.Candidates.{Candidates}
+use Rattle.candidates.specs.declared.candidates.Candidates.TheVariants as candidates
 use Rattle.candidates.specs.declared.candidates.Extent.{Extent}
-use Rattle.pair_sets.specs.Room.{types_read}
+use Rattle.reading.specs.declared.counter.Counter.{Counter}
 use Rattle.pair_sets.specs.Tested.{IsTestBelow, passes_of}
 use Rattle.pair_sets.specs.declared.tested.Tested.{Tested}
 use Rattle.pair_sets.specs.declared.tested.Tested.TheVariants as tests
@@ -56,16 +58,26 @@ pub record IsWayFor {S : Type 0} (items_of : S → List ℕ) (bound_of : S → �
 abbrev pub items_by_value : Indexed → Bool → List ℕ → ℕ
 items_by_value indexed back values = length values + sum_by (row_count_of indexed back) values
 
--- what is read to find some types of rows, and their rows
-abbrev pub items_by_type : Indexed → List ℕ → List ℕ → ℕ
-items_by_type indexed types ids = types_read indexed types + sum_by (type_row_count indexed) ids
+-- how many items are still to be read in a way, once it is found: rows, and of the candidates they as well
+abbrev pub rest_items : {S : Type 0} → Indexed → Bool → Option Extent → Way S → ℕ
+rest_items indexed back candidates (ways.ByCandidates test) = extent_items candidates
+rest_items indexed back candidates (ways.ByValue values) = sum_by (row_count_of indexed back) values.items
+rest_items indexed back candidates (ways.ByType ids test) = sum_by (type_row_count indexed) ids.items
+rest_items indexed back candidates (ways.Scan test) = length indexed.rows
 
--- how many items are read in a way
-abbrev pub way_items : {S : Type 0} → Indexed → Bool → List ℕ → Option Extent → Way S → ℕ
-way_items indexed back types candidates (ways.ByCandidates test) = extent_items candidates
-way_items indexed back types candidates (ways.ByValue values) = items_by_value indexed back values.items
-way_items indexed back types candidates (ways.ByType ids test) = items_by_type indexed types ids.items
-way_items indexed back types candidates (ways.Scan test) = length indexed.rows
+-- what was counted so far leaves room for so many items more, where so many may be counted in all
+pub record LeavesRoom (rest most : ℕ) (early late : Counter) : Type 0 where
+  pub grows : early.count ≤ late.count
+  pub room : full (late.count + rest) ≤ early.count + most
+
+-- how many candidates are listed, where not all are, and that they are
+abbrev pub candidates_listed : {S : Type 0} → (S → List ℕ) → Candidates S → ℕ
+candidates_listed items_of candidates.All = 0
+candidates_listed items_of (candidates.Within set extent) = length (items_of set.now)
+
+abbrev pub AreListedFor : {S : Type 0} → (S → List ℕ) → Candidates S → List ℕ → Type 0
+AreListedFor items_of candidates.All numbers = Unit {0}
+AreListedFor items_of (candidates.Within set extent) numbers = numbers ≡ items_of set.now
 
 -- the values that are looked up: where a test is of the concepts of a set these, and how many rows they have; else none
 abbrev pub AreLookedUp : {S : Type 0} → (S → List ℕ) → Indexed → Bool → Tested S → Option PassingValues → Type 0
@@ -77,19 +89,23 @@ AreLookedUp items_of indexed back (tests.Outside set) None = Unit {0}
 AreLookedUp items_of indexed back (tests.Number compare number) (Some values) = ⊥
 AreLookedUp items_of indexed back (tests.Number compare number) None = Unit {0}
 
--- values that pass and how many rows they have, together fewer than other rows
-pub record AreFewer (indexed : Indexed) (back : Bool) (passes : Value → Bool) (others : ℕ)
-    (values : PassingValues) : Type 0 where
-  pub pass : AreAllThatPass indexed.concepts passes values.numbers.items
-  pub counted : values.rows ≡ full_sum (row_count_of indexed back) values.numbers.items
-  pub fewer : full (length values.numbers.items + values.rows) < others
+-- how many values are looked up for a test: the concepts of its set
+abbrev pub looked_up : {S : Type 0} → (S → List ℕ) → Tested S → ℕ
+looked_up items_of (tests.Within set) = length (items_of set)
+looked_up items_of (tests.Outside set) = 0
+looked_up items_of (tests.Number compare number) = 0
+
+-- how many rows are still to be read: those of values, or where there are none so many others
+abbrev pub rest_beside : Indexed → Bool → ℕ → Option PassingValues → ℕ
+rest_beside indexed back others (Some values) = sum_by (row_count_of indexed back) values.numbers.items
+rest_beside indexed back others None = others
 
 -- the values of some sources are read by the rows of all of these, or by those of all types that are one of some
 abbrev pub IsValuesWay : List ℕ → List ℕ → (ℕ → Bool) → ValuesWay → Type 0
 IsValuesWay types sources one (along.BySource own) = own.items ≡ sources
 IsValuesWay types sources one (along.ByType ids) = ids.items ≡ filter one types
 
--- how many items are read by either
-abbrev pub values_way_items : Indexed → List ℕ → ValuesWay → ℕ
-values_way_items indexed types (along.BySource own) = items_by_value indexed true own.items
-values_way_items indexed types (along.ByType ids) = items_by_type indexed types ids.items
+-- how many rows are read by either
+abbrev pub values_rest : Indexed → ValuesWay → ℕ
+values_rest indexed (along.BySource own) = sum_by (row_count_of indexed true) own.items
+values_rest indexed (along.ByType ids) = sum_by (type_row_count indexed) ids.items

@@ -6,12 +6,12 @@ pub extent_among-requires : goal.extent_among-requires
 extent_among-requires g c =
     let items = g.S.ConceptSet.items_of c.args.concepts.now in
     subst (All (λ concept. concept < length c.args.reader.indexes.now.concepts))
-    (sym (c.as_slice.ensures.value ∙ c.in_ok-own.ensures))
+    (sym (c.as_slice.ensures.value ∙ c.in_ok-own.ensures.items))
     (subst (λ (bound : ℕ). All (λ concept. concept < bound) items)
     (c.requires.bound ∙ ap (λ (ids : List ℕ). length ids) (sym c.args.reader.index.concepts))
     (all_below (g.S.ConceptSet.bound_of c.args.concepts.now) items (g.met.S.ConceptSet.rising c.args.concepts.now)))
 
-pub returns-then-are_many_beside : goal.returns-then-are_many_beside
-returns-then-are_many_beside g c =
+pub returns-then-are_many_beside-clause-extent : goal.returns-then-are_many_beside-clause-extent
+returns-then-are_many_beside-clause-extent g c =
     c.uncounted.ensures.concepts c.args.reader.indexes.now (g.S.ConceptSet.items_of c.args.concepts.now)
     (sym c.count-count.ensures)

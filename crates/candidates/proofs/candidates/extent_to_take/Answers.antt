@@ -1,4 +1,4 @@
 use Rattle.candidates.proofs.candidates.extent_to_take.Goals as goal
 
-pub returns-else-may_be_read_thrice : goal.returns-else-may_be_read_thrice
-returns-else-may_be_read_thrice g c = c.extent_left.ensures.concepts c.args.reader.indexes.now c.requires.candidates.extent
+pub returns-else-may_be_read_thrice-clause-extent : goal.returns-else-may_be_read_thrice-clause-extent
+returns-else-may_be_read_thrice-clause-extent g c = c.extent_left.ensures.concepts c.args.reader.indexes.now c.requires.candidates.extent

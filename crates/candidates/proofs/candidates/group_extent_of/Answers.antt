@@ -8,14 +8,14 @@ pub group_extent_among-requires : goal.group_extent_among-requires
 group_extent_among-requires g c =
     let items = g.S.ConceptSet.items_of c.args.groups.now in
     subst (All (λ group. group < length (groups_in c.args.reader.indexes.now)))
-    (sym (c.as_slice.ensures.value ∙ c.in_ok-own.ensures))
+    (sym (c.as_slice.ensures.value ∙ c.in_ok-own.ensures.items))
     (subst (λ (bound : ℕ). All (λ group. group < bound) items)
     (c.requires.bound
     ∙ ap (λ (groups : List ConceptGroup). length groups)
     (sym (groups_are c.args.reader.indexes.now c.args.reader.snapshot.now.release c.args.reader.index c.concept_count.ensures.rising)))
     (all_below (g.S.ConceptSet.bound_of c.args.groups.now) items (g.met.S.ConceptSet.rising c.args.groups.now)))
 
-pub returns-then-are_many_beside : goal.returns-then-are_many_beside
-returns-then-are_many_beside g c =
+pub returns-then-are_many_beside-clause-extent : goal.returns-then-are_many_beside-clause-extent
+returns-then-are_many_beside-clause-extent g c =
     c.uncounted.ensures.groups c.args.reader.indexes.now (g.S.ConceptSet.items_of c.args.groups.now)
     (sym c.count-count.ensures)

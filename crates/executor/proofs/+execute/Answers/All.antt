@@ -1,6 +1,6 @@
 -- Answers of the nodes that mean what all of their parts mean.
 use Rattle.std.proofs.Common.{le_of_eq, le_trans, ℕ, List, ◌+◌, ◌∙◌, ◌&&◌, Bool, true}
-use Rattle.std.proofs.Common.{length, get_or, sym, ap, refl, arith, Option, ◌-◌}
+use Rattle.std.proofs.Common.{length, get_or, sym, ap, refl, subst, arith, Option, ◌-◌}
 use Rattle.std.specs.Prelude.{slice_get}
 use Rattle.std.specs.List.{list_all, range_with_len}
 use Rattle.std.proofs.lemmas.List.{nil_from_length, take_all}
@@ -12,11 +12,12 @@ use Rattle.executor.specs.inside.Logical.{logical_of, logical_units_of}
 use Rattle.number_lists.specs.Members.{has}
 use Rattle.number_lists.specs.Rising.{numbers_where}
 use Rattle.postings.specs.Groups.{all_groups}
+use Rattle.candidates.specs.Extents.{IsExtentOf, IsGroupExtentOf}
 use Rattle.candidates.specs.Groups.{some_group_in}
 use Rattle.executor.specs.inside.Lead.{leads_off, leads_off_groups}
 use Rattle.candidates.specs.Within.{groups_within, may_be, numbers_within}
 use Rattle.executor.proofs.GroupNodeLemmas as groups
-use Rattle.executor.proofs.NodeWork.{counted_in}
+use Rattle.reading.proofs.CountLemmas.{counted_both, counted_in}
 use Rattle.executor.proofs.NodeWork.{no_floor}
 use Rattle.executor.proofs.NodeWork.{no_floor_of_groups}
 use Rattle.executor.proofs.PartWork.{concepts_read}
@@ -29,47 +30,11 @@ use Rattle.executor.proofs.WithinNodes.{and_groups, and_within}
 use Rattle.executor.proofs.WorkLemmas.{all_first, all_end, all_most, all_next, all_pass, all_turn}
 use Rattle.executor.proofs.WorkLemmas.{first_within, counted_beside}
 use Rattle.executor.proofs.WorkLemmas.{lead_inside, lead_is, no_parts}
-use Rattle.executor.proofs.+execute.Goals.{joined_plans::in_all-then-place-lead+in_ok-extent+in_ok-next}
+use Rattle.executor.proofs.+execute.Goals.{joined_plans::in_all-then-place-lead+in_ok-next+in_ok-extent-2}
 use Rattle.executor.proofs.+execute.Goals.{joined_plans::in_all-else-place-lead}
-use Rattle.executor.proofs.+execute.Goals.{unit_plans::groups_in_all-then-place-lead+in_ok-extent+in_ok-next}
+use Rattle.executor.proofs.+execute.Goals.{unit_plans::groups_in_all-then-place-lead+in_ok-next+in_ok-extent-2}
 use Rattle.executor.proofs.+execute.Goals.{unit_plans::groups_in_all-else-place-lead}
 use Rattle.executor.proofs.+execute.Goals as goal
-
-pub led_by-returns-clause-found : goal.joined_plans::led_by-returns-clause-found
-led_by-returns-clause-found g t c = record {
-  items = c.in_ok-found.ensures.found.items;
-  bound = c.in_ok-found.ensures.found.bound;
-  floor = le_trans c.in_ok-found.ensures.found.floor c.count_part.ensures.grows;
-}
-
-pub led_by-returns-clause-counted : goal.joined_plans::led_by-returns-clause-counted
-led_by-returns-clause-counted g t c = record {
-  grows = le_trans c.execute_within.ensures.counted.grows c.count_part.ensures.grows;
-  within = omega (
-    arith,
-    c.execute_within.ensures.counted.within,
-    c.in_ok-found.ensures.size,
-    c.count_part.ensures.count,
-  );
-}
-
-pub groups_led_by-returns-clause-found : goal.unit_plans::groups_led_by-returns-clause-found
-groups_led_by-returns-clause-found g t c = record {
-  items = c.in_ok-groups.ensures.found.items;
-  bound = c.in_ok-groups.ensures.found.bound;
-  floor = le_trans c.in_ok-groups.ensures.found.floor c.count_part.ensures.grows;
-}
-
-pub groups_led_by-returns-clause-counted : goal.unit_plans::groups_led_by-returns-clause-counted
-groups_led_by-returns-clause-counted g t c = record {
-  grows = le_trans c.execute_groups.ensures.counted.grows c.count_part.ensures.grows;
-  within = omega (
-    arith,
-    c.execute_groups.ensures.counted.within,
-    c.in_ok-groups.ensures.size,
-    c.count_part.ensures.count,
-  );
-}
 
 pub in_all-returns-then-is_empty-clause-found :
     goal.joined_plans::in_all-returns-then-is_empty-clause-found
@@ -107,7 +72,15 @@ in_all-loop-place-init g t c =
           refl inside c.index-parts-lead.is)));
       bound = c.in_ok-found.ensures.found.bound;
       work = all_first c.index-parts-lead.result inside c.index-parts-lead.is
-          c.led_by.ensures.counted.grows c.led_by.ensures.counted.within c.in_ok-found.ensures.found.floor;
+          (le_trans c.execute_within.ensures.counted.grows c.extent_of.ensures.counted.grows)
+          (omega (
+            arith,
+            c.execute_within.ensures.counted.within,
+            c.in_ok-found.ensures.size,
+            c.extent_of.ensures.counted.within,
+          ))
+          (le_trans c.in_ok-found.ensures.found.floor c.extent_of.ensures.counted.grows);
+      extent = c.in_ok-extent.ensures.extent;
     }
 
 pub in_all-loop-place-preserved : goal.joined_plans::in_all-loop-place-preserved
@@ -115,7 +88,7 @@ in_all-loop-place-preserved g t c =
     let release = c.args.reader.snapshot.now.release in
     let may : ℕ → Bool = may_be g.S.ConceptSet.items_of c.args.candidates.now in
     elim c.if-place-lead.branch [
-      | joined_plans::in_all-then-place-lead+in_ok-extent+in_ok-next w ↦
+      | joined_plans::in_all-then-place-lead+in_ok-next+in_ok-extent-2 w ↦
           record {
             items = ap (λ (found : _). g.S.ConceptSet.items_of found) w.found-is
                 ∙ all_within (length release.concepts) (λ (p : ConceptPlan) (n : ℕ). means release (logical_of p)
@@ -132,17 +105,21 @@ in_all-loop-place-preserved g t c =
             work = all_turn c.loop-place.invariant.work c.index-parts-place.result c.loop-place-test.true
                 c.index-parts-place.is
                 w.if-place-lead.true
-                (le_trans (le_trans w.execute_within.ensures.counted.grows w.count_part.ensures.grows)
+                (le_trans (le_trans w.execute_within-then-place-lead.ensures.counted.grows w.extent_of-then-place-lead.ensures.counted.grows)
                 (le_of_eq (sym (ap (λ (visits : _). visits.count) w.visits-is))))
                 (omega (
                   arith,
-                  w.execute_within.ensures.counted.within,
-                  w.count_part.ensures.count,
+                  w.execute_within-then-place-lead.ensures.counted.within,
+                  w.extent_of-then-place-lead.ensures.counted.within,
                   w.in_ok-next.ensures.size,
                   ap (λ (visits : _). visits.count) w.visits-is,
                 ))
-                (le_trans (le_trans w.in_ok-next.ensures.found.floor w.count_part.ensures.grows)
+                (le_trans (le_trans w.in_ok-next.ensures.found.floor w.extent_of-then-place-lead.ensures.counted.grows)
                 (le_of_eq (sym (ap (λ (visits : _). visits.count) w.visits-is))));
+            extent =
+                subst (IsExtentOf c.args.reader.indexes.now (g.S.ConceptSet.items_of c.if-place-lead.found)) (sym w.extent-is)
+                (subst (λ (found : _). IsExtentOf c.args.reader.indexes.now (g.S.ConceptSet.items_of found) w.in_ok-extent-2.extent) (sym w.found-is)
+                w.in_ok-extent-2.ensures.extent);
           }
       | joined_plans::in_all-else-place-lead w ↦
           record {
@@ -154,6 +131,10 @@ in_all-loop-place-preserved g t c =
             work = all_pass c.loop-place.invariant.work c.index-parts-place.result c.loop-place-test.true
                 c.index-parts-place.is
                 w.if-place-lead.false (ap (λ (visits : _). visits.count) w.visits-is);
+            extent =
+                subst (IsExtentOf c.args.reader.indexes.now (g.S.ConceptSet.items_of c.if-place-lead.found)) (sym w.extent-is)
+                (subst (λ (found : _). IsExtentOf c.args.reader.indexes.now (g.S.ConceptSet.items_of found) c.loop-place.extent) (sym w.found-is)
+                c.loop-place.invariant.extent);
           }
     ]
 
@@ -187,7 +168,7 @@ pub in_all-returns-in_err-found-clause-counted :
     goal.joined_plans::in_all-returns-in_err-found-clause-counted
 in_all-returns-in_err-found-clause-counted g t c =
     let inside = lead_inside c.lead_of.result c.is_empty.ensures c.if-is_empty.false c.min-lead.ensures in
-    counted_in c.led_by.ensures.counted
+    counted_in c.execute_within.ensures.counted
     (omega (
       arith,
       first_within (concepts_read c.args.reader.indexes.now) c.args.parts.now c.min-lead.result inside,
@@ -199,9 +180,31 @@ pub in_all-returns-in_err-extent-clause-counted :
     goal.joined_plans::in_all-returns-in_err-extent-clause-counted
 in_all-returns-in_err-extent-clause-counted g t c =
     let inside = lead_inside c.lead_of.result c.is_empty.ensures c.if-is_empty.false c.min-lead.ensures in
+    counted_both c.execute_within.ensures.counted c.extent_of.ensures.counted
+    (omega (
+      arith,
+      c.in_ok-found.ensures.size,
+      first_within (concepts_read c.args.reader.indexes.now) c.args.parts.now c.min-lead.result inside,
+      lead_is ((concepts_read c.args.reader.indexes.now).of_part) c.args.parts.now c.min-lead.result
+          c.index-parts-lead.result inside c.index-parts-lead.is,
+    ))
+
+pub in_all-returns-in_err-extent-2-clause-counted :
+    goal.joined_plans::in_all-returns-in_err-extent-2-clause-counted
+in_all-returns-in_err-extent-2-clause-counted g t c =
+    let inside = lead_inside c.lead_of.result c.is_empty.ensures c.if-is_empty.false c.min-lead.ensures in
     record {
-      grows = c.loop-place.invariant.work.grows;
-      within = all_most c.loop-place.invariant.work inside;
+      grows = le_trans c.loop-place.invariant.work.grows
+          (le_trans c.execute_within-then-place-lead.ensures.counted.grows c.extent_of-then-place-lead.ensures.counted.grows);
+      within = all_next {next = c.extent_of-then-place-lead.new.visits.count} c.loop-place.invariant.work inside
+          c.index-parts-place.result
+          c.loop-place-test.true c.index-parts-place.is c.if-place-lead.true
+          (omega (
+            arith,
+            c.execute_within-then-place-lead.ensures.counted.within,
+            c.extent_of-then-place-lead.ensures.counted.within,
+            c.in_ok-next.ensures.size,
+          ));
     }
 
 pub in_all-returns-in_err-next-clause-counted :
@@ -209,11 +212,11 @@ pub in_all-returns-in_err-next-clause-counted :
 in_all-returns-in_err-next-clause-counted g t c =
     let inside = lead_inside c.lead_of.result c.is_empty.ensures c.if-is_empty.false c.min-lead.ensures in
     record {
-      grows = le_trans c.loop-place.invariant.work.grows c.execute_within.ensures.counted.grows;
-      within = all_next {next = c.execute_within.new.visits.count} c.loop-place.invariant.work inside
+      grows = le_trans c.loop-place.invariant.work.grows c.execute_within-then-place-lead.ensures.counted.grows;
+      within = all_next {next = c.execute_within-then-place-lead.new.visits.count} c.loop-place.invariant.work inside
           c.index-parts-place.result
           c.loop-place-test.true c.index-parts-place.is c.if-place-lead.true
-          (counted_beside _ _ _ c.execute_within.ensures.counted.within);
+          (counted_beside _ _ _ c.execute_within-then-place-lead.ensures.counted.within);
     }
 
 pub groups_in_all-returns-then-is_empty-clause-found :
@@ -253,8 +256,15 @@ groups_in_all-loop-place-init g t c =
           refl inside c.index-parts-lead.is)));
       bound = c.in_ok-groups.ensures.found.bound;
       work = all_first c.index-parts-lead.result inside c.index-parts-lead.is
-          c.groups_led_by.ensures.counted.grows c.groups_led_by.ensures.counted.within
-          c.in_ok-groups.ensures.found.floor;
+          (le_trans c.execute_groups.ensures.counted.grows c.group_extent_of.ensures.counted.grows)
+          (omega (
+            arith,
+            c.execute_groups.ensures.counted.within,
+            c.in_ok-groups.ensures.size,
+            c.group_extent_of.ensures.counted.within,
+          ))
+          (le_trans c.in_ok-groups.ensures.found.floor c.group_extent_of.ensures.counted.grows);
+      extent = c.in_ok-extent.ensures.extent;
     }
 
 pub groups_in_all-loop-place-preserved : goal.unit_plans::groups_in_all-loop-place-preserved
@@ -262,7 +272,7 @@ groups_in_all-loop-place-preserved g t c =
     let release = c.args.reader.snapshot.now.release in
     let may : ℕ → Bool = may_be g.S.ConceptSet.items_of c.args.candidates.now in
     elim c.if-place-lead.branch [
-      | unit_plans::groups_in_all-then-place-lead+in_ok-extent+in_ok-next w ↦
+      | unit_plans::groups_in_all-then-place-lead+in_ok-next+in_ok-extent-2 w ↦
           record {
             items = ap (λ (found : _). g.S.ConceptSet.items_of found) w.groups-is
                 ∙ all_within (length (all_groups release)) (λ (p : UnitPlan) (n : ℕ). some_group_in release
@@ -281,17 +291,21 @@ groups_in_all-loop-place-preserved g t c =
             work = all_turn c.loop-place.invariant.work c.index-parts-place.result c.loop-place-test.true
                 c.index-parts-place.is
                 w.if-place-lead.true
-                (le_trans (le_trans w.execute_groups.ensures.counted.grows w.count_part.ensures.grows)
+                (le_trans (le_trans w.execute_groups-then-place-lead.ensures.counted.grows w.group_extent_of-then-place-lead.ensures.counted.grows)
                 (le_of_eq (sym (ap (λ (visits : _). visits.count) w.visits-is))))
                 (omega (
                   arith,
-                  w.execute_groups.ensures.counted.within,
-                  w.count_part.ensures.count,
+                  w.execute_groups-then-place-lead.ensures.counted.within,
+                  w.group_extent_of-then-place-lead.ensures.counted.within,
                   w.in_ok-next.ensures.size,
                   ap (λ (visits : _). visits.count) w.visits-is,
                 ))
-                (le_trans (le_trans w.in_ok-next.ensures.found.floor w.count_part.ensures.grows)
+                (le_trans (le_trans w.in_ok-next.ensures.found.floor w.group_extent_of-then-place-lead.ensures.counted.grows)
                 (le_of_eq (sym (ap (λ (visits : _). visits.count) w.visits-is))));
+            extent =
+                subst (IsGroupExtentOf c.args.reader.indexes.now (g.S.ConceptSet.items_of c.if-place-lead.groups)) (sym w.extent-is)
+                (subst (λ (found : _). IsGroupExtentOf c.args.reader.indexes.now (g.S.ConceptSet.items_of found) w.in_ok-extent-2.extent) (sym w.groups-is)
+                w.in_ok-extent-2.ensures.extent);
           }
       | unit_plans::groups_in_all-else-place-lead w ↦
           record {
@@ -303,6 +317,10 @@ groups_in_all-loop-place-preserved g t c =
             work = all_pass c.loop-place.invariant.work c.index-parts-place.result c.loop-place-test.true
                 c.index-parts-place.is
                 w.if-place-lead.false (ap (λ (visits : _). visits.count) w.visits-is);
+            extent =
+                subst (IsGroupExtentOf c.args.reader.indexes.now (g.S.ConceptSet.items_of c.if-place-lead.groups)) (sym w.extent-is)
+                (subst (λ (found : _). IsGroupExtentOf c.args.reader.indexes.now (g.S.ConceptSet.items_of found) c.loop-place.extent) (sym w.groups-is)
+                c.loop-place.invariant.extent);
           }
     ]
 
@@ -339,7 +357,7 @@ pub groups_in_all-returns-in_err-groups-clause-counted :
     goal.unit_plans::groups_in_all-returns-in_err-groups-clause-counted
 groups_in_all-returns-in_err-groups-clause-counted g t c =
     let inside = lead_inside c.group_lead_of.result c.is_empty.ensures c.if-is_empty.false c.min-lead.ensures in
-    counted_in c.groups_led_by.ensures.counted
+    counted_in c.execute_groups.ensures.counted
     (omega (
       arith,
       first_within (groups_read c.args.reader.indexes.now) c.args.parts.now c.min-lead.result inside,
@@ -351,9 +369,31 @@ pub groups_in_all-returns-in_err-extent-clause-counted :
     goal.unit_plans::groups_in_all-returns-in_err-extent-clause-counted
 groups_in_all-returns-in_err-extent-clause-counted g t c =
     let inside = lead_inside c.group_lead_of.result c.is_empty.ensures c.if-is_empty.false c.min-lead.ensures in
+    counted_both c.execute_groups.ensures.counted c.group_extent_of.ensures.counted
+    (omega (
+      arith,
+      c.in_ok-groups.ensures.size,
+      first_within (groups_read c.args.reader.indexes.now) c.args.parts.now c.min-lead.result inside,
+      lead_is ((groups_read c.args.reader.indexes.now).of_part) c.args.parts.now c.min-lead.result
+          c.index-parts-lead.result inside c.index-parts-lead.is,
+    ))
+
+pub groups_in_all-returns-in_err-extent-2-clause-counted :
+    goal.unit_plans::groups_in_all-returns-in_err-extent-2-clause-counted
+groups_in_all-returns-in_err-extent-2-clause-counted g t c =
+    let inside = lead_inside c.group_lead_of.result c.is_empty.ensures c.if-is_empty.false c.min-lead.ensures in
     record {
-      grows = c.loop-place.invariant.work.grows;
-      within = all_most c.loop-place.invariant.work inside;
+      grows = le_trans c.loop-place.invariant.work.grows
+          (le_trans c.execute_groups-then-place-lead.ensures.counted.grows c.group_extent_of-then-place-lead.ensures.counted.grows);
+      within = all_next {next = c.group_extent_of-then-place-lead.new.visits.count} c.loop-place.invariant.work inside
+          c.index-parts-place.result
+          c.loop-place-test.true c.index-parts-place.is c.if-place-lead.true
+          (omega (
+            arith,
+            c.execute_groups-then-place-lead.ensures.counted.within,
+            c.group_extent_of-then-place-lead.ensures.counted.within,
+            c.in_ok-next.ensures.size,
+          ));
     }
 
 pub groups_in_all-returns-in_err-next-clause-counted :
@@ -361,9 +401,9 @@ pub groups_in_all-returns-in_err-next-clause-counted :
 groups_in_all-returns-in_err-next-clause-counted g t c =
     let inside = lead_inside c.group_lead_of.result c.is_empty.ensures c.if-is_empty.false c.min-lead.ensures in
     record {
-      grows = le_trans c.loop-place.invariant.work.grows c.execute_groups.ensures.counted.grows;
-      within = all_next {next = c.execute_groups.new.visits.count} c.loop-place.invariant.work inside
+      grows = le_trans c.loop-place.invariant.work.grows c.execute_groups-then-place-lead.ensures.counted.grows;
+      within = all_next {next = c.execute_groups-then-place-lead.new.visits.count} c.loop-place.invariant.work inside
           c.index-parts-place.result
           c.loop-place-test.true c.index-parts-place.is c.if-place-lead.true
-          (counted_beside _ _ _ c.execute_groups.ensures.counted.within);
+          (counted_beside _ _ _ c.execute_groups-then-place-lead.ensures.counted.within);
     }

@@ -8,7 +8,8 @@ use Rattle.executor.specs.inside.Logical.{logical_of, logical_units_of}
 use Rattle.postings.specs.Groups.{all_groups}
 use Rattle.candidates.specs.Groups.{some_group_in}
 use Rattle.candidates.specs.Within.{may_be}
-use Rattle.executor.proofs.PartWork.{are_candidates}
+use Rattle.executor.proofs.NodeWork.{counted_minus}
+use Rattle.executor.proofs.PartWork.{are_candidates, few_of_candidates}
 use Rattle.executor.proofs.WithinNodes.{minus_groups, minus_node}
 use Rattle.executor.proofs.+execute.Goals as goal
 
@@ -28,6 +29,7 @@ in_first_alone-returns-clause-found g t c =
         c.in_ok-left.ensures.found.floor,
         c.second_part.ensures.counted.grows,
         c.in_ok-right.ensures.found.floor,
+        c.minus.ensures.counted.grows,
       );
     }
 
@@ -48,6 +50,7 @@ groups_in_first_alone-returns-clause-found g t c =
         c.in_ok-left.ensures.found.floor,
         c.second_unit_part.ensures.counted.grows,
         c.in_ok-right.ensures.found.floor,
+        c.minus.ensures.counted.grows,
       );
     }
 
@@ -67,3 +70,31 @@ groups_in_first_alone-second_unit_part-requires-clause-among g t c =
     (λ n. some_group_in release (unit_means release (logical_units_of c.args.first.now))
     (slice_get (all_groups release) n))
     (g.S.ConceptSet.items_of c.in_ok-left.left) c.in_ok-left.ensures.found.items
+
+pub in_first_alone-returns-clause-counted : goal.plans::in_first_alone-returns-clause-counted
+in_first_alone-returns-clause-counted g t c =
+    counted_minus c.execute_within.ensures.counted c.second_part.ensures.counted c.execute_within-2.ensures.counted c.minus.ensures.counted
+    (few_of_candidates (length c.args.reader.snapshot.now.release.concepts) (g.S.ConceptSet.items_of c.in_ok-left.left) _
+    (g.S.ConceptSet.items_of c.in_ok-right.right) c.in_ok-right.ensures.found.items)
+    c.in_ok-right.ensures.size (omega (arith, c.in_ok-left.ensures.size)) (omega arith)
+
+pub in_first_alone-returns-in_err-found-clause-counted : goal.plans::in_first_alone-returns-in_err-found-clause-counted
+in_first_alone-returns-in_err-found-clause-counted g t c =
+    counted_minus c.execute_within.ensures.counted c.second_part.ensures.counted c.execute_within-2.ensures.counted c.minus.ensures.counted
+    (few_of_candidates (length c.args.reader.snapshot.now.release.concepts) (g.S.ConceptSet.items_of c.in_ok-left.left) _
+    (g.S.ConceptSet.items_of c.in_ok-right.right) c.in_ok-right.ensures.found.items)
+    c.in_ok-right.ensures.size (omega (arith, c.in_ok-left.ensures.size)) (omega arith)
+
+pub groups_in_first_alone-returns-clause-counted : goal.unit_plans::groups_in_first_alone-returns-clause-counted
+groups_in_first_alone-returns-clause-counted g t c =
+    counted_minus c.execute_groups.ensures.counted c.second_unit_part.ensures.counted c.execute_groups-2.ensures.counted c.minus.ensures.counted
+    (few_of_candidates (length (all_groups c.args.reader.snapshot.now.release)) (g.S.ConceptSet.items_of c.in_ok-left.left) _
+    (g.S.ConceptSet.items_of c.in_ok-right.right) c.in_ok-right.ensures.found.items)
+    c.in_ok-right.ensures.size (omega (arith, c.in_ok-left.ensures.size)) (omega arith)
+
+pub groups_in_first_alone-returns-in_err-groups-clause-counted : goal.unit_plans::groups_in_first_alone-returns-in_err-groups-clause-counted
+groups_in_first_alone-returns-in_err-groups-clause-counted g t c =
+    counted_minus c.execute_groups.ensures.counted c.second_unit_part.ensures.counted c.execute_groups-2.ensures.counted c.minus.ensures.counted
+    (few_of_candidates (length (all_groups c.args.reader.snapshot.now.release)) (g.S.ConceptSet.items_of c.in_ok-left.left) _
+    (g.S.ConceptSet.items_of c.in_ok-right.right) c.in_ok-right.ensures.found.items)
+    c.in_ok-right.ensures.size (omega (arith, c.in_ok-left.ensures.size)) (omega arith)

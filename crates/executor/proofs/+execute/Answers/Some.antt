@@ -81,9 +81,9 @@ in_some-loop-part-preserved g t c =
           (take c.loop-part.part-index c.args.parts.now) may (g.S.ConceptSet.items_of c.loop-part.found)
           c.loop-part.invariant.items)
           c.in_ok-next.ensures.size)
-          (omega (arith, c.execute_tallied.ensures.counted.grows, c.or.ensures.grows))
-          (omega (arith, c.execute_tallied.ensures.counted.within, c.or.ensures.count))
-          (omega (arith, c.in_ok-next.ensures.found.floor, c.or.ensures.grows));
+          (omega (arith, c.execute_tallied.ensures.counted.grows, c.or.ensures.counted.grows))
+          (omega (arith, c.execute_tallied.ensures.counted.within, c.or.ensures.counted.count))
+          (omega (arith, c.in_ok-next.ensures.found.floor, c.or.ensures.counted.grows));
     }
 
 pub in_some-returns-in_err-next-clause-counted :
@@ -124,7 +124,7 @@ in_some-returns-in_err-found-2-clause-counted g t c =
         arith,
         c.loop-part.invariant.work.grows,
         c.execute_tallied.ensures.counted.grows,
-        c.or.ensures.grows,
+        c.or.ensures.counted.grows,
       );
       within = subst (λ (count : ℕ). c.or.new.visits.count ≤ c.args.visits.now.count + (count * all + most))
           (sym (plan_count-parts c.args.parts.now))
@@ -132,7 +132,7 @@ in_some-returns-in_err-found-2-clause-counted g t c =
           c.part-item.is
           (length (g.S.ConceptSet.items_of c.loop-part.found) + length (g.S.ConceptSet.items_of c.in_ok-next.next))
           (le_trans reads (times_more all c.loop-part-test.true))
-          (omega (arith, c.execute_tallied.ensures.counted.within, c.or.ensures.count)));
+          (omega (arith, c.execute_tallied.ensures.counted.within, c.or.ensures.counted.count)));
     }
 
 pub in_some-returns-clause-counted : goal.joined_plans::in_some-returns-clause-counted
@@ -202,9 +202,9 @@ groups_in_some-loop-part-preserved g t c =
           (any_done release may (take c.loop-part.part-index c.args.parts.now)
           (g.S.ConceptSet.items_of c.loop-part.groups) c.loop-part.invariant.items))
           c.in_ok-next.ensures.size)
-          (omega (arith, c.execute_groups.ensures.counted.grows, c.or.ensures.grows))
-          (omega (arith, c.execute_groups.ensures.counted.within, c.or.ensures.count))
-          (omega (arith, c.in_ok-next.ensures.found.floor, c.or.ensures.grows));
+          (omega (arith, c.execute_groups.ensures.counted.grows, c.or.ensures.counted.grows))
+          (omega (arith, c.execute_groups.ensures.counted.within, c.or.ensures.counted.count))
+          (omega (arith, c.in_ok-next.ensures.found.floor, c.or.ensures.counted.grows));
     }
 
 pub groups_in_some-returns-in_err-next-clause-counted :
@@ -245,7 +245,7 @@ groups_in_some-returns-in_err-groups-2-clause-counted g t c =
         arith,
         c.loop-part.invariant.work.grows,
         c.execute_groups.ensures.counted.grows,
-        c.or.ensures.grows,
+        c.or.ensures.counted.grows,
       );
       within = subst (λ (count : ℕ). c.or.new.visits.count ≤ c.args.visits.now.count + (count * all + most))
           (sym (group_count-parts c.args.parts.now))
@@ -253,7 +253,7 @@ groups_in_some-returns-in_err-groups-2-clause-counted g t c =
           c.part-item.is
           (length (g.S.ConceptSet.items_of c.loop-part.groups) + length (g.S.ConceptSet.items_of c.in_ok-next.next))
           (le_trans reads (times_more all c.loop-part-test.true))
-          (omega (arith, c.execute_groups.ensures.counted.within, c.or.ensures.count)));
+          (omega (arith, c.execute_groups.ensures.counted.within, c.or.ensures.counted.count)));
     }
 
 pub groups_in_some-returns-clause-counted : goal.unit_plans::groups_in_some-returns-clause-counted

@@ -60,30 +60,90 @@ units_within-returns-clause-found g t c =
       floor = omega (arith, c.in_ok-groups-2.ensures.found.floor, c.in_ok-found-2.ensures.found.floor);
     }
 
-pub units_within-units_found-requires-clause-room : goal.plans::units_within-units_found-requires-clause-room
-units_within-units_found-requires-clause-room g t c =
+pub units_within-returns-then-has_few_groups-clause-counted :
+    goal.plans::units_within-returns-then-has_few_groups-clause-counted
+units_within-returns-then-has_few_groups-clause-counted g t c =
     let release = c.args.reader.snapshot.now.release in
     let indexed = c.args.reader.indexes.now in
     let own = g.S.ConceptSet.items_of c.in_ok-own.own in
+    let groups = g.S.ConceptSet.items_of c.in_ok-groups.groups in
     let extent : HaveExtent g.S.ConceptSet.items_of (IsExtentOf indexed)
     (candidates.Within c.in-Within.wanted c.in-Within.extent) =
     subst (HaveExtent g.S.ConceptSet.items_of (IsExtentOf indexed)) c.in-Within.is c.requires.candidates.extent in
-    omega (
+    let fewer = few_of_candidates (length (all_groups release)) own _ groups c.in_ok-groups.ensures.found.items in
+    let room = c.has_few_groups.ensures c.if-has_few_groups.true (length groups)
+    (omega (
       arith,
+      fewer,
+      c.in_ok-own.ensures.few,
+      extent.groups,
+      c.in_ok-groups.ensures.size,
       c.unit_size-most.ensures,
-      c.items_of_groups-items.ensures,
-      c.from.ensures,
-      c.count.ensures,
-      c.has_few_groups.ensures c.if-has_few_groups.true c.from.result
-          (omega (
-            arith,
-            c.from.ensures,
-            c.count.ensures,
-            c.in_ok-own.ensures.few,
-            extent.groups,
-            few_of_candidates (length (all_groups release)) own
-                (λ n. some_group_in release (unit_means release (logical_units_of c.args.units.now))
-                (slice_get (all_groups release) n))
-                (g.S.ConceptSet.items_of c.in_ok-groups.groups) c.in_ok-groups.ensures.found.items,
-          )),
-    )
+      c.unit_size-most.type_inv,
+    )) in
+    record {
+      grows = omega (
+        arith,
+        c.groups_of.ensures.counted.grows,
+        c.group_extent_of.ensures.counted.grows,
+        c.execute_groups.ensures.counted.grows,
+        c.units_found.ensures.counted.grows,
+      );
+      within = omega (
+        arith,
+        c.unit_size-most.ensures,
+        extent.items,
+        extent.groups,
+        c.in_ok-own.ensures.few,
+        c.groups_of.ensures.counted.count,
+        c.group_extent_of.ensures.counted.within,
+        c.execute_groups.ensures.counted.within,
+        c.units_found.ensures.counted.within,
+        c.units_found.new.visits.fits,
+        room,
+      );
+    }
+
+pub units_within-returns-in_err-found-clause-counted :
+    goal.plans::units_within-returns-in_err-found-clause-counted
+units_within-returns-in_err-found-clause-counted g t c =
+    let release = c.args.reader.snapshot.now.release in
+    let indexed = c.args.reader.indexes.now in
+    let own = g.S.ConceptSet.items_of c.in_ok-own.own in
+    let groups = g.S.ConceptSet.items_of c.in_ok-groups.groups in
+    let extent : HaveExtent g.S.ConceptSet.items_of (IsExtentOf indexed)
+    (candidates.Within c.in-Within.wanted c.in-Within.extent) =
+    subst (HaveExtent g.S.ConceptSet.items_of (IsExtentOf indexed)) c.in-Within.is c.requires.candidates.extent in
+    let fewer = few_of_candidates (length (all_groups release)) own _ groups c.in_ok-groups.ensures.found.items in
+    let room = c.has_few_groups.ensures c.if-has_few_groups.true (length groups)
+    (omega (
+      arith,
+      fewer,
+      c.in_ok-own.ensures.few,
+      extent.groups,
+      c.in_ok-groups.ensures.size,
+      c.unit_size-most.ensures,
+      c.unit_size-most.type_inv,
+    )) in
+    record {
+      grows = omega (
+        arith,
+        c.groups_of.ensures.counted.grows,
+        c.group_extent_of.ensures.counted.grows,
+        c.execute_groups.ensures.counted.grows,
+        c.units_found.ensures.counted.grows,
+      );
+      within = omega (
+        arith,
+        c.unit_size-most.ensures,
+        extent.items,
+        extent.groups,
+        c.in_ok-own.ensures.few,
+        c.groups_of.ensures.counted.count,
+        c.group_extent_of.ensures.counted.within,
+        c.execute_groups.ensures.counted.within,
+        c.units_found.ensures.counted.within,
+        c.units_found.new.visits.fits,
+        room,
+      );
+    }

@@ -1,5 +1,5 @@
 -- Answers of the nodes that walk.
-use Rattle.std.proofs.Common.{subst, ℕ, List, ◌*◌, ◌≤◌, ◌∙◌, Bool}
+use Rattle.std.proofs.Common.{subst, ℕ, List, ◌/◌, ◌<◌, ◌≤◌, ◌∙◌, Bool}
 use Rattle.std.proofs.Common.{refl, arith, rules, ◌-◌}
 use Rattle.candidates.specs.declared.candidates.Candidates.{Candidates}
 use Rattle.set_algebra.specs.Plan.{Plan}
@@ -8,12 +8,13 @@ use Rattle.set_algebra.specs.Physical.{physical_of}
 use Rattle.executor.specs.inside.Logical.{logical_of}
 use Rattle.number_lists.specs.Members.{has}
 use Rattle.walks.specs.Led.{led_to}
-use Rattle.walks.specs.Reads.{AreAsked}
+use Rattle.reading.specs.Counted.{full}
+use Rattle.std.specs.Bool.{OnTrue}
+use Rattle.walks.specs.Families.{all_items_of, family_of}
+use Rattle.walks.specs.Reads.{AreAsked, asked_items}
 use Rattle.candidates.specs.Within.{may_be}
-use Rattle.candidates.specs.declared.candidates.Candidates.TheVariants as candidates
 use Rattle.plan_bounds.specs.Sizes.{size}
 use Rattle.executor.proofs.NodeLemmas.{walk_node}
-use Rattle.executor.proofs.NodeWork.{counted_thrice}
 use Rattle.plan_bounds.specs.Counts.{lists_length, one_of}
 use Rattle.executor.proofs.WalkWork.{all_along, not_one, several_bound, several_floor}
 use Rattle.executor.proofs.WithinNodes.{kept_node}
@@ -35,41 +36,110 @@ walk_to_few-returns-clause-found g t c =
           c.args.reader.index.hierarchy c.in_ok-from.ensures.found.bound
           c.in_ok-enough.ensures.enough
           c.in_ok-from.ensures.found.items
-          c.in_ok-found.ensures.found.items;
-      bound = c.in_ok-found.ensures.found.bound ∙ c.in_ok-from.ensures.found.bound;
+          c.in_ok-found.ensures.items;
+      bound = c.in_ok-found.ensures.bound ∙ c.in_ok-from.ensures.found.bound;
       floor = omega (
         arith,
         c.enough_for.ensures.counted.grows,
+        c.extent_of.ensures.counted.grows,
         c.in_ok-from.ensures.found.floor,
         c.led_among.ensures.counted.grows,
         several_floor indexed c.args.operator (one_of (physical_of c.args.operand.now)) c.requires.several,
       );
     }
 
+-- what is enough for the few, how much there is of that, and the few that are asked, are each a third of all lists at the most
 pub walk_to_few-returns-clause-counted : goal.walk_plans::walk_to_few-returns-clause-counted
 walk_to_few-returns-clause-counted g t c =
     let indexed = c.args.reader.indexes.now in
     let plan = physical_of c.args.operand.now in
-    counted_thrice c.enough_for.ensures.counted c.execute_within.ensures.counted c.led_among.ensures.counted
-    (omega (
-      arith,
-      c.requires.room,
-      several_bound indexed c.args.operator (one_of plan) (size indexed plan)
-          c.requires.several,
-    ))
+    record {
+      grows = omega (arith, c.enough_for.ensures.counted.grows, c.extent_of.ensures.counted.grows, c.execute_within.ensures.counted.grows, c.led_among.ensures.counted.grows);
+      within = omega (
+        arith,
+        c.requires.room,
+        c.enough_for.ensures.counted.within,
+        c.in_ok-enough.ensures.few,
+        c.extent_of.ensures.counted.within,
+        c.execute_within.ensures.counted.within,
+        c.led_among.ensures.counted.within,
+        c.led_among.new.visits.fits,
+        several_bound indexed c.args.operator (one_of plan) (size indexed plan) c.requires.several,
+      );
+    }
+
+pub walk_to_few-returns-in_err-found-clause-counted : goal.walk_plans::walk_to_few-returns-in_err-found-clause-counted
+walk_to_few-returns-in_err-found-clause-counted g t c =
+    let indexed = c.args.reader.indexes.now in
+    let plan = physical_of c.args.operand.now in
+    record {
+      grows = omega (arith, c.enough_for.ensures.counted.grows, c.extent_of.ensures.counted.grows, c.execute_within.ensures.counted.grows, c.led_among.ensures.counted.grows);
+      within = omega (
+        arith,
+        c.requires.room,
+        c.enough_for.ensures.counted.within,
+        c.in_ok-enough.ensures.few,
+        c.extent_of.ensures.counted.within,
+        c.execute_within.ensures.counted.within,
+        c.led_among.ensures.counted.within,
+        c.led_among.new.visits.fits,
+        several_bound indexed c.args.operator (one_of plan) (size indexed plan) c.requires.several,
+      );
+    }
+
+pub walk_to_few-returns-in_err-from-clause-counted : goal.walk_plans::walk_to_few-returns-in_err-from-clause-counted
+walk_to_few-returns-in_err-from-clause-counted g t c =
+    let indexed = c.args.reader.indexes.now in
+    let plan = physical_of c.args.operand.now in
+    record {
+      grows = omega (arith, c.enough_for.ensures.counted.grows, c.extent_of.ensures.counted.grows, c.execute_within.ensures.counted.grows);
+      within = omega (
+        arith,
+        c.requires.room,
+        c.enough_for.ensures.counted.within,
+        c.in_ok-enough.ensures.few,
+        c.extent_of.ensures.counted.within,
+        c.execute_within.ensures.counted.within,
+        c.execute_within.new.visits.fits,
+        several_bound indexed c.args.operator (one_of plan) (size indexed plan) c.requires.several,
+      );
+    }
+
+pub walk_to_few-returns-in_err-extent-clause-counted : goal.walk_plans::walk_to_few-returns-in_err-extent-clause-counted
+walk_to_few-returns-in_err-extent-clause-counted g t c =
+    let indexed = c.args.reader.indexes.now in
+    let plan = physical_of c.args.operand.now in
+    record {
+      grows = omega (arith, c.enough_for.ensures.counted.grows, c.extent_of.ensures.counted.grows);
+      within = omega (
+        arith,
+        c.requires.room,
+        c.enough_for.ensures.counted.within,
+        c.in_ok-enough.ensures.few,
+        c.extent_of.ensures.counted.within,
+        c.extent_of.new.visits.fits,
+        several_bound indexed c.args.operator (one_of plan) (size indexed plan) c.requires.several,
+      );
+    }
 
 pub walk_from-walk_to_few-requires : goal.walk_plans::walk_from-walk_to_few-requires
 walk_from-walk_to_few-requires g t c =
+    let indexed = c.args.reader.indexes.now in
+    let some : 0 < c.rows_without-rows.result =
+    subst (λ (enough : Bool). OnTrue enough (0 < c.rows_without-rows.result)) c.if-are_enough.true c.are_enough.ensures.some in
     let several = not_one (one_of (physical_of c.args.operand.now)) c.rows_without-rows.result
-    c.rows_without-rows.ensures c.in-Some.ensures.some in
-    let room : 2 * c.in-Some.items ≤ lists_length c.args.reader.indexes.now c.args.operator =
-    omega (arith, c.in-Some.ensures.all, all_along c.args.reader.indexes.now c.args.operator) in
-    let read : AreAsked g.S.ConceptSet.items_of c.args.reader.indexes.now.hierarchy c.args.operator
-    (candidates.Within c.in-Within.wanted c.in-Within.field-1)
-    c.in-Some.items =
-    subst (λ (candidates : Candidates _). AreAsked g.S.ConceptSet.items_of c.args.reader.indexes.now.hierarchy
-    c.args.operator candidates c.in-Some.items)
-    c.in-Within.is c.in-Some.ensures.told in
+    c.rows_without-rows.ensures some in
+    let third = all_items_of indexed.hierarchy (family_of c.args.operator) / 3 in
+    let asked : AreAsked g.S.ConceptSet.items_of indexed.hierarchy c.args.operator c.args.candidates.now third =
+    subst (λ (enough : Bool). OnTrue enough
+    (AreAsked g.S.ConceptSet.items_of indexed.hierarchy c.args.operator c.args.candidates.now third))
+    c.if-are_enough.true c.are_enough.ensures.room in
+    let read : full (asked_items indexed.hierarchy c.args.operator (g.S.ConceptSet.items_of c.in-Within.wanted.now)) ≤ third =
+    subst (λ (candidates : Candidates _). AreAsked g.S.ConceptSet.items_of indexed.hierarchy c.args.operator candidates third)
+    c.in-Within.is asked in
+    let room : full (asked_items indexed.hierarchy c.args.operator (g.S.ConceptSet.items_of c.in-Within.wanted.now))
+    ≤ lists_length indexed c.args.operator / 3 =
+    omega (arith, read, all_along indexed c.args.operator) in
     search rules
 
 pub walk_from-returns-clause-found : goal.walk_plans::walk_from-returns-clause-found

@@ -1,4 +1,4 @@
-use Rattle.std.proofs.Common.{ℕ, Bool, Vec, ◌≡◌, ◌<◌, ◌∙◌, ◌∷◌, ◌++◌, [], All, sym, ap, subst, true, false, cond, get_or, length, arith, take, append-nil}
+use Rattle.std.proofs.Common.{ℕ, Bool, Vec, ◌≡◌, ◌<◌, ◌∙◌, ◌∷◌, ◌++◌, [], All, List, sym, ap, subst, true, false, cond, get_or, length, arith, take, append-nil}
 use Rattle.std.specs.Prelude.{filter, slice_get}
 use Rattle.std.proofs.lemmas.List.{take_all}
 use Rattle.std.proofs.lemmas.List.Elements.{All-append}
@@ -7,7 +7,10 @@ use Rattle.rf2_rows.specs.Release.{Value}
 use Rattle.constraint_tree.specs.Passing.{lies_in}
 use Rattle.postings.specs.Groups.{groups_in}
 use Rattle.pair_sets.specs.inside.Among.{pairs_among, rows_of_unit}
-use Rattle.pair_sets.proofs.AmongLemmas.{unit_below, unit_told}
+use Rattle.reading.specs.Counted.{CountsWithin}
+use Rattle.reading.proofs.CountLemmas.{counted_all, counted_next, counted_out, counted_some}
+use Rattle.candidates.specs.Extents.{group_row_count}
+use Rattle.pair_sets.proofs.AmongLemmas.{unit_below, unit_count, unit_told}
 use Rattle.pair_sets.proofs.TimesLemmas.{one_below}
 use Rattle.candidates.specs.Numbers.{is_one_of}
 use Rattle.pair_sets.specs.Tested.{passes_of}
@@ -19,7 +22,7 @@ pairs_among-pairs-requires-clause-rows g c =
     let groups = groups_in c.args.reader.indexes.now in
     let group : ℕ = get_or c.args.groups.now c.loop-group.group-index 0 in
     subst (All (λ n. n < length c.args.reader.indexes.now.rows)) (sym
-    (unit_told c.args.reader.indexes.now group c.unit_rows.result.now (c.requires.groups c.loop-group.group-index 0 c.loop-group-test.true) c.unit_rows.ensures))
+    (unit_told c.args.reader.indexes.now group c.unit_rows-rows.result.now (c.requires.groups c.loop-group.group-index 0 c.loop-group-test.true) c.unit_rows-rows.ensures.items))
     (unit_below c.args.reader.indexes.now (slice_get groups group))
 
 pub loop-group-preserved : goal.loop-group-preserved
@@ -30,10 +33,13 @@ loop-group-preserved g c =
     let concepts = c.args.groups.now in
     let k = c.loop-group.group-index in
     let concept : ℕ = get_or concepts k 0 in
-    let rows_are : c.unit_rows.result.now ≡ rows_of_unit indexed (slice_get (groups_in indexed) concept) =
-    unit_told indexed concept c.unit_rows.result.now (c.requires.groups k 0 c.loop-group-test.true) c.unit_rows.ensures in
+    let rows_are : c.unit_rows-rows.result.now ≡ rows_of_unit indexed (slice_get (groups_in indexed) concept) =
+    unit_told indexed concept c.unit_rows-rows.result.now (c.requires.groups k 0 c.loop-group-test.true) c.unit_rows-rows.ensures.items in
     let test : ℕ → Bool =
     λ number. lies_in c.args.count (pairs_among indexed true one passes (rows_of_unit indexed (slice_get (groups_in indexed) number))) in
+    let read : CountsWithin (group_row_count indexed concept) c.loop-group.visits c.unit_rows-rows.new.visits =
+    counted_out c.unit_rows-rows.ensures.counted
+    (omega (arith, ap (λ (rows : List ℕ). length rows) rows_are, unit_count indexed (slice_get (groups_in indexed) concept))) in
     elim c.if-lies_in.branch [
       | then-lies_in+in_ok-push w ↦ record {
         within = subst (All (λ number. number < length (groups_in indexed))) (sym (ap (λ (v : Vec ℕ _). v.items) w.kept-is ∙ w.in_ok-push.ensures.items))
@@ -46,6 +52,7 @@ loop-group-preserved g c =
             ap (λ (v : Vec ℕ _). v.items) w.kept-is ∙ w.in_ok-push.ensures.items
             ∙ (λ i. c.loop-group.invariant.kept i ++ cond (sym here i) (concept ∷ []) [])
             ∙ sym (filter_more test concepts k 0 c.loop-group-test.true);
+        counted = counted_next (group_row_count indexed) concepts k c.loop-group-test.true c.loop-group.invariant.counted read;
       }
       | else-lies_in w ↦ record {
         within = subst (All (λ number. number < length (groups_in indexed))) (sym (ap (λ (v : Vec ℕ _). v.items) w.kept-is)) c.loop-group.invariant.within;
@@ -58,6 +65,7 @@ loop-group-preserved g c =
             ∙ sym (append-nil (filter test (take k concepts)))
             ∙ (λ i. filter test (take k concepts) ++ cond (sym here i) (concept ∷ []) [])
             ∙ sym (filter_more test concepts k 0 c.loop-group-test.true);
+        counted = counted_next (group_row_count indexed) concepts k c.loop-group-test.true c.loop-group.invariant.counted read;
       }
     ]
 
@@ -70,3 +78,19 @@ returns-clause-kept g c =
     ∙ ap (filter (λ number. lies_in c.args.count (pairs_among c.args.reader.indexes.now true one passes
     (rows_of_unit c.args.reader.indexes.now (slice_get (groups_in c.args.reader.indexes.now) number)))))
     (take_all c.loop-group.group-index c.args.groups.now (omega arith))
+
+pub returns-in_err-push-clause-counted : goal.returns-in_err-push-clause-counted
+returns-in_err-push-clause-counted g c =
+    let indexed = c.args.reader.indexes.now in
+    let k = c.loop-group.group-index in
+    let group : ℕ = get_or c.args.groups.now k 0 in
+    let rows_are : c.unit_rows-rows.result.now ≡ rows_of_unit indexed (slice_get (groups_in indexed) group) =
+    unit_told indexed group c.unit_rows-rows.result.now (c.requires.groups k 0 c.loop-group-test.true) c.unit_rows-rows.ensures.items in
+    let read : CountsWithin (group_row_count indexed group) c.loop-group.visits c.unit_rows-rows.new.visits =
+    counted_out c.unit_rows-rows.ensures.counted
+    (omega (arith, ap (λ (rows : List ℕ). length rows) rows_are, unit_count indexed (slice_get (groups_in indexed) group))) in
+    counted_some (group_row_count indexed) c.args.groups.now k c.loop-group-test.true c.loop-group.invariant.counted read
+
+pub returns-clause-counted : goal.returns-clause-counted
+returns-clause-counted g c =
+    counted_all (group_row_count c.args.reader.indexes.now) c.args.groups.now c.loop-group.group-index c.loop-group.invariant.counted

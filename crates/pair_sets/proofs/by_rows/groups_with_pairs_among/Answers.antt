@@ -1,4 +1,9 @@
-use Rattle.std.proofs.Common.{ℕ, Bool, List, ◌<◌, ◌∙◌, All, length, sym, ap, subst}
+use Rattle.std.proofs.Common.{ℕ, Bool, List, ◌<◌, ◌∙◌, All, length, sym, ap, subst, arith}
+use Rattle.std.specs.List.{sum_by}
+use Rattle.number_lists.specs.Rising.{IsRisingBelow}
+use Rattle.reading.proofs.CountLemmas.{counted_both}
+use Rattle.candidates.specs.Extents.{group_row_count}
+use Rattle.pair_sets.proofs.RoomLemmas.{asked_fit, group_rows_few}
 use Rattle.std.proofs.lemmas.Result.{IfOk-weaker}
 use Rattle.number_lists.specs.Members.{has}
 use Rattle.postings.specs.Groups.{ConceptGroup, groups_in}
@@ -55,3 +60,29 @@ returns-clause-bound g c =
     ∙ ap (λ (groups : List ConceptGroup). length groups)
     (groups_are c.args.reader.indexes.now c.args.reader.snapshot.now.release c.args.reader.index c.concept_count.ensures.rising))
     c.from_numbers.ensures.bound
+
+pub returns-in_err-kept-clause-counted : goal.returns-in_err-kept-clause-counted
+returns-in_err-kept-clause-counted g c =
+    let indexed = c.args.reader.indexes.now in
+    let asked = c.in_ok-asked.asked.items in
+    counted_both c.numbers_asked.ensures.counted c.groups_among.ensures.counted
+    (omega (
+      arith,
+      ap (sum_by (group_row_count indexed)) c.as_slice.ensures.value,
+      asked_fit g.S.ConceptSet.items_of indexed (group_row_count indexed) c.args.candidates.now asked c.in_ok-asked.ensures.items
+          (group_rows_few indexed c.concept_count.ensures.numbers_rise asked
+          (subst (λ (bound : ℕ). IsRisingBelow bound asked) c.group_count-group_count.ensures.count c.in_ok-asked.ensures.rising)),
+    ))
+
+pub returns-clause-counted : goal.returns-clause-counted
+returns-clause-counted g c =
+    let indexed = c.args.reader.indexes.now in
+    let asked = c.in_ok-asked.asked.items in
+    counted_both c.numbers_asked.ensures.counted c.groups_among.ensures.counted
+    (omega (
+      arith,
+      ap (sum_by (group_row_count indexed)) c.as_slice.ensures.value,
+      asked_fit g.S.ConceptSet.items_of indexed (group_row_count indexed) c.args.candidates.now asked c.in_ok-asked.ensures.items
+          (group_rows_few indexed c.concept_count.ensures.numbers_rise asked
+          (subst (λ (bound : ℕ). IsRisingBelow bound asked) c.group_count-group_count.ensures.count c.in_ok-asked.ensures.rising)),
+    ))

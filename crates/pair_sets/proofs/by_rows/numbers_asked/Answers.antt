@@ -1,5 +1,6 @@
 use Rattle.std.proofs.Common.{ℕ, List, ◌≡◌, ◌<◌, ◌∙◌, All, true, sym, ap, subst}
 use Rattle.number_lists.specs.Members.{has}
+use Rattle.number_lists.specs.Rising.{IsRisingBelow}
 use Rattle.number_lists.proofs.WhereLemmas.{has-numbers_where, numbers_where-all}
 use Rattle.number_lists.proofs.RisingLemmas.{range_rising, all_below}
 use Rattle.candidates.specs.declared.candidates.Candidates.{Candidates}
@@ -21,6 +22,18 @@ returns-in_ok-numbers-in-Within-clause-within g c =
     let set = c.in-Within.set.now in
     let same : g.S.ConceptSet.bound_of set ≡ c.args.bound =
     subst (λ (candidates : Candidates _). AreBelow g.S.ConceptSet.bound_of c.args.bound candidates) c.in-Within.is c.requires in
-    subst (All (λ number. number < c.args.bound)) (sym c.in_ok-numbers-in-Within.ensures)
+    subst (All (λ number. number < c.args.bound)) (sym c.in_ok-numbers-in-Within.ensures.items)
     (subst (λ (bound : ℕ). All (λ number. number < bound) (g.S.ConceptSet.items_of set)) same
     (all_below (g.S.ConceptSet.bound_of set) (g.S.ConceptSet.items_of set) (g.met.S.ConceptSet.rising set)))
+
+pub returns-in_ok-numbers-in-All-clause-rising : goal.returns-in_ok-numbers-in-All-clause-rising
+returns-in_ok-numbers-in-All-clause-rising g c =
+    subst (IsRisingBelow c.args.bound) (sym c.in_ok-numbers-in-All.ensures) (range_rising c.args.bound)
+
+pub returns-in_ok-numbers-in-Within-clause-rising : goal.returns-in_ok-numbers-in-Within-clause-rising
+returns-in_ok-numbers-in-Within-clause-rising g c =
+    let set = c.in-Within.set.now in
+    let same : g.S.ConceptSet.bound_of set ≡ c.args.bound =
+    subst (λ (candidates : Candidates _). AreBelow g.S.ConceptSet.bound_of c.args.bound candidates) c.in-Within.is c.requires in
+    subst (IsRisingBelow c.args.bound) (sym c.in_ok-numbers-in-Within.ensures.items)
+    (subst (λ (bound : ℕ). IsRisingBelow bound (g.S.ConceptSet.items_of set)) same (g.met.S.ConceptSet.rising set))

@@ -1,4 +1,10 @@
-use Rattle.std.proofs.Common.{ℕ, Bool, List, ◌≡◌, ◌<◌, ◌∙◌, All, length, sym, ap, subst}
+use Rattle.std.proofs.Common.{ℕ, Bool, List, ◌≡◌, ◌<◌, ◌∙◌, All, length, sym, ap, subst, arith}
+use Rattle.std.specs.Prelude.{not}
+use Rattle.std.specs.List.{sum_by}
+use Rattle.number_lists.specs.Rising.{IsRisingBelow}
+use Rattle.reading.proofs.CountLemmas.{counted_both}
+use Rattle.candidates.specs.RowCounts.{row_count_of}
+use Rattle.pair_sets.proofs.RoomLemmas.{asked_fit, rows_few}
 use Rattle.std.proofs.lemmas.Result.{IfOk-weaker}
 use Rattle.number_lists.specs.Members.{has}
 use Rattle.rf2_rows.specs.Release.{Value}
@@ -42,3 +48,33 @@ returns-clause-items g c =
     ∙ c.in_ok-kept.ensures.kept)
     found_is)
     c.from_numbers.ensures.items
+
+pub returns-in_err-kept-clause-counted : goal.returns-in_err-kept-clause-counted
+returns-in_err-kept-clause-counted g c =
+    let indexed = c.args.reader.indexes.now in
+    let asked = c.in_ok-asked.asked.items in
+    let rows : ℕ → ℕ = row_count_of indexed (not c.args.back) in
+    counted_both c.numbers_asked.ensures.counted c.concepts_among.ensures.counted
+    (omega (
+      arith,
+      ap (sum_by rows) c.as_slice.ensures.value,
+      asked_fit g.S.ConceptSet.items_of indexed rows c.args.candidates.now asked c.in_ok-asked.ensures.items
+          (rows_few indexed c.concept_count-concept_count.ensures.numbers_rise asked
+          (subst (λ (bound : ℕ). IsRisingBelow bound asked) c.concept_count-concept_count.ensures.numbers c.in_ok-asked.ensures.rising)
+          (not c.args.back)),
+    ))
+
+pub returns-clause-counted : goal.returns-clause-counted
+returns-clause-counted g c =
+    let indexed = c.args.reader.indexes.now in
+    let asked = c.in_ok-asked.asked.items in
+    let rows : ℕ → ℕ = row_count_of indexed (not c.args.back) in
+    counted_both c.numbers_asked.ensures.counted c.concepts_among.ensures.counted
+    (omega (
+      arith,
+      ap (sum_by rows) c.as_slice.ensures.value,
+      asked_fit g.S.ConceptSet.items_of indexed rows c.args.candidates.now asked c.in_ok-asked.ensures.items
+          (rows_few indexed c.concept_count-concept_count.ensures.numbers_rise asked
+          (subst (λ (bound : ℕ). IsRisingBelow bound asked) c.concept_count-concept_count.ensures.numbers c.in_ok-asked.ensures.rising)
+          (not c.args.back)),
+    ))

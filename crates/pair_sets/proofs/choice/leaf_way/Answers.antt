@@ -8,26 +8,14 @@ use Rattle.pair_sets.proofs.choice.leaf_way.Goals as goal
 pub returns-in-ByValue-2-clause-way : goal.returns-in-ByValue-2-clause-way
 returns-in-ByValue-2-clause-way g c =
     let types = g.S.ConceptSet.items_of c.args.types.now in
-    IfOk-weaker c.by_value.result _ _ (λ made ways. ways (is_one_of c.args.reader.indexes.now.concepts types))
+    IfOk-weaker c.by_value.result _ _ (λ way ways. ways (is_one_of c.args.reader.indexes.now.concepts types))
     c.by_value.ensures.way
-
-pub returns-in-ByValue-2-clause-reads : goal.returns-in-ByValue-2-clause-reads
-returns-in-ByValue-2-clause-reads g c =
-    let types = g.S.ConceptSet.items_of c.args.types.now in
-    IfOk-weaker c.by_value.result _ _ (λ made reads. rw c.extent_for-extent.ensures at (reads types))
-    c.by_value.ensures.reads
 
 pub returns-in-Scan-clause-way : goal.returns-in-Scan-clause-way
 returns-in-Scan-clause-way g c =
     let types = g.S.ConceptSet.items_of c.args.types.now in
-    IfOk-weaker c.by_scan.result _ _ (λ made ways. ways (is_one_of c.args.reader.indexes.now.concepts types))
+    IfOk-weaker c.by_scan.result _ _ (λ way ways. ways (is_one_of c.args.reader.indexes.now.concepts types))
     c.by_scan.ensures.way
-
-pub returns-in-Scan-clause-reads : goal.returns-in-Scan-clause-reads
-returns-in-Scan-clause-reads g c =
-    let types = g.S.ConceptSet.items_of c.args.types.now in
-    IfOk-weaker c.by_scan.result _ _ (λ made reads. rw c.extent_for-extent.ensures at (reads types))
-    c.by_scan.ensures.reads
 
 -- where most values pass there is room for all rows, so for those of the types
 pub by_type-requires-clause-room : goal.by_type-requires-clause-room

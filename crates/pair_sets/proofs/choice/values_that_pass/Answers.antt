@@ -10,6 +10,6 @@ rows_of_values-rows-requires g c =
     let set = c.in-Within.set in
     let same : g.S.ConceptSet.bound_of set ≡ count =
     subst (λ (tested : Tested _). IsTestBelow g.S.ConceptSet.bound_of count tested) c.in-Within.is c.requires in
-    subst (All (λ number. number < count)) (sym (c.as_slice.ensures.value ∙ c.in_ok-numbers-in-Within.ensures))
+    subst (All (λ number. number < count)) (sym (c.as_slice.ensures.value ∙ c.in_ok-numbers-in-Within.ensures.items))
     (subst (λ (bound : ℕ). All (λ number. number < bound) (g.S.ConceptSet.items_of set)) same
     (all_below (g.S.ConceptSet.bound_of set) (g.S.ConceptSet.items_of set) (g.met.S.ConceptSet.rising set)))

@@ -1,4 +1,6 @@
 use Rattle.std.proofs.Common.{ℕ, Bool, ◌<◌, ◌∙◌, All, List, [], sym, subst, arith}
+use Rattle.postings.specs.Stats.{type_row_count}
+use Rattle.reading.proofs.CountLemmas.{counted_all, counted_next, counted_none, counted_out, counted_some}
 use Rattle.std.proofs.lemmas.List.{take_all}
 use Rattle.postings.specs.Entries.{entries_with_type}
 use Rattle.rf2_rows.specs.Release.{Value}
@@ -18,6 +20,7 @@ loop-id-init g c = record {
       subst (AreHits (owner_count c.args.owner indexed) (counts_for_owner c.args.owner indexed (λ row. passes row.value)) [])
       (sym c.in_ok-hits.ensures.items)
       (no_hits (owner_count c.args.owner indexed) (counts_for_owner c.args.owner indexed (λ row. passes row.value)));
+  counted = counted_none;
 }
 
 pub push_passing-requires-clause-long : goal.push_passing-requires-clause-long
@@ -25,8 +28,8 @@ push_passing-requires-clause-long g c =
     let indexed = c.args.reader.indexes.now in
     let columns = c.type_columns-columns in
     let owners = c.owners_in-owners in
-    owners_long c.args.owner indexed _ owners.result.now (owners.ensures indexed _ columns.ensures.sources columns.ensures.groups)
-    ∙ sym (values_long indexed _ columns.result.values.now columns.ensures.values)
+    owners_long c.args.owner indexed _ owners.result.now (owners.ensures indexed _ columns.ensures.columns.sources columns.ensures.columns.groups)
+    ∙ sym (values_long indexed _ columns.result.values.now columns.ensures.columns.values)
 
 pub loop-id-preserved : goal.loop-id-preserved
 loop-id-preserved g c =
@@ -34,7 +37,7 @@ loop-id-preserved g c =
     let passes : Value → Bool = passes_of g.S.ConceptSet.items_of indexed.concepts c.args.tested.now in
     let columns = c.type_columns-columns in
     let owners = c.owners_in-owners in
-    let are = owners.ensures indexed _ columns.ensures.sources columns.ensures.groups in
+    let are = owners.ensures indexed _ columns.ensures.columns.sources columns.ensures.columns.groups in
     record {
       within = pushed_below (owner_count c.args.owner indexed) c.loop-id.hits.items c.push_passing.new.hits.items _
           c.in_ok-push_passing.ensures c.loop-id.invariant.within
@@ -44,9 +47,11 @@ loop-id-preserved g c =
           (owner_count c.args.owner indexed) (counts_for_owner c.args.owner indexed (λ row. passes row.value))
           c.loop-id.hits.items c.push_passing.new.hits.items _ c.in_ok-push_passing.ensures c.loop-id.invariant.hits
           (owned_hits (λ row. passes row.value) (λ n. passes (value_of indexed n)) _ owners.result.now columns.result.values.now
-          (values_long indexed _ columns.result.values.now columns.ensures.values)
-          (values_told indexed _ columns.result.values.now columns.ensures.values passes)
+          (values_long indexed _ columns.result.values.now columns.ensures.columns.values)
+          (values_told indexed _ columns.result.values.now columns.ensures.columns.values passes)
           c.args.owner indexed c.concept_count.ensures.numbers_rise are);
+      counted = counted_next (type_row_count c.args.reader.indexes.now) c.args.ids.now c.loop-id.id-index c.loop-id-test.true
+          c.loop-id.invariant.counted (counted_out c.type_columns-columns.ensures.counted (omega arith));
     }
 
 pub returns-clause-within : goal.returns-clause-within
@@ -59,3 +64,12 @@ returns-clause-hits g c =
     subst (λ (ids : List ℕ). AreHits (owner_count c.args.owner indexed) (counts_for_owner c.args.owner indexed (λ row. passes row.value))
     (entries_with_types indexed.rows ids) c.loop-id.hits.items)
     (take_all c.loop-id.id-index c.args.ids.now (omega arith)) c.loop-id.invariant.hits
+
+pub returns-in_err-push_passing-clause-counted : goal.returns-in_err-push_passing-clause-counted
+returns-in_err-push_passing-clause-counted g c =
+    counted_some (type_row_count c.args.reader.indexes.now) c.args.ids.now c.loop-id.id-index c.loop-id-test.true
+    c.loop-id.invariant.counted (counted_out c.type_columns-columns.ensures.counted (omega arith))
+
+pub returns-clause-counted : goal.returns-clause-counted
+returns-clause-counted g c =
+    counted_all (type_row_count c.args.reader.indexes.now) c.args.ids.now c.loop-id.id-index c.loop-id.invariant.counted

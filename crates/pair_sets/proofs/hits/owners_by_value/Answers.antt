@@ -1,4 +1,7 @@
 use Rattle.std.proofs.Common.{ℕ, Bool, ◌<◌, ◌∙◌, All, List, [], sym, subst, arith}
+use Rattle.std.specs.Prelude.{false}
+use Rattle.candidates.specs.RowCounts.{row_count_of}
+use Rattle.reading.proofs.CountLemmas.{counted_all, counted_next, counted_none, counted_out, counted_some}
 use Rattle.std.specs.Prelude.{slice_index}
 use Rattle.std.proofs.lemmas.List.{take_all}
 use Rattle.postings.specs.Entries.{entries_with_value}
@@ -19,6 +22,7 @@ loop-value-init g c = record {
       subst (AreHits (owner_count c.args.owner indexed) (counts_for_owner c.args.owner indexed (λ row. one row.type_id)) [])
       (sym c.new-hits.ensures.items)
       (no_hits (owner_count c.args.owner indexed) (counts_for_owner c.args.owner indexed (λ row. one row.type_id)));
+  counted = counted_none;
 }
 
 pub push_typed-requires-clause-long : goal.push_typed-requires-clause-long
@@ -26,8 +30,8 @@ push_typed-requires-clause-long g c =
     let indexed = c.args.reader.indexes.now in
     let columns = c.value_columns-columns in
     let owners = c.owners_in-owners in
-    owners_long c.args.owner indexed _ owners.result.now (owners.ensures indexed _ columns.ensures.sources columns.ensures.groups)
-    ∙ sym (types_long indexed _ columns.result.types.now columns.ensures.types)
+    owners_long c.args.owner indexed _ owners.result.now (owners.ensures indexed _ columns.ensures.columns.sources columns.ensures.columns.groups)
+    ∙ sym (types_long indexed _ columns.result.types.now columns.ensures.columns.types)
 
 pub loop-value-preserved : goal.loop-value-preserved
 loop-value-preserved g c =
@@ -36,7 +40,7 @@ loop-value-preserved g c =
     let one : ℕ → Bool = is_one_of indexed.concepts items in
     let columns = c.value_columns-columns in
     let owners = c.owners_in-owners in
-    let are = owners.ensures indexed _ columns.ensures.sources columns.ensures.groups in
+    let are = owners.ensures indexed _ columns.ensures.columns.sources columns.ensures.columns.groups in
     record {
       within = pushed_below (owner_count c.args.owner indexed) c.loop-value.hits.items c.push_typed.new.hits.items _
           c.in_ok-push_typed.ensures c.loop-value.invariant.within
@@ -47,10 +51,12 @@ loop-value-preserved g c =
           (owner_count c.args.owner indexed) (counts_for_owner c.args.owner indexed (λ row. one row.type_id))
           c.loop-value.hits.items c.push_typed.new.hits.items _ c.in_ok-push_typed.ensures c.loop-value.invariant.hits
           (owned_hits (λ row. one row.type_id) (is_type_in indexed items) _ owners.result.now columns.result.types.now
-          (types_long indexed _ columns.result.types.now columns.ensures.types)
-          (types_told indexed _ columns.result.types.now columns.ensures.types one (is_type_in indexed items)
+          (types_long indexed _ columns.result.types.now columns.ensures.columns.types)
+          (types_told indexed _ columns.result.types.now columns.ensures.columns.types one (is_type_in indexed items)
           (type_tells indexed items))
           c.args.owner indexed c.concept_count.ensures.numbers_rise are);
+      counted = counted_next (row_count_of c.args.reader.indexes.now false) c.args.values.now c.loop-value.value-index c.loop-value-test.true
+          c.loop-value.invariant.counted (counted_out c.value_columns-columns.ensures.counted (omega arith));
     }
 
 pub returns-clause-within : goal.returns-clause-within
@@ -63,3 +69,12 @@ returns-clause-hits g c =
     subst (λ (values : List ℕ). AreHits (owner_count c.args.owner indexed) (counts_for_owner c.args.owner indexed (λ row. one row.type_id))
     (entries_with_values indexed values) c.loop-value.hits.items)
     (take_all c.loop-value.value-index c.args.values.now (omega arith)) c.loop-value.invariant.hits
+
+pub returns-in_err-push_typed-clause-counted : goal.returns-in_err-push_typed-clause-counted
+returns-in_err-push_typed-clause-counted g c =
+    counted_some (row_count_of c.args.reader.indexes.now false) c.args.values.now c.loop-value.value-index c.loop-value-test.true
+    c.loop-value.invariant.counted (counted_out c.value_columns-columns.ensures.counted (omega arith))
+
+pub returns-clause-counted : goal.returns-clause-counted
+returns-clause-counted g c =
+    counted_all (row_count_of c.args.reader.indexes.now false) c.args.values.now c.loop-value.value-index c.loop-value.invariant.counted

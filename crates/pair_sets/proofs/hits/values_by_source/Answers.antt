@@ -1,4 +1,7 @@
 use Rattle.std.proofs.Common.{ℕ, Bool, List, ◌<◌, ◌+◌, ◌==◌, ◌∙◌, All, [], length, get_or, sym, ap, subst, arith}
+use Rattle.std.specs.Prelude.{true}
+use Rattle.candidates.specs.RowCounts.{row_count_of}
+use Rattle.reading.proofs.CountLemmas.{counted_all, counted_next, counted_none, counted_out, counted_some}
 use Rattle.std.specs.Prelude.{count_by, slice_get, slice_index}
 use Rattle.std.proofs.lemmas.List.{take_all}
 use Rattle.rf2_rows.specs.Release.{Attribute}
@@ -20,11 +23,12 @@ loop-source-init g c = record {
       subst (AreHits (length c.args.reader.indexes.now.concepts) (counts_for_value c.args.reader.indexes.now.concepts (λ row. one row.type_id)) [])
       (sym c.new-hits.ensures.items)
       (no_hits (length c.args.reader.indexes.now.concepts) (counts_for_value c.args.reader.indexes.now.concepts (λ row. one row.type_id)));
+  counted = counted_none;
 }
 
 pub push_values-requires-clause-rows : goal.push_values-requires-clause-rows
 push_values-requires-clause-rows g c =
-    subst (All (λ n. n < length c.args.reader.indexes.now.rows)) (sym c.rows_of.ensures)
+    subst (All (λ n. n < length c.args.reader.indexes.now.rows)) (sym c.rows_of-rows.ensures.items)
     (places_where-within (λ (row : Attribute). row.source == get_or c.args.reader.indexes.now.concepts
     (get_or c.args.sources.now c.loop-source.source-index 0) 0) c.args.reader.indexes.now.rows)
 
@@ -45,9 +49,11 @@ loop-source-preserved g c =
           c.in_ok-push_values.ensures.times number inside
           ∙ ap (λ (rows : List ℕ). times number c.loop-source.hits.items
           + count_by (λ n. at_entry (counts_for_value indexed.concepts (λ row. one row.type_id) number) (slice_get (entries_of indexed.rows) n)) rows)
-          c.rows_of.ensures
+          c.rows_of-rows.ensures.items
           ∙ ap (λ (more : ℕ). times number c.loop-source.hits.items + more) (source_counted indexed one source number))
           c.loop-source.invariant.hits;
+      counted = counted_next (row_count_of c.args.reader.indexes.now true) c.args.sources.now c.loop-source.source-index c.loop-source-test.true
+          c.loop-source.invariant.counted (counted_out c.rows_of-rows.ensures.counted (omega arith));
     }
 
 pub returns-clause-within : goal.returns-clause-within
@@ -59,3 +65,12 @@ returns-clause-hits g c =
     subst (λ (sources : List ℕ). AreHits (length c.args.reader.indexes.now.concepts) (counts_for_value c.args.reader.indexes.now.concepts (λ row. one row.type_id))
     (entries_with_sources c.args.reader.indexes.now sources) c.loop-source.hits.items)
     (take_all c.loop-source.source-index c.args.sources.now (omega arith)) c.loop-source.invariant.hits
+
+pub returns-in_err-push_values-clause-counted : goal.returns-in_err-push_values-clause-counted
+returns-in_err-push_values-clause-counted g c =
+    counted_some (row_count_of c.args.reader.indexes.now true) c.args.sources.now c.loop-source.source-index c.loop-source-test.true
+    c.loop-source.invariant.counted (counted_out c.rows_of-rows.ensures.counted (omega arith))
+
+pub returns-clause-counted : goal.returns-clause-counted
+returns-clause-counted g c =
+    counted_all (row_count_of c.args.reader.indexes.now true) c.args.sources.now c.loop-source.source-index c.loop-source.invariant.counted

@@ -1,4 +1,8 @@
 use Rattle.std.proofs.Common.{◌<◌, All, length, take}
+use Rattle.std.specs.List.{sum_by}
+use Rattle.reading.specs.Counted.{CountsWithin}
+use Rattle.std.specs.Prelude.{true}
+use Rattle.candidates.specs.RowCounts.{row_count_of}
 use Rattle.pair_sets.specs.inside.Hits.{AreHits, counts_for_value, entries_with_sources}
 use Rattle.candidates.specs.Numbers.{is_one_of}
 use Rattle.pair_sets.proofs.hits.values_by_source.Given as goal
@@ -10,4 +14,5 @@ invariant-loop-source g l = record {
   hits : AreHits (length l.reader.indexes.now.concepts)
       (counts_for_value l.reader.indexes.now.concepts (λ row. is_one_of l.reader.indexes.now.concepts (g.S.ConceptSet.items_of l.types) row.type_id))
       (entries_with_sources l.reader.indexes.now (take l.source-index l.sources)) l.hits.items;
+  counted : CountsWithin (sum_by (row_count_of l.reader.indexes.now true) (take l.source-index l.sources)) l.initial.visits l.visits;
 }

@@ -1,4 +1,6 @@
 use Rattle.std.proofs.Common.{ℕ, Bool, refl, ◌<◌, ◌∙◌, All, List, [], length, sym, subst, arith}
+use Rattle.postings.specs.Stats.{type_row_count}
+use Rattle.reading.proofs.CountLemmas.{counted_all, counted_next, counted_none, counted_out, counted_some}
 use Rattle.std.proofs.lemmas.List.{take_all}
 use Rattle.postings.specs.Entries.{entries_with_type}
 use Rattle.rf2_rows.specs.Release.{concept_value}
@@ -17,14 +19,15 @@ loop-id-init g c = record {
       subst (AreHits (length c.args.reader.indexes.now.concepts) (counts_for_value c.args.reader.indexes.now.concepts (λ row. passes (concept_value row.source))) [])
       (sym c.in_ok-hits.ensures.items)
       (no_hits (length c.args.reader.indexes.now.concepts) (counts_for_value c.args.reader.indexes.now.concepts (λ row. passes (concept_value row.source))));
+  counted = counted_none;
 }
 
 pub push_cells-requires-clause-long : goal.push_cells-requires-clause-long
 push_cells-requires-clause-long g c =
     let indexed = c.args.reader.indexes.now in
     let columns = c.type_columns-columns in
-    sources_long indexed.concepts _ columns.result.sources.now columns.ensures.sources
-    ∙ sym (values_long indexed _ columns.result.values.now columns.ensures.values)
+    sources_long indexed.concepts _ columns.result.sources.now columns.ensures.columns.sources
+    ∙ sym (values_long indexed _ columns.result.values.now columns.ensures.columns.values)
 
 pub loop-id-preserved : goal.loop-id-preserved
 loop-id-preserved g c = record {
@@ -39,7 +42,9 @@ loop-id-preserved g c = record {
       (length indexed.concepts) (counts_for_value indexed.concepts (λ row. passes (concept_value row.source)))
       c.loop-id.hits.items c.push_cells.new.hits.items _ c.in_ok-push_cells.ensures c.loop-id.invariant.hits
       (backward_hits indexed passes c.concept_count.ensures.numbers_rise _ columns.result.sources.now
-      columns.result.values.now columns.ensures.values columns.ensures.sources (length indexed.concepts) refl);
+      columns.result.values.now columns.ensures.columns.values columns.ensures.columns.sources (length indexed.concepts) refl);
+  counted = counted_next (type_row_count c.args.reader.indexes.now) c.args.ids.now c.loop-id.id-index c.loop-id-test.true
+      c.loop-id.invariant.counted (counted_out c.type_columns-columns.ensures.counted (omega arith));
 }
 
 pub returns-clause-within : goal.returns-clause-within
@@ -52,3 +57,12 @@ returns-clause-hits g c =
     (counts_for_value c.args.reader.indexes.now.concepts (λ row. passes (concept_value row.source)))
     (entries_with_types c.args.reader.indexes.now.rows ids) c.loop-id.hits.items)
     (take_all c.loop-id.id-index c.args.ids.now (omega arith)) c.loop-id.invariant.hits
+
+pub returns-in_err-push_cells-clause-counted : goal.returns-in_err-push_cells-clause-counted
+returns-in_err-push_cells-clause-counted g c =
+    counted_some (type_row_count c.args.reader.indexes.now) c.args.ids.now c.loop-id.id-index c.loop-id-test.true
+    c.loop-id.invariant.counted (counted_out c.type_columns-columns.ensures.counted (omega arith))
+
+pub returns-clause-counted : goal.returns-clause-counted
+returns-clause-counted g c =
+    counted_all (type_row_count c.args.reader.indexes.now) c.args.ids.now c.loop-id.id-index c.loop-id.invariant.counted

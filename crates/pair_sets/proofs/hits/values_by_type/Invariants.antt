@@ -1,4 +1,7 @@
 use Rattle.std.proofs.Common.{◌<◌, All, length, take}
+use Rattle.std.specs.List.{sum_by}
+use Rattle.reading.specs.Counted.{CountsWithin}
+use Rattle.postings.specs.Stats.{type_row_count}
 use Rattle.rf2_rows.specs.Release.{concept_value}
 use Rattle.pair_sets.specs.inside.Hits.{AreHits, counts_for_value, entries_with_types}
 use Rattle.pair_sets.specs.Tested.{passes_of}
@@ -12,4 +15,5 @@ invariant-loop-id g l = record {
       (counts_for_value l.reader.indexes.now.concepts (λ row. passes_of g.S.ConceptSet.items_of l.reader.indexes.now.concepts l.tested
       (concept_value row.source)))
       (entries_with_types l.reader.indexes.now.rows (take l.id-index l.ids)) l.hits.items;
+  counted : CountsWithin (sum_by (type_row_count l.reader.indexes.now) (take l.id-index l.ids)) l.initial.visits l.visits;
 }

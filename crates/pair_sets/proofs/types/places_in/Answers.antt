@@ -9,14 +9,14 @@ pub places_of_concepts-requires : goal.places_of_concepts-requires
 places_of_concepts-requires g c = record {
   below =
       let items = g.S.ConceptSet.items_of c.args.set.now in
-      subst (All (λ concept. concept < length c.args.reader.indexes.now.concepts)) (sym (c.as_slice.ensures.value ∙ c.in_ok-concepts.ensures))
+      subst (All (λ concept. concept < length c.args.reader.indexes.now.concepts)) (sym (c.as_slice.ensures.value ∙ c.in_ok-concepts.ensures.items))
       (subst (λ (count : ℕ). All (λ concept. concept < count) items) c.requires.bound
       (all_below (g.S.ConceptSet.bound_of c.args.set.now) items (g.met.S.ConceptSet.rising c.args.set.now)));
 }
 
-pub returns-in_ok-concepts : goal.returns-in_ok-concepts
-returns-in_ok-concepts g c =
+pub returns-in_ok-concepts-clause-places : goal.returns-in_ok-concepts-clause-places
+returns-in_ok-concepts-clause-places g c =
     IfOk-weaker c.places_of_concepts.result _ _
     (λ places are. subst (λ (concepts : List ℕ). ArePlacesOf c.args.reader.indexes.now concepts places.items)
-    (c.as_slice.ensures.value ∙ c.in_ok-concepts.ensures) are)
+    (c.as_slice.ensures.value ∙ c.in_ok-concepts.ensures.items) are)
     c.places_of_concepts.ensures

@@ -5,16 +5,15 @@ use Rattle.number_lists.specs.Members.{has}
 use Rattle.number_lists.specs.Rising.{numbers_where}
 use Rattle.number_lists.proofs.WhereLemmas.{has-numbers_where}
 use Rattle.number_lists.proofs.RisingLemmas.{numbers_where-rising, all_below}
-use Rattle.postings.proofs.IndexLemmas.{few_types}
 use Rattle.candidates.specs.Numbers.{is_one_of}
 use Rattle.pair_sets.proofs.ChoiceLemmas.{place_more}
 use Rattle.pair_sets.proofs.types.places_of_types.Goals as goal
 use Rattle.pair_sets.proofs.types.places_of_types.Goals.{then-is_in+in_ok-push, else-is_in}
 
--- rows have few types
+-- 32 bits hold the place
 pub overflow_cast-place : goal.overflow_cast-place
 overflow_cast-place g c =
-    omega (arith, c.loop-place-test.true, c.row_count.ensures.few, few_types c.args.reader.indexes.now.rows, ap (λ (ids : List ℕ). length ids) c.types-types.ensures)
+    omega (arith, c.loop-place-test.true, c.type_count.ensures.few, ap (λ (ids : List ℕ). length ids) c.types-types.ensures.items)
 
 pub loop-place-preserved : goal.loop-place-preserved
 loop-place-preserved g c =
@@ -33,19 +32,19 @@ loop-place-preserved g c =
           ∙ place_more test types k c.loop-place-test.true false (asked ∙ w.if-is_in.false) c.loop-place.places.items c.loop-place.invariant
     ]
 
-pub returns : goal.returns
-returns g c =
+pub returns-clause-places : goal.returns-clause-places
+returns-clause-places g c =
     let types = c.types-types.result.now in
     let test : ℕ → Bool = is_one_of c.args.reader.indexes.now.concepts (g.S.ConceptSet.items_of c.args.set.now) in
     let at : ℕ → Bool = λ place. test (get_or types place 0) in
     let long : c.loop-place.place ≡ length types = omega arith in
     record {
-      within = subst (λ (all : List ℕ). All (λ place. place < length all) c.loop-place.places.items) c.types-types.ensures
+      within = subst (λ (all : List ℕ). All (λ place. place < length all) c.loop-place.places.items) c.types-types.ensures.items
           (subst (All (λ place. place < length types)) (sym c.loop-place.invariant)
           (subst (λ (count : ℕ). All (λ place. place < count) (numbers_where c.loop-place.place at)) long
           (all_below c.loop-place.place (numbers_where c.loop-place.place at) (numbers_where-rising c.loop-place.place at))));
       told = λ place within.
           ap (λ (places : List ℕ). has places place) c.loop-place.invariant
-          ∙ has-numbers_where c.loop-place.place at place (omega (arith, within, long, ap (λ (ids : List ℕ). length ids) c.types-types.ensures))
-          ∙ ap (λ (ids : List ℕ). test (get_or ids place 0)) c.types-types.ensures;
+          ∙ has-numbers_where c.loop-place.place at place (omega (arith, within, long, ap (λ (ids : List ℕ). length ids) c.types-types.ensures.items))
+          ∙ ap (λ (ids : List ℕ). test (get_or ids place 0)) c.types-types.ensures.items;
     }

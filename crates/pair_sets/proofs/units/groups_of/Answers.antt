@@ -7,13 +7,14 @@ use Rattle.postings.specs.Groups.{ConceptGroup, groups_in}
 use Rattle.number_lists.proofs.RisingLemmas.{all_below}
 use Rattle.candidates.proofs.GroupLemmas.{groups_are}
 use Rattle.candidates.specs.Extents.{group_count_of}
-use Rattle.pair_sets.proofs.OwnedLemmas.{listed_few, owned}
+use Rattle.candidates.proofs.SumLemmas.{listed_few}
+use Rattle.pair_sets.proofs.OwnedLemmas.{owned}
 use Rattle.pair_sets.proofs.units.groups_of.Goals as goal
 
 pub numbers_of_groups-requires : goal.numbers_of_groups-requires
 numbers_of_groups-requires g c =
     let items = g.S.ConceptSet.items_of c.args.concepts.now in
-    subst (All (λ number. number < length c.args.reader.indexes.now.concepts)) (sym (c.as_slice.ensures.value ∙ c.in_ok-own.ensures))
+    subst (All (λ number. number < length c.args.reader.indexes.now.concepts)) (sym (c.as_slice.ensures.value ∙ c.in_ok-own.ensures.items))
     (subst (λ (bound : ℕ). All (λ number. number < bound) items)
     (c.requires.bound ∙ ap (λ (ids : List ℕ). length ids) (sym c.args.reader.index.concepts))
     (all_below (g.S.ConceptSet.bound_of c.args.concepts.now) items (g.met.S.ConceptSet.rising c.args.concepts.now)))
@@ -25,7 +26,7 @@ returns-clause-groups g c =
     owned c.args.reader.indexes.now c.args.reader.snapshot.now.release c.args.reader.index c.concept_count.ensures.rising
     (g.S.ConceptSet.items_of c.args.concepts.now) c.in_ok-numbers.numbers.items
     (λ concept group is_item. c.in_ok-numbers.ensures.all concept group
-    (ap (λ (xs : List ℕ). has xs concept) (c.as_slice.ensures.value ∙ c.in_ok-own.ensures) ∙ is_item))
+    (ap (λ (xs : List ℕ). has xs concept) (c.as_slice.ensures.value ∙ c.in_ok-own.ensures.items) ∙ is_item))
     (g.S.ConceptSet.items_of groups)
     (listed
     ∙ ap (λ (bound : ℕ). numbers_where bound (has c.as_slice-2.result.now)) c.group_count.ensures.count
@@ -51,6 +52,6 @@ returns-clause-few g c =
       listed_few c.group_count.result c.as_slice-2.result.now,
       ap (λ (xs : List ℕ). length xs) c.as_slice-2.ensures.value,
       c.in_ok-numbers.ensures.few,
-      ap (sum_by (group_count_of c.args.reader.indexes.now)) (c.as_slice.ensures.value ∙ c.in_ok-own.ensures),
+      ap (sum_by (group_count_of c.args.reader.indexes.now)) (c.as_slice.ensures.value ∙ c.in_ok-own.ensures.items),
     ))
     c.from_numbers.ensures.items

@@ -10,7 +10,7 @@ use Rattle.pair_sets.proofs.units.with_groups.Goals as goal
 pub concepts_of-requires : goal.concepts_of-requires
 concepts_of-requires g c =
     let groups = g.S.ConceptSet.items_of c.args.groups.now in
-    subst (All (λ group. group < length (groups_in c.args.reader.indexes.now))) (sym (c.as_slice.ensures.value ∙ c.in_ok-numbers.ensures))
+    subst (All (λ group. group < length (groups_in c.args.reader.indexes.now))) (sym (c.as_slice.ensures.value ∙ c.in_ok-numbers.ensures.items))
     (subst (λ (bound : ℕ). All (λ group. group < bound) groups)
     (c.requires.bound ∙ ap (λ (all : List ConceptGroup). length all)
     (sym (groups_are c.args.reader.indexes.now c.args.reader.snapshot.now.release c.args.reader.index c.concept_count-concept_count.ensures.rising)))
@@ -38,6 +38,6 @@ returns-clause-items g c =
     ((λ i. map (λ concept. get_or (sym c.args.reader.index.concepts i) concept 0) (c.as_slice-2.ensures.value i))
     ∙ c.in_ok-concepts.ensures.concepts
     ∙ (λ i. map (λ k. concept_in (slice_get (groups_are indexed release c.args.reader.index rising i) k))
-    ((c.as_slice.ensures.value ∙ c.in_ok-numbers.ensures) i)))
+    ((c.as_slice.ensures.value ∙ c.in_ok-numbers.ensures.items) i)))
     often)
     c.as_often.ensures.items

@@ -10,17 +10,17 @@ use Rattle.walks.proofs.led.is_kept_apart.Goals as goal
 pub list-requires : goal.list-requires
 list-requires g c = omega (arith, c.requires.below, over_length (g.S.ConceptSet.bound_of c.args.operand.now) c.args.reader.indexes.now.hierarchy c.requires.over c.args.family)
 
-pub returns-then-has : goal.returns-then-has
-returns-then-has g c =
+pub returns-then-has-clause-led : goal.returns-then-has-clause-led
+returns-then-has-clause-led g c =
     let items = g.S.ConceptSet.items_of c.args.operand.now in
     let own : has items c.args.concept ≡ true = sym c.has.ensures ∙ c.if-has.true in
-    ap not (c.meets.ensures ∙ ap (list_any (has items)) c.list.ensures)
+    ap not (c.meets.ensures ∙ ap (list_any (has items)) c.list.ensures.items)
     ∙ sym (λ i. own i && not (list_any (has items) (list_of (lists_of c.args.reader.indexes.now.hierarchy c.args.family) c.args.concept)))
     ∙ asked_apart (g.S.ConceptSet.bound_of c.args.operand.now) c.args.reader.indexes.now.hierarchy c.requires.over items (g.met.S.ConceptSet.rising c.args.operand.now)
     c.args.family c.args.concept c.requires.below
 
-pub returns-else-has : goal.returns-else-has
-returns-else-has g c =
+pub returns-else-has-clause-led : goal.returns-else-has-clause-led
+returns-else-has-clause-led g c =
     let items = g.S.ConceptSet.items_of c.args.operand.now in
     let own : has items c.args.concept ≡ false = sym c.has.ensures ∙ c.if-has.false in
     c.if-has.false

@@ -10,11 +10,11 @@ use Rattle.walks.proofs.led.is_listed.Goals as goal
 pub list-requires : goal.list-requires
 list-requires g c = omega (arith, c.requires.below, over_length (g.S.ConceptSet.bound_of c.args.operand.now) c.args.reader.indexes.now.hierarchy c.requires.over c.back.result)
 
-pub returns : goal.returns
-returns g c =
+pub returns-clause-led : goal.returns-clause-led
+returns-clause-led g c =
     let items = g.S.ConceptSet.items_of c.args.operand.now in
     c.meets.ensures
-    ∙ (λ i. list_any (has items) (c.list.ensures i))
+    ∙ (λ i. list_any (has items) (c.list.ensures.items i))
     ∙ (λ i. list_any (has items) (list_of (lists_of c.args.reader.indexes.now.hierarchy (c.back.ensures i)) c.args.concept))
     ∙ asked_back (g.S.ConceptSet.bound_of c.args.operand.now) c.args.reader.indexes.now.hierarchy c.requires.over items
     (g.met.S.ConceptSet.rising c.args.operand.now) c.args.family c.args.concept c.requires.below

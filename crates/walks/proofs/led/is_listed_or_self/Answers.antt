@@ -5,8 +5,8 @@ use Rattle.walks.specs.Families.{lists_of}
 use Rattle.walks.proofs.LedLemmas.{asked_or_self}
 use Rattle.walks.proofs.led.is_listed_or_self.Goals as goal
 
-pub returns-then-has : goal.returns-then-has
-returns-then-has g c =
+pub returns-then-has-clause-led : goal.returns-then-has-clause-led
+returns-then-has-clause-led g c =
     let count = g.S.ConceptSet.bound_of c.args.operand.now in
     let items = g.S.ConceptSet.items_of c.args.operand.now in
     let own : has items c.args.concept ≡ true = sym c.has.ensures ∙ c.if-has.true in
@@ -14,11 +14,11 @@ returns-then-has g c =
     ∙ sym (λ i. own i || has (joined count (lists_of c.args.reader.indexes.now.hierarchy c.args.family) items) c.args.concept)
     ∙ asked_or_self count c.args.reader.indexes.now.hierarchy c.requires.over items (g.met.S.ConceptSet.rising c.args.operand.now) c.args.family c.args.concept c.requires.below
 
-pub returns-else-has : goal.returns-else-has
-returns-else-has g c =
+pub returns-else-has-clause-led : goal.returns-else-has-clause-led
+returns-else-has-clause-led g c =
     let count = g.S.ConceptSet.bound_of c.args.operand.now in
     let items = g.S.ConceptSet.items_of c.args.operand.now in
     let own : has items c.args.concept ≡ false = sym c.has.ensures ∙ c.if-has.false in
-    c.is_listed.ensures
+    c.is_listed.ensures.led
     ∙ sym (λ i. own i || has (joined count (lists_of c.args.reader.indexes.now.hierarchy c.args.family) items) c.args.concept)
     ∙ asked_or_self count c.args.reader.indexes.now.hierarchy c.requires.over items (g.met.S.ConceptSet.rising c.args.operand.now) c.args.family c.args.concept c.requires.below

@@ -1,9 +1,11 @@
-use Rattle.std.proofs.Common.{ℕ, Vec, Bool, true, false, ◌∙◌, sym, ap, append-nil, arith}
+use Rattle.std.proofs.Common.{ℕ, Vec, Bool, true, false, length, ◌∙◌, sym, ap, append-nil, arith}
 use Rattle.std.specs.Prelude.{filter}
 use Rattle.std.proofs.lemmas.List.{take_all}
 use Rattle.number_lists.specs.Members.{has}
 use Rattle.idset.proofs.Places.{filter_step}
-use Rattle.walks.specs.inside.Steps.{stepped}
+use Rattle.number_lists.specs.KeyedLists.{list_of}
+use Rattle.reading.proofs.CountLemmas.{counted_all, counted_next, counted_some}
+use Rattle.walks.specs.inside.Steps.{asked_of, stepped}
 use Rattle.walks.specs.Families.{lists_of}
 use Rattle.walks.proofs.led.those_led_to.Goals as goal
 use Rattle.walks.proofs.led.those_led_to.Goals.{then-is_led_to+in_ok-push, else-is_led_to}
@@ -17,21 +19,36 @@ loop-concept-preserved g c =
     has (stepped (lists_of c.args.reader.indexes.now.hierarchy c.args.step.family) (g.S.ConceptSet.bound_of c.args.operand.now)
     c.args.step.reach (g.S.ConceptSet.items_of c.args.operand.now)) in
     let k = c.loop-concept.concept-index in
-    elim c.if-is_led_to.branch [
-      | then-is_led_to+in_ok-push w ↦
-          filter_step test c.args.concepts.now c.loop-concept.kept.items c.if-is_led_to.kept.items k true
-          c.loop-concept-test.true c.loop-concept.invariant (sym w.if-is_led_to.true ∙ c.is_led_to.ensures)
-          (ap (λ (kept : Vec ℕ _). kept.items) w.kept-is ∙ w.in_ok-push.ensures.items)
-      | else-is_led_to w ↦
-          filter_step test c.args.concepts.now c.loop-concept.kept.items c.if-is_led_to.kept.items k false
-          c.loop-concept-test.true c.loop-concept.invariant (sym w.if-is_led_to.false ∙ c.is_led_to.ensures)
-          (ap (λ (kept : Vec ℕ _). kept.items) w.kept-is ∙ sym (append-nil c.loop-concept.kept.items))
-    ]
+    record {
+      kept = elim c.if-is_led_to.branch [
+        | then-is_led_to+in_ok-push w ↦
+            filter_step test c.args.concepts.now c.loop-concept.kept.items c.if-is_led_to.kept.items k true
+            c.loop-concept-test.true c.loop-concept.invariant.kept (sym w.if-is_led_to.true ∙ c.is_led_to.ensures.led)
+            (ap (λ (kept : Vec ℕ _). kept.items) w.kept-is ∙ w.in_ok-push.ensures.items)
+        | else-is_led_to w ↦
+            filter_step test c.args.concepts.now c.loop-concept.kept.items c.if-is_led_to.kept.items k false
+            c.loop-concept-test.true c.loop-concept.invariant.kept (sym w.if-is_led_to.false ∙ c.is_led_to.ensures.led)
+            (ap (λ (kept : Vec ℕ _). kept.items) w.kept-is ∙ sym (append-nil c.loop-concept.kept.items))
+      ];
+      counted = counted_next (λ concept. length (list_of (lists_of c.args.reader.indexes.now.hierarchy (asked_of c.args.step)) concept))
+          c.args.concepts.now k c.loop-concept-test.true c.loop-concept.invariant.counted c.is_led_to.ensures.counted;
+    }
 
-pub returns : goal.returns
-returns g c =
+pub returns-in_err-push-clause-counted : goal.returns-in_err-push-clause-counted
+returns-in_err-push-clause-counted g c =
+    counted_some (λ concept. length (list_of (lists_of c.args.reader.indexes.now.hierarchy (asked_of c.args.step)) concept))
+    c.args.concepts.now c.loop-concept.concept-index c.loop-concept-test.true c.loop-concept.invariant.counted
+    c.is_led_to.ensures.counted
+
+pub returns-clause-counted : goal.returns-clause-counted
+returns-clause-counted g c =
+    counted_all (λ concept. length (list_of (lists_of c.args.reader.indexes.now.hierarchy (asked_of c.args.step)) concept))
+    c.args.concepts.now c.loop-concept.concept-index c.loop-concept.invariant.counted
+
+pub returns-clause-items : goal.returns-clause-items
+returns-clause-items g c =
     let test : ℕ → Bool =
     has (stepped (lists_of c.args.reader.indexes.now.hierarchy c.args.step.family) (g.S.ConceptSet.bound_of c.args.operand.now)
     c.args.step.reach (g.S.ConceptSet.items_of c.args.operand.now)) in
-    c.loop-concept.invariant
+    c.loop-concept.invariant.kept
     ∙ ap (filter test) (take_all c.loop-concept.concept-index c.args.concepts.now (omega arith))

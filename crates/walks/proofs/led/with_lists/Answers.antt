@@ -5,6 +5,7 @@ use Rattle.std.proofs.lemmas.List.{take_all, take_more}
 use Rattle.number_lists.specs.KeyedLists.{list_of}
 use Rattle.walks.specs.Families.{lists_of}
 use Rattle.walks.proofs.JoinedLemmas.{over_length}
+use Rattle.reading.proofs.CountLemmas.{counted_all, counted_next, counted_out, counted_some}
 use Rattle.walks.proofs.led.with_lists.Goals as goal
 
 -- the next concept comes behind what the earlier ones have, and its list behind it
@@ -32,11 +33,33 @@ list-requires c =
 
 pub loop-concept-preserved : goal.loop-concept-preserved
 loop-concept-preserved c =
-    with_lists_more (lists_of c.args.reader.indexes.now.hierarchy c.args.family) c.args.concepts.now c.loop-concept.concept-index
-    c.loop-concept-test.true c.loop-concept.invariant c.in_ok-push.ensures.items c.list.ensures (search rules)
+    let lists = lists_of c.args.reader.indexes.now.hierarchy c.args.family in
+    let k = c.loop-concept.concept-index in
+    record {
+      numbers = with_lists_more lists c.args.concepts.now k c.loop-concept-test.true c.loop-concept.invariant.numbers
+          c.in_ok-push.ensures.items c.list.ensures.items c.in_ok-extend_from_slice.ensures.items;
+      counted = counted_next (λ concept. length (list_of lists concept)) c.args.concepts.now k c.loop-concept-test.true
+          c.loop-concept.invariant.counted (counted_out c.list.ensures.counted (omega arith));
+    }
 
-pub returns : goal.returns
-returns c =
-    c.loop-concept.invariant
+pub returns-in_err-push-clause-counted : goal.returns-in_err-push-clause-counted
+returns-in_err-push-clause-counted c =
+    counted_all (λ concept. length (list_of (lists_of c.args.reader.indexes.now.hierarchy c.args.family) concept))
+    c.args.concepts.now c.loop-concept.concept-index c.loop-concept.invariant.counted
+
+pub returns-in_err-extend_from_slice-clause-counted : goal.returns-in_err-extend_from_slice-clause-counted
+returns-in_err-extend_from_slice-clause-counted c =
+    counted_some (λ concept. length (list_of (lists_of c.args.reader.indexes.now.hierarchy c.args.family) concept))
+    c.args.concepts.now c.loop-concept.concept-index c.loop-concept-test.true c.loop-concept.invariant.counted
+    (counted_out c.list.ensures.counted (omega arith))
+
+pub returns-clause-counted : goal.returns-clause-counted
+returns-clause-counted c =
+    counted_all (λ concept. length (list_of (lists_of c.args.reader.indexes.now.hierarchy c.args.family) concept))
+    c.args.concepts.now c.loop-concept.concept-index c.loop-concept.invariant.counted
+
+pub returns-clause-items : goal.returns-clause-items
+returns-clause-items c =
+    c.loop-concept.invariant.numbers
     ∙ ap (flat_map (λ concept. concept ∷ list_of (lists_of c.args.reader.indexes.now.hierarchy c.args.family) concept))
     (take_all c.loop-concept.concept-index c.args.concepts.now (omega arith))

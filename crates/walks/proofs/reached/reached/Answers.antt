@@ -9,7 +9,7 @@ use Rattle.walks.specs.inside.Joined.{AreJoined, near_of, turn_of}
 use Rattle.walks.specs.Families.{lists_of}
 use Rattle.walks.specs.declared.family.Family.{Family}
 use Rattle.number_lists.proofs.RisingLemmas.{all_below}
-use Rattle.walks.proofs.ReachedLemmas.{IsPassed, all_among, near_rises, near_there, passed_all, passed_first, passed_on, passed_over, turn_within}
+use Rattle.walks.proofs.ReachedLemmas.{IsPassed, all_among, near_rises, near_there, pass_counted, passed_all, passed_first, passed_on, passed_over, turn_within}
 use Rattle.walks.proofs.reached.reached.Goals as goal
 use Rattle.walks.proofs.reached.reached.Goals.{then-is_in_first_alone+in_ok-add_all, else-is_in_first_alone}
 
@@ -28,16 +28,15 @@ bounds-order-place_of_turn g c =
 
 pub loop-turn-init : goal.loop-turn-init
 loop-turn-init g c = record {
-  passed = passed_first c.args.reader.snapshot.now.release c.isa_rows.result.now c.parents_first-order.result.now
-      c.concept_count.ensures.rising c.isa_rows.ensures.within
-      c.isa_rows.ensures.rows (c.parents_first-order.ensures c.isa_rows.result.now c.isa_rows.ensures.rows c.isa_rows.ensures.within)
+  passed = passed_first c.args.reader.snapshot.now.release c.parents_first-order.ensures.order.rows c.parents_first-order.result.now
+      c.concept_count.ensures.rising c.parents_first-order.ensures.order.within
+      c.parents_first-order.ensures.order.rows_are c.parents_first-order.ensures.order.first
       (g.S.ConceptSet.bound_of c.args.set.now) c.args.reader.indexes.now.hierarchy c.requires.over.hierarchy_is c.requires.over.count_is c.args.family c.requires.whole
       (g.S.ConceptSet.items_of c.args.set.now) (g.met.S.ConceptSet.rising c.args.set.now)
       (numbers_where c.in_ok-found.found.bound (is_set c.in_ok-found.found.words.items))
       (subst (λ (own : List ℕ). AreJoined (lists_of c.args.reader.indexes.now.hierarchy (near_of c.args.family)) own
       (numbers_where c.in_ok-found.found.bound (is_set c.in_ok-found.found.words.items))) c.requires.concepts
-      (subst (λ (near : Family). AreJoined (lists_of c.args.reader.indexes.now.hierarchy near) c.args.concepts.now
-      (numbers_where c.in_ok-found.found.bound (is_set c.in_ok-found.found.words.items))) c.near-near.ensures c.in_ok-found.ensures.joined));
+      c.in_ok-found.ensures.joined);
   bound = c.in_ok-found.ensures.bound ∙ c.bound.ensures;
 }
 
@@ -49,26 +48,26 @@ near_of_all-requires-clause-below g c =
     (subst (λ (concepts : List ℕ). All (λ concept. concept < count) concepts) (sym c.requires.concepts)
     (all_below count items (g.met.S.ConceptSet.rising c.args.set.now)))
 
-pub list-requires : goal.list-requires
-list-requires g c =
+pub of-requires : goal.of-requires
+of-requires g c =
     let order = c.parents_first-order.result.now in
-    subst (λ (f : Family). get_or order c.place_of_turn.result 0 < length (lists_of c.args.reader.indexes.now.hierarchy f)) (sym c.near-near.ensures)
+    subst (λ (lists : List (List ℕ)). get_or order c.place_of_turn.result 0 < length lists) (sym c.near_lists-near.ensures.lists)
     (subst (λ (place : ℕ). get_or order place 0 < length (lists_of c.args.reader.indexes.now.hierarchy (near_of c.args.family))) (sym c.place_of_turn.ensures)
-    (near_there c.args.reader.snapshot.now.release c.isa_rows.result.now order c.concept_count.ensures.rising c.isa_rows.ensures.within
-    c.isa_rows.ensures.rows (c.parents_first-order.ensures c.isa_rows.result.now c.isa_rows.ensures.rows c.isa_rows.ensures.within)
+    (near_there c.args.reader.snapshot.now.release c.parents_first-order.ensures.order.rows order c.concept_count.ensures.rising c.parents_first-order.ensures.order.within
+    c.parents_first-order.ensures.order.rows_are c.parents_first-order.ensures.order.first
     (g.S.ConceptSet.bound_of c.args.set.now) c.args.reader.indexes.now.hierarchy c.requires.over.hierarchy_is c.requires.over.count_is c.args.family c.requires.whole
     (g.S.ConceptSet.items_of c.args.set.now) (g.met.S.ConceptSet.rising c.args.set.now) c.loop-turn.turn c.loop-turn-test.true))
 
 pub add_all-requires : goal.add_all-requires
 add_all-requires g c =
     let order = c.parents_first-order.result.now in
-    let listed : c.list.result.now ≡ list_of (lists_of c.args.reader.indexes.now.hierarchy (near_of c.args.family))
+    let listed : c.of.result.now ≡ list_of (lists_of c.args.reader.indexes.now.hierarchy (near_of c.args.family))
     (get_or order (turn_of c.args.family (length order) c.loop-turn.turn) 0) =
-    c.list.ensures ∙ (λ i. list_of (lists_of c.args.reader.indexes.now.hierarchy (c.near-near.ensures i)) (get_or order (c.place_of_turn.ensures i) 0)) in
-    subst (λ (bound : ℕ). IsRisingBelow bound c.list.result.now) (sym c.loop-turn.invariant.bound)
+    c.of.ensures ∙ (λ i. list_of (c.near_lists-near.ensures.lists i) (get_or order (c.place_of_turn.ensures i) 0)) in
+    subst (λ (bound : ℕ). IsRisingBelow bound c.of.result.now) (sym c.loop-turn.invariant.bound)
     (subst (λ (list : List ℕ). IsRisingBelow (g.S.ConceptSet.bound_of c.args.set.now) list) (sym listed)
-    (near_rises c.args.reader.snapshot.now.release c.isa_rows.result.now order c.concept_count.ensures.rising c.isa_rows.ensures.within
-    c.isa_rows.ensures.rows (c.parents_first-order.ensures c.isa_rows.result.now c.isa_rows.ensures.rows c.isa_rows.ensures.within)
+    (near_rises c.args.reader.snapshot.now.release c.parents_first-order.ensures.order.rows order c.concept_count.ensures.rising c.parents_first-order.ensures.order.within
+    c.parents_first-order.ensures.order.rows_are c.parents_first-order.ensures.order.first
     (g.S.ConceptSet.bound_of c.args.set.now) c.args.reader.indexes.now.hierarchy c.requires.over.hierarchy_is c.requires.over.count_is c.args.family c.requires.whole
     (g.S.ConceptSet.items_of c.args.set.now) (g.met.S.ConceptSet.rising c.args.set.now) c.loop-turn.turn c.loop-turn-test.true))
 
@@ -90,14 +89,14 @@ loop-turn-preserved g c =
             subst (IsPassed (lists_of c.args.reader.indexes.now.hierarchy f) (lists_of c.args.reader.indexes.now.hierarchy (near_of f))
             (λ turn. get_or order (turn_of f (length order) turn) 0) (turn + 1) items)
             (sym (ap (λ (set : _). numbers_where set.bound (is_set set.words.items)) w.found-is))
-            (passed_on c.args.reader.snapshot.now.release c.isa_rows.result.now order c.concept_count.ensures.rising c.isa_rows.ensures.within
-            c.isa_rows.ensures.rows (c.parents_first-order.ensures c.isa_rows.result.now c.isa_rows.ensures.rows c.isa_rows.ensures.within)
+            (passed_on c.args.reader.snapshot.now.release c.parents_first-order.ensures.order.rows order c.concept_count.ensures.rising c.parents_first-order.ensures.order.within
+            c.parents_first-order.ensures.order.rows_are c.parents_first-order.ensures.order.first
             count c.args.reader.indexes.now.hierarchy c.requires.over.hierarchy_is c.requires.over.count_is f c.requires.whole items
             (g.met.S.ConceptSet.rising c.args.set.now) turn found
-            w.list.result.now (numbers_where w.add_all.new.self.bound (is_set w.add_all.new.self.words.items)) c.loop-turn-test.true
+            w.of.result.now (numbers_where w.add_all.new.self.bound (is_set w.add_all.new.self.words.items)) c.loop-turn-test.true
             (subst (λ (bound : ℕ). IsRisingBelow bound found) c.loop-turn.invariant.bound c.loop-turn.found.rising)
-            (w.list.ensures ∙ (λ i. list_of (lists_of c.args.reader.indexes.now.hierarchy (c.near-near.ensures i)) (get_or order (c.place_of_turn.ensures i) 0)))
-            (w.in_ok-add_all.ensures.items ∙ (λ i. all_items (c.loop-turn.invariant.bound i) found w.list.result.now))
+            (w.of.ensures ∙ (λ i. list_of (c.near_lists-near.ensures.lists i) (get_or order (c.place_of_turn.ensures i) 0)))
+            (w.in_ok-add_all.ensures.items ∙ (λ i. all_items (c.loop-turn.invariant.bound i) found w.of.result.now))
             (asked ∙ w.if-is_in_first_alone.true) c.loop-turn.invariant.passed);
         bound = ap (λ (set : _). set.bound) w.found-is ∙ w.in_ok-add_all.ensures.bound ∙ c.loop-turn.invariant.bound;
       }
@@ -106,8 +105,8 @@ loop-turn-preserved g c =
             subst (IsPassed (lists_of c.args.reader.indexes.now.hierarchy f) (lists_of c.args.reader.indexes.now.hierarchy (near_of f))
             (λ turn. get_or order (turn_of f (length order) turn) 0) (turn + 1) items)
             (sym (ap (λ (set : _). numbers_where set.bound (is_set set.words.items)) w.found-is))
-            (passed_over c.args.reader.snapshot.now.release c.isa_rows.result.now order c.concept_count.ensures.rising c.isa_rows.ensures.within
-            c.isa_rows.ensures.rows (c.parents_first-order.ensures c.isa_rows.result.now c.isa_rows.ensures.rows c.isa_rows.ensures.within)
+            (passed_over c.args.reader.snapshot.now.release c.parents_first-order.ensures.order.rows order c.concept_count.ensures.rising c.parents_first-order.ensures.order.within
+            c.parents_first-order.ensures.order.rows_are c.parents_first-order.ensures.order.first
             count c.args.reader.indexes.now.hierarchy c.requires.over.hierarchy_is c.requires.over.count_is f c.requires.whole items
             (g.met.S.ConceptSet.rising c.args.set.now) turn found
             (asked ∙ w.if-is_in_first_alone.false) c.loop-turn.invariant.passed);
@@ -119,18 +118,48 @@ pub returns-then-closed-clause-joined : goal.returns-then-closed-clause-joined
 returns-then-closed-clause-joined g c =
     let items = g.S.ConceptSet.items_of c.args.set.now in
     let found : List ℕ = numbers_where c.in_ok-found.found.bound (is_set c.in_ok-found.found.words.items) in
-    all_among c.args.reader.snapshot.now.release c.isa_rows.result.now c.parents_first-order.result.now c.concept_count.ensures.rising c.isa_rows.ensures.within
-    c.isa_rows.ensures.rows (c.parents_first-order.ensures c.isa_rows.result.now c.isa_rows.ensures.rows c.isa_rows.ensures.within)
+    all_among c.args.reader.snapshot.now.release c.parents_first-order.ensures.order.rows c.parents_first-order.result.now c.concept_count.ensures.rising c.parents_first-order.ensures.order.within
+    c.parents_first-order.ensures.order.rows_are c.parents_first-order.ensures.order.first
     (g.S.ConceptSet.bound_of c.args.set.now) c.args.reader.indexes.now.hierarchy c.requires.over.hierarchy_is c.requires.over.count_is c.args.family c.requires.whole
     items (g.met.S.ConceptSet.rising c.args.set.now) found
     (subst (λ (own : List ℕ). AreJoined (lists_of c.args.reader.indexes.now.hierarchy (near_of c.args.family)) own found) c.requires.concepts
-    (subst (λ (near : Family). AreJoined (lists_of c.args.reader.indexes.now.hierarchy near) c.args.concepts.now found) c.near-near.ensures c.in_ok-found.ensures.joined))
+    c.in_ok-found.ensures.joined)
     (sym c.in_ok-closed.ensures ∙ c.if-closed.true)
 
 pub returns-clause-joined : goal.returns-clause-joined
 returns-clause-joined g c =
-    passed_all c.args.reader.snapshot.now.release c.isa_rows.result.now c.parents_first-order.result.now c.concept_count.ensures.rising c.isa_rows.ensures.within
-    c.isa_rows.ensures.rows (c.parents_first-order.ensures c.isa_rows.result.now c.isa_rows.ensures.rows c.isa_rows.ensures.within)
+    passed_all c.args.reader.snapshot.now.release c.parents_first-order.ensures.order.rows c.parents_first-order.result.now c.concept_count.ensures.rising c.parents_first-order.ensures.order.within
+    c.parents_first-order.ensures.order.rows_are c.parents_first-order.ensures.order.first
     (g.S.ConceptSet.bound_of c.args.set.now) c.args.reader.indexes.now.hierarchy c.requires.over.hierarchy_is c.requires.over.count_is c.args.family c.requires.whole
     (g.S.ConceptSet.items_of c.args.set.now) (g.met.S.ConceptSet.rising c.args.set.now)
     c.loop-turn.turn (numbers_where c.loop-turn.found.bound (is_set c.loop-turn.found.words.items)) (omega arith) c.loop-turn.invariant.passed
+
+pub returns-in_err-found-clause-counted : goal.returns-in_err-found-clause-counted
+returns-in_err-found-clause-counted g c =
+    pass_counted c.args.reader.snapshot.now.release c.args.reader.indexes.now.hierarchy (g.S.ConceptSet.bound_of c.args.set.now)
+    c.parents_first-order.result.now c.requires.over.count_is c.parents_first-order.ensures.order
+    c.near_lists-near.ensures.counted c.parents_first-order.ensures.counted
+
+pub returns-in_err-closed-clause-counted : goal.returns-in_err-closed-clause-counted
+returns-in_err-closed-clause-counted g c =
+    pass_counted c.args.reader.snapshot.now.release c.args.reader.indexes.now.hierarchy (g.S.ConceptSet.bound_of c.args.set.now)
+    c.parents_first-order.result.now c.requires.over.count_is c.parents_first-order.ensures.order
+    c.near_lists-near.ensures.counted c.parents_first-order.ensures.counted
+
+pub returns-then-closed-clause-counted : goal.returns-then-closed-clause-counted
+returns-then-closed-clause-counted g c =
+    pass_counted c.args.reader.snapshot.now.release c.args.reader.indexes.now.hierarchy (g.S.ConceptSet.bound_of c.args.set.now)
+    c.parents_first-order.result.now c.requires.over.count_is c.parents_first-order.ensures.order
+    c.near_lists-near.ensures.counted c.parents_first-order.ensures.counted
+
+pub returns-in_err-add_all-clause-counted : goal.returns-in_err-add_all-clause-counted
+returns-in_err-add_all-clause-counted g c =
+    pass_counted c.args.reader.snapshot.now.release c.args.reader.indexes.now.hierarchy (g.S.ConceptSet.bound_of c.args.set.now)
+    c.parents_first-order.result.now c.requires.over.count_is c.parents_first-order.ensures.order
+    c.near_lists-near.ensures.counted c.parents_first-order.ensures.counted
+
+pub returns-clause-counted : goal.returns-clause-counted
+returns-clause-counted g c =
+    pass_counted c.args.reader.snapshot.now.release c.args.reader.indexes.now.hierarchy (g.S.ConceptSet.bound_of c.args.set.now)
+    c.parents_first-order.result.now c.requires.over.count_is c.parents_first-order.ensures.order
+    c.near_lists-near.ensures.counted c.parents_first-order.ensures.counted

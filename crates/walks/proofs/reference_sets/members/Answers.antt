@@ -15,7 +15,7 @@ from_numbers-requires g c =
     let below : All (λ refset. refset < length release.concepts) refsets =
     subst (λ (ids : List ℕ). All (λ refset. refset < length ids) refsets) c.args.reader.index.concepts c.requires.below in
     let found_are : c.as_slice.result.now ≡ flat_map (list_of (members_of release)) refsets =
-    c.as_slice.ensures.value ∙ c.in_ok-found.ensures
+    c.as_slice.ensures.value ∙ c.in_ok-found.ensures.items
     ∙ ap (λ (lists : List (List ℕ)). flat_map (list_of lists) refsets) c.args.reader.index.members in
     subst (λ (count : ℕ). All (λ number. number < count) c.as_slice.result.now) (sym c.concept_count.ensures.count)
     (subst (All (λ number. number < length release.concepts)) (sym found_are)
@@ -28,7 +28,7 @@ returns-clause-items g c =
     let below : All (λ refset. refset < length release.concepts) refsets =
     subst (λ (ids : List ℕ). All (λ refset. refset < length ids) refsets) c.args.reader.index.concepts c.requires.below in
     let found_are : c.as_slice.result.now ≡ flat_map (list_of (members_of release)) refsets =
-    c.as_slice.ensures.value ∙ c.in_ok-found.ensures
+    c.as_slice.ensures.value ∙ c.in_ok-found.ensures.items
     ∙ ap (λ (lists : List (List ℕ)). flat_map (list_of lists) refsets) c.args.reader.index.members in
     IfOk-weaker c.from_numbers.result _ _
     (λ found listed.

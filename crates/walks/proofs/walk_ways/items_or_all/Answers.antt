@@ -10,14 +10,24 @@ pub returns-then-concepts-gt-MANY-clause-read : goal.returns-then-concepts-gt-MA
 returns-then-concepts-gt-MANY-clause-read c =
     omega (
       arith,
-      c.items_of_all_lists.ensures,
+      c.items_of_all_lists-all.ensures,
       set_items c.args.count c.args.reader.indexes.now.hierarchy c.requires.over c.args.family c.args.concepts.now c.requires.rising,
     )
 
-pub returns-else-concepts-gt-MANY-clause-within : goal.returns-else-concepts-gt-MANY-clause-within
-returns-else-concepts-gt-MANY-clause-within c =
+pub returns-clause-within : goal.returns-clause-within
+returns-clause-within c =
     omega (
       arith,
       c.items_of_lists.ensures.few,
       items_of_set c.args.count c.args.reader.indexes.now.hierarchy c.requires.over c.args.family c.args.concepts.now c.requires.rising,
+    )
+
+pub returns-clause-read : goal.returns-clause-read
+returns-clause-read c =
+    omega (
+      arith,
+      c.items_of_lists.ensures.all (omega (arith, c.items_of_lists.type_inv)),
+      c.items_of_all_lists-all.ensures,
+      c.items_of_all_lists-all.type_inv,
+      set_items c.args.count c.args.reader.indexes.now.hierarchy c.requires.over c.args.family c.args.concepts.now c.requires.rising,
     )

@@ -4,13 +4,8 @@ use Rattle.number_lists.specs.Rising.{IsRisingBelow}
 use Rattle.idset.specs.Words.{AreWordsBelow}
 use Rattle.number_lists.specs.KeyedLists.{list_of}
 use Rattle.walks.specs.Families.{lists_of}
-use Rattle.walks.proofs.JoinedLemmas.{join_list, join_skipped, over_length, over_rising, words_list}
+use Rattle.walks.proofs.JoinedLemmas.{join_list, over_length, over_rising, words_list}
 use Rattle.walks.proofs.walks.add_list.Goals as goal
-
-pub returns-then-has-clause-joined : goal.returns-then-has-clause-joined
-returns-then-has-clause-joined g c = λ before joined.
-    join_skipped (g.S.ConceptSet.bound_of c.args.found.now) c.args.reader.indexes.now.hierarchy c.requires.over c.args.family (sym c.if-is_whole.ensures) before
-    (g.S.ConceptSet.items_of c.args.found.now) c.args.concept c.requires.below (sym c.if-has.ensures) joined
 
 pub words-requires : goal.words-requires
 words-requires g c = omega (arith, c.requires.below, over_length (g.S.ConceptSet.bound_of c.args.found.now) c.args.reader.indexes.now.hierarchy c.requires.over c.args.family)
@@ -25,7 +20,7 @@ list-requires g c = omega (arith, c.requires.below, over_length (g.S.ConceptSet.
 
 pub add_all-requires : goal.add_all-requires
 add_all-requires g c =
-    subst (λ (list : List ℕ). IsRisingBelow (g.S.ConceptSet.bound_of c.args.found.now) list) (sym c.list.ensures)
+    subst (λ (list : List ℕ). IsRisingBelow (g.S.ConceptSet.bound_of c.args.found.now) list) (sym c.list.ensures.items)
     (over_rising (g.S.ConceptSet.bound_of c.args.found.now) c.args.reader.indexes.now.hierarchy c.requires.over c.args.family c.args.concept c.requires.below)
 
 pub returns-in_ok-both-in-Some-clause-joined : goal.returns-in_ok-both-in-Some-clause-joined
@@ -49,5 +44,5 @@ returns-in-None-clause-joined g c = on_ok_weaker c.add_all.result
     let lists = lists_of c.args.reader.indexes.now.hierarchy c.args.family in
     let rises = over_rising count c.args.reader.indexes.now.hierarchy c.requires.over c.args.family c.args.concept c.requires.below in
     join_list lists before (g.S.ConceptSet.items_of c.args.found.now) c.list.result.now (g.S.ConceptSet.items_of c.add_all.new.self) count c.args.concept
-    (g.met.S.ConceptSet.rising c.args.found.now) (subst (λ (list : List ℕ). IsRisingBelow count list) (sym c.list.ensures) rises) c.list.ensures added joined)
+    (g.met.S.ConceptSet.rising c.args.found.now) (subst (λ (list : List ℕ). IsRisingBelow count list) (sym c.list.ensures.items) rises) c.list.ensures.items added joined)
     c.add_all.ensures.items

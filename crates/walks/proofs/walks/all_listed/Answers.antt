@@ -1,11 +1,15 @@
-use Rattle.std.proofs.Common.{ℕ, List, true, ◌∙◌, [], All, ◌<◌, sym, ap, subst}
+use Rattle.std.proofs.Common.{ℕ, List, true, ◌∙◌, [], All, ◌<◌, sym, ap, subst, arith}
 use Rattle.number_lists.specs.Members.{has}
 use Rattle.number_lists.specs.Rising.{numbers_where}
 use Rattle.idset.specs.Words.{is_set}
 use Rattle.walks.specs.inside.Joined.{AreJoined, with_length}
 use Rattle.walks.specs.Families.{lists_of}
 use Rattle.number_lists.proofs.RisingLemmas.{all_below}
+use Rattle.number_lists.specs.Rising.{IsRisingBelow}
+use Rattle.reading.proofs.CountLemmas.{counted_both, counted_in}
+use Rattle.walks.specs.Led.{IsOver}
 use Rattle.walks.proofs.JoinedLemmas.{both_joined}
+use Rattle.walks.proofs.ReadLemmas.{parts_within}
 use Rattle.walks.proofs.walks.all_listed.Goals as goal
 
 pub returns-clause-joined : goal.returns-clause-joined
@@ -39,3 +43,40 @@ has_more_items-requires-clause-below g c =
     subst (λ (count : ℕ). All (λ concept. concept < count) c.args.concepts.now) (sym c.bound-count.ensures)
     (subst (All (λ concept. concept < g.S.ConceptSet.bound_of c.args.operand.now)) (sym c.requires.concepts)
     (all_below (g.S.ConceptSet.bound_of c.args.operand.now) (g.S.ConceptSet.items_of c.args.operand.now) (g.met.S.ConceptSet.rising c.args.operand.now)))
+
+-- the long lists alone, and then the others
+pub returns-in_err-long-clause-counted : goal.returns-in_err-long-clause-counted
+returns-in_err-long-clause-counted g c =
+    let count = g.S.ConceptSet.bound_of c.args.operand.now in
+    let over : IsOver count c.args.reader.indexes.now.hierarchy = record {
+      release = c.args.reader.snapshot.now.release;
+      hierarchy_is = c.requires.over.hierarchy_is;
+      count_is = c.requires.over.count_is;
+    } in
+    let parts = parts_within count c.args.reader.indexes.now.hierarchy over c.args.family c.args.concepts.now
+    (subst (IsRisingBelow count) (sym c.requires.concepts) (g.met.S.ConceptSet.rising c.args.operand.now)) in
+    counted_in c.add_lists.ensures.counted (omega (arith, parts))
+
+pub returns-in_err-short-clause-counted : goal.returns-in_err-short-clause-counted
+returns-in_err-short-clause-counted g c =
+    let count = g.S.ConceptSet.bound_of c.args.operand.now in
+    let over : IsOver count c.args.reader.indexes.now.hierarchy = record {
+      release = c.args.reader.snapshot.now.release;
+      hierarchy_is = c.requires.over.hierarchy_is;
+      count_is = c.requires.over.count_is;
+    } in
+    counted_both c.add_lists.ensures.counted c.add_lists-2.ensures.counted
+    (parts_within count c.args.reader.indexes.now.hierarchy over c.args.family c.args.concepts.now
+    (subst (IsRisingBelow count) (sym c.requires.concepts) (g.met.S.ConceptSet.rising c.args.operand.now)))
+
+pub returns-clause-counted : goal.returns-clause-counted
+returns-clause-counted g c =
+    let count = g.S.ConceptSet.bound_of c.args.operand.now in
+    let over : IsOver count c.args.reader.indexes.now.hierarchy = record {
+      release = c.args.reader.snapshot.now.release;
+      hierarchy_is = c.requires.over.hierarchy_is;
+      count_is = c.requires.over.count_is;
+    } in
+    counted_both c.add_lists.ensures.counted c.add_lists-2.ensures.counted
+    (parts_within count c.args.reader.indexes.now.hierarchy over c.args.family c.args.concepts.now
+    (subst (IsRisingBelow count) (sym c.requires.concepts) (g.met.S.ConceptSet.rising c.args.operand.now)))

@@ -19,7 +19,7 @@ from_items-requires g c =
     let test : ℕ → Bool = λ concept. not (list_any (has (g.S.ConceptSet.items_of c.args.operand.now))
     (list_of (lists_of c.args.reader.indexes.now.hierarchy c.args.family) concept)) in
     let kept : c.as_slice.result.now ≡ filter test (g.S.ConceptSet.items_of c.args.operand.now) =
-    c.as_slice.ensures.value ∙ c.in_ok-kept.ensures ∙ ap (filter test) c.requires.concepts in
+    c.as_slice.ensures.value ∙ c.in_ok-kept.ensures.kept ∙ ap (filter test) c.requires.concepts in
     subst (λ (bound : ℕ). IsRisingBelow bound c.as_slice.result.now) (sym c.bound.ensures)
     (subst (λ (items : List ℕ). IsRisingBelow (g.S.ConceptSet.bound_of c.args.operand.now) items) (sym kept)
     (rises_within-filter 0 (g.S.ConceptSet.bound_of c.args.operand.now) test
@@ -30,5 +30,5 @@ returns-clause-items g c =
     let test : ℕ → Bool = λ concept. not (list_any (has (g.S.ConceptSet.items_of c.args.operand.now))
     (list_of (lists_of c.args.reader.indexes.now.hierarchy c.args.family) concept)) in
     IfOk-weaker c.from_items.result _ _
-    (λ found same. same ∙ c.as_slice.ensures.value ∙ c.in_ok-kept.ensures ∙ ap (filter test) c.requires.concepts)
+    (λ found same. same ∙ c.as_slice.ensures.value ∙ c.in_ok-kept.ensures.kept ∙ ap (filter test) c.requires.concepts)
     c.from_items.ensures.items

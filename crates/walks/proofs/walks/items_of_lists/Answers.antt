@@ -5,8 +5,8 @@ use Rattle.walks.specs.Families.{lists_of}
 use Rattle.walks.proofs.JoinedLemmas.{over_length}
 use Rattle.walks.proofs.walks.items_of_lists.Goals as goal
 
-pub list-requires : goal.list-requires
-list-requires c =
+pub length-requires : goal.length-requires
+length-requires c =
     let below : get_or c.args.concepts.now c.loop-concept.concept-index 0 < c.args.count =
     c.requires.below c.loop-concept.concept-index 0 c.loop-concept-test.true in
     omega (arith, below, over_length c.args.count c.args.reader.indexes.now.hierarchy c.requires.over c.args.family)
@@ -18,6 +18,6 @@ returns-then-items-most-clause-few c =
       arith,
       c.loop-concept.invariant,
       c.saturating_add-items.ensures,
-      ap (λ (items : List ℕ). length items) c.list.ensures,
+      c.length.ensures,
       sum_by_more_le (λ concept. length (list_of lists concept)) c.args.concepts.now c.loop-concept.concept-index 0 c.loop-concept-test.true,
     )

@@ -1,4 +1,4 @@
-use Rattle.std.proofs.Common.{ℕ, List, not, ◌∙◌, ap, subst}
+use Rattle.std.proofs.Common.{ℕ, List, not, ◌∙◌, ap, subst, arith}
 use Rattle.std.specs.Prelude.{slice_index_or}
 use Rattle.std.specs.List.{list_any}
 use Rattle.std.proofs.lemmas.Result.{IfOk-weaker}
@@ -11,6 +11,7 @@ use Rattle.walks.specs.inside.Joined.{AreJoined, back_of, is_whole}
 use Rattle.walks.specs.Led.{IsOver}
 use Rattle.walks.specs.Families.{lists_of}
 use Rattle.walks.specs.declared.family.Family.{Family}
+use Rattle.reading.proofs.CountLemmas.{counted_full}
 use Rattle.walks.proofs.LedLemmas.{asked_outside, back_is_whole}
 use Rattle.walks.proofs.walks.kept_in_room.Goals as goal
 
@@ -18,8 +19,8 @@ pub reached-requires-clause-whole : goal.reached-requires-clause-whole
 reached-requires-clause-whole g c = ap is_whole c.back.ensures ∙ back_is_whole c.args.family c.requires.whole
 
 -- a concept has none of the set in its list where it is none of those that the set leads back to
-pub returns-then-items_of_lists-room : goal.returns-then-items_of_lists-room
-returns-then-items_of_lists-room g c =
+pub returns-then-items_of_lists-room-clause-kept : goal.returns-then-items_of_lists-room-clause-kept
+returns-then-items_of_lists-room-clause-kept g c =
     let count = g.S.ConceptSet.bound_of c.args.set.now in
     let items = g.S.ConceptSet.items_of c.args.set.now in
     let over : IsOver count c.args.reader.indexes.now.hierarchy = record {
@@ -39,3 +40,8 @@ returns-then-items_of_lists-room g c =
     asked_outside count c.args.reader.indexes.now.hierarchy over items (g.met.S.ConceptSet.rising c.args.set.now) c.args.family
     (slice_index_or c.args.concepts.now k d) (c.requires.below k d inside) found joined))
     c.kept_outside.ensures
+
+pub returns-clause-counted : goal.returns-clause-counted
+returns-clause-counted g c =
+    counted_full c.kept_by_lists.ensures.counted
+    (omega (arith, c.items_of_lists.ensures.all (omega arith)))

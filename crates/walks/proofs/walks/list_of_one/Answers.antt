@@ -14,12 +14,18 @@ from_words-requires g c =
     subst (λ (count : ℕ). AreWordsBelow count c.in-Some.words.now)
     (over_length c.args.count c.args.reader.indexes.now.hierarchy c.requires.over c.args.family) c.in-Some.ensures.some.below
 
+pub length-requires : goal.length-requires
+length-requires g c = omega (arith, c.requires.below, over_length c.args.count c.args.reader.indexes.now.hierarchy c.requires.over c.args.family)
+
 pub list-list-requires : goal.list-list-requires
 list-list-requires g c = omega (arith, c.requires.below, over_length c.args.count c.args.reader.indexes.now.hierarchy c.requires.over c.args.family)
 
+pub list-list-requires-in-None : goal.list-list-requires-in-None
+list-list-requires-in-None g c = omega (arith, c.requires.below, over_length c.args.count c.args.reader.indexes.now.hierarchy c.requires.over c.args.family)
+
 pub from_items-requires-in-None : goal.from_items-requires-in-None
 from_items-requires-in-None g c =
-    subst (λ (list : List ℕ). IsRisingBelow c.args.count list) (sym c.list-list.ensures)
+    subst (λ (list : List ℕ). IsRisingBelow c.args.count list) (sym c.list-list-in-None.ensures.items)
     (over_rising c.args.count c.args.reader.indexes.now.hierarchy c.requires.over c.args.family c.args.concept c.requires.below)
 
 pub returns-in-Some-clause-items : goal.returns-in-Some-clause-items
@@ -32,15 +38,15 @@ pub returns-in-None-clause-items : goal.returns-in-None-clause-items
 returns-in-None-clause-items g c = IfOk-weaker c.from_items-in-None.result _ _
     (λ found items.
     items
-    ∙ list_joined c.args.count (lists_of c.args.reader.indexes.now.hierarchy c.args.family) c.args.concept c.list-list.result.now
-    (subst (λ (list : List ℕ). IsRisingBelow c.args.count list) (sym c.list-list.ensures)
+    ∙ list_joined c.args.count (lists_of c.args.reader.indexes.now.hierarchy c.args.family) c.args.concept c.list-list-in-None.result.now
+    (subst (λ (list : List ℕ). IsRisingBelow c.args.count list) (sym c.list-list-in-None.ensures.items)
     (over_rising c.args.count c.args.reader.indexes.now.hierarchy c.requires.over c.args.family c.args.concept c.requires.below))
-    c.list-list.ensures)
+    c.list-list-in-None.ensures.items)
     c.from_items-in-None.ensures.items
 
 pub from_items-requires : goal.from_items-requires
 from_items-requires g c =
-    subst (λ (list : List ℕ). IsRisingBelow c.args.count list) (sym (c.as_slice.ensures.value ∙ c.in_ok-own.ensures.items ∙ c.list-list.ensures))
+    subst (λ (list : List ℕ). IsRisingBelow c.args.count list) (sym (c.as_slice.ensures.value ∙ c.in_ok-own.ensures.items ∙ c.list-list.ensures.items))
     (over_rising c.args.count c.args.reader.indexes.now.hierarchy c.requires.over c.args.family c.args.concept c.requires.below)
 
 pub returns-then-asks_for-clause-items : goal.returns-then-asks_for-clause-items
@@ -48,7 +54,7 @@ returns-then-asks_for-clause-items g c = IfOk-weaker c.from_items.result _ _
     (λ found items.
     items
     ∙ list_joined c.args.count (lists_of c.args.reader.indexes.now.hierarchy c.args.family) c.args.concept c.as_slice.result.now
-    (subst (λ (list : List ℕ). IsRisingBelow c.args.count list) (sym (c.as_slice.ensures.value ∙ c.in_ok-own.ensures.items ∙ c.list-list.ensures))
+    (subst (λ (list : List ℕ). IsRisingBelow c.args.count list) (sym (c.as_slice.ensures.value ∙ c.in_ok-own.ensures.items ∙ c.list-list.ensures.items))
     (over_rising c.args.count c.args.reader.indexes.now.hierarchy c.requires.over c.args.family c.args.concept c.requires.below))
-    (c.as_slice.ensures.value ∙ c.in_ok-own.ensures.items ∙ c.list-list.ensures))
+    (c.as_slice.ensures.value ∙ c.in_ok-own.ensures.items ∙ c.list-list.ensures.items))
     c.from_items.ensures.items

@@ -4,15 +4,16 @@ use Rattle.std.proofs.lemmas.Result.{IfOk-weaker}
 use Rattle.number_lists.specs.Rising.{IsRisingBelow}
 use Rattle.number_lists.specs.Members.{has}
 use Rattle.number_lists.proofs.RisingLemmas.{rises_within-filter, all_below}
-use Rattle.walks.specs.inside.Steps.{stepped}
+use Rattle.walks.specs.inside.Steps.{asked_of, stepped}
 use Rattle.walks.specs.Families.{lists_of}
 use Rattle.walks.proofs.LedLemmas.{led_asked}
-use Rattle.walks.proofs.led.those_of_set_led_to.Goals as goal
+use Rattle.walks.proofs.ReadLemmas.{asked_counted}
+use Rattle.walks.proofs.led.led_among.Goals as goal
 
 pub those_led_to-requires-clause-below : goal.those_led_to-requires-clause-below
 those_led_to-requires-clause-below g c =
     let wanted = g.S.ConceptSet.items_of c.args.wanted.now in
-    subst (All (λ concept. concept < g.S.ConceptSet.bound_of c.args.operand.now)) (sym (c.as_slice.ensures.value ∙ c.in_ok-own.ensures))
+    subst (All (λ concept. concept < g.S.ConceptSet.bound_of c.args.operand.now)) (sym (c.as_slice.ensures.value ∙ c.in_ok-own.ensures.items))
     (subst (λ (bound : ℕ). All (λ concept. concept < bound) wanted) c.requires.wanted
     (all_below (g.S.ConceptSet.bound_of c.args.wanted.now) wanted (g.met.S.ConceptSet.rising c.args.wanted.now)))
 
@@ -22,7 +23,7 @@ from_items-requires g c =
     let wanted = g.S.ConceptSet.items_of c.args.wanted.now in
     let led : List ℕ = stepped (lists_of c.args.reader.indexes.now.hierarchy c.of-step.result.family) count c.of-step.result.reach (g.S.ConceptSet.items_of c.args.operand.now) in
     let kept : c.as_slice-2.result.now ≡ filter (has led) wanted =
-    c.as_slice-2.ensures.value ∙ c.in_ok-kept.ensures ∙ ap (filter (has led)) (c.as_slice.ensures.value ∙ c.in_ok-own.ensures) in
+    c.as_slice-2.ensures.value ∙ c.in_ok-kept.ensures.items ∙ ap (filter (has led)) (c.as_slice.ensures.value ∙ c.in_ok-own.ensures.items) in
     subst (λ (bound : ℕ). IsRisingBelow bound c.as_slice-2.result.now) (sym c.bound.ensures)
     (subst (λ (items : List ℕ). IsRisingBelow count items) (sym kept)
     (rises_within-filter 0 count (has led) wanted (subst (λ (bound : ℕ). IsRisingBelow bound wanted) c.requires.wanted
@@ -37,9 +38,21 @@ returns-clause-items g c =
     let led : List ℕ = stepped (lists_of c.args.reader.indexes.now.hierarchy step.family) count step.reach items in
     IfOk-weaker c.from_items.result _ _
     (λ found same.
-    same ∙ c.as_slice-2.ensures.value ∙ c.in_ok-kept.ensures ∙ ap (filter (has led)) (c.as_slice.ensures.value ∙ c.in_ok-own.ensures)
+    same ∙ c.as_slice-2.ensures.value ∙ c.in_ok-kept.ensures.items ∙ ap (filter (has led)) (c.as_slice.ensures.value ∙ c.in_ok-own.ensures.items)
     ∙ led_asked count c.args.reader.indexes.now.hierarchy c.requires.over items (g.met.S.ConceptSet.rising c.args.operand.now)
     (lists_of c.args.reader.indexes.now.hierarchy step.family) step.reach wanted
     (subst (λ (bound : ℕ). IsRisingBelow bound wanted) c.requires.wanted (g.met.S.ConceptSet.rising c.args.wanted.now))
     ∙ ap (filter (has wanted)) (sym (c.of-step.ensures.led c.args.reader.indexes.now.hierarchy count items)))
     c.from_items.ensures.items
+
+pub returns-in_err-kept-clause-counted : goal.returns-in_err-kept-clause-counted
+returns-in_err-kept-clause-counted g c =
+    asked_counted c.args.reader.indexes.now.hierarchy c.args.operator (asked_of c.of-step.result)
+    (c.of-step.ensures.asked c.args.reader.indexes.now.hierarchy)
+    (c.as_slice.ensures.value ∙ c.in_ok-own.ensures.items) c.items.ensures.counted c.those_led_to.ensures.counted
+
+pub returns-clause-counted : goal.returns-clause-counted
+returns-clause-counted g c =
+    asked_counted c.args.reader.indexes.now.hierarchy c.args.operator (asked_of c.of-step.result)
+    (c.of-step.ensures.asked c.args.reader.indexes.now.hierarchy)
+    (c.as_slice.ensures.value ∙ c.in_ok-own.ensures.items) c.items.ensures.counted c.those_led_to.ensures.counted

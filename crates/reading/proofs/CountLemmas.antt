@@ -1,0 +1,60 @@
+-- What is counted, call by call.
+use Rattle.std.proofs.Common.{ℕ, ◌+◌, ◌<◌, ◌≤◌, List, length, get_or, take, arith}
+use Rattle.std.specs.List.{sum_by}
+use Rattle.std.proofs.lemmas.List.Sums.{sum_by-take-le, sum_by_more, sum_by_more_le}
+use Rattle.reading.specs.Counted.{CountsWithin, HandsOut, full}
+use Rattle.reading.specs.declared.counter.Counter.{Counter}
+
+-- where nothing is read, nothing is counted
+pub counted_none : {most : ℕ} {early : Counter} → CountsWithin most early early
+counted_none = record { grows = omega arith; within = omega arith }
+
+-- of what is handed out no more is counted
+pub counted_out : {items most : ℕ} {early late : Counter} → HandsOut items early late → items ≤ most
+    → CountsWithin most early late
+counted_out out room = record { grows = out.grows; within = omega (arith, out.count, room) }
+
+-- what one call counts has room for what is counted more
+pub counted_in : {first all : ℕ} {early late : Counter} → CountsWithin first early late → first ≤ all
+    → CountsWithin all early late
+counted_in one room = record { grows = one.grows; within = omega (arith, one.within, room) }
+
+-- which need not be more than 64 bits hold
+pub counted_full : {items most : ℕ} {early late : Counter} → CountsWithin items early late → full items ≤ most
+    → CountsWithin most early late
+counted_full {late = late} one room = record { grows = one.grows; within = omega (arith, one.within, room, late.fits) }
+
+-- what one call counts, and the next
+pub counted_both : {first second all : ℕ} {early between late : Counter} → CountsWithin first early between
+    → CountsWithin second between late → first + second ≤ all → CountsWithin all early late
+counted_both one other room = record {
+  grows = omega (arith, one.grows, other.grows);
+  within = omega (arith, one.within, other.within, room);
+}
+
+pub counted_thrice : {first second third all : ℕ} {early one two late : Counter} → CountsWithin first early one
+    → CountsWithin second one two → CountsWithin third two late → (first + second) + third ≤ all
+    → CountsWithin all early late
+counted_thrice one other last room = record {
+  grows = omega (arith, one.grows, other.grows, last.grows);
+  within = omega (arith, one.within, other.within, last.within, room);
+}
+
+module _ (count : ℕ → ℕ) (numbers : List ℕ) (k : ℕ) where
+  -- what is counted of some numbers, one after the other, and of the next
+  pub counted_next : {early between late : Counter} → k < length numbers
+      → CountsWithin (sum_by count (take k numbers)) early between → CountsWithin (count (get_or numbers k 0)) between late
+      → CountsWithin (sum_by count (take (k + 1) numbers)) early late
+  counted_next inside one other =
+      counted_both one other (omega (arith, sum_by_more count numbers k 0 inside))
+
+  -- which is no more than of all
+  pub counted_some : {early between late : Counter} → k < length numbers
+      → CountsWithin (sum_by count (take k numbers)) early between → CountsWithin (count (get_or numbers k 0)) between late
+      → CountsWithin (sum_by count numbers) early late
+  counted_some inside one other =
+      counted_both one other (omega (arith, sum_by_more_le count numbers k 0 inside))
+
+  pub counted_all : {early late : Counter} → CountsWithin (sum_by count (take k numbers)) early late
+      → CountsWithin (sum_by count numbers) early late
+  counted_all one = counted_in one (sum_by-take-le count numbers k)

@@ -1,0 +1,14 @@
+use Rattle.std.proofs.Common.{ℕ, List, ◌<◌, ◌∙◌, arith, length, sym, ap, subst}
+use Rattle.number_lists.specs.Rising.{IsRising}
+use Rattle.number_lists.specs.KeyedLists.{list_of}
+use Rattle.reading.proofs.MemberLists.{members_rise}
+use Rattle.reading.proofs.reader.Reader.is_member.Goals as goal
+
+pub has_number-requires : goal.has_number-requires
+has_number-requires c =
+    let release = c.args.self.snapshot.now.release in
+    let refset = c.args.refset in
+    let below : refset < length release.concepts =
+    subst (λ (ids : List ℕ). refset < length ids) c.args.self.index.concepts c.requires in
+    subst IsRising (sym (c.members.ensures ∙ ap (λ (lists : List (List ℕ)). list_of lists refset) c.args.self.index.members))
+    (members_rise release refset below (omega (arith, c.concept_count.ensures.few)))

@@ -1,0 +1,86 @@
+-- What is read of lists before these are left for a pass over the is-a rows.
+use Rattle.std.proofs.Common.{ℕ, ◌+◌, ◌-◌, ◌∷◌, [], ◌≡◌, ◌<◌, ◌≤◌, ◌∙◌, Bool, true, List, length, drop, get_or, take}
+use Rattle.std.proofs.Common.{refl, sym, ap, subst, arith}
+use Rattle.std.specs.Bool.{beq}
+use Rattle.std.specs.Prelude.{filter, Option, None, Some, IfSome, IsSome, MatchOption}
+use Rattle.std.specs.List.{concat, sum_by}
+use Rattle.std.proofs.lemmas.Bool.{false≢true}
+use Rattle.std.proofs.lemmas.List.{take-append-drop}
+use Rattle.std.proofs.lemmas.List.Elements.{filter-append}
+use Rattle.std.proofs.lemmas.List.Sums.{sum_by-append, sum_by_push}
+use Rattle.number_lists.specs.KeyedLists.{list_of}
+use Rattle.ancestor_index.specs.HierarchyLists.{Hierarchy}
+use Rattle.reading.specs.Counted.{CountsWithin}
+use Rattle.reading.specs.declared.counter.Counter.{Counter}
+use Rattle.walks.specs.Families.{all_items_of, items_in, lists_of}
+use Rattle.walks.specs.declared.family.Family.{Family}
+use Rattle.walks.specs.declared.family.Family.TheVariants as family
+use Rattle.walks.specs.inside.Counts.{LeavesPass, Spends, pass_items}
+use Rattle.walks.specs.inside.Joined.{is_long, is_whole, with_length}
+use Rattle.walks.proofs.JoinedLemmas.{with_length_more}
+
+-- nothing is taken where nothing is read
+pub spends_none : (left : Option ℕ) (visits : Counter) → Spends left left visits visits
+spends_none None visits = tt
+spends_none (Some left) visits = omega arith
+
+-- what a list has is taken, and no more of it is read
+pub spends_more : (first left next : Option ℕ) (items : ℕ) (early between late : Counter) → Spends first left early between
+    → MatchOption left (next ≡ None) (λ before. (items ≤ before) × (next ≡ Some (before - items)))
+    → CountsWithin items between late → Spends first next early late
+spends_more None None next items early between late spent taken counts =
+    subst (λ (after : Option ℕ). Spends None after early late) (sym taken) tt
+spends_more None (Some left) next items early between late spent taken counts = absurd spent
+spends_more (Some first) None next items early between late spent taken counts = absurd spent
+spends_more (Some first) (Some left) next items early between late spent taken counts =
+    subst (λ (after : Option ℕ). Spends (Some first) after early late) (sym taken.1) (omega (arith, spent, taken.0, counts.within))
+
+-- what is left after one reading is left to the next
+pub spends_both : (first left next : Option ℕ) (early between late : Counter) → Spends first left early between
+    → Spends left next between late → Spends first next early late
+spends_both None None None early between late one other = tt
+spends_both None None (Some next) early between late one other = absurd other
+spends_both None (Some left) next early between late one other = absurd one
+spends_both (Some first) None next early between late one other = absurd one
+spends_both (Some first) (Some left) None early between late one other = absurd other
+spends_both (Some first) (Some left) (Some next) early between late one other = omega (arith, one, other)
+
+-- so that all lists have room for a pass behind it
+pub pass_within : (hierarchy : Hierarchy) (f : Family) (count : ℕ) (first left : Option ℕ) (early between late : Counter)
+    → IfSome first (LeavesPass hierarchy f count) → IsSome first → early.count ≤ between.count → Spends first left early between
+    → CountsWithin (pass_items hierarchy count) between late → CountsWithin (all_items_of hierarchy f) early late
+pass_within hierarchy f count None left early between late leaves limited grows spent passed = absurd (false≢true limited)
+pass_within hierarchy f count (Some first) None early between late leaves limited grows spent passed = absurd spent
+pass_within hierarchy f count (Some first) (Some left) early between late leaves limited grows spent passed = record {
+  grows = omega (arith, grows, passed.grows);
+  within = omega (arith, leaves.room, spent, passed.within);
+}
+
+-- whole lists have as many items as there are pairs of a concept and an ancestor
+pub whole_items : (hierarchy : Hierarchy) (f : Family) → is_whole f ≡ true → all_items_of hierarchy f ≡ length (concat hierarchy.ancestors)
+whole_items hierarchy family.Ancestors whole = refl
+whole_items hierarchy family.Descendants whole = refl
+whole_items hierarchy family.Parents whole = absurd (false≢true whole)
+whole_items hierarchy family.Children whole = absurd (false≢true whole)
+
+-- the next list, where it is joined now
+pub items_more : (lists : List (List ℕ)) (long : Bool) (concepts : List ℕ) (k : ℕ) → k < length concepts
+    → beq (is_long (list_of lists (get_or concepts k 0))) long ≡ true
+    → items_in lists (with_length lists long (take (k + 1) concepts))
+    ≡ items_in lists (with_length lists long (take k concepts)) + length (list_of lists (get_or concepts k 0))
+items_more lists long concepts k inside tested =
+    ap (items_in lists) (with_length_more lists long concepts [] k inside tested)
+    ∙ sum_by_push (λ concept. length (list_of lists concept)) (with_length lists long (take k concepts)) (get_or concepts k 0)
+
+-- those of the concepts so far have no more items than those of all
+pub items_so_far : (lists : List (List ℕ)) (long : Bool) (concepts : List ℕ) (k : ℕ)
+    → items_in lists (with_length lists long (take k concepts)) ≤ items_in lists (with_length lists long concepts)
+items_so_far lists long concepts k =
+    let test : ℕ → Bool = λ concept. beq (is_long (list_of lists concept)) long in
+    let items : ℕ → ℕ = λ concept. length (list_of lists concept) in
+    omega (
+      arith,
+      ap (λ (some : List ℕ). sum_by items (filter test some)) (take-append-drop k concepts),
+      ap (sum_by items) (filter-append test (take k concepts) (drop k concepts)),
+      sum_by-append items (filter test (take k concepts)) (filter test (drop k concepts)),
+    )
