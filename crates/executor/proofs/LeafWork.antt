@@ -1,5 +1,5 @@
 -- What a leaf reads is within its bound, under each choice.
-use Rattle.std.proofs.Common.{ℕ, ◌+◌, [], ◌≡◌, ◌≤◌, ◌∙◌, Bool, true, false, List, Option, Some, None, length, get_or}
+use Rattle.std.proofs.Common.{ℕ, ◌+◌, [], ◌≡◌, ◌≤◌, ◌∙◌, Bool, true, List, Option, Some, None, length, get_or}
 use Rattle.std.proofs.Common.{refl, sym, ap, subst, arith}
 use Rattle.std.specs.Prelude.{◌&&◌, ◌==◌, count_by, filter}
 use Rattle.std.specs.List.{flat_map, sum_by}

@@ -1,7 +1,7 @@
 -- The numbers of the groups of concepts.
 use Rattle.std.proofs.Common.{ℕ, zero, suc, ◌≡◌, ◌≤◌, ◌<◌, ◌+◌, ◌-◌, ◌∙◌, ◌∷◌, ◌++◌, [], inl, inr, ◌⊎◌, arith, length-append}
-use Rattle.std.proofs.Common.{Bool, true, false, cond, ◌||◌, ◌==◌, List, length, get_or, map, take, drop, refl, sym, ap, subst}
-use Rattle.std.specs.Prelude.{All, Contains, filter, Option, nat_eq, slice_get}
+use Rattle.std.proofs.Common.{Bool, true, false, ◌||◌, ◌==◌, List, length, get_or, map, take, drop, refl, sym, ap, subst}
+use Rattle.std.specs.Prelude.{All, Contains, Option, nat_eq, slice_get}
 use Rattle.std.specs.List.{AllByRecursion, IsDistinct, range_with_len}
 use Rattle.std.specs.List.Sorted.{IsStrictlyIncreasing}
 use Rattle.std.proofs.lemmas.Bool.{cases_eq, cases_lt, eq-eqb, false≢true, ne_eqb}
@@ -14,9 +14,8 @@ use Rattle.std.proofs.lemmas.Grind.{flat_map-append}
 use Rattle.std.proofs.Math.Bool.{or-false}
 use Rattle.rf2_rows.specs.Release.{Release}
 use Rattle.number_lists.specs.Members.{has}
-use Rattle.number_lists.specs.Rising.{listed_numbers, numbers_where}
-use Rattle.number_lists.proofs.WhereLemmas.{has-numbers_where, numbers_where-none}
-use Rattle.candidates.proofs.SumLemmas.{sum_of_either, sum_of_ones}
+use Rattle.number_lists.specs.Rising.{numbers_where}
+use Rattle.number_lists.proofs.WhereLemmas.{has-numbers_where}
 use Rattle.postings.specs.Groups.{ConceptGroup, GroupKey, all_groups, groups_among, groups_before, groups_in, keys_of, rows_alone}
 use Rattle.postings.specs.Indexed.{Indexed, IsIndexOf}
 use Rattle.postings.proofs.KeyLemmas.{group_with, groups_at}

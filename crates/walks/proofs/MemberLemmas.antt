@@ -1,6 +1,6 @@
 -- The components of reference sets, by the numbers of concepts and by the member rows.
 use Rattle.std.proofs.Common.{ℕ, ◌≡◌, ◌<◌, ◌∙◌, ◌∷◌, [], ◌==◌, ◌&&◌, ◌||◌, Bool, true, false, List, length, get_or, refl, sym, ap, subst, arith}
-use Rattle.std.specs.Prelude.{◌^◌, All, Contains, filter}
+use Rattle.std.specs.Prelude.{All, Contains, filter}
 use Rattle.std.specs.List.{flat_map, list_any}
 use Rattle.std.proofs.lemmas.Bool.{eq-eqb, eqb-true}
 use Rattle.std.proofs.lemmas.List.{get_or_default}
@@ -10,10 +10,10 @@ use Rattle.constraint_tree.specs.Denotation.{is_component}
 use Rattle.constraint_tree.specs.Walks.{has_concept}
 use Rattle.number_lists.proofs.ListLemmas.{passing_item, some_item_passes, both_ways, any_agree}
 use Rattle.constraint_tree.proofs.WalkLemmas.{tells_in_force}
-use Rattle.number_lists.specs.Rising.{IsRising, IsRisingBelow, listed_numbers, numbers_where}
+use Rattle.number_lists.specs.Rising.{IsRisingBelow, listed_numbers, numbers_where}
 use Rattle.number_lists.specs.Members.{has}
 use Rattle.number_lists.proofs.WhereLemmas.{filter-numbers_where, has-numbers_where, numbers_where-agree, there_where, where_there}
-use Rattle.number_lists.proofs.RisingLemmas.{numbers_where-rising, rising_fits, rising_is_numbers_where, all_below}
+use Rattle.number_lists.proofs.RisingLemmas.{rising_is_numbers_where, all_below}
 use Rattle.number_lists.specs.KeyedLists.{list_of}
 use Rattle.ancestor_index.specs.HierarchyLists.{is_child}
 use Rattle.ancestor_index.proofs.ClosureLemmas.{list_of-where}

@@ -1,5 +1,5 @@
 -- What is read of lists before these are left for a pass over the is-a rows.
-use Rattle.std.proofs.Common.{ℕ, ◌+◌, ◌-◌, ◌∷◌, [], ◌≡◌, ◌<◌, ◌≤◌, ◌∙◌, Bool, true, List, length, drop, get_or, take}
+use Rattle.std.proofs.Common.{ℕ, ◌+◌, ◌-◌, [], ◌≡◌, ◌<◌, ◌≤◌, ◌∙◌, Bool, true, List, length, drop, get_or, take}
 use Rattle.std.proofs.Common.{refl, sym, ap, subst, arith}
 use Rattle.std.specs.Bool.{beq}
 use Rattle.std.specs.Prelude.{filter, Option, None, Some, IfSome, IsSome, MatchOption}
@@ -12,7 +12,7 @@ use Rattle.number_lists.specs.KeyedLists.{list_of}
 use Rattle.ancestor_index.specs.HierarchyLists.{Hierarchy}
 use Rattle.reading.specs.Counted.{CountsWithin}
 use Rattle.reading.specs.declared.counter.Counter.{Counter}
-use Rattle.walks.specs.Families.{all_items_of, items_in, lists_of}
+use Rattle.walks.specs.Families.{all_items_of, items_in}
 use Rattle.walks.specs.declared.family.Family.{Family}
 use Rattle.walks.specs.declared.family.Family.TheVariants as family
 use Rattle.walks.specs.inside.Counts.{LeavesPass, Spends, pass_items}

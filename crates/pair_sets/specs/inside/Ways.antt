@@ -1,5 +1,5 @@
 -- The ways in which a leaf is read, which all find the same, and how many items are read in each.
-use Rattle.std.specs.Prelude.{ℕ, ◌≡◌, ◌+◌, ◌≤◌, ◌<◌, Bool, true, List, Option, None, Some, filter, length, sum_by}
+use Rattle.std.specs.Prelude.{ℕ, ◌≡◌, ◌+◌, ◌≤◌, Bool, true, List, Option, None, Some, filter, length, sum_by}
 use Rattle.rf2_rows.specs.Release.{Value}
 use Rattle.constraint_tree.specs.Passing.{is_within}
 use Rattle.number_lists.specs.Rising.{IsRisingBelow}

@@ -1,6 +1,6 @@
 -- Answers of the nodes that mean what all of their parts mean.
-use Rattle.std.proofs.Common.{le_of_eq, le_trans, ℕ, List, ◌+◌, ◌∙◌, ◌&&◌, Bool, true}
-use Rattle.std.proofs.Common.{length, get_or, sym, ap, refl, subst, arith, Option, ◌-◌}
+use Rattle.std.proofs.Common.{le_of_eq, le_trans, ℕ, List, ◌∙◌, ◌&&◌, Bool, true}
+use Rattle.std.proofs.Common.{length, get_or, sym, ap, refl, subst, arith, Option}
 use Rattle.std.specs.Prelude.{slice_get}
 use Rattle.std.specs.List.{list_all, range_with_len}
 use Rattle.std.proofs.lemmas.List.{nil_from_length, take_all}
@@ -27,7 +27,7 @@ use Rattle.number_lists.proofs.WhereLemmas.{numbers_where-all}
 use Rattle.executor.proofs.WithinNodes.{groups_led_again, groups_led_all}
 use Rattle.executor.proofs.WithinNodes.{led_again, led_all}
 use Rattle.executor.proofs.WithinNodes.{and_groups, and_within}
-use Rattle.executor.proofs.WorkLemmas.{all_first, all_end, all_most, all_next, all_pass, all_turn}
+use Rattle.executor.proofs.WorkLemmas.{all_first, all_end, all_next, all_pass, all_turn}
 use Rattle.executor.proofs.WorkLemmas.{first_within, counted_beside}
 use Rattle.executor.proofs.WorkLemmas.{lead_inside, lead_is, no_parts}
 use Rattle.executor.proofs.+execute.Goals.{joined_plans::in_all-then-place-lead+in_ok-next+in_ok-extent-2}

@@ -1,6 +1,6 @@
 -- Answers of the nodes of dotted attributes.
 use Rattle.std.proofs.Common.{subst, le_trans, ℕ, List, ◌+◌, ◌∙◌, Bool}
-use Rattle.std.proofs.Common.{length, ap, refl, arith, le_of_lt, Option, rules, ◌-◌}
+use Rattle.std.proofs.Common.{length, ap, refl, arith, le_of_lt, Option, rules}
 use Rattle.std.specs.Prelude.{IfSome}
 use Rattle.std.proofs.lemmas.List.{take_all}
 use Rattle.set_algebra.specs.declared.plan.ConceptPlan.{ConceptPlan}

@@ -1,6 +1,6 @@
 -- Answers of the nodes that read reference sets.
 use Rattle.std.proofs.Common.{ℕ, List, Bool}
-use Rattle.std.proofs.Common.{refl, arith, ◌-◌}
+use Rattle.std.proofs.Common.{refl, arith}
 use Rattle.set_algebra.specs.Plan.{Plan, members_plan}
 use Rattle.executor.specs.inside.Logical.{logical_of}
 use Rattle.walks.specs.Components.{components_of}

@@ -1,6 +1,6 @@
 -- Answers of the nodes that mean what their first part means and their second does not.
 use Rattle.std.proofs.Common.{ℕ, Bool}
-use Rattle.std.proofs.Common.{length, get_or, refl, arith, rules, ◌-◌}
+use Rattle.std.proofs.Common.{length, get_or, refl, arith, rules}
 use Rattle.std.specs.Prelude.{slice_get}
 use Rattle.set_algebra.specs.Meaning.{unit_means, means}
 use Rattle.set_algebra.specs.Plan.{Plan, PlanOfUnits, minus_plan, minus_units}

@@ -1,6 +1,6 @@
 -- Answers of what any node does: it is left out where there is no candidate.
 use Rattle.std.proofs.Common.{subst, ℕ, List, ◌∙◌, ◌&&◌, ◌==◌, Bool}
-use Rattle.std.proofs.Common.{length, get_or, sym, ap, refl, arith, ◌-◌}
+use Rattle.std.proofs.Common.{length, get_or, sym, ap, refl, arith}
 use Rattle.std.specs.Prelude.{slice_get}
 use Rattle.std.specs.List.{range_with_len}
 use Rattle.set_algebra.specs.Meaning.{unit_means, means}

@@ -1,6 +1,6 @@
 -- Answers of the leaves, which count pairs, and of their tests.
 use Rattle.std.proofs.Common.{subst, ℕ, List, ◌≤◌, ◌∙◌, Bool, false}
-use Rattle.std.proofs.Common.{refl, arith, ◌-◌}
+use Rattle.std.proofs.Common.{refl, arith}
 use Rattle.set_algebra.specs.Meaning.{unit_means, has_pairs, means, pairs_of, value_passes}
 use Rattle.candidates.specs.Numbers.{is_one_of, numbers_in}
 use Rattle.set_algebra.specs.Plan.{Plan, PlanOfUnits, pairs_plan, pairs_units}

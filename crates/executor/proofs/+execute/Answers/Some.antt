@@ -1,6 +1,6 @@
 -- Answers of the nodes that mean what one of their parts means.
 use Rattle.std.proofs.Common.{subst, le_trans, ℕ, List, ◌+◌, ◌*◌, ◌≤◌, ◌∙◌, ◌&&◌, Bool}
-use Rattle.std.proofs.Common.{length, get_or, sym, ap, arith, take, ◌-◌}
+use Rattle.std.proofs.Common.{length, get_or, sym, ap, arith, take}
 use Rattle.std.specs.Prelude.{slice_get}
 use Rattle.std.specs.List.{list_any}
 use Rattle.std.proofs.lemmas.List.{take_all}

@@ -1,18 +1,16 @@
 -- Answers of the nodes that count groups.
 use Rattle.std.proofs.Common.{subst, ℕ, List, ◌∙◌, Bool}
-use Rattle.std.proofs.Common.{length, sym, ap, refl, arith, ◌-◌}
-use Rattle.std.specs.Prelude.{filter, slice_get}
+use Rattle.std.proofs.Common.{length, sym, ap, refl, arith}
+use Rattle.std.specs.Prelude.{filter}
 use Rattle.set_algebra.specs.Meaning.{unit_means, has_groups}
 use Rattle.candidates.specs.declared.candidates.Candidates.{Candidates}
 use Rattle.pair_sets.proofs.UnitLemmas.{units_found, units_within as units_of_candidates}
 use Rattle.executor.specs.inside.Logical.{logical_units_of}
 use Rattle.postings.specs.Groups.{all_groups}
-use Rattle.candidates.specs.Groups.{some_group_in}
 use Rattle.executor.specs.inside.WithUnits.{with_units}
 use Rattle.candidates.specs.Extents.{IsExtentOf}
 use Rattle.candidates.specs.Within.{HaveExtent, may_be, numbers_within}
 use Rattle.candidates.specs.declared.candidates.Candidates.TheVariants as candidates
-use Rattle.executor.proofs.GroupNodeLemmas as groups
 use Rattle.executor.proofs.PartWork.{few_of_candidates}
 use Rattle.candidates.proofs.WithinLemmas.{kept_set}
 use Rattle.executor.proofs.WithinNodes.{units_within as units_as_plan}

@@ -1,6 +1,6 @@
 -- Answers of the nodes that walk.
 use Rattle.std.proofs.Common.{subst, ℕ, List, ◌/◌, ◌<◌, ◌≤◌, ◌∙◌, Bool}
-use Rattle.std.proofs.Common.{refl, arith, rules, ◌-◌}
+use Rattle.std.proofs.Common.{refl, arith, rules}
 use Rattle.candidates.specs.declared.candidates.Candidates.{Candidates}
 use Rattle.set_algebra.specs.Plan.{Plan}
 use Rattle.set_algebra.specs.Plan.{walk_plan}

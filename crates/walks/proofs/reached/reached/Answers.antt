@@ -7,7 +7,6 @@ use Rattle.number_lists.specs.Members.{has}
 use Rattle.idset.specs.Words.{is_set}
 use Rattle.walks.specs.inside.Joined.{AreJoined, near_of, turn_of}
 use Rattle.walks.specs.Families.{lists_of}
-use Rattle.walks.specs.declared.family.Family.{Family}
 use Rattle.number_lists.proofs.RisingLemmas.{all_below}
 use Rattle.walks.proofs.ReachedLemmas.{IsPassed, all_among, near_rises, near_there, pass_counted, passed_all, passed_first, passed_on, passed_over, turn_within}
 use Rattle.walks.proofs.reached.reached.Goals as goal
