@@ -1,5 +1,6 @@
 //! Of which concepts or groups it is asked whether they are in a set.
-ghost use Rattle.std.specs.Prelude.{ℕ, ◌≡◌, ◌≤◌, ◌<◌, ◌+◌, ◌*◌, All, Bool, false, true, filter, IfOk, List, length, min};
+ghost use Rattle.std.specs.Prelude.{ℕ, ◌≡◌, ◌≤◌, ◌<◌, ◌+◌, ◌*◌, All, Bool, false, true, filter, IfOk, List, length};
+ghost use Rattle.std.specs.Prelude.{min};
 ghost use Rattle.postings.specs.Groups.{all_groups, groups_in};
 ghost use Rattle.postings.specs.Indexed.{Indexed};
 ghost use Rattle.reading.specs.Counted.{CountsWithin, full};
@@ -10,13 +11,14 @@ use idset::ConceptSet;
 use reading::{Answer, Counter, Reader};
 use std::alloc::AllocError;
 
-// To ask a concept by its own list takes about as long as to go through so many concepts, and to ask so few takes no longer
-// than to copy one list.
+// To ask a concept by its own list takes about as long as to go through so many concepts, and to ask so few takes no
+// longer than to copy one list.
 const QUESTION: u64 = 32;
 
 const FEW: u64 = 16;
 
-// The rows of more concepts than there are other rows to read, divided by this, are not counted: to read these is sooner done.
+// The rows of more concepts than there are other rows to read, divided by this, are not counted: to read these is
+// sooner done.
 const WIDE: u64 = 64;
 
 // The same of groups, of which no more than the rows is looked up.
@@ -34,8 +36,8 @@ pub enum Candidates<'a, S> {
     Within(&'a Answer<S>, Extent),
 }
 
-/// How much there is of some concepts or groups. It tells which way is the shorter, and how many items are counted that are read of
-/// them; no answer depends on it.
+/// How much there is of some concepts or groups. It tells which way is the shorter, and how many items are counted that
+/// are read of them; no answer depends on it.
 #[derive(Clone, Copy, Debug)]
 pub struct Extent {
     /// How many they are.
@@ -120,7 +122,8 @@ pub fn none_left<S: ConceptSet>(candidates: &Candidates<'_, S>) -> bool
     }
 }
 
-/// How much there is of the candidates, where not all are; read backwards, with the rows that have one of them as their value.
+/// How much there is of the candidates, where not all are; read backwards, with the rows that have one of them as their
+/// value.
 pub fn extent_for<S>(candidates: &Candidates<'_, S>, back: bool) -> Option<Extent>
     ensures { result ≡ extent_told back candidates.now }
 {
@@ -138,7 +141,8 @@ pub fn restricted<S: ConceptSet>(
     candidates: &Candidates<'_, S>,
 ) -> Result<Answer<S>, AllocError>
     requires bound { AreBelow S.bound_of (S.bound_of found) candidates.now }
-    ensures items { IfOk result (λ left. S.items_of left ≡ filter (may_be S.items_of candidates.now) (S.items_of found)) }
+    ensures items { IfOk result (λ left. S.items_of left ≡ filter (may_be S.items_of candidates.now)
+        (S.items_of found)) }
     ensures bound { IfOk result (λ left. S.bound_of left ≡ S.bound_of found) }
 {
     match candidates {
@@ -150,8 +154,9 @@ pub fn restricted<S: ConceptSet>(
     }
 }
 
-/// How much there is of the concepts of a set, for what reads so many rows without it. It is looked up only where they are few beside
-/// these, or so few that their lists are counted. The items of the set are read once then, and counted; their lists are not.
+/// How much there is of the concepts of a set, for what reads so many rows without it. It is looked up only where they
+/// are few beside these, or so few that their lists are counted. The items of the set are read once then, and counted;
+/// their lists are not.
 pub fn extent_of<S: ConceptSet>(
     reader: Reader<'_>,
     concepts: &Answer<S>,
@@ -175,8 +180,8 @@ fn are_many_beside(candidates: u32, most: u64) -> bool {
     candidates as usize > LISTED && u64::from(candidates) > most
 }
 
-/// How much there is of the groups of a set, for what reads so many rows without it. It is looked up only where they are few beside
-/// these. The items of the set are read once then, and counted.
+/// How much there is of the groups of a set, for what reads so many rows without it. It is looked up only where they
+/// are few beside these. The items of the set are read once then, and counted.
 pub fn group_extent_of<S: ConceptSet>(
     reader: Reader<'_>,
     groups: &Answer<S>,
@@ -197,8 +202,9 @@ pub fn group_extent_of<S: ConceptSet>(
     Ok(group_extent_among(reader, own.as_slice()))
 }
 
-/// How much there is of a set of some candidates, from which something is to be taken. Its rows are counted where the set may be read
-/// thrice, by what both parts of MINUS find at most; else it has no more than the candidates, and is not read.
+/// How much there is of a set of some candidates, from which something is to be taken. Its rows are counted where the
+/// set may be read thrice, by what both parts of MINUS find at most; else it has no more than the candidates, and is
+/// not read.
 pub fn extent_to_take<S: ConceptSet>(
     reader: Reader<'_>,
     candidates: &Candidates<'_, S>,
@@ -219,8 +225,8 @@ pub fn extent_to_take<S: ConceptSet>(
     }
 }
 
-/// How much there is of a set of some candidates, which are groups, from which something is to be taken. Its rows are counted where
-/// the set may be read thrice; else it has no more than the candidates, and is not read.
+/// How much there is of a set of some candidates, which are groups, from which something is to be taken. Its rows are
+/// counted where the set may be read thrice; else it has no more than the candidates, and is not read.
 pub fn group_extent_to_take<S: ConceptSet>(
     reader: Reader<'_>,
     candidates: &Candidates<'_, S>,
@@ -267,8 +273,10 @@ fn extent_left<S: ConceptSet>(candidates: &Candidates<'_, S>, left: &Answer<S>) 
 
 // What is said of so many candidates whose rows are not counted.
 fn uncounted(items: u32) -> Extent
-    ensures concepts { (indexed : Indexed) (concepts : List ℕ) → length concepts ≡ items → IsExtentOf indexed concepts result }
-    ensures groups { (indexed : Indexed) (groups : List ℕ) → length groups ≡ items → IsGroupExtentOf indexed groups result }
+    ensures concepts { (indexed : Indexed) (concepts : List ℕ) → length concepts ≡ items → IsExtentOf indexed concepts
+        result }
+    ensures groups { (indexed : Indexed) (groups : List ℕ) → length groups ≡ items → IsGroupExtentOf indexed groups
+        result }
 {
     Extent {
         items: u64::from(items),

@@ -19,8 +19,8 @@ const VALUE: u64 = 4;
 // A set is brought into the form in which it is asked soonest where more rows than these are tested by it.
 const TESTED: u64 = 512;
 
-/// How many rows have one of some concepts as their value, or, read backwards, as their source, or more than that: added up as
-/// the lists are read in which they are found, if that is asked for. No answer depends on it.
+/// How many rows have one of some concepts as their value, or, read backwards, as their source, or more than that:
+/// added up as the lists are read in which they are found, if that is asked for. No answer depends on it.
 #[derive(Drop)]
 pub struct RowTally<'a> {
     // whose rows, where they are asked for
@@ -58,8 +58,8 @@ impl<'a> RowTally<'a> {
         }
     }
 
-    /// Of the rows of the indexes, to be read in place of so many others if they are fewer. What is found tests these others, but
-    /// where the choice, or the candidates, say that they are not read.
+    /// Of the rows of the indexes, to be read in place of so many others if they are fewer. What is found tests these
+    /// others, but where the choice, or the candidates, say that they are not read.
     pub fn of<S>(
         reader: Reader<'a>,
         choice: Choice,
@@ -127,7 +127,8 @@ impl<'a> RowTally<'a> {
         Ok(own)
     }
 
-    /// Adds the rows of some concepts. Where one of them is no concept of the indexes it is no longer known how many there are.
+    /// Adds the rows of some concepts. Where one of them is no concept of the indexes it is no longer known how many
+    /// there are.
     pub fn add(&mut self, concepts: &[u32])
         ensures { Adds concepts.now self.old self.new }
     {
@@ -140,7 +141,8 @@ impl<'a> RowTally<'a> {
 
 // How many rows there are with those of some concepts, if all of these are concepts of the indexes.
 fn rows_after(reader: Reader<'_>, back: bool, before: u64, concepts: &[u32]) -> Option<u64>
-    ensures { IfSome result (λ all. full (before + sum_by (row_count_of reader.entry.indexes.now back) concepts.now) ≡ all) }
+    ensures { IfSome result (λ all. full (before + sum_by (row_count_of reader.entry.indexes.now back) concepts.now)
+        ≡ all) }
 {
     let mut rows = before;
     for concept in concepts {

@@ -33,9 +33,10 @@ pub fn led_from<S: ConceptSet>(
     visits: &mut Counter,
 ) -> Result<Answer<S>, AllocError>
     requires candidates { AreConcepts S.ConceptSet reader.snapshot.now.release reader.indexes.now candidates.now }
-    ensures counted { CountsPlan reader.entry.indexes.now (physical_values (physical_of start.now) (physicals_of names.now)) visits.old visits.new }
-    ensures found { IfOk result (AnswersPlan S.ConceptSet reader.entry.snapshot.now.release reader.entry.indexes.now candidates.now
-        (physical_values (physical_of start.now) (physicals_of names.now)) visits.old visits.new) }
+    ensures counted { CountsPlan reader.entry.indexes.now (physical_values (physical_of start.now)
+        (physicals_of names.now)) visits.old visits.new }
+    ensures found { IfOk result (AnswersPlan S.ConceptSet reader.entry.snapshot.now.release reader.entry.indexes.now
+        candidates.now (physical_values (physical_of start.now) (physicals_of names.now)) visits.old visits.new) }
 {
     let all = Candidates::All;
     let from: Answer<S> = execute_within(reader, start, &all, visits)?;
@@ -44,8 +45,8 @@ pub fn led_from<S: ConceptSet>(
     Ok(found)
 }
 
-// The concepts to which dotted attributes lead from a set: the values of its attributes of the first name, of these those
-// of the second, and so on (Expression Constraint Language, "Refinements", dotted attributes).
+// The concepts to which dotted attributes lead from a set: the values of its attributes of the first name, of these
+// those of the second, and so on (Expression Constraint Language, "Refinements", dotted attributes).
 #[cycle(execute)]
 fn led_along<S: ConceptSet>(
     reader: Reader<'_>,
@@ -54,12 +55,15 @@ fn led_along<S: ConceptSet>(
     visits: &mut Counter,
 ) -> Result<Answer<S>, AllocError>
     requires bound { S.bound_of from ≡ length reader.snapshot.now.release.concepts }
-    ensures counted { CountsWithin (values_bound reader.entry.indexes.now (plan_count (physicals_of names.now)) (length (S.items_of from))
-        + plans_sum (own_number reader.entry.indexes.now) (physicals_of names.now)) visits.old visits.new }
-    ensures found { IfOk result (λ found. (plan : Plan) → S.items_of from ≡ numbers_in reader.entry.snapshot.now.release (means reader.entry.snapshot.now.release plan)
-        → IsFound S.ConceptSet (length reader.entry.snapshot.now.release.concepts)
-        (numbers_in reader.entry.snapshot.now.release (leads reader.entry.snapshot.now.release (means reader.entry.snapshot.now.release plan) (logicals (physicals_of names.now))))
-        (plans_sum (floor_number reader.entry.indexes.now) (physicals_of names.now)) visits.old visits.new found) }
+    ensures counted { CountsWithin (values_bound reader.entry.indexes.now (plan_count (physicals_of names.now))
+        (length (S.items_of from)) + plans_sum (own_number reader.entry.indexes.now) (physicals_of names.now))
+        visits.old visits.new }
+    ensures found { IfOk result (λ found. (plan : Plan) → S.items_of from ≡ numbers_in reader.entry.snapshot.now.release
+        (means reader.entry.snapshot.now.release plan) → IsFound S.ConceptSet
+        (length reader.entry.snapshot.now.release.concepts) (numbers_in reader.entry.snapshot.now.release
+        (leads reader.entry.snapshot.now.release (means reader.entry.snapshot.now.release plan)
+        (logicals (physicals_of names.now)))) (plans_sum (floor_number reader.entry.indexes.now)
+        (physicals_of names.now)) visits.old visits.new found) }
 {
     // the concepts rise, and the sources of all attribute rows are in force
     reader.concept_count();
@@ -74,8 +78,8 @@ fn led_along<S: ConceptSet>(
     Ok(found)
 }
 
-// The concepts that the name of a dotted attribute means. Where the name before is the same, what it means is known; then the name
-// is left out, and its floor counted.
+// The concepts that the name of a dotted attribute means. Where the name before is the same, what it means is known;
+// then the name is left out, and its floor counted.
 #[cycle(execute)]
 fn named_by<S: ConceptSet>(
     reader: Reader<'_>,
@@ -83,9 +87,11 @@ fn named_by<S: ConceptSet>(
     known: Option<(&ConceptPlan, Answer<S>)>,
     visits: &mut Counter,
 ) -> Result<Answer<S>, AllocError>
-    requires known { IfSome known (λ known. HasNamed reader.snapshot.now.release (logical (physical_of known.0.now)) (S.items_of known.1) (S.bound_of known.1)) }
+    requires known { IfSome known (λ known. HasNamed reader.snapshot.now.release (logical (physical_of known.0.now))
+        (S.items_of known.1) (S.bound_of known.1)) }
     ensures counted { CountsPlan reader.entry.indexes.now (physical_of name.now) visits.old visits.new }
-    ensures found { IfOk result (AnswersAll S.ConceptSet reader.entry.snapshot.now.release reader.entry.indexes.now (physical_of name.now) visits.old visits.new) }
+    ensures found { IfOk result (AnswersAll S.ConceptSet reader.entry.snapshot.now.release reader.entry.indexes.now
+        (physical_of name.now) visits.old visits.new) }
 {
     if let Some((before, set)) = known {
         if *before == *name {

@@ -1,5 +1,5 @@
-//! What a node finds, once its parts have been executed: nothing here goes down a plan. What is read is counted, beside what the
-//! parts have read.
+//! What a node finds, once its parts have been executed: nothing here goes down a plan. What is read is counted, beside
+//! what the parts have read.
 ghost use Rattle.std.specs.Prelude.{◌≡◌, ◌≤◌, IfOk, filter, length};
 ghost use Rattle.postings.specs.Groups.{all_groups};
 ghost use Rattle.set_algebra.specs.Physical.{logical, physical_members, physical_of, physical_walk};
@@ -25,8 +25,8 @@ use set_algebra::ConceptPlan;
 use std::alloc::AllocError;
 use walks::{members_within, walk_within};
 
-/// The candidates among the concepts that an operator leads to from a set, which an operand has found. The rows are added of what is
-/// found from one concept, if the tally asks for them.
+/// The candidates among the concepts that an operator leads to from a set, which an operand has found. The rows are
+/// added of what is found from one concept, if the tally asks for them.
 pub fn walk_found<S: ConceptSet>(
     reader: Reader<'_>,
     operator: Operator,
@@ -38,11 +38,14 @@ pub fn walk_found<S: ConceptSet>(
 ) -> Result<Answer<S>, AllocError>
     requires candidates { AreConcepts S.ConceptSet reader.snapshot.now.release reader.indexes.now candidates.now }
     requires bound { S.bound_of from.now ≡ length reader.snapshot.now.release.concepts }
-    requires from { S.items_of from.now ≡ numbers_in reader.snapshot.now.release (means reader.snapshot.now.release (logical (physical_of operand.now))) }
+    requires from { S.items_of from.now ≡ numbers_in reader.snapshot.now.release
+        (means reader.snapshot.now.release (logical (physical_of operand.now))) }
     requires size { length (S.items_of from.now) ≤ size_of reader.indexes.now (physical_of operand.now) }
-    ensures counted { CountsWithin (own_bound reader.entry.indexes.now (physical_walk operator (physical_of operand.now))) visits.old visits.new }
+    ensures counted { CountsWithin (own_bound reader.entry.indexes.now
+        (physical_walk operator (physical_of operand.now))) visits.old visits.new }
     ensures found { IfOk result (IsFound S.ConceptSet (length reader.entry.snapshot.now.release.concepts)
-        (filter (may_be S.items_of candidates.now) (led_to reader.entry.indexes.now.hierarchy (S.bound_of from.now) operator (S.items_of from.now)))
+        (filter (may_be S.items_of candidates.now) (led_to reader.entry.indexes.now.hierarchy (S.bound_of from.now)
+        operator (S.items_of from.now)))
         (own_floor reader.entry.indexes.now (physical_walk operator (physical_of operand.now))) visits.old visits.new) }
     ensures adds { IfOk result (λ found. Adds (S.items_of found) tally.old tally.new) }
 {
@@ -65,12 +68,15 @@ pub fn members_found<S: ConceptSet>(
 ) -> Result<Answer<S>, AllocError>
     requires candidates { AreConcepts S.ConceptSet reader.snapshot.now.release reader.indexes.now candidates.now }
     requires bound { S.bound_of from.now ≡ length reader.snapshot.now.release.concepts }
-    requires from { S.items_of from.now ≡ numbers_in reader.snapshot.now.release (means reader.snapshot.now.release (logical (physical_of operand.now))) }
+    requires from { S.items_of from.now ≡ numbers_in reader.snapshot.now.release
+        (means reader.snapshot.now.release (logical (physical_of operand.now))) }
     requires size { length (S.items_of from.now) ≤ size_of reader.indexes.now (physical_of operand.now) }
-    ensures counted { CountsWithin (own_bound reader.entry.indexes.now (physical_members (physical_of operand.now))) visits.old visits.new }
+    ensures counted { CountsWithin (own_bound reader.entry.indexes.now (physical_members (physical_of operand.now)))
+        visits.old visits.new }
     ensures found { IfOk result (IsFound S.ConceptSet (length reader.entry.snapshot.now.release.concepts)
-        (filter (may_be S.items_of candidates.now) (components_of reader.entry.snapshot.now.release (S.items_of from.now)))
-        (own_floor reader.entry.indexes.now (physical_members (physical_of operand.now))) visits.old visits.new) }
+        (filter (may_be S.items_of candidates.now) (components_of reader.entry.snapshot.now.release
+        (S.items_of from.now))) (own_floor reader.entry.indexes.now (physical_members (physical_of operand.now)))
+        visits.old visits.new) }
 {
     // the concepts rise
     reader.concept_count();

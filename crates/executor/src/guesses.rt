@@ -224,7 +224,8 @@ pub fn rows_without(plan: &ConceptPlan, indexes: &Indexes) -> u64
     }
 }
 
-/// How many rows that part reads which is executed next, from a place on, where another was executed first; none where no part is left.
+/// How many rows that part reads which is executed next, from a place on, where another was executed first; none where
+/// no part is left.
 pub fn rows_behind(parts: &[ConceptPlan], place: usize, first: usize, indexes: &Indexes) -> u64 {
     match parts.get(place_behind(place, first)) {
         Some(part) => rows_without(part, indexes),
@@ -232,8 +233,8 @@ pub fn rows_behind(parts: &[ConceptPlan], place: usize, first: usize, indexes: &
     }
 }
 
-/// How many rows that part of groups reads which is executed next, from a place on, where another was executed first; none where no
-/// part is left.
+/// How many rows that part of groups reads which is executed next, from a place on, where another was executed first;
+/// none where no part is left.
 pub fn unit_rows_behind(parts: &[UnitPlan], place: usize, first: usize, indexes: &Indexes) -> u64 {
     match parts.get(place_behind(place, first)) {
         Some(part) => unit_rows_without(part, indexes),

@@ -15,7 +15,8 @@ use set_algebra::ConceptPlan;
 use std::alloc::AllocError;
 
 /// The candidates among the concepts that all of some plans mean; of no plans each candidate. One part is executed
-/// first, and each of the others for what is left. What each has found is gone through once more, to see how much there is of it.
+/// first, and each of the others for what is left. What each has found is gone through once more, to see how much there
+/// is of it.
 #[cycle(execute)]
 pub fn in_all<S: ConceptSet>(
     reader: Reader<'_>,
@@ -24,9 +25,10 @@ pub fn in_all<S: ConceptSet>(
     visits: &mut Counter,
 ) -> Result<Answer<S>, AllocError>
     requires candidates { AreConcepts S.ConceptSet reader.snapshot.now.release reader.indexes.now candidates.now }
-    ensures counted { CountsPlan reader.entry.indexes.now (physical_and (physicals_of parts.now)) visits.old visits.new }
-    ensures found { IfOk result (AnswersPlan S.ConceptSet reader.entry.snapshot.now.release reader.entry.indexes.now candidates.now
-        (physical_and (physicals_of parts.now)) visits.old visits.new) }
+    ensures counted { CountsPlan reader.entry.indexes.now (physical_and (physicals_of parts.now)) visits.old
+        visits.new }
+    ensures found { IfOk result (AnswersPlan S.ConceptSet reader.entry.snapshot.now.release reader.entry.indexes.now
+        candidates.now (physical_and (physicals_of parts.now)) visits.old visits.new) }
 {
     if parts.is_empty() {
         let every = every_candidate(reader, candidates)?;
@@ -61,8 +63,8 @@ pub fn in_some<S: ConceptSet>(
 ) -> Result<Answer<S>, AllocError>
     requires candidates { AreConcepts S.ConceptSet reader.snapshot.now.release reader.indexes.now candidates.now }
     ensures counted { CountsPlan reader.entry.indexes.now (physical_or (physicals_of parts.now)) visits.old visits.new }
-    ensures found { IfOk result (AnswersPlan S.ConceptSet reader.entry.snapshot.now.release reader.entry.indexes.now candidates.now
-        (physical_or (physicals_of parts.now)) visits.old visits.new) }
+    ensures found { IfOk result (AnswersPlan S.ConceptSet reader.entry.snapshot.now.release reader.entry.indexes.now
+        candidates.now (physical_or (physicals_of parts.now)) visits.old visits.new) }
     ensures adds { IfOk result (λ found. Adds (S.items_of found) tally.old tally.new) }
 {
     // the concepts rise, and the sources of all attribute rows are in force

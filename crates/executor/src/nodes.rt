@@ -25,7 +25,8 @@ pub fn every_candidate<S: ConceptSet>(
     candidates: &Candidates<'_, S>,
 ) -> Result<Answer<S>, AllocError>
     requires { AreBelow S.bound_of (length reader.snapshot.now.release.concepts) candidates.now }
-    ensures items { IfOk result (λ found. S.items_of found ≡ filter (may_be S.items_of candidates.now) (range_with_len 0 (length reader.entry.snapshot.now.release.concepts))) }
+    ensures items { IfOk result (λ found. S.items_of found ≡ filter (may_be S.items_of candidates.now)
+        (range_with_len 0 (length reader.entry.snapshot.now.release.concepts))) }
     ensures bound { IfOk result (λ found. S.bound_of found ≡ length reader.entry.snapshot.now.release.concepts) }
 {
     let every = Answer::every(reader.alloc, reader.concept_count())?;
@@ -46,7 +47,8 @@ pub fn every_candidate_group<S: ConceptSet>(
     candidates: &Candidates<'_, S>,
 ) -> Result<Answer<S>, AllocError>
     requires candidates { AreBelow S.bound_of (length (all_groups reader.snapshot.now.release)) candidates.now }
-    ensures items { IfOk result (λ found. S.items_of found ≡ filter (may_be S.items_of candidates.now) (range_with_len 0 (length (all_groups reader.entry.snapshot.now.release)))) }
+    ensures items { IfOk result (λ found. S.items_of found ≡ filter (may_be S.items_of candidates.now)
+        (range_with_len 0 (length (all_groups reader.entry.snapshot.now.release)))) }
     ensures bound { IfOk result (λ found. S.bound_of found ≡ length (all_groups reader.entry.snapshot.now.release)) }
 {
     let every = Answer::every(reader.alloc, group_count(reader))?;
@@ -70,7 +72,8 @@ pub fn one_candidate<S: ConceptSet>(
 ) -> Result<Answer<S>, AllocError>
     requires { AreBelow S.bound_of (length reader.snapshot.now.release.concepts) candidates.now }
     ensures items { IfOk result (λ found. S.items_of found ≡ filter (may_be S.items_of candidates.now)
-        (numbers_in reader.entry.snapshot.now.release (λ concept. has_concept reader.entry.snapshot.now.release concept && (concept == id)))) }
+        (numbers_in reader.entry.snapshot.now.release
+        (λ concept. has_concept reader.entry.snapshot.now.release concept && (concept == id)))) }
     ensures bound { IfOk result (λ found. S.bound_of found ≡ length reader.entry.snapshot.now.release.concepts) }
 {
     let one = one_concept(reader, id)?;
@@ -79,7 +82,8 @@ pub fn one_candidate<S: ConceptSet>(
 
 // The concept in force with an identifier, if there is one.
 fn one_concept<S: ConceptSet>(reader: Reader<'_>, id: u64) -> Result<Answer<S>, AllocError>
-    ensures items { IfOk result (λ found. S.items_of found ≡ numbers_in reader.entry.snapshot.now.release (λ concept. has_concept reader.entry.snapshot.now.release concept && (concept == id))) }
+    ensures items { IfOk result (λ found. S.items_of found ≡ numbers_in reader.entry.snapshot.now.release
+        (λ concept. has_concept reader.entry.snapshot.now.release concept && (concept == id))) }
     ensures bound { IfOk result (λ found. S.bound_of found ≡ length reader.entry.snapshot.now.release.concepts) }
 {
     let count = reader.concept_count();

@@ -2,7 +2,8 @@
 ghost use Rattle.std.specs.Prelude.{◌≡◌, ◌≤◌, ◌+◌, ◌-◌, ◌^◌, IfOk, length, min};
 ghost use Rattle.postings.specs.Indexed.{IsIndexOf};
 ghost use Rattle.set_algebra.specs.Meaning.{means};
-ghost use Rattle.set_algebra.specs.Physical.{physical_members, physical_minus, physical_of, physical_pairs, physical_test_of, physical_units};
+ghost use Rattle.set_algebra.specs.Physical.{physical_members, physical_minus, physical_of, physical_pairs};
+ghost use Rattle.set_algebra.specs.Physical.{physical_test_of, physical_units};
 ghost use Rattle.set_algebra.specs.Physical.{physical_units_of};
 ghost use Rattle.set_algebra.specs.Plan.{plan_of};
 ghost use Rattle.plan_bounds.specs.Bounds.{bound as bound_of};
@@ -34,10 +35,10 @@ use reading::{Answer, Counter, Reader, Visits};
 use set_algebra::{ConceptPlan, UnitPlan, ValueTest};
 use std::alloc::{AllocError, Global};
 
-/// The concepts that a plan means over a release, as a set of their numbers whose bound is the number of concepts, whatever the
-/// choices of its leaves. The indexes are those of the release. What is read is counted: no more than the bound of the plan,
-/// also where the answer is an error; and at least its floor where it is none, or the count stands at `u64::MAX`. The error is
-/// want of memory.
+/// The concepts that a plan means over a release, as a set of their numbers whose bound is the number of concepts,
+/// whatever the choices of its leaves. The indexes are those of the release. What is read is counted: no more than the
+/// bound of the plan, also where the answer is an error; and at least its floor where it is none, or the count stands
+/// at `u64::MAX`. The error is want of memory.
 pub fn execute<S: ConceptSet>(
     alloc: Global,
     physical: &PhysicalPlan,
@@ -46,11 +47,13 @@ pub fn execute<S: ConceptSet>(
     visits: &mut Visits,
 ) -> Result<S, AllocError>
     requires index { IsIndexOf indexes.now snapshot.now.release }
-    ensures items { IfOk result (λ found. S.items_of found ≡ numbers_in snapshot.now.release (means snapshot.now.release (plan_of physical.now.plan))) }
+    ensures items { IfOk result (λ found. S.items_of found ≡ numbers_in snapshot.now.release
+        (means snapshot.now.release (plan_of physical.now.plan))) }
     ensures bound { IfOk result (λ found. S.bound_of found ≡ length snapshot.now.release.concepts) }
     ensures grows { visits.old.count ≤ visits.new.count }
     ensures within { visits.new.count ≤ visits.old.count + bound_of indexes.now (physical_of physical.now.plan) }
-    ensures floor { IfOk result (λ _. min (visits.old.count + floor_of indexes.now (physical_of physical.now.plan)) (2 ^ 64 - 1) ≤ visits.new.count) }
+    ensures floor { IfOk result (λ _. min (visits.old.count + floor_of indexes.now (physical_of physical.now.plan))
+        (2 ^ 64 - 1) ≤ visits.new.count) }
 {
     let plan = physical.plan();
     let (reader, mut counter) = Reader::open(alloc, snapshot, indexes, *visits);
@@ -70,17 +73,18 @@ pub fn execute_within<S: ConceptSet>(
 ) -> Result<Answer<S>, AllocError>
     requires candidates { AreConcepts S.ConceptSet reader.snapshot.now.release reader.indexes.now candidates.now }
     ensures counted { CountsPlan reader.entry.indexes.now (physical_of plan.now) visits.old visits.new }
-    ensures found { IfOk result (AnswersPlan S.ConceptSet reader.entry.snapshot.now.release reader.entry.indexes.now candidates.now
-        (physical_of plan.now) visits.old visits.new) }
-    ensures size { IfOk result (λ found. length (S.items_of found) ≤ size_of reader.entry.indexes.now (physical_of plan.now)) }
+    ensures found { IfOk result (AnswersPlan S.ConceptSet reader.entry.snapshot.now.release reader.entry.indexes.now
+        candidates.now (physical_of plan.now) visits.old visits.new) }
+    ensures size { IfOk result (λ found. length (S.items_of found) ≤ size_of reader.entry.indexes.now
+        (physical_of plan.now)) }
 {
     let mut tally = RowTally::unasked();
     let found = execute_tallied(reader, plan, candidates, visits, &mut tally)?;
     Ok(found)
 }
 
-/// The same, and how many rows they have as values, if that is asked for and shows as they are found. Where there is no candidate the
-/// plan is left out, and its floor counted.
+/// The same, and how many rows they have as values, if that is asked for and shows as they are found. Where there is no
+/// candidate the plan is left out, and its floor counted.
 #[cycle(execute)]
 pub fn execute_tallied<S: ConceptSet>(
     reader: Reader<'_>,
@@ -91,9 +95,10 @@ pub fn execute_tallied<S: ConceptSet>(
 ) -> Result<Answer<S>, AllocError>
     requires candidates { AreConcepts S.ConceptSet reader.snapshot.now.release reader.indexes.now candidates.now }
     ensures counted { CountsPlan reader.entry.indexes.now (physical_of plan.now) visits.old visits.new }
-    ensures found { IfOk result (AnswersPlan S.ConceptSet reader.entry.snapshot.now.release reader.entry.indexes.now candidates.now
-        (physical_of plan.now) visits.old visits.new) }
-    ensures size { IfOk result (λ found. length (S.items_of found) ≤ size_of reader.entry.indexes.now (physical_of plan.now)) }
+    ensures found { IfOk result (AnswersPlan S.ConceptSet reader.entry.snapshot.now.release reader.entry.indexes.now
+        candidates.now (physical_of plan.now) visits.old visits.new) }
+    ensures size { IfOk result (λ found. length (S.items_of found) ≤ size_of reader.entry.indexes.now
+        (physical_of plan.now)) }
     ensures adds { IfOk result (λ found. Adds (S.items_of found) tally.old tally.new) }
 {
     // the concepts rise, and the sources of all attribute rows are in force
@@ -121,8 +126,8 @@ fn execute_node<S: ConceptSet>(
 ) -> Result<Answer<S>, AllocError>
     requires candidates { AreConcepts S.ConceptSet reader.snapshot.now.release reader.indexes.now candidates.now }
     ensures counted { CountsPlan reader.entry.indexes.now (physical_of plan.now) visits.old visits.new }
-    ensures found { IfOk result (AnswersPlan S.ConceptSet reader.entry.snapshot.now.release reader.entry.indexes.now candidates.now
-        (physical_of plan.now) visits.old visits.new) }
+    ensures found { IfOk result (AnswersPlan S.ConceptSet reader.entry.snapshot.now.release reader.entry.indexes.now
+        candidates.now (physical_of plan.now) visits.old visits.new) }
     ensures adds { IfOk result (λ found. Adds (S.items_of found) tally.old tally.new) }
 {
     tally_named(reader, plan, tally);
@@ -164,9 +169,10 @@ fn members_of<S: ConceptSet>(
     visits: &mut Counter,
 ) -> Result<Answer<S>, AllocError>
     requires candidates { AreConcepts S.ConceptSet reader.snapshot.now.release reader.indexes.now candidates.now }
-    ensures counted { CountsPlan reader.entry.indexes.now (physical_members (physical_of operand.now)) visits.old visits.new }
-    ensures found { IfOk result (AnswersPlan S.ConceptSet reader.entry.snapshot.now.release reader.entry.indexes.now candidates.now
-        (physical_members (physical_of operand.now)) visits.old visits.new) }
+    ensures counted { CountsPlan reader.entry.indexes.now (physical_members (physical_of operand.now)) visits.old
+        visits.new }
+    ensures found { IfOk result (AnswersPlan S.ConceptSet reader.entry.snapshot.now.release reader.entry.indexes.now
+        candidates.now (physical_members (physical_of operand.now)) visits.old visits.new) }
 {
     let all = Candidates::All;
     let from: Answer<S> = execute_within(reader, operand, &all, visits)?;
@@ -174,7 +180,8 @@ fn members_of<S: ConceptSet>(
     Ok(found)
 }
 
-// The same of a plan of what the first of two plans means and the second does not. The second is executed for what is left.
+// The same of a plan of what the first of two plans means and the second does not. The second is executed for what is
+// left.
 #[cycle(execute)]
 fn in_first_alone<S: ConceptSet>(
     reader: Reader<'_>,
@@ -184,9 +191,10 @@ fn in_first_alone<S: ConceptSet>(
     visits: &mut Counter,
 ) -> Result<Answer<S>, AllocError>
     requires candidates { AreConcepts S.ConceptSet reader.snapshot.now.release reader.indexes.now candidates.now }
-    ensures counted { CountsPlan reader.entry.indexes.now (physical_minus (physical_of first.now) (physical_of second.now)) visits.old visits.new }
-    ensures found { IfOk result (AnswersPlan S.ConceptSet reader.entry.snapshot.now.release reader.entry.indexes.now candidates.now
-        (physical_minus (physical_of first.now) (physical_of second.now)) visits.old visits.new) }
+    ensures counted { CountsPlan reader.entry.indexes.now (physical_minus (physical_of first.now)
+        (physical_of second.now)) visits.old visits.new }
+    ensures found { IfOk result (AnswersPlan S.ConceptSet reader.entry.snapshot.now.release reader.entry.indexes.now
+        candidates.now (physical_minus (physical_of first.now) (physical_of second.now)) visits.old visits.new) }
 {
     let left: Answer<S> = execute_within(reader, first, candidates, visits)?;
     let extent = second_part(reader, first, second, &left, candidates, visits)?;
@@ -209,9 +217,11 @@ fn pairs_within<S: ConceptSet>(
     visits: &mut Counter,
 ) -> Result<Answer<S>, AllocError>
     requires candidates { AreConcepts S.ConceptSet reader.snapshot.now.release reader.indexes.now candidates.now }
-    ensures counted { CountsPlan reader.entry.indexes.now (physical_pairs back count (physical_of types.now) (physical_test_of test.now) choice) visits.old visits.new }
-    ensures found { IfOk result (AnswersPlan S.ConceptSet reader.entry.snapshot.now.release reader.entry.indexes.now candidates.now
-        (physical_pairs back count (physical_of types.now) (physical_test_of test.now) choice) visits.old visits.new) }
+    ensures counted { CountsPlan reader.entry.indexes.now (physical_pairs back count (physical_of types.now)
+        (physical_test_of test.now) choice) visits.old visits.new }
+    ensures found { IfOk result (AnswersPlan S.ConceptSet reader.entry.snapshot.now.release reader.entry.indexes.now
+        candidates.now (physical_pairs back count (physical_of types.now) (physical_test_of test.now) choice) visits.old
+        visits.new) }
 {
     // the concepts rise
     reader.concept_count();
@@ -239,8 +249,8 @@ fn pairs_within<S: ConceptSet>(
     Ok(found)
 }
 
-// Adds the rows of the concept that a plan names. Those of what a walk or an OR finds are added as it is found; how many any other
-// plan finds is not known.
+// Adds the rows of the concept that a plan names. Those of what a walk or an OR finds are added as it is found; how
+// many any other plan finds is not known.
 fn tally_named(reader: Reader<'_>, plan: &ConceptPlan, tally: &mut RowTally<'_>)
     ensures { AddsNamed reader.entry.snapshot.now.release (plan_of plan.now) tally.old tally.new }
 {
@@ -267,9 +277,10 @@ fn units_within<S: ConceptSet>(
     visits: &mut Counter,
 ) -> Result<Answer<S>, AllocError>
     requires candidates { AreConcepts S.ConceptSet reader.snapshot.now.release reader.indexes.now candidates.now }
-    ensures counted { CountsPlan reader.entry.indexes.now (physical_units count (physical_units_of units.now)) visits.old visits.new }
-    ensures found { IfOk result (AnswersPlan S.ConceptSet reader.entry.snapshot.now.release reader.entry.indexes.now candidates.now
-        (physical_units count (physical_units_of units.now)) visits.old visits.new) }
+    ensures counted { CountsPlan reader.entry.indexes.now (physical_units count (physical_units_of units.now))
+        visits.old visits.new }
+    ensures found { IfOk result (AnswersPlan S.ConceptSet reader.entry.snapshot.now.release reader.entry.indexes.now
+        candidates.now (physical_units count (physical_units_of units.now)) visits.old visits.new) }
 {
     // the concepts rise, so that each has its groups once
     reader.concept_count();

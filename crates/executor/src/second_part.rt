@@ -1,5 +1,5 @@
-//! What MINUS does between its two parts: it sees how much there is of what the first has found, for which alone the second is
-//! executed.
+//! What MINUS does between its two parts: it sees how much there is of what the first has found, for which alone the
+//! second is executed.
 ghost use Rattle.std.specs.Prelude.{◌≡◌, ◌≤◌, All, IfOk, length, true};
 ghost use Rattle.postings.specs.Groups.{all_groups};
 ghost use Rattle.set_algebra.specs.Physical.{physical_minus, physical_units_minus, physical_of, physical_units_of};
@@ -30,7 +30,8 @@ pub fn second_part<S: ConceptSet>(
     requires among { All (λ number. may_be S.items_of candidates.now number ≡ true) (S.items_of left.now) }
     requires size { length (S.items_of left.now) ≤ size_of reader.indexes.now (physical_of first.now) }
     ensures extent { IfOk result (λ extent. IsExtentOf reader.entry.indexes.now (S.items_of left.now) extent) }
-    ensures counted { CountsBeside (length (S.items_of left.now)) (size_of reader.entry.indexes.now (physical_of second.now))
+    ensures counted { CountsBeside (length (S.items_of left.now))
+        (size_of reader.entry.indexes.now (physical_of second.now))
         (own_bound reader.entry.indexes.now (physical_minus (physical_of first.now) (physical_of second.now)))
         visits.old visits.new }
 {
@@ -56,9 +57,9 @@ pub fn second_unit_part<S: ConceptSet>(
     requires among { All (λ number. may_be S.items_of candidates.now number ≡ true) (S.items_of left.now) }
     requires size { length (S.items_of left.now) ≤ group_size reader.indexes.now (physical_units_of first.now) }
     ensures extent { IfOk result (λ extent. IsGroupExtentOf reader.entry.indexes.now (S.items_of left.now) extent) }
-    ensures counted { CountsBeside (length (S.items_of left.now)) (group_size reader.entry.indexes.now (physical_units_of second.now))
-        (group_own_bound reader.entry.indexes.now (physical_units_minus (physical_units_of first.now) (physical_units_of second.now)))
-        visits.old visits.new }
+    ensures counted { CountsBeside (length (S.items_of left.now))
+        (group_size reader.entry.indexes.now (physical_units_of second.now)) (group_own_bound reader.entry.indexes.now
+        (physical_units_minus (physical_units_of first.now) (physical_units_of second.now))) visits.old visits.new }
 {
     let sizes = (
         unit_size(first, reader.indexes),

@@ -1,7 +1,9 @@
 //! Going down a plan of groups.
 ghost use Rattle.std.specs.Prelude.{◌≡◌, ◌≤◌, ◌<◌, ◌+◌, ◌*◌, IfOk, length, min};
 ghost use Rattle.postings.specs.Groups.{all_groups};
-ghost use Rattle.set_algebra.specs.Physical.{physical_units_and, physical_units_minus, physical_units_or, physical_units_pairs, physical_of, physical_test_of, physical_units_of, physical_units_list_of};
+ghost use Rattle.set_algebra.specs.Physical.{physical_units_and, physical_units_minus, physical_units_or};
+ghost use Rattle.set_algebra.specs.Physical.{physical_units_pairs, physical_of, physical_test_of, physical_units_of};
+ghost use Rattle.set_algebra.specs.Physical.{physical_units_list_of};
 ghost use Rattle.plan_bounds.specs.Bounds.{own_number};
 ghost use Rattle.plan_bounds.specs.Nodes.{group_sum};
 ghost use Rattle.plan_bounds.specs.Sizes.{group_size};
@@ -23,8 +25,8 @@ use reading::{Answer, Counter, Reader};
 use set_algebra::{ConceptPlan, UnitPlan, ValueTest};
 use std::alloc::AllocError;
 
-/// The candidates among the groups that a plan means, as a set of their numbers whose bound is the number of groups; they are
-/// no more than its size. Where there is no candidate the plan is left out, and its floor counted.
+/// The candidates among the groups that a plan means, as a set of their numbers whose bound is the number of groups;
+/// they are no more than its size. Where there is no candidate the plan is left out, and its floor counted.
 #[cycle(execute)]
 pub fn execute_groups<S: ConceptSet>(
     reader: Reader<'_>,
@@ -34,9 +36,10 @@ pub fn execute_groups<S: ConceptSet>(
 ) -> Result<Answer<S>, AllocError>
     requires candidates { AreGroups S.ConceptSet reader.snapshot.now.release reader.indexes.now candidates.now }
     ensures counted { CountsUnits reader.entry.indexes.now (physical_units_of plan.now) visits.old visits.new }
-    ensures found { IfOk result (AnswersUnits S.ConceptSet reader.entry.snapshot.now.release reader.entry.indexes.now candidates.now
-        (physical_units_of plan.now) visits.old visits.new) }
-    ensures size { IfOk result (λ found. length (S.items_of found) ≤ group_size reader.entry.indexes.now (physical_units_of plan.now)) }
+    ensures found { IfOk result (AnswersUnits S.ConceptSet reader.entry.snapshot.now.release reader.entry.indexes.now
+        candidates.now (physical_units_of plan.now) visits.old visits.new) }
+    ensures size { IfOk result (λ found. length (S.items_of found) ≤ group_size reader.entry.indexes.now
+        (physical_units_of plan.now)) }
 {
     // the concepts rise, and the sources of all attribute rows are in force
     reader.concept_count();
@@ -61,8 +64,8 @@ fn execute_group_node<S: ConceptSet>(
 ) -> Result<Answer<S>, AllocError>
     requires candidates { AreGroups S.ConceptSet reader.snapshot.now.release reader.indexes.now candidates.now }
     ensures counted { CountsUnits reader.entry.indexes.now (physical_units_of plan.now) visits.old visits.new }
-    ensures found { IfOk result (AnswersUnits S.ConceptSet reader.entry.snapshot.now.release reader.entry.indexes.now candidates.now
-        (physical_units_of plan.now) visits.old visits.new) }
+    ensures found { IfOk result (AnswersUnits S.ConceptSet reader.entry.snapshot.now.release reader.entry.indexes.now
+        candidates.now (physical_units_of plan.now) visits.old visits.new) }
 {
     match plan {
         UnitPlan::Nothing => no_group(reader),
@@ -81,7 +84,8 @@ fn execute_group_node<S: ConceptSet>(
     }
 }
 
-// The same of a plan of what the first of two plans means and the second does not. The second is executed for what is left.
+// The same of a plan of what the first of two plans means and the second does not. The second is executed for what is
+// left.
 #[cycle(execute)]
 fn groups_in_first_alone<S: ConceptSet>(
     reader: Reader<'_>,
@@ -91,9 +95,11 @@ fn groups_in_first_alone<S: ConceptSet>(
     visits: &mut Counter,
 ) -> Result<Answer<S>, AllocError>
     requires candidates { AreGroups S.ConceptSet reader.snapshot.now.release reader.indexes.now candidates.now }
-    ensures counted { CountsUnits reader.entry.indexes.now (physical_units_minus (physical_units_of first.now) (physical_units_of second.now)) visits.old visits.new }
-    ensures found { IfOk result (AnswersUnits S.ConceptSet reader.entry.snapshot.now.release reader.entry.indexes.now candidates.now
-        (physical_units_minus (physical_units_of first.now) (physical_units_of second.now)) visits.old visits.new) }
+    ensures counted { CountsUnits reader.entry.indexes.now (physical_units_minus (physical_units_of first.now)
+        (physical_units_of second.now)) visits.old visits.new }
+    ensures found { IfOk result (AnswersUnits S.ConceptSet reader.entry.snapshot.now.release reader.entry.indexes.now
+        candidates.now (physical_units_minus (physical_units_of first.now) (physical_units_of second.now)) visits.old
+        visits.new) }
 {
     let left: Answer<S> = execute_groups(reader, first, candidates, visits)?;
     let extent = second_unit_part(reader, first, second, &left, candidates, visits)?;
@@ -115,9 +121,11 @@ fn groups_with_pairs<S: ConceptSet>(
     visits: &mut Counter,
 ) -> Result<Answer<S>, AllocError>
     requires candidates { AreGroups S.ConceptSet reader.snapshot.now.release reader.indexes.now candidates.now }
-    ensures counted { CountsUnits reader.entry.indexes.now (physical_units_pairs count (physical_of types.now) (physical_test_of test.now) choice) visits.old visits.new }
-    ensures found { IfOk result (AnswersUnits S.ConceptSet reader.entry.snapshot.now.release reader.entry.indexes.now candidates.now
-        (physical_units_pairs count (physical_of types.now) (physical_test_of test.now) choice) visits.old visits.new) }
+    ensures counted { CountsUnits reader.entry.indexes.now (physical_units_pairs count (physical_of types.now)
+        (physical_test_of test.now) choice) visits.old visits.new }
+    ensures found { IfOk result (AnswersUnits S.ConceptSet reader.entry.snapshot.now.release reader.entry.indexes.now
+        candidates.now (physical_units_pairs count (physical_of types.now) (physical_test_of test.now) choice)
+        visits.old visits.new) }
 {
     // the concepts rise
     reader.concept_count();
@@ -154,9 +162,10 @@ fn groups_in_all<S: ConceptSet>(
     visits: &mut Counter,
 ) -> Result<Answer<S>, AllocError>
     requires candidates { AreGroups S.ConceptSet reader.snapshot.now.release reader.indexes.now candidates.now }
-    ensures counted { CountsUnits reader.entry.indexes.now (physical_units_and (physical_units_list_of parts.now)) visits.old visits.new }
-    ensures found { IfOk result (AnswersUnits S.ConceptSet reader.entry.snapshot.now.release reader.entry.indexes.now candidates.now
-        (physical_units_and (physical_units_list_of parts.now)) visits.old visits.new) }
+    ensures counted { CountsUnits reader.entry.indexes.now (physical_units_and (physical_units_list_of parts.now))
+        visits.old visits.new }
+    ensures found { IfOk result (AnswersUnits S.ConceptSet reader.entry.snapshot.now.release reader.entry.indexes.now
+        candidates.now (physical_units_and (physical_units_list_of parts.now)) visits.old visits.new) }
 {
     if parts.is_empty() {
         let every = every_candidate_group(reader, candidates)?;
@@ -188,9 +197,10 @@ fn groups_in_some<S: ConceptSet>(
     visits: &mut Counter,
 ) -> Result<Answer<S>, AllocError>
     requires candidates { AreGroups S.ConceptSet reader.snapshot.now.release reader.indexes.now candidates.now }
-    ensures counted { CountsUnits reader.entry.indexes.now (physical_units_or (physical_units_list_of parts.now)) visits.old visits.new }
-    ensures found { IfOk result (AnswersUnits S.ConceptSet reader.entry.snapshot.now.release reader.entry.indexes.now candidates.now
-        (physical_units_or (physical_units_list_of parts.now)) visits.old visits.new) }
+    ensures counted { CountsUnits reader.entry.indexes.now (physical_units_or (physical_units_list_of parts.now))
+        visits.old visits.new }
+    ensures found { IfOk result (AnswersUnits S.ConceptSet reader.entry.snapshot.now.release reader.entry.indexes.now
+        candidates.now (physical_units_or (physical_units_list_of parts.now)) visits.old visits.new) }
 {
     // the concepts rise, and the sources of all attribute rows are in force
     reader.concept_count();

@@ -23,9 +23,9 @@ use set_algebra::ConceptPlan;
 use std::alloc::AllocError;
 use walks::{are_enough, enough_for, led_among};
 
-/// The candidates among the concepts that an operator leads to from those that a plan means. Where few candidates are asked, it is
-/// executed for what is in the lists by which they are asked alone. The rows are added of what is found from one concept, if the tally
-/// asks for them.
+/// The candidates among the concepts that an operator leads to from those that a plan means. Where few candidates are
+/// asked, it is executed for what is in the lists by which they are asked alone. The rows are added of what is found
+/// from one concept, if the tally asks for them.
 #[cycle(execute)]
 pub fn walk_from<S: ConceptSet>(
     reader: Reader<'_>,
@@ -36,9 +36,10 @@ pub fn walk_from<S: ConceptSet>(
     tally: &mut RowTally<'_>,
 ) -> Result<Answer<S>, AllocError>
     requires candidates { AreConcepts S.ConceptSet reader.snapshot.now.release reader.indexes.now candidates.now }
-    ensures counted { CountsPlan reader.entry.indexes.now (physical_walk operator (physical_of operand.now)) visits.old visits.new }
-    ensures found { IfOk result (AnswersPlan S.ConceptSet reader.entry.snapshot.now.release reader.entry.indexes.now candidates.now
-        (physical_walk operator (physical_of operand.now)) visits.old visits.new) }
+    ensures counted { CountsPlan reader.entry.indexes.now (physical_walk operator (physical_of operand.now)) visits.old
+        visits.new }
+    ensures found { IfOk result (AnswersPlan S.ConceptSet reader.entry.snapshot.now.release reader.entry.indexes.now
+        candidates.now (physical_walk operator (physical_of operand.now)) visits.old visits.new) }
     ensures adds { IfOk result (λ found. Adds (S.items_of found) tally.old tally.new) }
 {
     let count = reader.concept_count();
@@ -56,8 +57,9 @@ pub fn walk_from<S: ConceptSet>(
     Ok(found)
 }
 
-// Those of a set, which are few. They and the lists by which they are asked are read to see for which concepts the plan has to be
-// executed, which are enough for them; these may be read to see how much there is of them; and the few are asked.
+// Those of a set, which are few. They and the lists by which they are asked are read to see for which concepts the plan
+// has to be executed, which are enough for them; these may be read to see how much there is of them; and the few are
+// asked.
 #[cycle(execute)]
 fn walk_to_few<S: ConceptSet>(
     reader: Reader<'_>,
@@ -71,10 +73,13 @@ fn walk_to_few<S: ConceptSet>(
     requires several { one_of (physical_of operand.now) ≡ None }
     requires room { full (asked_items reader.indexes.now.hierarchy operator (S.items_of wanted.now))
         ≤ lists_length reader.indexes.now operator / 3 }
-    ensures counted { CountsPlan reader.entry.indexes.now (physical_walk operator (physical_of operand.now)) visits.old visits.new }
+    ensures counted { CountsPlan reader.entry.indexes.now (physical_walk operator (physical_of operand.now)) visits.old
+        visits.new }
     ensures found { IfOk result (IsFound S.ConceptSet (length reader.entry.snapshot.now.release.concepts)
-        (numbers_within reader.entry.snapshot.now.release (has (S.items_of wanted.now)) (means reader.entry.snapshot.now.release (logical (physical_walk operator (physical_of operand.now)))))
-        (node_sum (floor_number reader.entry.indexes.now) (physical_walk operator (physical_of operand.now))) visits.old visits.new) }
+        (numbers_within reader.entry.snapshot.now.release (has (S.items_of wanted.now))
+        (means reader.entry.snapshot.now.release (logical (physical_walk operator (physical_of operand.now)))))
+        (node_sum (floor_number reader.entry.indexes.now) (physical_walk operator (physical_of operand.now))) visits.old
+        visits.new) }
 {
     let enough: Answer<S> = enough_for(reader, operator, wanted, visits)?;
     let extent = extent_of(reader, &enough, rows, visits)?;

@@ -1,12 +1,14 @@
 //! The candidates with so many pairs, by the rows of the candidates.
-ghost use Rattle.std.specs.Prelude.{◌≡◌, ◌<◌, ◌&&◌, All, List, cond, count_by, not, true, IfOk, filter, length, slice_get};
+ghost use Rattle.std.specs.Prelude.{◌≡◌, ◌<◌, ◌&&◌, All, List, cond, count_by, not, true, IfOk, filter, length};
+ghost use Rattle.std.specs.Prelude.{slice_get};
 ghost use Rattle.std.specs.List.{sum_by};
 ghost use Rattle.constraint_tree.specs.Passing.{lies_in as lies_in_of};
 ghost use Rattle.postings.specs.Columns.{AreSources, AreTypes};
 ghost use Rattle.postings.specs.Entries.{Entry};
 ghost use Rattle.postings.specs.Groups.{groups_in};
 ghost use Rattle.postings.specs.Indexed.{types_of};
-ghost use Rattle.pair_sets.specs.inside.Among.{pairs_among as pairs_among_of, pairs_of_concept as pairs_of_concept_of, rows_of_unit};
+ghost use Rattle.pair_sets.specs.inside.Among.{pairs_among as pairs_among_of, pairs_of_concept as pairs_of_concept_of};
+ghost use Rattle.pair_sets.specs.inside.Among.{rows_of_unit};
 ghost use Rattle.pair_sets.specs.inside.Hits.{has_source_in, is_type_in, value_of};
 ghost use Rattle.candidates.specs.Extents.{group_row_count};
 ghost use Rattle.candidates.specs.Numbers.{is_one_of};
@@ -34,8 +36,8 @@ fn lies_in(count: Cardinality, pairs: u64) -> bool
     }
 }
 
-// How many of some rows are the first with their pair, in their group or in their concept, and have a type that is one of
-// some and a value that passes.
+// How many of some rows are the first with their pair, in their group or in their concept, and have a type that is one
+// of some and a value that passes.
 fn pairs_among<S: ConceptSet>(
     reader: Reader<'_>,
     rows: &[u32],
@@ -46,7 +48,8 @@ fn pairs_among<S: ConceptSet>(
     requires rows { All (λ n. n < length reader.indexes.now.rows) rows.now }
     requires types { S.bound_of types.now ≡ length reader.indexes.now.concepts }
     requires tested { IsTestBelow S.bound_of (length reader.indexes.now.concepts) tested.now }
-    ensures { result ≡ pairs_among_of reader.entry.indexes.now grouped (is_one_of reader.entry.indexes.now.concepts (S.items_of types.now)) (passes_of S.items_of reader.entry.indexes.now.concepts tested.now) rows.now }
+    ensures { result ≡ pairs_among_of reader.entry.indexes.now grouped (is_one_of reader.entry.indexes.now.concepts
+        (S.items_of types.now)) (passes_of S.items_of reader.entry.indexes.now.concepts tested.now) rows.now }
 {
     let mut pairs = 0u64;
     for n in rows {
@@ -69,7 +72,8 @@ fn counts<S: ConceptSet>(
     requires types { S.bound_of types.now ≡ length reader.indexes.now.concepts }
     requires tested { IsTestBelow S.bound_of (length reader.indexes.now.concepts) tested.now }
     ensures { result ≡ (cond grouped row.is_first_in_group row.is_first
-        && (is_type_in reader.entry.indexes.now (S.items_of types.now) row.type_place && passes_of S.items_of reader.entry.indexes.now.concepts tested.now (value_of reader.entry.indexes.now row.value))) }
+        && (is_type_in reader.entry.indexes.now (S.items_of types.now) row.type_place && passes_of S.items_of
+        reader.entry.indexes.now.concepts tested.now (value_of reader.entry.indexes.now row.value))) }
 {
     let first = if grouped {
         row.is_first_in_group
@@ -79,8 +83,8 @@ fn counts<S: ConceptSet>(
     first && is_typed(reader, types, row.type_place) && passes(reader, tested, row.value)
 }
 
-// How many of some rows, by their columns, are the first with their pair, and have a type that is one of some and a source that
-// passes.
+// How many of some rows, by their columns, are the first with their pair, and have a type that is one of some and a
+// source that passes.
 fn back_pairs_among<S: ConceptSet>(
     reader: Reader<'_>,
     sources: &[FlaggedNumber],
@@ -91,8 +95,10 @@ fn back_pairs_among<S: ConceptSet>(
     requires long { length sources.now ≡ length cells.now }
     requires types { S.bound_of types.now ≡ length reader.indexes.now.concepts }
     requires tested { IsTestBelow S.bound_of (length reader.indexes.now.concepts) tested.now }
-    ensures { (entries : List Entry) → AreSources reader.entry.indexes.now.concepts entries sources.now → AreTypes (types_of reader.entry.indexes.now.rows) entries cells.now
-        → result ≡ count_by (λ entry. entry.is_first && has_source_in (is_one_of reader.entry.indexes.now.concepts (S.items_of types.now)) (passes_of S.items_of reader.entry.indexes.now.concepts tested.now) entry.row) entries }
+    ensures { (entries : List Entry) → AreSources reader.entry.indexes.now.concepts entries sources.now
+        → AreTypes (types_of reader.entry.indexes.now.rows) entries cells.now → result
+        ≡ count_by (λ entry. entry.is_first && has_source_in (is_one_of reader.entry.indexes.now.concepts
+        (S.items_of types.now)) (passes_of S.items_of reader.entry.indexes.now.concepts tested.now) entry.row) entries }
 {
     // the concepts rise, so that none has two numbers
     reader.concept_count();
@@ -116,8 +122,9 @@ fn counts_back<S: ConceptSet>(
 ) -> bool
     requires types { S.bound_of types.now ≡ length reader.indexes.now.concepts }
     requires tested { IsTestBelow S.bound_of (length reader.indexes.now.concepts) tested.now }
-    ensures { result ≡ (source.is_first
-        && (is_type_in reader.entry.indexes.now (S.items_of types.now) type_place && passes_of S.items_of reader.entry.indexes.now.concepts tested.now (value_of reader.entry.indexes.now source.number))) }
+    ensures { result ≡ (source.is_first && (is_type_in reader.entry.indexes.now (S.items_of types.now) type_place
+        && passes_of S.items_of reader.entry.indexes.now.concepts tested.now
+        (value_of reader.entry.indexes.now source.number))) }
 {
     let first = source.is_first();
     first && is_typed(reader, types, type_place) && passes(reader, tested, source.number())
@@ -136,7 +143,9 @@ fn pairs_of_concept<S: ConceptSet>(
     requires types { S.bound_of types.now ≡ length reader.indexes.now.concepts }
     requires tested { IsTestBelow S.bound_of (length reader.indexes.now.concepts) tested.now }
     ensures counted { HandsOut (row_count_of reader.entry.indexes.now (not back) concept) visits.old visits.new }
-    ensures pairs { result ≡ pairs_of_concept_of reader.entry.indexes.now back (is_one_of reader.entry.indexes.now.concepts (S.items_of types.now)) (passes_of S.items_of reader.entry.indexes.now.concepts tested.now) concept }
+    ensures pairs { result ≡ pairs_of_concept_of reader.entry.indexes.now back
+        (is_one_of reader.entry.indexes.now.concepts (S.items_of types.now))
+        (passes_of S.items_of reader.entry.indexes.now.concepts tested.now) concept }
 {
     if back {
         let columns = reader.value_columns(concept, visits);
@@ -147,8 +156,8 @@ fn pairs_of_concept<S: ConceptSet>(
     }
 }
 
-/// Of some concepts those so many of whose pairs, of their own or read backwards, have a type that is one of some and a value
-/// that passes.
+/// Of some concepts those so many of whose pairs, of their own or read backwards, have a type that is one of some and a
+/// value that passes.
 pub fn concepts_among<S: ConceptSet>(
     reader: Reader<'_>,
     back: bool,
@@ -161,10 +170,14 @@ pub fn concepts_among<S: ConceptSet>(
     requires concepts { All (λ number. number < length reader.indexes.now.concepts) concepts.now }
     requires types { S.bound_of types.now ≡ length reader.indexes.now.concepts }
     requires tested { IsTestBelow S.bound_of (length reader.indexes.now.concepts) tested.now }
-    ensures within { IfOk result (λ kept. All (λ number. number < length reader.entry.indexes.now.concepts) kept.items) }
-    ensures kept { IfOk result (λ kept. kept.items ≡ filter
-        (λ number. lies_in_of count (pairs_of_concept_of reader.entry.indexes.now back (is_one_of reader.entry.indexes.now.concepts (S.items_of types.now)) (passes_of S.items_of reader.entry.indexes.now.concepts tested.now) number)) concepts.now) }
-    ensures counted { CountsWithin (sum_by (row_count_of reader.entry.indexes.now (not back)) concepts.now) visits.old visits.new }
+    ensures within { IfOk result (λ kept. All (λ number. number < length reader.entry.indexes.now.concepts)
+        kept.items) }
+    ensures kept { IfOk result (λ kept. kept.items
+        ≡ filter (λ number. lies_in_of count (pairs_of_concept_of reader.entry.indexes.now back
+        (is_one_of reader.entry.indexes.now.concepts (S.items_of types.now))
+        (passes_of S.items_of reader.entry.indexes.now.concepts tested.now) number)) concepts.now) }
+    ensures counted { CountsWithin (sum_by (row_count_of reader.entry.indexes.now (not back)) concepts.now) visits.old
+        visits.new }
 {
     let mut kept = Vec::new(reader.alloc);
     for concept in concepts {
@@ -188,10 +201,15 @@ pub fn groups_among<S: ConceptSet>(
     requires groups { All (λ number. number < length (groups_in reader.indexes.now)) groups.now }
     requires types { S.bound_of types.now ≡ length reader.indexes.now.concepts }
     requires tested { IsTestBelow S.bound_of (length reader.indexes.now.concepts) tested.now }
-    ensures within { IfOk result (λ kept. All (λ number. number < length (groups_in reader.entry.indexes.now)) kept.items) }
-    ensures kept { IfOk result (λ kept. kept.items ≡ filter
-        (λ number. lies_in_of count (pairs_among_of reader.entry.indexes.now true (is_one_of reader.entry.indexes.now.concepts (S.items_of types.now)) (passes_of S.items_of reader.entry.indexes.now.concepts tested.now) (rows_of_unit reader.entry.indexes.now (slice_get (groups_in reader.entry.indexes.now) number)))) groups.now) }
-    ensures counted { CountsWithin (sum_by (group_row_count reader.entry.indexes.now) groups.now) visits.old visits.new }
+    ensures within { IfOk result (λ kept. All (λ number. number < length (groups_in reader.entry.indexes.now))
+        kept.items) }
+    ensures kept { IfOk result (λ kept. kept.items
+        ≡ filter (λ number. lies_in_of count (pairs_among_of reader.entry.indexes.now true
+        (is_one_of reader.entry.indexes.now.concepts (S.items_of types.now))
+        (passes_of S.items_of reader.entry.indexes.now.concepts tested.now)
+        (rows_of_unit reader.entry.indexes.now (slice_get (groups_in reader.entry.indexes.now) number)))) groups.now) }
+    ensures counted { CountsWithin (sum_by (group_row_count reader.entry.indexes.now) groups.now) visits.old
+        visits.new }
 {
     let mut kept = Vec::new(reader.alloc);
     for group in groups {

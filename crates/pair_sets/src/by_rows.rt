@@ -28,8 +28,8 @@ use idset::ConceptSet;
 use reading::{Answer, Counter, Reader};
 use std::alloc::{AllocError, Global};
 
-/// By the rows of some concepts, which rise: the concepts so many of whose pairs have a type that is one of some and one of
-/// these as their value; read backwards, as their source.
+/// By the rows of some concepts, which rise: the concepts so many of whose pairs have a type that is one of some and
+/// one of these as their value; read backwards, as their source.
 pub fn with_pairs_by_value<S: ConceptSet>(
     reader: Reader<'_>,
     back: bool,
@@ -43,7 +43,9 @@ pub fn with_pairs_by_value<S: ConceptSet>(
     ensures counted { CountsWithin (sum_by (row_count_of reader.entry.indexes.now back) values.now)
         visits.old visits.new }
     ensures items { IfOk result (λ found. S.items_of found ≡ numbers_in reader.entry.snapshot.now.release
-        (λ concept. has_pairs count (is_one_of reader.entry.indexes.now.concepts (S.items_of types.now)) (is_within (is_one_of reader.entry.indexes.now.concepts values.now)) (pairs_of reader.entry.snapshot.now.release back concept))) }
+        (λ concept. has_pairs count (is_one_of reader.entry.indexes.now.concepts (S.items_of types.now))
+        (is_within (is_one_of reader.entry.indexes.now.concepts values.now)) (pairs_of reader.entry.snapshot.now.release
+        back concept))) }
     ensures bound { IfOk result (λ found. S.bound_of found ≡ length reader.entry.snapshot.now.release.concepts) }
 {
     // all attribute rows are by source, so their sources are in force
@@ -65,8 +67,11 @@ pub fn with_pairs_by_type<S: ConceptSet>(
     requires tested { IsTestBelow S.bound_of (length reader.indexes.now.concepts) tested.now }
     ensures counted { CountsWithin (sum_by (type_row_count reader.entry.indexes.now) ids.now)
         visits.old visits.new }
-    ensures items { IfOk result (λ found. (one : ℕ → Bool) → ids.now ≡ filter one (types_of reader.entry.indexes.now.rows)
-        → S.items_of found ≡ numbers_in reader.entry.snapshot.now.release (λ concept. has_pairs count one (passes_of S.items_of reader.entry.indexes.now.concepts tested.now) (pairs_of reader.entry.snapshot.now.release back concept))) }
+    ensures items { IfOk result (λ found. (one : ℕ → Bool) → ids.now
+        ≡ filter one (types_of reader.entry.indexes.now.rows) → S.items_of found
+        ≡ numbers_in reader.entry.snapshot.now.release
+        (λ concept. has_pairs count one (passes_of S.items_of reader.entry.indexes.now.concepts tested.now)
+        (pairs_of reader.entry.snapshot.now.release back concept))) }
     ensures bound { IfOk result (λ found. S.bound_of found ≡ length reader.entry.snapshot.now.release.concepts) }
 {
     // all attribute rows are by source, so their sources are in force
@@ -75,8 +80,8 @@ pub fn with_pairs_by_type<S: ConceptSet>(
     as_often(reader.alloc, hits.as_slice(), reader.concept_count(), count)
 }
 
-/// By the rows of the candidates: those so many of whose pairs have a type that is one of some and a value that passes; read
-/// backwards, a source that passes. Where all are candidates, all rows are read.
+/// By the rows of the candidates: those so many of whose pairs have a type that is one of some and a value that passes;
+/// read backwards, a source that passes. Where all are candidates, all rows are read.
 pub fn with_pairs_among<S: ConceptSet>(
     reader: Reader<'_>,
     back: bool,
@@ -89,10 +94,13 @@ pub fn with_pairs_among<S: ConceptSet>(
     requires types { S.bound_of types.now ≡ length reader.indexes.now.concepts }
     requires tested { IsTestBelow S.bound_of (length reader.indexes.now.concepts) tested.now }
     requires candidates { AreBelow S.bound_of (length reader.snapshot.now.release.concepts) candidates.now }
-    ensures counted { CountsWithin (candidate_items S.items_of reader.entry.indexes.now (row_count_of reader.entry.indexes.now (not back)) candidates.now)
-        visits.old visits.new }
-    ensures items { IfOk result (λ found. S.items_of found ≡ numbers_within reader.entry.snapshot.now.release (may_be S.items_of candidates.now)
-        (λ concept. has_pairs count (is_one_of reader.entry.indexes.now.concepts (S.items_of types.now)) (passes_of S.items_of reader.entry.indexes.now.concepts tested.now) (pairs_of reader.entry.snapshot.now.release back concept))) }
+    ensures counted { CountsWithin (candidate_items S.items_of reader.entry.indexes.now
+        (row_count_of reader.entry.indexes.now (not back)) candidates.now) visits.old visits.new }
+    ensures items { IfOk result (λ found. S.items_of found ≡ numbers_within reader.entry.snapshot.now.release
+        (may_be S.items_of candidates.now)
+        (λ concept. has_pairs count (is_one_of reader.entry.indexes.now.concepts (S.items_of types.now))
+        (passes_of S.items_of reader.entry.indexes.now.concepts tested.now) (pairs_of reader.entry.snapshot.now.release
+        back concept))) }
     ensures bound { IfOk result (λ found. S.bound_of found ≡ length reader.entry.snapshot.now.release.concepts) }
 {
     // all attribute rows are by source, so their sources are in force
@@ -103,8 +111,8 @@ pub fn with_pairs_among<S: ConceptSet>(
     Answer::from_numbers(reader.alloc, kept.as_slice(), concept_count)
 }
 
-/// By the rows of some concepts, which rise: the groups so many of whose pairs have a type that is one of some and one of these
-/// as their value.
+/// By the rows of some concepts, which rise: the groups so many of whose pairs have a type that is one of some and one
+/// of these as their value.
 pub fn groups_with_pairs_by_value<S: ConceptSet>(
     reader: Reader<'_>,
     count: Cardinality,
@@ -117,7 +125,8 @@ pub fn groups_with_pairs_by_value<S: ConceptSet>(
     ensures counted { CountsWithin (sum_by (row_count_of reader.entry.indexes.now false) values.now)
         visits.old visits.new }
     ensures items { IfOk result (λ found. S.items_of found ≡ groups_where reader.entry.snapshot.now.release
-        (has_pairs count (is_one_of reader.entry.indexes.now.concepts (S.items_of types.now)) (is_within (is_one_of reader.entry.indexes.now.concepts values.now)))) }
+        (has_pairs count (is_one_of reader.entry.indexes.now.concepts (S.items_of types.now))
+        (is_within (is_one_of reader.entry.indexes.now.concepts values.now)))) }
     ensures bound { IfOk result (λ found. S.bound_of found ≡ length (all_groups reader.entry.snapshot.now.release)) }
 {
     reader.concept_count();
@@ -136,8 +145,10 @@ pub fn groups_with_pairs_by_type<S: ConceptSet>(
     requires tested { IsTestBelow S.bound_of (length reader.indexes.now.concepts) tested.now }
     ensures counted { CountsWithin (sum_by (type_row_count reader.entry.indexes.now) ids.now)
         visits.old visits.new }
-    ensures items { IfOk result (λ found. (one : ℕ → Bool) → ids.now ≡ filter one (types_of reader.entry.indexes.now.rows)
-        → S.items_of found ≡ groups_where reader.entry.snapshot.now.release (has_pairs count one (passes_of S.items_of reader.entry.indexes.now.concepts tested.now))) }
+    ensures items { IfOk result (λ found. (one : ℕ → Bool) → ids.now
+        ≡ filter one (types_of reader.entry.indexes.now.rows) → S.items_of found
+        ≡ groups_where reader.entry.snapshot.now.release
+        (has_pairs count one (passes_of S.items_of reader.entry.indexes.now.concepts tested.now))) }
     ensures bound { IfOk result (λ found. S.bound_of found ≡ length (all_groups reader.entry.snapshot.now.release)) }
 {
     reader.concept_count();
@@ -145,8 +156,8 @@ pub fn groups_with_pairs_by_type<S: ConceptSet>(
     as_often(reader.alloc, hits.as_slice(), reader.group_count(), count)
 }
 
-/// By the rows of the candidates: those of these groups so many of whose pairs have a type that is one of some and a value that
-/// passes. Where all are candidates, all rows are read.
+/// By the rows of the candidates: those of these groups so many of whose pairs have a type that is one of some and a
+/// value that passes. Where all are candidates, all rows are read.
 pub fn groups_with_pairs_among<S: ConceptSet>(
     reader: Reader<'_>,
     count: Cardinality,
@@ -158,10 +169,12 @@ pub fn groups_with_pairs_among<S: ConceptSet>(
     requires types { S.bound_of types.now ≡ length reader.indexes.now.concepts }
     requires tested { IsTestBelow S.bound_of (length reader.indexes.now.concepts) tested.now }
     requires candidates { AreBelow S.bound_of (length (all_groups reader.snapshot.now.release)) candidates.now }
-    ensures counted { CountsWithin (candidate_items S.items_of reader.entry.indexes.now (group_row_count reader.entry.indexes.now) candidates.now)
-        visits.old visits.new }
-    ensures items { IfOk result (λ found. S.items_of found ≡ groups_within reader.entry.snapshot.now.release (may_be S.items_of candidates.now)
-        (has_pairs count (is_one_of reader.entry.indexes.now.concepts (S.items_of types.now)) (passes_of S.items_of reader.entry.indexes.now.concepts tested.now))) }
+    ensures counted { CountsWithin (candidate_items S.items_of reader.entry.indexes.now
+        (group_row_count reader.entry.indexes.now) candidates.now) visits.old visits.new }
+    ensures items { IfOk result (λ found. S.items_of found ≡ groups_within reader.entry.snapshot.now.release
+        (may_be S.items_of candidates.now)
+        (has_pairs count (is_one_of reader.entry.indexes.now.concepts (S.items_of types.now))
+        (passes_of S.items_of reader.entry.indexes.now.concepts tested.now))) }
     ensures bound { IfOk result (λ found. S.bound_of found ≡ length (all_groups reader.entry.snapshot.now.release)) }
 {
     reader.concept_count();
@@ -183,7 +196,8 @@ fn numbers_asked<S: ConceptSet>(
     ensures rising { IfOk result (λ numbers. IsRisingBelow bound numbers.items) }
     ensures items { IfOk result (λ numbers. AreListedFor S.items_of candidates.now numbers.items) }
     ensures within { IfOk result (λ numbers. All (λ number. number < bound) numbers.items) }
-    ensures asked { IfOk result (λ numbers. (number : ℕ) → number < bound → has numbers.items number ≡ may_be S.items_of candidates.now number) }
+    ensures asked { IfOk result (λ numbers. (number : ℕ) → number < bound → has numbers.items number ≡ may_be S.items_of
+        candidates.now number) }
 {
     match candidates {
         Candidates::All => {

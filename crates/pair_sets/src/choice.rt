@@ -41,8 +41,8 @@ pub fn leaf_way<S: ConceptSet>(
     requires types { S.bound_of types.now ≡ length reader.indexes.now.concepts }
     requires tested { IsTestBelow S.bound_of (length reader.indexes.now.concepts) tested }
     requires told { AreTold S.items_of reader.indexes.now reads.back tested reads.value_rows }
-    requires room { full (leaf_items S.items_of reader.indexes.now reads.back reads.choice (S.items_of types.now) tested)
-        ≤ reads.bound }
+    requires room { full (leaf_items S.items_of reader.indexes.now reads.back reads.choice (S.items_of types.now)
+        tested) ≤ reads.bound }
     ensures way { IfOk result (IsWayFor S.items_of S.bound_of reader.entry.indexes.now
         (is_one_of reader.entry.indexes.now.concepts (S.items_of types.now)) tested) }
     ensures rest { IfOk result (λ way. LeavesRoom
@@ -76,7 +76,8 @@ fn are_most<S: ConceptSet>(
     u64::from(count_of_test(tested)) >= rows / SHARE && whole <= reads.bound
 }
 
-// By value, or by the candidates where these are read sooner. A test that is not of the concepts of a set is read by a scan.
+// By value, or by the candidates where these are read sooner. A test that is not of the concepts of a set is read by a
+// scan.
 fn by_value<S: ConceptSet>(
     reader: Reader<'_>,
     reads: LeafReads,
@@ -86,9 +87,10 @@ fn by_value<S: ConceptSet>(
 ) -> Result<Way<S>, AllocError>
     requires tested { IsTestBelow S.bound_of (length reader.indexes.now.concepts) tested }
     requires room { full (value_items S.items_of reader.indexes.now reads.back tested) ≤ reads.bound }
-    ensures way { IfOk result (λ way. (one : ℕ → Bool) → IsWayFor S.items_of S.bound_of reader.entry.indexes.now one tested way) }
-    ensures rest { IfOk result (λ way. LeavesRoom (rest_items reader.entry.indexes.now reads.back candidates way) reads.bound
-        visits.old visits.new) }
+    ensures way { IfOk result (λ way. (one : ℕ → Bool) → IsWayFor S.items_of S.bound_of reader.entry.indexes.now one
+        tested way) }
+    ensures rest { IfOk result (λ way. LeavesRoom (rest_items reader.entry.indexes.now reads.back candidates way)
+        reads.bound visits.old visits.new) }
     ensures counted { CountsWithin reads.bound visits.old visits.new }
 {
     let all = values_that_pass(reader, reads.back, &tested, visits)?;
@@ -118,8 +120,8 @@ fn by_type<S: ConceptSet>(
     requires room { full (type_items reader.indexes.now (S.items_of types.now)) ≤ reads.bound }
     ensures way { IfOk result (IsWayFor S.items_of S.bound_of reader.entry.indexes.now
         (is_one_of reader.entry.indexes.now.concepts (S.items_of types.now)) tested) }
-    ensures rest { IfOk result (λ way. LeavesRoom (rest_items reader.entry.indexes.now reads.back candidates way) reads.bound
-        visits.old visits.new) }
+    ensures rest { IfOk result (λ way. LeavesRoom (rest_items reader.entry.indexes.now reads.back candidates way)
+        reads.bound visits.old visits.new) }
     ensures counted { CountsWithin reads.bound visits.old visits.new }
 {
     // 64 bits hold how many types there are, and their rows
@@ -149,9 +151,10 @@ fn by_scan<S: ConceptSet>(
     requires tested { IsTestBelow S.bound_of (length reader.indexes.now.concepts) tested }
     requires told { AreTold S.items_of reader.indexes.now reads.back tested reads.value_rows }
     requires room { full (length reader.indexes.now.rows) ≤ reads.bound }
-    ensures way { IfOk result (λ way. (one : ℕ → Bool) → IsWayFor S.items_of S.bound_of reader.entry.indexes.now one tested way) }
-    ensures rest { IfOk result (λ way. LeavesRoom (rest_items reader.entry.indexes.now reads.back candidates way) reads.bound
-        visits.old visits.new) }
+    ensures way { IfOk result (λ way. (one : ℕ → Bool) → IsWayFor S.items_of S.bound_of reader.entry.indexes.now one
+        tested way) }
+    ensures rest { IfOk result (λ way. LeavesRoom (rest_items reader.entry.indexes.now reads.back candidates way)
+        reads.bound visits.old visits.new) }
     ensures counted { CountsWithin reads.bound visits.old visits.new }
 {
     let rows = u64::from(reader.row_count());
@@ -165,8 +168,9 @@ fn by_scan<S: ConceptSet>(
     }
 }
 
-// The values that pass, where their rows are read sooner than so many others, for which there is room among so many items that are left.
-// If it is known how many rows they have at most, none is looked up in vain, so no room is needed for them beside the others.
+// The values that pass, where their rows are read sooner than so many others, for which there is room among so many
+// items that are left. If it is known how many rows they have at most, none is looked up in vain, so no room is needed
+// for them beside the others.
 fn few_values<S: ConceptSet>(
     reader: Reader<'_>,
     reads: LeafReads,
@@ -193,7 +197,8 @@ fn few_values<S: ConceptSet>(
     }
 }
 
-// The values that pass, where they have no more rows of their own than are told, and so many are read sooner than others.
+// The values that pass, where they have no more rows of their own than are told, and so many are read sooner than
+// others.
 fn values_told<S: ConceptSet>(
     reader: Reader<'_>,
     back: bool,
@@ -216,7 +221,8 @@ fn values_told<S: ConceptSet>(
     values_that_pass(reader, back, tested, visits)
 }
 
-// The values that pass, if they are few and their rows are read sooner than others. No more than `most` are looked up in vain.
+// The values that pass, if they are few and their rows are read sooner than others. No more than `most` are looked up
+// in vain.
 fn values_looked_up<S: ConceptSet>(
     reader: Reader<'_>,
     back: bool,
@@ -275,8 +281,8 @@ pub enum ValuesWay {
     ByType(Vec<u64>),
 }
 
-/// By which rows the values of the sources in a set are read, along the types in another. What is read to find it is counted: with
-/// these rows no more than there are sources and rows.
+/// By which rows the values of the sources in a set are read, along the types in another. What is read to find it is
+/// counted: with these rows no more than there are sources and rows.
 pub fn values_way<S: ConceptSet>(
     reader: Reader<'_>,
     sources: &Answer<S>,
@@ -289,7 +295,8 @@ pub fn values_way<S: ConceptSet>(
         (is_one_of reader.entry.indexes.now.concepts (S.items_of types.now))) }
     ensures rest { IfOk result (λ way. LeavesRoom (values_rest reader.entry.indexes.now way)
         (length (S.items_of sources.now) + length reader.entry.indexes.now.rows) visits.old visits.new) }
-    ensures counted { CountsWithin (length (S.items_of sources.now) + length reader.entry.indexes.now.rows) visits.old visits.new }
+    ensures counted { CountsWithin (length (S.items_of sources.now) + length reader.entry.indexes.now.rows) visits.old
+        visits.new }
 {
     let count = u64::from(sources.count());
     let typed = types_to_read(reader, types);
@@ -343,7 +350,8 @@ pub fn rows_of_types(reader: Reader<'_>, ids: &[u64]) -> u64
     rows
 }
 
-// How many rows have one of some concepts as their value, or, read backwards, as their source; `u64::MAX` where that is more.
+// How many rows have one of some concepts as their value, or, read backwards, as their source; `u64::MAX` where that is
+// more.
 fn rows_of_values(reader: Reader<'_>, back: bool, concepts: &[u32]) -> u64
     requires { All (λ number. number < length reader.indexes.now.concepts) concepts.now }
     ensures { result ≡ full_sum (row_count_of reader.entry.indexes.now back) concepts.now }

@@ -19,7 +19,8 @@ pub fn as_often<S: ConceptSet>(
     count: Cardinality,
 ) -> Result<Answer<S>, AllocError>
     requires { All (λ number. number < bound) numbers.now }
-    ensures items { IfOk result (λ found. S.items_of found ≡ numbers_where bound (λ number. lies_in count (times number numbers.now))) }
+    ensures items { IfOk result (λ found. S.items_of found ≡ numbers_where bound
+        (λ number. lies_in count (times number numbers.now))) }
     ensures bound { IfOk result (λ found. S.bound_of found ≡ bound) }
 {
     let enough: S = at_least(alloc, numbers, bound, count.min)?;
@@ -41,7 +42,8 @@ fn at_least<S: ConceptSet>(
     least: u64,
 ) -> Result<S, AllocError>
     requires { All (λ number. number < bound) numbers.now }
-    ensures items { IfOk result (λ found. S.items_of found ≡ numbers_where bound (λ number. nat_le least (times number numbers.now))) }
+    ensures items { IfOk result (λ found. S.items_of found ≡ numbers_where bound
+        (λ number. nat_le least (times number numbers.now))) }
     ensures bound { IfOk result (λ found. S.bound_of found ≡ bound) }
 {
     match least {

@@ -1,5 +1,6 @@
 //! Numbers that stand in a list once for each attribute row that counts for them.
-ghost use Rattle.std.specs.Prelude.{ℕ, ◌≡◌, ◌<◌, ◌+◌, ◌&&◌, ◌++◌, All, Bool, List, IfOk, OnOk, count_by, false, filter, length, nat_lt, slice_get, true};
+ghost use Rattle.std.specs.Prelude.{ℕ, ◌≡◌, ◌<◌, ◌+◌, ◌&&◌, ◌++◌, All, Bool, List, IfOk, OnOk, count_by, false, filter};
+ghost use Rattle.std.specs.Prelude.{length, nat_lt, slice_get, true};
 ghost use Rattle.rf2_rows.specs.Release.{concept_value};
 ghost use Rattle.constraint_tree.specs.Passing.{is_within};
 ghost use Rattle.number_lists.specs.Rising.{IsRisingBelow};
@@ -36,8 +37,8 @@ enum Owner {
     Group,
 }
 
-/// By type: for each row with a type that is one of some and a value that passes, and that is the first with its pair, the
-/// number of its source. Read backwards, where its source passes, the number of its value where that is a concept.
+/// By type: for each row with a type that is one of some and a value that passes, and that is the first with its pair,
+/// the number of its source. Read backwards, where its source passes, the number of its value where that is a concept.
 pub fn hits_by_type<S: ConceptSet>(
     reader: Reader<'_>,
     back: bool,
@@ -47,9 +48,12 @@ pub fn hits_by_type<S: ConceptSet>(
 ) -> Result<Vec<u32>, AllocError>
     requires { IsTestBelow S.bound_of (length reader.indexes.now.concepts) tested.now }
     ensures counted { CountsWithin (sum_by (type_row_count reader.entry.indexes.now) ids.now) visits.old visits.new }
-    ensures within { IfOk result (λ hits. All (λ number. number < length reader.entry.indexes.now.concepts) hits.items) }
+    ensures within { IfOk result (λ hits. All (λ number. number < length reader.entry.indexes.now.concepts)
+        hits.items) }
     ensures hits { IfOk result (λ hits. (one : ℕ → Bool) → ids.now ≡ filter one (types_of reader.entry.indexes.now.rows)
-        → AreHits (length reader.entry.indexes.now.concepts) (counts_for_concept back reader.entry.indexes.now.concepts one (passes_of S.items_of reader.entry.indexes.now.concepts tested.now)) (entries_of reader.entry.indexes.now.rows) hits.items) }
+        → AreHits (length reader.entry.indexes.now.concepts) (counts_for_concept back reader.entry.indexes.now.concepts
+        one (passes_of S.items_of reader.entry.indexes.now.concepts tested.now))
+        (entries_of reader.entry.indexes.now.rows) hits.items) }
 {
     if back {
         values_by_type(reader, ids, tested, visits)
@@ -58,8 +62,8 @@ pub fn hits_by_type<S: ConceptSet>(
     }
 }
 
-/// By value: the same, where the values that pass are some concepts, which rise. Read backwards, where these are the sources
-/// that pass.
+/// By value: the same, where the values that pass are some concepts, which rise. Read backwards, where these are the
+/// sources that pass.
 pub fn hits_by_value<S: ConceptSet>(
     reader: Reader<'_>,
     back: bool,
@@ -69,10 +73,14 @@ pub fn hits_by_value<S: ConceptSet>(
 ) -> Result<Vec<u32>, AllocError>
     requires types { S.bound_of types.now ≡ length reader.indexes.now.concepts }
     requires values { IsRisingBelow (length reader.indexes.now.concepts) values.now }
-    ensures counted { CountsWithin (sum_by (row_count_of reader.entry.indexes.now back) values.now) visits.old visits.new }
-    ensures within { IfOk result (λ hits. All (λ number. number < length reader.entry.indexes.now.concepts) hits.items) }
+    ensures counted { CountsWithin (sum_by (row_count_of reader.entry.indexes.now back) values.now) visits.old
+        visits.new }
+    ensures within { IfOk result (λ hits. All (λ number. number < length reader.entry.indexes.now.concepts)
+        hits.items) }
     ensures hits { IfOk result (λ hits. AreHits (length reader.entry.indexes.now.concepts)
-        (counts_for_concept back reader.entry.indexes.now.concepts (is_one_of reader.entry.indexes.now.concepts (S.items_of types.now)) (is_within (is_one_of reader.entry.indexes.now.concepts values.now))) (entries_of reader.entry.indexes.now.rows) hits.items) }
+        (counts_for_concept back reader.entry.indexes.now.concepts (is_one_of reader.entry.indexes.now.concepts
+        (S.items_of types.now)) (is_within (is_one_of reader.entry.indexes.now.concepts values.now)))
+        (entries_of reader.entry.indexes.now.rows) hits.items) }
 {
     // the concepts rise, so none has two numbers
     reader.concept_count();
@@ -83,8 +91,8 @@ pub fn hits_by_value<S: ConceptSet>(
     }
 }
 
-// By type: for each row of some types that is the first with its pair in its owner and whose value passes, the number of that
-// owner.
+// By type: for each row of some types that is the first with its pair in its owner and whose value passes, the number
+// of that owner.
 fn owners_by_type<S: ConceptSet>(
     reader: Reader<'_>,
     owner: Owner,
@@ -94,9 +102,12 @@ fn owners_by_type<S: ConceptSet>(
 ) -> Result<Vec<u32>, AllocError>
     requires { IsTestBelow S.bound_of (length reader.indexes.now.concepts) tested.now }
     ensures counted { CountsWithin (sum_by (type_row_count reader.entry.indexes.now) ids.now) visits.old visits.new }
-    ensures within { IfOk result (λ hits. All (λ number. number < owner_count owner reader.entry.indexes.now) hits.items) }
+    ensures within { IfOk result (λ hits. All (λ number. number < owner_count owner reader.entry.indexes.now)
+        hits.items) }
     ensures hits { IfOk result (λ hits. AreHits (owner_count owner reader.entry.indexes.now)
-        (counts_for_owner owner reader.entry.indexes.now (λ row. passes_of S.items_of reader.entry.indexes.now.concepts tested.now row.value)) (entries_with_types reader.entry.indexes.now.rows ids.now) hits.items) }
+        (counts_for_owner owner reader.entry.indexes.now
+        (λ row. passes_of S.items_of reader.entry.indexes.now.concepts tested.now row.value))
+        (entries_with_types reader.entry.indexes.now.rows ids.now) hits.items) }
 {
     // the concepts rise, so no owner has two numbers
     reader.concept_count();
@@ -120,10 +131,14 @@ fn owners_by_value<S: ConceptSet>(
 ) -> Result<Vec<u32>, AllocError>
     requires types { S.bound_of types.now ≡ length reader.indexes.now.concepts }
     requires values { All (λ number. number < length reader.indexes.now.concepts) values.now }
-    ensures counted { CountsWithin (sum_by (row_count_of reader.entry.indexes.now false) values.now) visits.old visits.new }
-    ensures within { IfOk result (λ hits. All (λ number. number < owner_count owner reader.entry.indexes.now) hits.items) }
+    ensures counted { CountsWithin (sum_by (row_count_of reader.entry.indexes.now false) values.now) visits.old
+        visits.new }
+    ensures within { IfOk result (λ hits. All (λ number. number < owner_count owner reader.entry.indexes.now)
+        hits.items) }
     ensures hits { IfOk result (λ hits. AreHits (owner_count owner reader.entry.indexes.now)
-        (counts_for_owner owner reader.entry.indexes.now (λ row. is_one_of reader.entry.indexes.now.concepts (S.items_of types.now) row.type_id)) (entries_with_values reader.entry.indexes.now values.now) hits.items) }
+        (counts_for_owner owner reader.entry.indexes.now
+        (λ row. is_one_of reader.entry.indexes.now.concepts (S.items_of types.now) row.type_id))
+        (entries_with_values reader.entry.indexes.now values.now) hits.items) }
 {
     // the concepts rise, so no owner has two numbers
     reader.concept_count();
@@ -142,8 +157,8 @@ fn owners_in<'a>(
     sources: &'a [FlaggedNumber],
     groups: &'a [FlaggedNumber],
 ) -> &'a [FlaggedNumber]
-    ensures { (indexed : Indexed) (entries : List Entry) → AreSources indexed.concepts entries sources.now → AreGroups (groups_in indexed) entries groups.now
-        → AreOwners owner indexed entries result.now }
+    ensures { (indexed : Indexed) (entries : List Entry) → AreSources indexed.concepts entries sources.now
+        → AreGroups (groups_in indexed) entries groups.now → AreOwners owner indexed entries result.now }
 {
     match owner {
         Owner::Source => sources,
@@ -151,8 +166,8 @@ fn owners_in<'a>(
     }
 }
 
-// By type, read backwards: for each row of some types that is the first with its pair and whose source passes, the number of
-// its value where that is a concept.
+// By type, read backwards: for each row of some types that is the first with its pair and whose source passes, the
+// number of its value where that is a concept.
 fn values_by_type<S: ConceptSet>(
     reader: Reader<'_>,
     ids: &[u64],
@@ -161,9 +176,12 @@ fn values_by_type<S: ConceptSet>(
 ) -> Result<Vec<u32>, AllocError>
     requires { IsTestBelow S.bound_of (length reader.indexes.now.concepts) tested.now }
     ensures counted { CountsWithin (sum_by (type_row_count reader.entry.indexes.now) ids.now) visits.old visits.new }
-    ensures within { IfOk result (λ hits. All (λ number. number < length reader.entry.indexes.now.concepts) hits.items) }
+    ensures within { IfOk result (λ hits. All (λ number. number < length reader.entry.indexes.now.concepts)
+        hits.items) }
     ensures hits { IfOk result (λ hits. AreHits (length reader.entry.indexes.now.concepts)
-        (counts_for_value reader.entry.indexes.now.concepts (λ row. passes_of S.items_of reader.entry.indexes.now.concepts tested.now (concept_value row.source))) (entries_with_types reader.entry.indexes.now.rows ids.now) hits.items) }
+        (counts_for_value reader.entry.indexes.now.concepts
+        (λ row. passes_of S.items_of reader.entry.indexes.now.concepts tested.now (concept_value row.source)))
+        (entries_with_types reader.entry.indexes.now.rows ids.now) hits.items) }
 {
     reader.concept_count();
     let mut hits = Vec::with_capacity(reader.alloc, rows_of_types(reader, ids) as usize)?;
@@ -174,8 +192,8 @@ fn values_by_type<S: ConceptSet>(
     Ok(hits)
 }
 
-// By value, read backwards: for each row of some sources that is the first with its pair and whose type is one of some, the
-// number of its value where that is a concept.
+// By value, read backwards: for each row of some sources that is the first with its pair and whose type is one of some,
+// the number of its value where that is a concept.
 fn values_by_source<S: ConceptSet>(
     reader: Reader<'_>,
     sources: &[u32],
@@ -184,10 +202,14 @@ fn values_by_source<S: ConceptSet>(
 ) -> Result<Vec<u32>, AllocError>
     requires types { S.bound_of types.now ≡ length reader.indexes.now.concepts }
     requires sources { All (λ number. number < length reader.indexes.now.concepts) sources.now }
-    ensures counted { CountsWithin (sum_by (row_count_of reader.entry.indexes.now true) sources.now) visits.old visits.new }
-    ensures within { IfOk result (λ hits. All (λ number. number < length reader.entry.indexes.now.concepts) hits.items) }
+    ensures counted { CountsWithin (sum_by (row_count_of reader.entry.indexes.now true) sources.now) visits.old
+        visits.new }
+    ensures within { IfOk result (λ hits. All (λ number. number < length reader.entry.indexes.now.concepts)
+        hits.items) }
     ensures hits { IfOk result (λ hits. AreHits (length reader.entry.indexes.now.concepts)
-        (counts_for_value reader.entry.indexes.now.concepts (λ row. is_one_of reader.entry.indexes.now.concepts (S.items_of types.now) row.type_id)) (entries_with_sources reader.entry.indexes.now sources.now) hits.items) }
+        (counts_for_value reader.entry.indexes.now.concepts
+        (λ row. is_one_of reader.entry.indexes.now.concepts (S.items_of types.now) row.type_id))
+        (entries_with_sources reader.entry.indexes.now sources.now) hits.items) }
 {
     let mut hits = Vec::new(reader.alloc);
     for source in sources {
@@ -197,8 +219,8 @@ fn values_by_source<S: ConceptSet>(
     Ok(hits)
 }
 
-/// By type: for each row with a type that is one of some and a value that passes, and that is the first with its pair in its
-/// group, the number of that group.
+/// By type: for each row with a type that is one of some and a value that passes, and that is the first with its pair
+/// in its group, the number of that group.
 pub fn group_hits_by_type<S: ConceptSet>(
     reader: Reader<'_>,
     ids: &[u64],
@@ -207,9 +229,12 @@ pub fn group_hits_by_type<S: ConceptSet>(
 ) -> Result<Vec<u32>, AllocError>
     requires { IsTestBelow S.bound_of (length reader.indexes.now.concepts) tested.now }
     ensures counted { CountsWithin (sum_by (type_row_count reader.entry.indexes.now) ids.now) visits.old visits.new }
-    ensures within { IfOk result (λ hits. All (λ number. number < length (groups_in reader.entry.indexes.now)) hits.items) }
+    ensures within { IfOk result (λ hits. All (λ number. number < length (groups_in reader.entry.indexes.now))
+        hits.items) }
     ensures hits { IfOk result (λ hits. (one : ℕ → Bool) → ids.now ≡ filter one (types_of reader.entry.indexes.now.rows)
-        → AreHits (length (groups_in reader.entry.indexes.now)) (counts_for_group (groups_in reader.entry.indexes.now) (has_pair_in one (passes_of S.items_of reader.entry.indexes.now.concepts tested.now))) (entries_of reader.entry.indexes.now.rows) hits.items) }
+        → AreHits (length (groups_in reader.entry.indexes.now)) (counts_for_group (groups_in reader.entry.indexes.now)
+        (has_pair_in one (passes_of S.items_of reader.entry.indexes.now.concepts tested.now)))
+        (entries_of reader.entry.indexes.now.rows) hits.items) }
 {
     owners_by_type(reader, Owner::Group, ids, tested, visits)
 }
@@ -223,10 +248,15 @@ pub fn group_hits_by_value<S: ConceptSet>(
 ) -> Result<Vec<u32>, AllocError>
     requires types { S.bound_of types.now ≡ length reader.indexes.now.concepts }
     requires values { IsRisingBelow (length reader.indexes.now.concepts) values.now }
-    ensures counted { CountsWithin (sum_by (row_count_of reader.entry.indexes.now false) values.now) visits.old visits.new }
-    ensures within { IfOk result (λ hits. All (λ number. number < length (groups_in reader.entry.indexes.now)) hits.items) }
+    ensures counted { CountsWithin (sum_by (row_count_of reader.entry.indexes.now false) values.now) visits.old
+        visits.new }
+    ensures within { IfOk result (λ hits. All (λ number. number < length (groups_in reader.entry.indexes.now))
+        hits.items) }
     ensures hits { IfOk result (λ hits. AreHits (length (groups_in reader.entry.indexes.now))
-        (counts_for_group (groups_in reader.entry.indexes.now) (has_pair_in (is_one_of reader.entry.indexes.now.concepts (S.items_of types.now)) (is_within (is_one_of reader.entry.indexes.now.concepts values.now)))) (entries_of reader.entry.indexes.now.rows) hits.items) }
+        (counts_for_group (groups_in reader.entry.indexes.now)
+        (has_pair_in (is_one_of reader.entry.indexes.now.concepts (S.items_of types.now))
+        (is_within (is_one_of reader.entry.indexes.now.concepts values.now))))
+        (entries_of reader.entry.indexes.now.rows) hits.items) }
 {
     // the concepts rise, so none has two numbers
     reader.concept_count();
@@ -244,8 +274,8 @@ fn push_passing<S: ConceptSet>(
     requires long { length marks.now ≡ length cells.now }
     requires tested { IsTestBelow S.bound_of (length reader.indexes.now.concepts) tested.now }
     ensures { OnOk result (hits.new.items ≡ hits.old.items ++ picked
-        (λ mark cell. mark.is_first && passes_of S.items_of reader.entry.indexes.now.concepts tested.now (value_of reader.entry.indexes.now cell))
-        (λ mark cell. mark.number) marks.now cells.now) }
+        (λ mark cell. mark.is_first && passes_of S.items_of reader.entry.indexes.now.concepts tested.now
+        (value_of reader.entry.indexes.now cell)) (λ mark cell. mark.number) marks.now cells.now) }
 {
     for place in 0..marks.len() {
         let mark = marks[place];
@@ -264,7 +294,8 @@ fn has_passing<S: ConceptSet>(
     tested: &Tested<S>,
 ) -> bool
     requires { IsTestBelow S.bound_of (length reader.indexes.now.concepts) tested.now }
-    ensures { result ≡ (mark.is_first && passes_of S.items_of reader.entry.indexes.now.concepts tested.now (value_of reader.entry.indexes.now value)) }
+    ensures { result ≡ (mark.is_first && passes_of S.items_of reader.entry.indexes.now.concepts tested.now
+        (value_of reader.entry.indexes.now value)) }
 {
     mark.is_first() && passes(reader, tested, value)
 }
@@ -280,7 +311,8 @@ fn push_typed<S: ConceptSet>(
     requires long { length marks.now ≡ length cells.now }
     requires types { S.bound_of types.now ≡ length reader.indexes.now.concepts }
     ensures { OnOk result (hits.new.items ≡ hits.old.items ++ picked
-        (λ mark cell. mark.is_first && is_type_in reader.entry.indexes.now (S.items_of types.now) cell) (λ mark cell. mark.number) marks.now cells.now) }
+        (λ mark cell. mark.is_first && is_type_in reader.entry.indexes.now (S.items_of types.now) cell)
+        (λ mark cell. mark.number) marks.now cells.now) }
 {
     for place in 0..marks.len() {
         let mark = marks[place];
@@ -315,8 +347,9 @@ fn push_cells<S: ConceptSet>(
     requires long { length marks.now ≡ length cells.now }
     requires tested { IsTestBelow S.bound_of (length reader.indexes.now.concepts) tested.now }
     ensures { OnOk result (hits.new.items ≡ hits.old.items ++ picked
-        (λ mark cell. nat_lt cell (length reader.entry.indexes.now.concepts) && (mark.is_first && passes_of S.items_of reader.entry.indexes.now.concepts tested.now (value_of reader.entry.indexes.now mark.number)))
-        (λ mark cell. cell) marks.now cells.now) }
+        (λ mark cell. nat_lt cell (length reader.entry.indexes.now.concepts)
+        && (mark.is_first && passes_of S.items_of reader.entry.indexes.now.concepts tested.now
+        (value_of reader.entry.indexes.now mark.number))) (λ mark cell. cell) marks.now cells.now) }
 {
     for place in 0..marks.len() {
         let mark = marks[place];
@@ -337,7 +370,8 @@ fn has_passing_source<S: ConceptSet>(
 ) -> bool
     requires { IsTestBelow S.bound_of (length reader.indexes.now.concepts) tested.now }
     ensures { result ≡ (nat_lt value (length reader.entry.indexes.now.concepts)
-        && (mark.is_first && passes_of S.items_of reader.entry.indexes.now.concepts tested.now (value_of reader.entry.indexes.now mark.number))) }
+        && (mark.is_first && passes_of S.items_of reader.entry.indexes.now.concepts tested.now
+        (value_of reader.entry.indexes.now mark.number))) }
 {
     is_concept(reader, value) && has_passing(reader, mark, mark.number(), tested)
 }
@@ -349,8 +383,8 @@ fn is_concept(reader: Reader<'_>, value: u32) -> bool
     value < reader.concept_count()
 }
 
-// Pushes the values, by their numbers, of those of some rows that are the first with their pair, whose type is in a set and
-// whose value is a concept.
+// Pushes the values, by their numbers, of those of some rows that are the first with their pair, whose type is in a set
+// and whose value is a concept.
 fn push_values<S: ConceptSet>(
     reader: Reader<'_>,
     hits: &mut Vec<u32>,
@@ -359,9 +393,13 @@ fn push_values<S: ConceptSet>(
 ) -> Result<(), AllocError>
     requires rows { All (λ n. n < length reader.indexes.now.rows) rows.now }
     requires types { S.bound_of types.now ≡ length reader.indexes.now.concepts }
-    ensures within { OnOk result (All (λ number. number < length reader.entry.indexes.now.concepts) hits.old.items → All (λ number. number < length reader.entry.indexes.now.concepts) hits.new.items) }
-    ensures times { OnOk result ((number : ℕ) → number < length reader.entry.indexes.now.concepts → times number hits.new.items ≡ times number hits.old.items
-        + count_by (λ n. at_entry (counts_for_value reader.entry.indexes.now.concepts (λ row. is_one_of reader.entry.indexes.now.concepts (S.items_of types.now) row.type_id) number)
+    ensures within { OnOk result (All
+        (λ number. number < length reader.entry.indexes.now.concepts) hits.old.items
+        → All (λ number. number < length reader.entry.indexes.now.concepts) hits.new.items) }
+    ensures times { OnOk result ((number : ℕ) → number < length reader.entry.indexes.now.concepts
+        → times number hits.new.items ≡ times number hits.old.items
+        + count_by (λ n. at_entry (counts_for_value reader.entry.indexes.now.concepts
+        (λ row. is_one_of reader.entry.indexes.now.concepts (S.items_of types.now) row.type_id) number)
         (slice_get (entries_of reader.entry.indexes.now.rows) n)) rows.now) }
 {
     // the concepts rise, so none has two numbers
@@ -378,7 +416,8 @@ fn push_values<S: ConceptSet>(
 // Whether a row is the first with its pair, its type is in a set, and its value is a concept.
 fn counts<S: ConceptSet>(reader: Reader<'_>, row: RowCells, types: &Answer<S>) -> bool
     requires { S.bound_of types.now ≡ length reader.indexes.now.concepts }
-    ensures { result ≡ (nat_lt row.value (length reader.entry.indexes.now.concepts) && (row.is_first && is_type_in reader.entry.indexes.now (S.items_of types.now) row.type_place)) }
+    ensures { result ≡ (nat_lt row.value (length reader.entry.indexes.now.concepts)
+        && (row.is_first && is_type_in reader.entry.indexes.now (S.items_of types.now) row.type_place)) }
 {
     is_concept(reader, row.value) && row.is_first && is_typed(reader, types, row.type_place)
 }

@@ -30,9 +30,9 @@ use set_algebra::{Choice, NodeLimits};
 use std::alloc::AllocError;
 
 /// The candidates so many of whose distinct pairs, their own or those read backwards, have a type in a set and a value
-/// that passes (Expression Constraint Language, "Refinements", "Cardinality" and "Reverse attributes"). What is read is counted,
-/// within the bound of the node, which has room for its choice, and where that is less than its floor, so much. If it is known how
-/// many rows the values have at most that pass, that is told.
+/// that passes (Expression Constraint Language, "Refinements", "Cardinality" and "Reverse attributes"). What is read is
+/// counted, within the bound of the node, which has room for its choice, and where that is less than its floor, so
+/// much. If it is known how many rows the values have at most that pass, that is told.
 pub fn with_pairs_within<S: ConceptSet>(
     reader: Reader<'_>,
     choice: Choice,
@@ -47,7 +47,8 @@ pub fn with_pairs_within<S: ConceptSet>(
 ) -> Result<Answer<S>, AllocError>
     requires bound { S.bound_of types.now ≡ length reader.indexes.now.concepts }
     requires limits { limits.floor ≤ limits.bound }
-    requires room { full (leaf_items S.items_of reader.indexes.now back choice (S.items_of types.now) tested) ≤ limits.bound }
+    requires room { full (leaf_items S.items_of reader.indexes.now back choice (S.items_of types.now) tested)
+        ≤ limits.bound }
     requires tested { IsTestBelow S.bound_of (length reader.indexes.now.concepts) tested }
     requires told { AreTold S.items_of reader.indexes.now back tested value_rows }
     requires candidates { AreConcepts S.ConceptSet reader.snapshot.now.release reader.indexes.now candidates.now }
@@ -55,8 +56,8 @@ pub fn with_pairs_within<S: ConceptSet>(
     ensures found { IfOk result (IsFound S.ConceptSet (length reader.entry.snapshot.now.release.concepts)
         (numbers_within reader.entry.snapshot.now.release (may_be S.items_of candidates.now)
         (λ concept. has_pairs count (is_one_of reader.entry.indexes.now.concepts (S.items_of types.now))
-        (passes_of S.items_of reader.entry.indexes.now.concepts tested) (pairs_of reader.entry.snapshot.now.release back concept)))
-        limits.floor visits.old visits.new) }
+        (passes_of S.items_of reader.entry.indexes.now.concepts tested) (pairs_of reader.entry.snapshot.now.release back
+        concept))) limits.floor visits.old visits.new) }
 {
     let reads = LeafReads {
         choice,
@@ -72,8 +73,8 @@ pub fn with_pairs_within<S: ConceptSet>(
 }
 
 /// The candidates among the groups so many of whose distinct pairs have a type in a set and a value that passes
-/// (Expression Constraint Language, "Attribute groups" and "Cardinality"). What is read is counted, within the bound of the node,
-/// which has room for its choice, and where that is less than its floor, so much.
+/// (Expression Constraint Language, "Attribute groups" and "Cardinality"). What is read is counted, within the bound of
+/// the node, which has room for its choice, and where that is less than its floor, so much.
 pub fn groups_with_pairs_within<S: ConceptSet>(
     reader: Reader<'_>,
     choice: Choice,
@@ -87,7 +88,8 @@ pub fn groups_with_pairs_within<S: ConceptSet>(
 ) -> Result<Answer<S>, AllocError>
     requires bound { S.bound_of types.now ≡ length reader.indexes.now.concepts }
     requires limits { limits.floor ≤ limits.bound }
-    requires room { full (leaf_items S.items_of reader.indexes.now false choice (S.items_of types.now) tested) ≤ limits.bound }
+    requires room { full (leaf_items S.items_of reader.indexes.now false choice (S.items_of types.now) tested)
+        ≤ limits.bound }
     requires tested { IsTestBelow S.bound_of (length reader.indexes.now.concepts) tested }
     requires told { AreTold S.items_of reader.indexes.now false tested value_rows }
     requires candidates { AreGroups S.ConceptSet reader.snapshot.now.release reader.indexes.now candidates.now }
@@ -113,7 +115,8 @@ pub fn groups_with_pairs_within<S: ConceptSet>(
 
 /// The values of the attributes whose source is in a set and whose type is in another (Expression Constraint Language,
 /// "Refinements", dotted attributes). The rows of the sources are read where there are no more sources than types, or
-/// where these are fewer than those of the types. What is read is counted: no more items than there are sources and rows.
+/// where these are fewer than those of the types. What is read is counted: no more items than there are sources and
+/// rows.
 pub fn values_along<S: ConceptSet>(
     reader: Reader<'_>,
     sources: Answer<S>,
@@ -122,11 +125,12 @@ pub fn values_along<S: ConceptSet>(
 ) -> Result<Answer<S>, AllocError>
     requires sources { S.bound_of sources ≡ length reader.indexes.now.concepts }
     requires types { S.bound_of types.now ≡ length reader.indexes.now.concepts }
-    ensures counted { CountsWithin (length (S.items_of sources) + length reader.entry.indexes.now.rows) visits.old visits.new }
+    ensures counted { CountsWithin (length (S.items_of sources) + length reader.entry.indexes.now.rows) visits.old
+        visits.new }
     ensures found { IfOk result (IsFound S.ConceptSet (length reader.entry.snapshot.now.release.concepts)
-        (numbers_in reader.entry.snapshot.now.release (is_value reader.entry.snapshot.now.release (is_one_of reader.entry.indexes.now.concepts (S.items_of sources))
-        (is_one_of reader.entry.indexes.now.concepts (S.items_of types.now))))
-        0 visits.old visits.new) }
+        (numbers_in reader.entry.snapshot.now.release (is_value reader.entry.snapshot.now.release
+        (is_one_of reader.entry.indexes.now.concepts (S.items_of sources)) (is_one_of reader.entry.indexes.now.concepts
+        (S.items_of types.now)))) 0 visits.old visits.new) }
 {
     let way = values_way(reader, &sources, types, visits)?;
     let found = values_by(reader, way, sources, types, visits)?;
@@ -172,8 +176,10 @@ fn values_by_type<S: ConceptSet>(
 ) -> Result<Answer<S>, AllocError>
     requires sources { S.bound_of sources ≡ length reader.indexes.now.concepts }
     ensures counted { CountsWithin (sum_by (type_row_count reader.entry.indexes.now) ids.now) visits.old visits.new }
-    ensures items { IfOk result (λ found. (one : ℕ → Bool) → ids.now ≡ filter one (types_of reader.entry.indexes.now.rows)
-        → S.items_of found ≡ numbers_in reader.entry.snapshot.now.release (is_value reader.entry.snapshot.now.release (is_one_of reader.entry.indexes.now.concepts (S.items_of sources)) one)) }
+    ensures items { IfOk result (λ found. (one : ℕ → Bool) → ids.now
+        ≡ filter one (types_of reader.entry.indexes.now.rows) → S.items_of found
+        ≡ numbers_in reader.entry.snapshot.now.release (is_value reader.entry.snapshot.now.release
+        (is_one_of reader.entry.indexes.now.concepts (S.items_of sources)) one)) }
     ensures bound { IfOk result (λ found. S.bound_of found ≡ length reader.entry.snapshot.now.release.concepts) }
 {
     let some = Cardinality { min: 1, max: None };
@@ -190,17 +196,19 @@ fn values_by_source<S: ConceptSet>(
 ) -> Result<Answer<S>, AllocError>
     requires sources { IsRisingBelow (length reader.indexes.now.concepts) sources.now }
     requires types { S.bound_of types.now ≡ length reader.indexes.now.concepts }
-    ensures counted { CountsWithin (sum_by (row_count_of reader.entry.indexes.now true) sources.now) visits.old visits.new }
+    ensures counted { CountsWithin (sum_by (row_count_of reader.entry.indexes.now true) sources.now) visits.old
+        visits.new }
     ensures items { IfOk result (λ found. S.items_of found ≡ numbers_in reader.entry.snapshot.now.release
-        (is_value reader.entry.snapshot.now.release (is_one_of reader.entry.indexes.now.concepts sources.now) (is_one_of reader.entry.indexes.now.concepts (S.items_of types.now)))) }
+        (is_value reader.entry.snapshot.now.release (is_one_of reader.entry.indexes.now.concepts sources.now)
+        (is_one_of reader.entry.indexes.now.concepts (S.items_of types.now)))) }
     ensures bound { IfOk result (λ found. S.bound_of found ≡ length reader.entry.snapshot.now.release.concepts) }
 {
     let some = Cardinality { min: 1, max: None };
     with_pairs_by_value(reader, true, some, types, sources, visits)
 }
 
-/// The candidates so many of whose distinct pairs, their own or those read backwards, have a type that is one of some and a
-/// value that passes, read in a way. What is read is counted.
+/// The candidates so many of whose distinct pairs, their own or those read backwards, have a type that is one of some
+/// and a value that passes, read in a way. What is read is counted.
 pub fn with_pairs_by<S: ConceptSet>(
     reader: Reader<'_>,
     way: &Way<S>,
@@ -211,14 +219,17 @@ pub fn with_pairs_by<S: ConceptSet>(
     visits: &mut Counter,
 ) -> Result<Answer<S>, AllocError>
     requires way { IsWayBelow S.bound_of (length reader.indexes.now.concepts) way.now }
-    requires ids { HasTypes (types_of reader.indexes.now.rows) (is_one_of reader.indexes.now.concepts (S.items_of types.now)) way.now }
+    requires ids { HasTypes (types_of reader.indexes.now.rows)
+        (is_one_of reader.indexes.now.concepts (S.items_of types.now)) way.now }
     requires types { S.bound_of types.now ≡ length reader.indexes.now.concepts }
     requires candidates { AreConcepts S.ConceptSet reader.snapshot.now.release reader.indexes.now candidates.now }
     ensures counted { CountsWithin (rest_items reader.entry.indexes.now back (extent_told back candidates.now) way.now)
         visits.old visits.new }
-    ensures items { IfOk result (λ found. S.items_of found ≡ numbers_within reader.entry.snapshot.now.release (may_be S.items_of candidates.now)
+    ensures items { IfOk result (λ found. S.items_of found ≡ numbers_within reader.entry.snapshot.now.release
+        (may_be S.items_of candidates.now)
         (λ concept. has_pairs count (is_one_of reader.entry.indexes.now.concepts (S.items_of types.now))
-        (passes_by S.items_of reader.entry.indexes.now.concepts way.now) (pairs_of reader.entry.snapshot.now.release back concept))) }
+        (passes_by S.items_of reader.entry.indexes.now.concepts way.now) (pairs_of reader.entry.snapshot.now.release
+        back concept))) }
     ensures bound { IfOk result (λ found. S.bound_of found ≡ length reader.entry.snapshot.now.release.concepts) }
 {
     match way {
@@ -247,8 +258,8 @@ pub fn with_pairs_by<S: ConceptSet>(
     }
 }
 
-/// The candidates among the groups so many of whose distinct pairs have a type that is one of some and a value that passes,
-/// read in a way. What is read is counted.
+/// The candidates among the groups so many of whose distinct pairs have a type that is one of some and a value that
+/// passes, read in a way. What is read is counted.
 pub fn groups_with_pairs_by<S: ConceptSet>(
     reader: Reader<'_>,
     way: &Way<S>,
@@ -258,13 +269,16 @@ pub fn groups_with_pairs_by<S: ConceptSet>(
     visits: &mut Counter,
 ) -> Result<Answer<S>, AllocError>
     requires way { IsWayBelow S.bound_of (length reader.indexes.now.concepts) way.now }
-    requires ids { HasTypes (types_of reader.indexes.now.rows) (is_one_of reader.indexes.now.concepts (S.items_of types.now)) way.now }
+    requires ids { HasTypes (types_of reader.indexes.now.rows)
+        (is_one_of reader.indexes.now.concepts (S.items_of types.now)) way.now }
     requires types { S.bound_of types.now ≡ length reader.indexes.now.concepts }
     requires candidates { AreGroups S.ConceptSet reader.snapshot.now.release reader.indexes.now candidates.now }
-    ensures counted { CountsWithin (rest_items reader.entry.indexes.now false (extent_told false candidates.now) way.now)
-        visits.old visits.new }
-    ensures items { IfOk result (λ found. S.items_of found ≡ groups_within reader.entry.snapshot.now.release (may_be S.items_of candidates.now)
-        (has_pairs count (is_one_of reader.entry.indexes.now.concepts (S.items_of types.now)) (passes_by S.items_of reader.entry.indexes.now.concepts way.now))) }
+    ensures counted { CountsWithin (rest_items reader.entry.indexes.now false (extent_told false candidates.now)
+        way.now) visits.old visits.new }
+    ensures items { IfOk result (λ found. S.items_of found ≡ groups_within reader.entry.snapshot.now.release
+        (may_be S.items_of candidates.now)
+        (has_pairs count (is_one_of reader.entry.indexes.now.concepts (S.items_of types.now))
+        (passes_by S.items_of reader.entry.indexes.now.concepts way.now))) }
     ensures bound { IfOk result (λ found. S.bound_of found ≡ length (all_groups reader.entry.snapshot.now.release)) }
 {
     match way {

@@ -15,7 +15,8 @@ use std::cmp::Ordering;
 /// it is asked for the one concept. Any number may be asked for.
 pub fn passes<S: ConceptSet>(reader: Reader<'_>, tested: &Tested<S>, value: u32) -> bool
     requires { IsTestBelow S.bound_of (length reader.indexes.now.concepts) tested.now }
-    ensures { result ≡ passes_of S.items_of reader.entry.indexes.now.concepts tested.now (value_of reader.entry.indexes.now value) }
+    ensures { result ≡ passes_of S.items_of reader.entry.indexes.now.concepts tested.now
+        (value_of reader.entry.indexes.now value) }
 {
     // the concepts rise, so that none has two numbers
     let concepts = reader.concept_count();

@@ -11,8 +11,8 @@ use idset::{ConceptSet, is_marked, marks_of};
 use reading::{Answer, Counter, Reader};
 use std::alloc::AllocError;
 
-/// The types of rows that are in a set, by their identifiers, each once. As many items are read and counted as the set has, or as many
-/// as there are types of rows where these are fewer.
+/// The types of rows that are in a set, by their identifiers, each once. As many items are read and counted as the set
+/// has, or as many as there are types of rows where these are fewer.
 pub fn types_in<S: ConceptSet>(
     reader: Reader<'_>,
     set: &Answer<S>,
@@ -20,7 +20,8 @@ pub fn types_in<S: ConceptSet>(
 ) -> Result<Vec<u64>, AllocError>
     requires bound { S.bound_of set.now ≡ length reader.indexes.now.concepts }
     ensures ids { IfOk result (λ ids. ids.items
-        ≡ filter (is_one_of reader.entry.indexes.now.concepts (S.items_of set.now)) (types_of reader.entry.indexes.now.rows)) }
+        ≡ filter (is_one_of reader.entry.indexes.now.concepts (S.items_of set.now))
+        (types_of reader.entry.indexes.now.rows)) }
     ensures counted { HandsOut (types_read reader.entry.indexes.now (S.items_of set.now)) visits.old visits.new }
 {
     let numbers = places_in(reader, set, visits)?;
@@ -120,8 +121,8 @@ fn is_in<S: ConceptSet>(reader: Reader<'_>, id: u64, set: &Answer<S>) -> bool
     }
 }
 
-/// Whether the type of a row, by its place among the types of all rows, is in a set. Of the set nothing is read: it is asked for the
-/// one concept. Any place may be asked for.
+/// Whether the type of a row, by its place among the types of all rows, is in a set. Of the set nothing is read: it is
+/// asked for the one concept. Any place may be asked for.
 pub fn is_typed<S: ConceptSet>(reader: Reader<'_>, types: &Answer<S>, place: u32) -> bool
     requires { S.bound_of types.now ≡ length reader.indexes.now.concepts }
     ensures { result ≡ is_type_in reader.entry.indexes.now (S.items_of types.now) place }

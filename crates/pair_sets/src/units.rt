@@ -1,5 +1,6 @@
 //! The concepts with so many groups.
-ghost use Rattle.std.specs.Prelude.{ℕ, ◌≡◌, ◌≤◌, ◌<◌, ◌+◌, ◌-◌, ◌++◌, true, All, IfOk, OnOk, length, map, slice_get, slice_index};
+ghost use Rattle.std.specs.Prelude.{ℕ, ◌≡◌, ◌≤◌, ◌<◌, ◌+◌, ◌-◌, ◌++◌, true, All, IfOk, OnOk, length, map, slice_get};
+ghost use Rattle.std.specs.Prelude.{slice_index};
 ghost use Rattle.postings.specs.Groups.{all_groups, groups_before, groups_in};
 ghost use Rattle.postings.specs.Indexed.{IsIndexOf};
 ghost use Rattle.candidates.specs.Extents.{group_count_of};
@@ -26,7 +27,9 @@ pub fn with_groups<S: ConceptSet>(
     visits: &mut Counter,
 ) -> Result<Answer<S>, AllocError>
     requires bound { S.bound_of groups.now ≡ length (all_groups reader.snapshot.now.release) }
-    ensures items { IfOk result (λ found. S.items_of found ≡ numbers_where (length reader.entry.snapshot.now.release.concepts) (λ number. lies_in count (groups_owned reader.entry.snapshot.now.release (S.items_of groups.now) number))) }
+    ensures items { IfOk result (λ found. S.items_of found ≡ numbers_where
+        (length reader.entry.snapshot.now.release.concepts)
+        (λ number. lies_in count (groups_owned reader.entry.snapshot.now.release (S.items_of groups.now) number))) }
     ensures bound { IfOk result (λ found. S.bound_of found ≡ length reader.entry.snapshot.now.release.concepts) }
     ensures counted { HandsOut (length (S.items_of groups.now)) visits.old visits.new }
 {
@@ -40,8 +43,10 @@ pub fn with_groups<S: ConceptSet>(
 // The concept of each of some groups.
 fn concepts_of(reader: Reader<'_>, groups: &[u32]) -> Result<Vec<u32>, AllocError>
     requires { All (λ group. group < length (groups_in reader.indexes.now)) groups.now }
-    ensures within { IfOk result (λ found. All (λ concept. concept < length reader.entry.indexes.now.concepts) found.items) }
-    ensures concepts { IfOk result (λ found. map (slice_index reader.entry.indexes.now.concepts) found.items ≡ map (λ group. concept_in (slice_get (groups_in reader.entry.indexes.now) group)) groups.now) }
+    ensures within { IfOk result (λ found. All (λ concept. concept < length reader.entry.indexes.now.concepts)
+        found.items) }
+    ensures concepts { IfOk result (λ found. map (slice_index reader.entry.indexes.now.concepts) found.items
+        ≡ map (λ group. concept_in (slice_get (groups_in reader.entry.indexes.now) group)) groups.now) }
 {
     let mut found = Vec::new(reader.alloc);
     for group in groups {
@@ -57,8 +62,10 @@ pub fn groups_of<S: ConceptSet>(
     visits: &mut Counter,
 ) -> Result<Answer<S>, AllocError>
     requires bound { S.bound_of concepts.now ≡ length reader.snapshot.now.release.concepts }
-    ensures groups { IfOk result (λ groups. HaveGroupsOf reader.entry.snapshot.now.release (S.items_of concepts.now) (S.items_of groups)) }
-    ensures few { IfOk result (λ groups. length (S.items_of groups) ≤ sum_by (group_count_of reader.entry.indexes.now) (S.items_of concepts.now)) }
+    ensures groups { IfOk result (λ groups. HaveGroupsOf reader.entry.snapshot.now.release (S.items_of concepts.now)
+        (S.items_of groups)) }
+    ensures few { IfOk result (λ groups. length (S.items_of groups) ≤ sum_by (group_count_of reader.entry.indexes.now)
+        (S.items_of concepts.now)) }
     ensures bound { IfOk result (λ groups. S.bound_of groups ≡ length (all_groups reader.entry.snapshot.now.release)) }
     ensures counted { HandsOut (length (S.items_of concepts.now)) visits.old visits.new }
 {
@@ -72,10 +79,13 @@ pub fn groups_of<S: ConceptSet>(
 // The numbers of the groups of some concepts.
 fn numbers_of_groups(reader: Reader<'_>, concepts: &[u32]) -> Result<Vec<u32>, AllocError>
     requires { All (λ concept. concept < length reader.indexes.now.concepts) concepts.now }
-    ensures within { IfOk result (λ found. All (λ group. group < length (groups_in reader.entry.indexes.now)) found.items) }
-    ensures few { IfOk result (λ found. length found.items ≡ sum_by (group_count_of reader.entry.indexes.now) concepts.now) }
-    ensures all { IfOk result (λ found. (concept group : ℕ) → has concepts.now concept ≡ true → length (groups_before reader.entry.indexes.now concept) ≤ group
-        → group < length (groups_before reader.entry.indexes.now (concept + 1)) → has found.items group ≡ true) }
+    ensures within { IfOk result (λ found. All (λ group. group < length (groups_in reader.entry.indexes.now))
+        found.items) }
+    ensures few { IfOk result (λ found. length found.items ≡ sum_by (group_count_of reader.entry.indexes.now)
+        concepts.now) }
+    ensures all { IfOk result (λ found. (concept group : ℕ) → has concepts.now concept ≡ true
+        → length (groups_before reader.entry.indexes.now concept) ≤ group → group
+        < length (groups_before reader.entry.indexes.now (concept + 1)) → has found.items group ≡ true) }
 {
     let mut found = Vec::new(reader.alloc);
     for concept in concepts {

@@ -1,7 +1,8 @@
 //! The ways in which a leaf is read.
 //!
-//! A choice names the rows that are read: those of the values that pass, those of the types, or all. Where the candidates, or
-//! a few values, have fewer, their rows are read in place of these. Each way finds the same, so a bad one costs time alone.
+//! A choice names the rows that are read: those of the values that pass, those of the types, or all. Where the
+//! candidates, or a few values, have fewer, their rows are read in place of these. Each way finds the same, so a bad
+//! one costs time alone.
 ghost use Rattle.std.specs.Prelude.{true, ◌≡◌, ◌<◌, ◌+◌, length};
 ghost use Rattle.reading.specs.Counted.{full};
 
@@ -14,7 +15,8 @@ use set_algebra::Choice;
 pub enum Way<S> {
     /// Those of the candidates.
     ByCandidates(Tested<S>),
-    /// Those of the values that pass, which are concepts: their numbers. Read backwards, those of the sources that pass.
+    /// Those of the values that pass, which are concepts: their numbers. Read backwards, those of the sources that
+    /// pass.
     ByValue(Vec<u32>),
     /// Those of the types, by the identifiers of these.
     ByType(Vec<u64>, Tested<S>),
@@ -53,8 +55,8 @@ impl PassingValues {
     }
 }
 
-/// Whether so many values with so many rows are read sooner than so many rows that stand side by side. The rows of a value stand
-/// so too; those of a source, which are read backwards, are looked up.
+/// Whether so many values with so many rows are read sooner than so many rows that stand side by side. The rows of a
+/// value stand so too; those of a source, which are read backwards, are looked up.
 pub fn values_are_read_before(back: bool, values: u64, rows: u64, others: u64) -> bool
     ensures { result ≡ true → full (values + rows) < others }
 {

@@ -1,6 +1,7 @@
 //! The size and the bound of a plan, node by node, each from those of its children.
 ghost use Rattle.std.specs.Prelude.{◌≡◌, ◌+◌};
-ghost use Rattle.set_algebra.specs.Physical.{physical_of, physical_test_of, physical_units_list_of, physical_units_of, physical_values, physicals_of};
+ghost use Rattle.set_algebra.specs.Physical.{physical_of, physical_test_of, physical_units_list_of, physical_units_of};
+ghost use Rattle.set_algebra.specs.Physical.{physical_values, physicals_of};
 ghost use Rattle.plan_bounds.specs.Alternatives.{leaf_size};
 ghost use Rattle.plan_bounds.specs.Bounds.{bound as bound_of, capped, leaf_bound_at, own_number};
 ghost use Rattle.plan_bounds.specs.Nodes.{group_sum, groups_sum, plans_sum, test_sum};
@@ -87,8 +88,10 @@ pub fn cost(plan: &ConceptPlan, indexes: &Indexes) -> PlanCost
 // The cost of the values along some types.
 #[cycle(cost)]
 fn values_cost(start: &ConceptPlan, names: &[ConceptPlan], indexes: &Indexes) -> PlanCost
-    ensures size { result.size ≡ size_of indexes.now (physical_values (physical_of start.now) (physicals_of names.now)) }
-    ensures bound { result.bound ≡ capped (bound_of indexes.now (physical_values (physical_of start.now) (physicals_of names.now))) }
+    ensures size { result.size ≡ size_of indexes.now (physical_values (physical_of start.now)
+        (physicals_of names.now)) }
+    ensures bound { result.bound ≡ capped
+        (bound_of indexes.now (physical_values (physical_of start.now) (physicals_of names.now))) }
 {
     let from = cost(start, indexes);
     let types = parts_cost(names, 0, indexes);
@@ -109,9 +112,9 @@ fn pairs_cost(
 ) -> PlanCost
     ensures size { result.size
         ≡ leaf_size (leaf_at indexes.now all back count (physical_of types.now) (physical_test_of test.now)) choice }
-    ensures bound { result.bound
-        ≡ capped (leaf_bound_at indexes.now all back count (physical_of types.now) (physical_test_of test.now) choice
-        + (bound_of indexes.now (physical_of types.now) + test_sum (own_number indexes.now) (physical_test_of test.now))) }
+    ensures bound { result.bound ≡ capped (leaf_bound_at indexes.now all back count (physical_of types.now)
+        (physical_test_of test.now) choice + (bound_of indexes.now (physical_of types.now)
+        + test_sum (own_number indexes.now) (physical_test_of test.now))) }
 {
     let of_types = cost(types, indexes);
     let of_test = test_cost(test, indexes);

@@ -5,9 +5,12 @@ ghost use Rattle.set_algebra.specs.Physical.{physical_of, physical_test_of};
 ghost use Rattle.postings.specs.Groups.{groups_in};
 ghost use Rattle.plan_bounds.specs.Alternatives.{found_by, passed_over};
 ghost use Rattle.plan_bounds.specs.Bounds.{capped, members_bound, values_bound, walk_bound};
-ghost use Rattle.plan_bounds.specs.Counts.{is_extreme as is_extreme_of, leads_to_self as leads_to_self_of, leaf_of, list_length as list_length_of};
-ghost use Rattle.plan_bounds.specs.Counts.{lists_along, lists_length as lists_length_of, member_count as member_count_of, one_of};
-ghost use Rattle.plan_bounds.specs.Counts.{type_rows as type_rows_of, rows_left, value_row_count as value_row_count_of, value_rows as value_rows_of};
+ghost use Rattle.plan_bounds.specs.Counts.{is_extreme as is_extreme_of, leads_to_self as leads_to_self_of, leaf_of};
+ghost use Rattle.plan_bounds.specs.Counts.{list_length as list_length_of};
+ghost use Rattle.plan_bounds.specs.Counts.{lists_along, lists_length as lists_length_of};
+ghost use Rattle.plan_bounds.specs.Counts.{member_count as member_count_of, one_of};
+ghost use Rattle.plan_bounds.specs.Counts.{type_rows as type_rows_of, rows_left, value_row_count as value_row_count_of};
+ghost use Rattle.plan_bounds.specs.Counts.{value_rows as value_rows_of};
 ghost use Rattle.postings.specs.Stats.{type_row_count as type_row_count_of};
 ghost use Rattle.plan_bounds.specs.Sizes.{members_size, values_size, walk_size};
 
@@ -286,7 +289,8 @@ pub fn counts_of_leaf(
     test: &ValueTest,
     sizes: (u64, u64),
 ) -> Leaf
-    ensures { result ≡ leaf_of indexes.now all back count (physical_of types.now) (physical_test_of test.now) sizes.0 sizes.1 }
+    ensures { result ≡ leaf_of indexes.now all back count (physical_of types.now) (physical_test_of test.now) sizes.0
+        sizes.1 }
 {
     let is_within = match test {
         ValueTest::Within(_) => true,
@@ -316,7 +320,8 @@ fn value_rows(indexes: &Indexes, back: bool, test: &ValueTest) -> u64
 
 // How many rows have values in a set, or, read backwards, sources, at most.
 fn rows_of_values(indexes: &Indexes, back: bool, values: &ConceptPlan) -> u64
-    ensures { result ≡ rows_left (value_row_count_of indexes.now back) (length indexes.now.rows) (physical_of values.now) }
+    ensures { result ≡ rows_left (value_row_count_of indexes.now back) (length indexes.now.rows)
+        (physical_of values.now) }
 {
     match values {
         ConceptPlan::Empty => 0,

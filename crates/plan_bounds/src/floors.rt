@@ -1,10 +1,13 @@
 //! The floor of a plan, node by node.
 ghost use Rattle.std.specs.Prelude.{◌≡◌, ◌+◌, if◌then◌else◌};
-ghost use Rattle.set_algebra.specs.Physical.{physical_of, physical_test_of, physical_units_list_of, physical_units_of, physicals_of};
+ghost use Rattle.set_algebra.specs.Physical.{physical_of, physical_test_of, physical_units_list_of, physical_units_of};
+ghost use Rattle.set_algebra.specs.Physical.{physicals_of};
 ghost use Rattle.held_release.specs.Numbering.{concept_number};
 ghost use Rattle.plan_bounds.specs.Bounds.{capped};
-ghost use Rattle.plan_bounds.specs.Counts.{is_extreme as is_extreme_of, list_length as list_length_of, member_count as member_count_of, one_of};
-ghost use Rattle.plan_bounds.specs.Floors.{floor as floor_of, floor_number, if_in_force, leaf_floor as leaf_floor_of, of_one, within_floor};
+ghost use Rattle.plan_bounds.specs.Counts.{is_extreme as is_extreme_of, list_length as list_length_of};
+ghost use Rattle.plan_bounds.specs.Counts.{member_count as member_count_of, one_of};
+ghost use Rattle.plan_bounds.specs.Floors.{floor as floor_of, floor_number, if_in_force, leaf_floor as leaf_floor_of};
+ghost use Rattle.plan_bounds.specs.Floors.{of_one, within_floor};
 ghost use Rattle.plan_bounds.specs.Nodes.{group_sum, groups_sum, plans_sum, test_sum};
 
 use crate::counts::{is_extreme, list_length, member_count, one, value_row_count};
@@ -12,7 +15,8 @@ use constraint_tree::Operator;
 use postings::Indexes;
 use set_algebra::{Choice, ConceptPlan, UnitPlan, ValueTest};
 
-/// How many items a plan of concepts visits at least: the sum over its nodes, or `u64::MAX` where it is larger. It takes no memory.
+/// How many items a plan of concepts visits at least: the sum over its nodes, or `u64::MAX` where it is larger. It
+/// takes no memory.
 #[cycle(floor)]
 #[tactic(auto, using(crate::proofs::Rules::costing))]
 pub fn plan_floor(plan: &ConceptPlan, indexes: &Indexes) -> u64
@@ -46,7 +50,8 @@ pub fn plan_floor(plan: &ConceptPlan, indexes: &Indexes) -> u64
     }
 }
 
-/// How many items a plan of groups visits at least: the sum over its nodes, or `u64::MAX` where it is larger. It takes no memory.
+/// How many items a plan of groups visits at least: the sum over its nodes, or `u64::MAX` where it is larger. It takes
+/// no memory.
 #[cycle(floor)]
 #[tactic(auto, using(crate::proofs::Rules::costing))]
 pub fn unit_floor(plan: &UnitPlan, indexes: &Indexes) -> u64
@@ -77,7 +82,8 @@ fn pairs_floor(
     indexes: &Indexes,
 ) -> u64
     ensures { result ≡ capped (leaf_floor_of indexes.now back (physical_of types.now) (physical_test_of test.now) choice
-        + (floor_of indexes.now (physical_of types.now) + test_sum (floor_number indexes.now) (physical_test_of test.now))) }
+        + (floor_of indexes.now (physical_of types.now) + test_sum (floor_number indexes.now)
+        (physical_test_of test.now))) }
 {
     let inner = together(plan_floor(types, indexes), test_floor(test, indexes));
     together(leaf_floor(indexes, back, types, test, choice), inner)
@@ -127,7 +133,8 @@ fn together(one: u64, other: u64) -> u64
 
 /// The floor of a walk: the list of the concept that it is from, if that is one in force.
 pub fn walk_floor(indexes: &Indexes, operator: Operator, operand: &ConceptPlan) -> u64
-    ensures { result ≡ (if is_extreme_of operator then 0 else of_one indexes.now (one_of (physical_of operand.now)) (list_length_of indexes.now operator)) }
+    ensures { result ≡ (if is_extreme_of operator then 0 else of_one indexes.now (one_of (physical_of operand.now))
+        (list_length_of indexes.now operator)) }
 {
     if is_extreme(operator) {
         return 0;
@@ -148,7 +155,8 @@ pub fn members_floor(indexes: &Indexes, operand: &ConceptPlan) -> u64
     }
 }
 
-/// The floor of a leaf: all rows where it is scanned, else those of the one concept in force that its test or its types are.
+/// The floor of a leaf: all rows where it is scanned, else those of the one concept in force that its test or its types
+/// are.
 pub fn leaf_floor(
     indexes: &Indexes,
     back: bool,

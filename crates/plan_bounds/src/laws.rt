@@ -7,8 +7,8 @@ pub fn floor_within_bound()
     ensures { FloorWithinBound }
 {}
 
-/// Whatever the choices, no plan finds more concepts of a release than its size, and no plan of groups more groups: so many are found
-/// at most, whichever rows are read.
+/// Whatever the choices, no plan finds more concepts of a release than its size, and no plan of groups more groups: so
+/// many are found at most, whichever rows are read.
 pub fn finds_within_size()
     ensures { FindsWithinSize }
 {}

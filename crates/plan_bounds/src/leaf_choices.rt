@@ -1,7 +1,9 @@
 //! The choices of the leaves of a plan, in a list.
 ghost use Rattle.std.specs.Prelude.{◌≡◌, ◌++◌, ◌∷◌, OnOk};
-ghost use Rattle.set_algebra.specs.Physical.{physical_of, physical_test_of, physical_units_list_of, physical_units_of, physicals_of};
-ghost use Rattle.plan_bounds.specs.Leaves.{choices_in, choices_in_each, choices_in_each_units, choices_in_test, choices_in_units};
+ghost use Rattle.set_algebra.specs.Physical.{physical_of, physical_test_of, physical_units_list_of, physical_units_of};
+ghost use Rattle.set_algebra.specs.Physical.{physicals_of};
+ghost use Rattle.plan_bounds.specs.Leaves.{choices_in, choices_in_each, choices_in_each_units, choices_in_test};
+ghost use Rattle.plan_bounds.specs.Leaves.{choices_in_units};
 
 use set_algebra::{Choice, ConceptPlan, UnitPlan, ValueTest};
 use std::alloc::AllocError;
@@ -66,8 +68,8 @@ fn add_leaf(
     choice: Choice,
     choices: &mut Vec<Choice>,
 ) -> Result<(), AllocError>
-    ensures { OnOk result (choices.new.items
-        ≡ choices.old.items ++ choice ∷ (choices_in (physical_of types.now) ++ choices_in_test (physical_test_of test.now))) }
+    ensures { OnOk result (choices.new.items ≡ choices.old.items ++ choice ∷
+        (choices_in (physical_of types.now) ++ choices_in_test (physical_test_of test.now))) }
 {
     choices.push(choice)?;
     add_choices(types, choices)?;
@@ -91,7 +93,8 @@ fn add_each(parts: &[ConceptPlan], choices: &mut Vec<Choice>) -> Result<(), Allo
 // Adds the choices of sibling plans of groups.
 #[cycle(choices)]
 fn add_each_units(parts: &[UnitPlan], choices: &mut Vec<Choice>) -> Result<(), AllocError>
-    ensures { OnOk result (choices.new.items ≡ choices.old.items ++ choices_in_each_units (physical_units_list_of parts.now)) }
+    ensures { OnOk result (choices.new.items ≡ choices.old.items ++ choices_in_each_units
+        (physical_units_list_of parts.now)) }
 {
     for part in parts {
         add_units(part, choices)?;

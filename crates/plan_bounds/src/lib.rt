@@ -1,6 +1,7 @@
 //! How much a plan finds at most, and how many items it visits, at least and at most, under its choices.
 //!
-//! Of each node of a plan, of its sum over all nodes, and of what is known of one node where its parts have been executed.
+//! Of each node of a plan, of its sum over all nodes, and of what is known of one node where its parts have been
+//! executed.
 #![tactic(auto)]
 
 mod costs;

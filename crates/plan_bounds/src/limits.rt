@@ -21,7 +21,8 @@ pub fn walk_limits(
     operand: &ConceptPlan,
     size: u64,
 ) -> NodeLimits
-    ensures floor { result.floor ≡ (if is_extreme operator then 0 else of_one indexes.now (one_of (physical_of operand.now)) (list_length indexes.now operator)) }
+    ensures floor { result.floor ≡ (if is_extreme operator then 0 else of_one indexes.now
+        (one_of (physical_of operand.now)) (list_length indexes.now operator)) }
     ensures bound { result.bound ≡ capped (walk_bound indexes.now operator (one_of (physical_of operand.now)) size) }
     ensures ordered { result.floor ≤ result.bound }
 {
@@ -43,7 +44,8 @@ pub fn members_limits(indexes: &Indexes, operand: &ConceptPlan, size: u64) -> No
     }
 }
 
-/// Of a leaf under a choice, by how many concepts or groups there are, and how many its types and the plan of its test have found.
+/// Of a leaf under a choice, by how many concepts or groups there are, and how many its types and the plan of its test
+/// have found.
 pub fn leaf_limits(
     indexes: &Indexes,
     all: u64,
@@ -54,8 +56,11 @@ pub fn leaf_limits(
     sizes: (u64, u64),
     choice: Choice,
 ) -> NodeLimits
-    ensures floor { result.floor ≡ leaf_floor_of indexes.now back (physical_of types.now) (physical_test_of test.now) choice }
-    ensures bound { result.bound ≡ capped (leaf_bound (leaf_of indexes.now all back count (physical_of types.now) (physical_test_of test.now) sizes.0 sizes.1) choice) }
+    ensures floor { result.floor ≡ leaf_floor_of indexes.now back (physical_of types.now) (physical_test_of test.now)
+        choice }
+    ensures bound { result.bound ≡ capped
+        (leaf_bound (leaf_of indexes.now all back count (physical_of types.now) (physical_test_of test.now) sizes.0
+        sizes.1) choice) }
     ensures ordered { result.floor ≤ result.bound }
 {
     let leaf = counts_of_leaf(indexes, all, back, count, types, test, sizes);

@@ -14,8 +14,8 @@ use set_algebra::{Choice, ConceptPlan};
 use std::alloc::{AllocError, Global};
 use std::marker::Model;
 
-/// A plan with a choice for each of its leaves: whether it is answered by the rows of its values, of its types, or by all rows. What
-/// a plan means does not depend on its choices.
+/// A plan with a choice for each of its leaves: whether it is answered by the rows of its values, of its types, or by
+/// all rows. What a plan means does not depend on its choices.
 #[derive(Drop)]
 pub struct PhysicalPlan {
     plan: ConceptPlan,
@@ -40,7 +40,8 @@ impl Model for PhysicalPlan {
 }
 
 impl PhysicalPlan {
-    /// A plan whose leaves offer their choices, with the list of these. The error is want of memory, and then the plan is spent.
+    /// A plan whose leaves offer their choices, with the list of these. The error is want of memory, and then the plan
+    /// is spent.
     pub fn new(alloc: Global, plan: ConceptPlan) -> Result<PhysicalPlan, AllocError>
         requires offered { AreOffered (physical_of plan) }
         ensures plan { IfOk result (λ physical. physical.plan ≡ plan) }
@@ -59,8 +60,8 @@ impl PhysicalPlan {
         &self.plan
     }
 
-    /// The choices of its leaves, which are the nodes that count pairs, of concepts or of groups: a node before its children, and
-    /// these in their order, the types of a leaf before its test. Each leaf has one that it offers.
+    /// The choices of its leaves, which are the nodes that count pairs, of concepts or of groups: a node before its
+    /// children, and these in their order, the types of a leaf before its test. Each leaf has one that it offers.
     pub fn choices(&self) -> &[Choice]
         ensures choices { result.now ≡ self.now.choices }
         ensures leaves { self.now.choices ≡ choices_in (physical_of self.now.plan) }
@@ -69,15 +70,16 @@ impl PhysicalPlan {
     }
 }
 
-/// How many items a plan visits at most: the sum of the bounds of its nodes, or `u64::MAX` where it is larger. It takes no memory.
+/// How many items a plan visits at most: the sum of the bounds of its nodes, or `u64::MAX` where it is larger. It takes
+/// no memory.
 pub fn bound(physical: &PhysicalPlan, indexes: &Indexes) -> u64
     ensures { result ≡ capped (bound_of indexes.now (physical_of physical.now.plan)) }
 {
     cost(physical.plan(), indexes).bound
 }
 
-/// How many items a plan visits at least, where none of its nodes is skipped: the sum of the floors of its nodes, or `u64::MAX` where it
-/// is larger. It takes no memory.
+/// How many items a plan visits at least, where none of its nodes is skipped: the sum of the floors of its nodes, or
+/// `u64::MAX` where it is larger. It takes no memory.
 pub fn floor(physical: &PhysicalPlan, indexes: &Indexes) -> u64
     ensures { result ≡ capped (floor_of indexes.now (physical_of physical.now.plan)) }
 {

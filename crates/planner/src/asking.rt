@@ -1,14 +1,17 @@
 //! Choices that are asked for, put into the leaves of a plan.
 ghost use Rattle.std.specs.Prelude.{◌≡◌, drop};
-ghost use Rattle.set_algebra.specs.Physical.{physical_of, physical_test_of, physical_units_list_of, physical_units_of, physicals_of};
+ghost use Rattle.set_algebra.specs.Physical.{physical_of, physical_test_of, physical_units_list_of, physical_units_of};
+ghost use Rattle.set_algebra.specs.Physical.{physicals_of};
 ghost use Rattle.plan_bounds.specs.Counts.{is_within};
 ghost use Rattle.planner.specs.Asked.{asked_or, first_of};
-ghost use Rattle.planner.specs.inside.AskedInPlace.{all_with_asked, group_with_asked, groups_with_asked, test_with_asked, with_asked};
+ghost use Rattle.planner.specs.inside.AskedInPlace.{all_with_asked, group_with_asked, groups_with_asked};
+ghost use Rattle.planner.specs.inside.AskedInPlace.{test_with_asked, with_asked};
 
 use set_algebra::{Choice, ConceptPlan, UnitPlan, ValueTest};
 
-/// Gives each leaf of a plan of concepts the first choice of a list that no leaf before it has had, where the leaf offers it. A leaf that
-/// does not offer it keeps its own. Answers the rest of the list. It goes through the plan once, and takes no memory.
+/// Gives each leaf of a plan of concepts the first choice of a list that no leaf before it has had, where the leaf
+/// offers it. A leaf that does not offer it keeps its own. Answers the rest of the list. It goes through the plan once,
+/// and takes no memory.
 #[cycle(put)]
 #[tactic(auto, using(crate::proofs::Rules::choosing))]
 pub fn put_asked<'a>(plan: &mut ConceptPlan, asked: &'a [Choice]) -> &'a [Choice]
@@ -76,10 +79,11 @@ fn put_in_leaf<'a>(
 ) -> &'a [Choice]
     ensures types { physical_of types.new ≡ (with_asked (drop 1 asked.now) (physical_of types.old)).plan }
     ensures test { physical_test_of test.new
-        ≡ (test_with_asked (with_asked (drop 1 asked.now) (physical_of types.old)).rest (physical_test_of test.old)).plan }
+        ≡ (test_with_asked (with_asked (drop 1 asked.now) (physical_of types.old)).rest
+        (physical_test_of test.old)).plan }
     ensures choice { choice.new ≡ asked_or (is_within (physical_test_of test.old)) (first_of asked.now) choice.old }
-    ensures rest { result.now
-        ≡ (test_with_asked (with_asked (drop 1 asked.now) (physical_of types.old)).rest (physical_test_of test.old)).rest }
+    ensures rest { result.now ≡ (test_with_asked (with_asked (drop 1 asked.now) (physical_of types.old)).rest
+        (physical_test_of test.old)).rest }
 {
     *choice = own_choice(test, asked, *choice);
     let rest = put_asked(types, after_first(asked));
@@ -115,7 +119,8 @@ fn put_in_each<'a>(parts: &mut Vec<ConceptPlan>, asked: &'a [Choice]) -> &'a [Ch
 // Gives the leaves of sibling plans of groups their choices.
 #[cycle(put)]
 fn put_in_each_units<'a>(parts: &mut Vec<UnitPlan>, asked: &'a [Choice]) -> &'a [Choice]
-    ensures parts { physical_units_list_of parts.new.items ≡ (groups_with_asked asked.now (physical_units_list_of parts.old.items)).plan }
+    ensures parts { physical_units_list_of parts.new.items
+        ≡ (groups_with_asked asked.now (physical_units_list_of parts.old.items)).plan }
     ensures rest { result.now ≡ (groups_with_asked asked.now (physical_units_list_of parts.old.items)).rest }
 {
     let mut rest = asked;

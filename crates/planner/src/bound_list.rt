@@ -1,9 +1,12 @@
 //! The own bounds of all nodes of a plan, a node before its children.
 ghost use Rattle.std.specs.Prelude.{◌≡◌, ◌<◌, ◌++◌, ◌∷◌, [], IfOk, OnOk, length};
 ghost use Rattle.std.specs.List.{slice_set};
-ghost use Rattle.set_algebra.specs.Physical.{physical_and, physical_members, physical_minus, physical_of, physical_or, physical_test_of};
-ghost use Rattle.set_algebra.specs.Physical.{physical_units, physical_units_and, physical_units_list_of, physical_units_minus};
-ghost use Rattle.set_algebra.specs.Physical.{physical_units_of, physical_units_or, physical_values, physical_walk, physicals_of};
+ghost use Rattle.set_algebra.specs.Physical.{physical_and, physical_members, physical_minus, physical_of, physical_or};
+ghost use Rattle.set_algebra.specs.Physical.{physical_test_of};
+ghost use Rattle.set_algebra.specs.Physical.{physical_units, physical_units_and, physical_units_list_of};
+ghost use Rattle.set_algebra.specs.Physical.{physical_units_minus};
+ghost use Rattle.set_algebra.specs.Physical.{physical_units_of, physical_units_or, physical_values, physical_walk};
+ghost use Rattle.set_algebra.specs.Physical.{physicals_of};
 ghost use Rattle.plan_bounds.specs.Bounds.{own_bounds, own_list};
 ghost use Rattle.plan_bounds.specs.Nodes.{group_list, groups_list, plans_list, test_list};
 ghost use Rattle.plan_bounds.specs.Sizes.{group_size, group_sizes, size as size_of, sizes, test_size};
@@ -22,7 +25,8 @@ use std::alloc::AllocError;
 /// Adds the own bounds of a plan of concepts. Answers how many concepts it finds at most. The error is want of memory.
 #[cycle(list)]
 pub fn list(plan: &ConceptPlan, indexes: &Indexes, bounds: &mut Vec<u64>) -> Result<u64, AllocError>
-    ensures bounds { OnOk result (bounds.new.items ≡ bounds.old.items ++ own_bounds indexes.now (physical_of plan.now)) }
+    ensures bounds { OnOk result (bounds.new.items ≡ bounds.old.items ++ own_bounds indexes.now
+        (physical_of plan.now)) }
     ensures size { IfOk result (λ size. size ≡ size_of indexes.now (physical_of plan.now)) }
 {
     let at = open(bounds)?;
@@ -72,7 +76,8 @@ fn list_walk(
     indexes: &Indexes,
     bounds: &mut Vec<u64>,
 ) -> Result<NodeCost, AllocError>
-    ensures { IfOk result (λ node. IsNode indexes.now (physical_walk operator (physical_of operand.now)) bounds.old.items bounds.new.items node) }
+    ensures { IfOk result (λ node. IsNode indexes.now (physical_walk operator (physical_of operand.now))
+        bounds.old.items bounds.new.items node) }
 {
     let inner = list(operand, indexes, bounds)?;
     let own = cost_of_walk(indexes, operator, operand, inner);
@@ -86,7 +91,8 @@ fn list_members(
     indexes: &Indexes,
     bounds: &mut Vec<u64>,
 ) -> Result<NodeCost, AllocError>
-    ensures { IfOk result (λ node. IsNode indexes.now (physical_members (physical_of operand.now)) bounds.old.items bounds.new.items node) }
+    ensures { IfOk result (λ node. IsNode indexes.now (physical_members (physical_of operand.now)) bounds.old.items
+        bounds.new.items node) }
 {
     let inner = list(operand, indexes, bounds)?;
     let own = cost_of_members(indexes, operand, inner);
@@ -100,7 +106,8 @@ fn list_and(
     indexes: &Indexes,
     bounds: &mut Vec<u64>,
 ) -> Result<NodeCost, AllocError>
-    ensures { IfOk result (λ node. IsNode indexes.now (physical_and (physicals_of parts.now)) bounds.old.items bounds.new.items node) }
+    ensures { IfOk result (λ node. IsNode indexes.now (physical_and (physicals_of parts.now)) bounds.old.items
+        bounds.new.items node) }
 {
     let inner = list_parts(parts, concepts(indexes), indexes, bounds)?;
     Ok(cost_of_all(&inner))
@@ -113,7 +120,8 @@ fn list_or(
     indexes: &Indexes,
     bounds: &mut Vec<u64>,
 ) -> Result<NodeCost, AllocError>
-    ensures { IfOk result (λ node. IsNode indexes.now (physical_or (physicals_of parts.now)) bounds.old.items bounds.new.items node) }
+    ensures { IfOk result (λ node. IsNode indexes.now (physical_or (physicals_of parts.now)) bounds.old.items
+        bounds.new.items node) }
 {
     let all = concepts(indexes);
     let inner = list_parts(parts, all, indexes, bounds)?;
@@ -166,8 +174,8 @@ fn list_pairs(
     indexes: &Indexes,
     bounds: &mut Vec<u64>,
 ) -> Result<NodeCost, AllocError>
-    ensures { IfOk result (λ node. IsLeafNode indexes.now all back count (physical_of types.now) (physical_test_of test.now) choice
-        bounds.old.items bounds.new.items node) }
+    ensures { IfOk result (λ node. IsLeafNode indexes.now all back count (physical_of types.now)
+        (physical_test_of test.now) choice bounds.old.items bounds.new.items node) }
 {
     let of_types = list(types, indexes, bounds)?;
     let of_test = list_test(test, indexes, bounds)?;
@@ -195,7 +203,8 @@ fn list_of_units(
 // Adds those of a plan of groups.
 #[cycle(list)]
 fn list_units(plan: &UnitPlan, indexes: &Indexes, bounds: &mut Vec<u64>) -> Result<u64, AllocError>
-    ensures bounds { OnOk result (bounds.new.items ≡ bounds.old.items ++ group_list (own_list indexes.now) (physical_units_of plan.now)) }
+    ensures bounds { OnOk result (bounds.new.items ≡ bounds.old.items ++ group_list (own_list indexes.now)
+        (physical_units_of plan.now)) }
     ensures size { IfOk result (λ size. size ≡ group_size indexes.now (physical_units_of plan.now)) }
 {
     let at = open(bounds)?;
@@ -211,7 +220,8 @@ fn list_units_behind(
     indexes: &Indexes,
     bounds: &mut Vec<u64>,
 ) -> Result<NodeCost, AllocError>
-    ensures { IfOk result (λ node. IsGroupNode indexes.now (physical_units_of plan.now) bounds.old.items bounds.new.items node) }
+    ensures { IfOk result (λ node. IsGroupNode indexes.now (physical_units_of plan.now) bounds.old.items
+        bounds.new.items node) }
 {
     match plan {
         UnitPlan::Nothing => Ok(without_parts(0)),
@@ -269,8 +279,8 @@ fn list_units_minus(
     indexes: &Indexes,
     bounds: &mut Vec<u64>,
 ) -> Result<NodeCost, AllocError>
-    ensures { IfOk result (λ node. IsGroupNode indexes.now (physical_units_minus (physical_units_of first.now) (physical_units_of second.now))
-        bounds.old.items bounds.new.items node) }
+    ensures { IfOk result (λ node. IsGroupNode indexes.now (physical_units_minus (physical_units_of first.now)
+        (physical_units_of second.now)) bounds.old.items bounds.new.items node) }
 {
     let left = list_units(first, indexes, bounds)?;
     let right = list_units(second, indexes, bounds)?;
@@ -280,7 +290,8 @@ fn list_units_minus(
 // Adds those of the plan of a test, if it has one.
 #[cycle(list)]
 fn list_test(test: &ValueTest, indexes: &Indexes, bounds: &mut Vec<u64>) -> Result<u64, AllocError>
-    ensures bounds { OnOk result (bounds.new.items ≡ bounds.old.items ++ test_list (own_list indexes.now) (physical_test_of test.now)) }
+    ensures bounds { OnOk result (bounds.new.items ≡ bounds.old.items ++ test_list (own_list indexes.now)
+        (physical_test_of test.now)) }
     ensures size { IfOk result (λ size. size ≡ test_size indexes.now (physical_test_of test.now)) }
 {
     match test {
@@ -299,7 +310,8 @@ fn list_parts(
     indexes: &Indexes,
     bounds: &mut Vec<u64>,
 ) -> Result<Tally, AllocError>
-    ensures bounds { OnOk result (bounds.new.items ≡ bounds.old.items ++ plans_list (own_list indexes.now) (physicals_of parts.now)) }
+    ensures bounds { OnOk result (bounds.new.items ≡ bounds.old.items ++ plans_list (own_list indexes.now)
+        (physicals_of parts.now)) }
     ensures tally { IfOk result (λ tally. IsTallyOf all (sizes indexes.now (physicals_of parts.now)) tally) }
 {
     let mut tally = Tally::none(all);
@@ -318,8 +330,10 @@ fn list_unit_parts(
     indexes: &Indexes,
     bounds: &mut Vec<u64>,
 ) -> Result<Tally, AllocError>
-    ensures bounds { OnOk result (bounds.new.items ≡ bounds.old.items ++ groups_list (own_list indexes.now) (physical_units_list_of parts.now)) }
-    ensures tally { IfOk result (λ tally. IsTallyOf all (group_sizes indexes.now (physical_units_list_of parts.now)) tally) }
+    ensures bounds { OnOk result (bounds.new.items ≡ bounds.old.items ++ groups_list (own_list indexes.now)
+        (physical_units_list_of parts.now)) }
+    ensures tally { IfOk result (λ tally. IsTallyOf all (group_sizes indexes.now (physical_units_list_of parts.now))
+        tally) }
 {
     let mut tally = Tally::none(all);
     for place in 0..parts.len() {

@@ -1,10 +1,12 @@
 //! The choices of a plan, in its leaves.
 ghost use Rattle.std.specs.Prelude.{◌≡◌};
-ghost use Rattle.set_algebra.specs.Physical.{physical_of, physical_test_of, physical_units_list_of, physical_units_of, physicals_of};
+ghost use Rattle.set_algebra.specs.Physical.{physical_of, physical_test_of, physical_units_list_of, physical_units_of};
+ghost use Rattle.set_algebra.specs.Physical.{physicals_of};
 ghost use Rattle.set_algebra.specs.Plan.{plan_of, plans_of, test_plan_of, unit_plan_of, unit_plans_of};
 ghost use Rattle.plan_bounds.specs.Alternatives.{leaf_size, least_choice};
 ghost use Rattle.plan_bounds.specs.Leaves.{plan_count};
-ghost use Rattle.plan_bounds.specs.Sizes.{group_size, group_sizes, leaf_at, size as size_of, sizes, test_size, values_size};
+ghost use Rattle.plan_bounds.specs.Sizes.{group_size, group_sizes, leaf_at, size as size_of, sizes, test_size};
+ghost use Rattle.plan_bounds.specs.Sizes.{values_size};
 ghost use Rattle.plan_bounds.specs.Tallies.{IsTallyOf};
 ghost use Rattle.planner.specs.Chosen.{all_chosen, chosen, group_chosen, groups_chosen, test_chosen};
 
@@ -16,8 +18,8 @@ use plan_bounds::{
 use postings::Indexes;
 use set_algebra::{Choice, ConceptPlan, UnitPlan, ValueTest};
 
-/// Gives each leaf of a plan of concepts the choice of the least bound, its sub-plans having chosen first. Answers how many concepts the
-/// plan then finds at most. It goes through the plan once, and takes no memory.
+/// Gives each leaf of a plan of concepts the choice of the least bound, its sub-plans having chosen first. Answers how
+/// many concepts the plan then finds at most. It goes through the plan once, and takes no memory.
 #[cycle(assign)]
 #[tactic(auto, using(crate::proofs::Rules::choosing))]
 pub fn assign_choices(plan: &mut ConceptPlan, indexes: &Indexes) -> u64
@@ -109,7 +111,8 @@ fn assign_units(plan: &mut UnitPlan, indexes: &Indexes) -> u64
     }
 }
 
-// Gives a leaf its choice, once the leaves of its types and its test have theirs. Answers how much it then finds at most.
+// Gives a leaf its choice, once the leaves of its types and its test have theirs. Answers how much it then finds at
+// most.
 #[cycle(assign)]
 fn assign_leaf(
     all: u64,
@@ -122,8 +125,10 @@ fn assign_leaf(
 ) -> u64
     ensures types { physical_of types.new ≡ chosen indexes.now (plan_of types.old) }
     ensures test { physical_test_of test.new ≡ test_chosen indexes.now (test_plan_of test.old) }
-    ensures choice { choice.new ≡ least_choice (leaf_at indexes.now all back count (physical_of types.new) (physical_test_of test.new)) }
-    ensures size { result ≡ leaf_size (leaf_at indexes.now all back count (physical_of types.new) (physical_test_of test.new)) choice.new }
+    ensures choice { choice.new ≡ least_choice (leaf_at indexes.now all back count (physical_of types.new)
+        (physical_test_of test.new)) }
+    ensures size { result ≡ leaf_size (leaf_at indexes.now all back count (physical_of types.new)
+        (physical_test_of test.new)) choice.new }
 {
     let of_types = assign_choices(types, indexes);
     let of_test = assign_test(test, indexes);
@@ -134,7 +139,8 @@ fn assign_leaf(
     leaf.size(least)
 }
 
-// Gives the leaves of the plan of a test their choices. Answers how many concepts that plan then finds at most, 0 where there is none.
+// Gives the leaves of the plan of a test their choices. Answers how many concepts that plan then finds at most, 0 where
+// there is none.
 #[cycle(assign)]
 fn assign_test(test: &mut ValueTest, indexes: &Indexes) -> u64
     ensures test { physical_test_of test.new ≡ test_chosen indexes.now (test_plan_of test.old) }
@@ -165,7 +171,8 @@ fn assign_parts(parts: &mut Vec<ConceptPlan>, all: u64, indexes: &Indexes) -> Ta
 #[cycle(assign)]
 fn assign_unit_parts(parts: &mut Vec<UnitPlan>, all: u64, indexes: &Indexes) -> Tally
     ensures parts { physical_units_list_of parts.new.items ≡ groups_chosen indexes.now (unit_plans_of parts.old.items) }
-    ensures tally { IsTallyOf all (group_sizes indexes.now (groups_chosen indexes.now (unit_plans_of parts.old.items))) result }
+    ensures tally { IsTallyOf all (group_sizes indexes.now (groups_chosen indexes.now (unit_plans_of parts.old.items)))
+        result }
 {
     let mut tally = Tally::none(all);
     for place in 0..parts.len() {

@@ -15,9 +15,9 @@ use postings::Indexes;
 use set_algebra::{Choice, ConceptPlan};
 use std::alloc::{AllocError, Global};
 
-/// A plan with the choices of least bound: each leaf takes the alternative that visits fewest items, its sub-plans having chosen first;
-/// of two with one bound the first of by value, by type and scan. The plan is kept as it is, but for the choices in its leaves. It is
-/// gone through once. The error is want of memory, and then the plan is spent.
+/// A plan with the choices of least bound: each leaf takes the alternative that visits fewest items, its sub-plans
+/// having chosen first; of two with one bound the first of by value, by type and scan. The plan is kept as it is, but
+/// for the choices in its leaves. It is gone through once. The error is want of memory, and then the plan is spent.
 pub fn choose(
     alloc: Global,
     plan: ConceptPlan,
@@ -34,9 +34,9 @@ pub fn choose(
     Ok(physical)
 }
 
-/// A plan with the choices of a list: of each leaf the one at its place, where the list has one and the leaf offers it, and else the one
-/// that `choose` gives that leaf. The plan is kept as it is, but for the choices in its leaves. The error is want of memory, and then the
-/// plan is spent.
+/// A plan with the choices of a list: of each leaf the one at its place, where the list has one and the leaf offers it,
+/// and else the one that `choose` gives that leaf. The plan is kept as it is, but for the choices in its leaves. The
+/// error is want of memory, and then the plan is spent.
 pub fn choose_with(
     alloc: Global,
     plan: ConceptPlan,
@@ -53,8 +53,8 @@ pub fn choose_with(
     Ok(physical)
 }
 
-/// How many items each node of a plan visits at most beside its children, or `u64::MAX` where that is more; a node before its
-/// children, of both sorts. The error is want of memory.
+/// How many items each node of a plan visits at most beside its children, or `u64::MAX` where that is more; a node
+/// before its children, of both sorts. The error is want of memory.
 pub fn own_bounds(
     alloc: Global,
     physical: &PhysicalPlan,

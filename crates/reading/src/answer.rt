@@ -12,7 +12,8 @@ use idset::ConceptSet;
 use std::alloc::{AllocError, Global};
 use std::marker::Model;
 
-/// What a part of a plan has found: a set of its own, whose items are counted as they are handed out. Contracts see it as the set.
+/// What a part of a plan has found: a set of its own, whose items are counted as they are handed out. Contracts see it
+/// as the set.
 ///
 /// A call that answers `AllocError` found no memory; what it would have read is counted.
 #[derive(Drop)]
@@ -118,7 +119,8 @@ impl<S: ConceptSet> Answer<S> {
         ensures items { IfOk result
             (λ found. S.items_of found ≡ all_items (S.bound_of self.now) (S.items_of self.now) (S.items_of other.now)) }
         ensures bound { IfOk result (λ found. S.bound_of found ≡ S.bound_of self.now) }
-        ensures counted { HandsOut (length (S.items_of self.now) + length (S.items_of other.now)) visits.old visits.new }
+        ensures counted { HandsOut (length (S.items_of self.now) + length (S.items_of other.now)) visits.old
+            visits.new }
     {
         self.count_with(other, visits);
         let set = self.set.or(alloc, &other.set)?;
@@ -136,7 +138,8 @@ impl<S: ConceptSet> Answer<S> {
         ensures items { IfOk result
             (λ found. S.items_of found ≡ other_items (S.items_of self.now) (S.items_of other.now)) }
         ensures bound { IfOk result (λ found. S.bound_of found ≡ S.bound_of self.now) }
-        ensures counted { HandsOut (length (S.items_of self.now) + length (S.items_of other.now)) visits.old visits.new }
+        ensures counted { HandsOut (length (S.items_of self.now) + length (S.items_of other.now)) visits.old
+            visits.new }
     {
         self.count_with(other, visits);
         let set = self.set.minus(alloc, &other.set)?;

@@ -1,8 +1,8 @@
 //! The count of what is read.
 ghost use Rattle.std.specs.Prelude.{◌<◌, ◌^◌};
 
-/// How many items were read: of the lists of the indexes and of a snapshot, and of what parts of plans have found. The count
-/// rises, and stands still at `u64::MAX`.
+/// How many items were read: of the lists of the indexes and of a snapshot, and of what parts of plans have found. The
+/// count rises, and stands still at `u64::MAX`.
 #[derive(Clone, Copy, Debug)]
 pub struct Visits {
     /// So many items.

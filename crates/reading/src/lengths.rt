@@ -1,5 +1,6 @@
 //! Lengths of lists, and look-ups by number: nothing is counted for them, since no item of a list is handed out.
-ghost use Rattle.std.specs.Prelude.{◌≡◌, ◌<◌, ◌+◌, ◌^◌, IfSome, length, nat_eq, pos, position, slice_get, slice_index, slice_index_or};
+ghost use Rattle.std.specs.Prelude.{◌≡◌, ◌<◌, ◌+◌, ◌^◌, IfSome, length, nat_eq, pos, position, slice_get, slice_index};
+ghost use Rattle.std.specs.Prelude.{slice_index_or};
 ghost use Rattle.std.specs.List.{concat};
 ghost use Rattle.std.specs.Ordering.{int_cmp};
 ghost use Rattle.std.specs.List.Sorted.{IsStrictlyIncreasing};
@@ -91,7 +92,8 @@ impl<'a> Reader<'a> {
     pub fn attribute_count(self) -> u32
         ensures count { result ≡ length self.entry.snapshot.now.release.attributes }
         ensures few { length self.entry.snapshot.now.release.attributes < 2 ^ 31 }
-        ensures by_source { length (attributes_by_source self.entry.snapshot.now.release) ≡ length self.entry.snapshot.now.release.attributes }
+        ensures by_source { length (attributes_by_source self.entry.snapshot.now.release)
+            ≡ length self.entry.snapshot.now.release.attributes }
     {
         self.snapshot.attribute_count()
     }
@@ -99,7 +101,8 @@ impl<'a> Reader<'a> {
     /// What a query tests of a row, by its number.
     pub fn cells(self, n: u32) -> RowCells
         requires { n < length self.indexes.now.rows }
-        ensures { IfSome (slice_get (entries_of self.entry.indexes.now.rows) n) (AreRowCells self.entry.indexes.now result) }
+        ensures { IfSome (slice_get (entries_of self.entry.indexes.now.rows) n)
+            (AreRowCells self.entry.indexes.now result) }
     {
         self.indexes.cells(n)
     }
@@ -122,7 +125,8 @@ impl<'a> Reader<'a> {
         self.indexes.types()[place as usize]
     }
 
-    /// How many decimals there are among the values of the rows. Their numbers as values begin at the number of concepts.
+    /// How many decimals there are among the values of the rows. Their numbers as values begin at the number of
+    /// concepts.
     pub fn decimal_count(self) -> u32
         ensures { result ≡ length self.entry.indexes.now.decimals }
     {
@@ -144,10 +148,11 @@ impl<'a> Reader<'a> {
         self.indexes.type_place(id)
     }
 
-    /// The number of the concept that is a type of rows, by the place of the type among the types of all rows; `None` where it is no
-    /// concept in force. Any place may be asked for.
+    /// The number of the concept that is a type of rows, by the place of the type among the types of all rows; `None`
+    /// where it is no concept in force. Any place may be asked for.
     pub fn type_concept(self, place: u32) -> Option<u32>
-        ensures { result ≡ concept_of_type self.entry.indexes.now (slice_get (types_of self.entry.indexes.now.rows) place) }
+        ensures { result ≡ concept_of_type self.entry.indexes.now (slice_get (types_of self.entry.indexes.now.rows)
+            place) }
     {
         self.indexes.type_concept(place)
     }

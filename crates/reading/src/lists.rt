@@ -36,8 +36,8 @@ impl<'a> Reader<'a> {
         handed_out(self.indexes.hierarchy().descendants(concept), visits)
     }
 
-    /// The descendants of a concept as words of bits, a bit for each concept, where the index has them so. They are counted
-    /// as if they were listed.
+    /// The descendants of a concept as words of bits, a bit for each concept, where the index has them so. They are
+    /// counted as if they were listed.
     pub fn descendant_words(self, concept: u32, visits: &mut Counter) -> Option<&'a [u64]>
         requires { concept < length self.indexes.now.hierarchy.descendants }
         ensures some { IfSome result (λ words. AreWordsOf (length self.entry.indexes.now.hierarchy.descendants)
@@ -45,7 +45,8 @@ impl<'a> Reader<'a> {
         ensures wide { IsSome result ↔ IsWide (length self.entry.indexes.now.hierarchy.descendants)
             (list_of self.entry.indexes.now.hierarchy.descendants concept) }
         ensures counted { MatchOption result (visits.new ≡ visits.old)
-            (λ _. HandsOut (length (list_of self.entry.indexes.now.hierarchy.descendants concept)) visits.old visits.new) }
+            (λ _. HandsOut (length (list_of self.entry.indexes.now.hierarchy.descendants concept)) visits.old
+            visits.new) }
     {
         let words = self.indexes.hierarchy().descendant_words(concept)?;
         visits.add(self.descendant_count_of(concept));
@@ -90,8 +91,8 @@ impl<'a> Reader<'a> {
         self.indexes.hierarchy().all_children()
     }
 
-    /// The numbers of the concepts in an order in which parents come before their children, by the is-a rows. Each concept
-    /// is counted.
+    /// The numbers of the concepts in an order in which parents come before their children, by the is-a rows. Each
+    /// concept is counted.
     pub fn parents_first(self, visits: &mut Counter) -> &'a [u32]
         ensures order { IsOrderOf self.entry.snapshot.now.release result.now }
         ensures counted { HandsOut (length result.now) visits.old visits.new }

@@ -10,8 +10,8 @@ use held_release::Snapshot;
 use postings::Indexes;
 use std::alloc::Global;
 
-/// A release with its indexes, and where memory is taken. What executes a plan has the lists of both in a reader alone, whose fields
-/// are its own: so no list is read that is not counted.
+/// A release with its indexes, and where memory is taken. What executes a plan has the lists of both in a reader alone,
+/// whose fields are its own: so no list is read that is not counted.
 #[derive(Clone, Copy)]
 pub struct Reader<'a> {
     /// Where memory is taken.
@@ -29,7 +29,8 @@ pub struct Reader<'a> {
 }
 
 impl<'a> Reader<'a> {
-    /// Opens a release and its indexes to be read, and makes what counts what is read, beginning with what was counted before.
+    /// Opens a release and its indexes to be read, and makes what counts what is read, beginning with what was counted
+    /// before.
     pub fn open(
         alloc: Global,
         snapshot: &'a Snapshot,

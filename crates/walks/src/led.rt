@@ -72,8 +72,8 @@ fn walk_from_all<S: ConceptSet>(
     requires candidates { AreBelow S.bound_of (S.bound_of from.now) candidates.now }
     requires many { 1 < length (S.items_of from.now) }
     requires all { length (S.items_of from.now) ≡ S.bound_of from.now }
-    ensures counted { CountsWithin (length (S.items_of from.now) + walk_items reader.entry.indexes.now.hierarchy operator (S.items_of from.now))
-        visits.old visits.new }
+    ensures counted { CountsWithin (length (S.items_of from.now) + walk_items reader.entry.indexes.now.hierarchy
+        operator (S.items_of from.now)) visits.old visits.new }
     ensures items { IfOk result (λ found. S.items_of found
         ≡ filter (may_be S.items_of candidates.now)
         (led_to reader.entry.indexes.now.hierarchy (S.bound_of from.now) operator (S.items_of from.now))) }
@@ -153,8 +153,8 @@ fn walk_by<S: ConceptSet>(
     Ok(found)
 }
 
-/// The concepts of a set that an operator leads to from another, each asked by its own lists. The concepts of the set and
-/// these lists are counted.
+/// The concepts of a set that an operator leads to from another, each asked by its own lists. The concepts of the set
+/// and these lists are counted.
 pub fn led_among<S: ConceptSet>(
     reader: Reader<'_>,
     operator: Operator,
@@ -166,9 +166,8 @@ pub fn led_among<S: ConceptSet>(
     requires wanted { S.bound_of wanted.now ≡ S.bound_of operand.now }
     ensures counted { CountsWithin (asked_items reader.entry.indexes.now.hierarchy operator (S.items_of wanted.now))
         visits.old visits.new }
-    ensures items { IfOk result (λ found. S.items_of found
-        ≡ filter (has (S.items_of wanted.now)) (led_to reader.entry.indexes.now.hierarchy (S.bound_of operand.now) operator
-        (S.items_of operand.now))) }
+    ensures items { IfOk result (λ found. S.items_of found ≡ filter (has (S.items_of wanted.now))
+        (led_to reader.entry.indexes.now.hierarchy (S.bound_of operand.now) operator (S.items_of operand.now))) }
     ensures bound { IfOk result (λ found. S.bound_of found ≡ S.bound_of operand.now) }
 {
     let step = Step::of(operator);
@@ -177,8 +176,8 @@ pub fn led_among<S: ConceptSet>(
     Answer::from_items(reader.alloc, kept.as_slice(), operand.bound())
 }
 
-/// The concepts of a set, and those in the lists by which it is asked whether an operator leads to them. The concepts and
-/// these lists are counted.
+/// The concepts of a set, and those in the lists by which it is asked whether an operator leads to them. The concepts
+/// and these lists are counted.
 pub fn enough_for<S: ConceptSet>(
     reader: Reader<'_>,
     operator: Operator,
@@ -190,8 +189,8 @@ pub fn enough_for<S: ConceptSet>(
         visits.old visits.new }
     ensures few { IfOk result (λ enough. length (S.items_of enough)
         ≤ asked_items reader.entry.indexes.now.hierarchy operator (S.items_of wanted.now)) }
-    ensures enough { IfOk result (λ enough. AreEnough (asked_lists reader.entry.indexes.now.hierarchy operator) (has (S.items_of wanted.now))
-        (has (S.items_of enough))) }
+    ensures enough { IfOk result (λ enough. AreEnough (asked_lists reader.entry.indexes.now.hierarchy operator)
+        (has (S.items_of wanted.now)) (has (S.items_of enough))) }
     ensures bound { IfOk result (λ enough. S.bound_of enough ≡ S.bound_of wanted.now) }
 {
     let family = Step::of(operator).asked();
@@ -213,7 +212,8 @@ fn with_lists(
     ensures counted { CountsWithin (items_in (lists_of reader.entry.indexes.now.hierarchy family) concepts.now)
         visits.old visits.new }
     ensures items { IfOk result (λ numbers. numbers.items
-        ≡ flat_map (λ concept. concept ∷ list_of (lists_of reader.entry.indexes.now.hierarchy family) concept) concepts.now) }
+        ≡ flat_map (λ concept. concept ∷ list_of (lists_of reader.entry.indexes.now.hierarchy family) concept)
+        concepts.now) }
 {
     let mut numbers = Vec::new(reader.alloc);
     for concept in concepts {
@@ -236,8 +236,8 @@ fn those_led_to<S: ConceptSet>(
     ensures counted { CountsWithin (items_in (lists_of reader.entry.indexes.now.hierarchy (asked_of step)) concepts.now)
         visits.old visits.new }
     ensures items { IfOk result (λ kept. kept.items
-        ≡ filter (has (stepped (lists_of reader.entry.indexes.now.hierarchy step.family) (S.bound_of operand.now) step.reach
-        (S.items_of operand.now))) concepts.now) }
+        ≡ filter (has (stepped (lists_of reader.entry.indexes.now.hierarchy step.family) (S.bound_of operand.now)
+        step.reach (S.items_of operand.now))) concepts.now) }
 {
     let mut kept = Vec::new(reader.alloc);
     for concept in concepts {
@@ -258,10 +258,10 @@ fn is_led_to<S: ConceptSet>(
 ) -> bool
     requires over { IsOver (S.bound_of operand.now) reader.indexes.now.hierarchy }
     requires below { concept < S.bound_of operand.now }
-    ensures counted { CountsWithin (length (list_of (lists_of reader.entry.indexes.now.hierarchy (asked_of step)) concept))
-        visits.old visits.new }
-    ensures led { result ≡ has (stepped (lists_of reader.entry.indexes.now.hierarchy step.family) (S.bound_of operand.now) step.reach
-        (S.items_of operand.now)) concept }
+    ensures counted { CountsWithin (length (list_of (lists_of reader.entry.indexes.now.hierarchy (asked_of step))
+        concept)) visits.old visits.new }
+    ensures led { result ≡ has (stepped (lists_of reader.entry.indexes.now.hierarchy step.family)
+        (S.bound_of operand.now) step.reach (S.items_of operand.now)) concept }
 {
     let family = step.family;
     match step.reach {
@@ -281,10 +281,10 @@ fn is_listed<S: ConceptSet>(
 ) -> bool
     requires over { IsOver (S.bound_of operand.now) reader.indexes.now.hierarchy }
     requires below { concept < S.bound_of operand.now }
-    ensures counted { CountsWithin (length (list_of (lists_of reader.entry.indexes.now.hierarchy (back_of family)) concept))
-        visits.old visits.new }
-    ensures led { result ≡ has (joined (S.bound_of operand.now) (lists_of reader.entry.indexes.now.hierarchy family) (S.items_of operand.now))
-        concept }
+    ensures counted { CountsWithin (length (list_of (lists_of reader.entry.indexes.now.hierarchy (back_of family))
+        concept)) visits.old visits.new }
+    ensures led { result ≡ has (joined (S.bound_of operand.now) (lists_of reader.entry.indexes.now.hierarchy family)
+        (S.items_of operand.now)) concept }
 {
     meets(family.back().list(reader, concept, visits), operand)
 }
@@ -299,10 +299,11 @@ fn is_listed_or_self<S: ConceptSet>(
 ) -> bool
     requires over { IsOver (S.bound_of operand.now) reader.indexes.now.hierarchy }
     requires below { concept < S.bound_of operand.now }
-    ensures counted { CountsWithin (length (list_of (lists_of reader.entry.indexes.now.hierarchy (back_of family)) concept))
-        visits.old visits.new }
+    ensures counted { CountsWithin (length (list_of (lists_of reader.entry.indexes.now.hierarchy (back_of family))
+        concept)) visits.old visits.new }
     ensures led { result ≡ has (all_items (S.bound_of operand.now) (S.items_of operand.now)
-        (joined (S.bound_of operand.now) (lists_of reader.entry.indexes.now.hierarchy family) (S.items_of operand.now))) concept }
+        (joined (S.bound_of operand.now) (lists_of reader.entry.indexes.now.hierarchy family) (S.items_of operand.now)))
+        concept }
 {
     operand.has(concept) || is_listed(reader, family, operand, concept, visits)
 }
@@ -319,7 +320,8 @@ fn is_kept_apart<S: ConceptSet>(
     requires below { concept < S.bound_of operand.now }
     ensures counted { CountsWithin (length (list_of (lists_of reader.entry.indexes.now.hierarchy family) concept))
         visits.old visits.new }
-    ensures led { result ≡ has (apart_of (lists_of reader.entry.indexes.now.hierarchy family) (S.items_of operand.now)) concept }
+    ensures led { result ≡ has (apart_of (lists_of reader.entry.indexes.now.hierarchy family) (S.items_of operand.now))
+        concept }
 {
     operand.has(concept) && !meets(family.list(reader, concept, visits), operand)
 }

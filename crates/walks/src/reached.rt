@@ -14,13 +14,13 @@ use number_lists::KeyedLists;
 use reading::{Answer, Counter, Reader};
 use std::alloc::{AllocError, Global};
 
-/// The concepts that are in the list of one of a set, in a family whose lists hold those of their own concepts. The set is given as a
-/// list too.
+/// The concepts that are in the list of one of a set, in a family whose lists hold those of their own concepts. The set
+/// is given as a list too.
 ///
-/// What is one is-a row away from a concept of the set is found first. Then each concept has its turn before those that are one row
-/// away: where it was found, and is not in the set, they are found. So all that lead to it have had their turn, and what is one row
-/// away from it is read once. Where all that was found first is in the set, no more is. The order of the concepts and all is-a links
-/// are counted.
+/// What is one is-a row away from a concept of the set is found first. Then each concept has its turn before those that
+/// are one row away: where it was found, and is not in the set, they are found. So all that lead to it have had their
+/// turn, and what is one row away from it is read once. Where all that was found first is in the set, no more is. The
+/// order of the concepts and all is-a links are counted.
 pub fn reached<S: ConceptSet>(
     reader: Reader<'_>,
     family: Family,
@@ -31,10 +31,11 @@ pub fn reached<S: ConceptSet>(
     requires over { IsOf reader.snapshot.now.release (S.bound_of set.now) reader.indexes.now.hierarchy }
     requires whole { is_whole_of family ≡ true }
     requires concepts { concepts.now ≡ S.items_of set.now }
-    ensures joined { IfOk result (λ found. AreJoined (lists_of reader.entry.indexes.now.hierarchy family) (S.items_of set.now)
-        (⟦<WordSet as ConceptSet>⟧.items_of found)) }
+    ensures joined { IfOk result (λ found. AreJoined (lists_of reader.entry.indexes.now.hierarchy family)
+        (S.items_of set.now) (⟦<WordSet as ConceptSet>⟧.items_of found)) }
     ensures bound { IfOk result (λ found. ⟦<WordSet as ConceptSet>⟧.bound_of found ≡ S.bound_of set.now) }
-    ensures counted { CountsWithin (pass_items reader.entry.indexes.now.hierarchy (S.bound_of set.now)) visits.old visits.new }
+    ensures counted { CountsWithin (pass_items reader.entry.indexes.now.hierarchy (S.bound_of set.now)) visits.old
+        visits.new }
 {
     // the concepts rise
     reader.concept_count();
@@ -60,14 +61,15 @@ fn contains_all<S: ConceptSet>(
     set: &Answer<S>,
     found: &WordSet,
 ) -> Result<bool, AllocError>
-    ensures { IfOk result (λ all. all ≡ list_all (has (S.items_of set.now)) (⟦<WordSet as ConceptSet>⟧.items_of found.now)) }
+    ensures { IfOk result (λ all. all ≡ list_all (has (S.items_of set.now))
+        (⟦<WordSet as ConceptSet>⟧.items_of found.now)) }
 {
     let items = found.items(alloc)?;
     Ok(items.iter().all(|item| set.has(*item)))
 }
 
-// The concepts that are one is-a row away from one of some. These are gone through by their numbers, so that lists follow one another
-// in memory.
+// The concepts that are one is-a row away from one of some. These are gone through by their numbers, so that lists
+// follow one another in memory.
 fn near_of_all(
     reader: Reader<'_>,
     _family: Family,
@@ -78,8 +80,8 @@ fn near_of_all(
     requires over { IsOver count reader.indexes.now.hierarchy }
     requires near { near.now ≡ lists_of reader.indexes.now.hierarchy (near_of _family) }
     requires below { All (λ concept. concept < count) concepts.now }
-    ensures joined { IfOk result (λ found. AreJoined (lists_of reader.entry.indexes.now.hierarchy (near_of _family)) concepts.now
-        (⟦<WordSet as ConceptSet>⟧.items_of found)) }
+    ensures joined { IfOk result (λ found. AreJoined (lists_of reader.entry.indexes.now.hierarchy (near_of _family))
+        concepts.now (⟦<WordSet as ConceptSet>⟧.items_of found)) }
     ensures bound { IfOk result (λ found. ⟦<WordSet as ConceptSet>⟧.bound_of found ≡ count) }
 {
     let mut found = WordSet::from_items(reader.alloc, &[], count)?;

@@ -17,9 +17,10 @@ use std::alloc::AllocError;
 // To look up a candidate in a list takes about as long as to copy so many components.
 const LOOK_UP: u64 = 32;
 
-/// The candidates among the components of the reference sets in a set: among the concepts that a member row with one of them leads to
-/// (Expression Constraint Language, "Simple Expression Constraints", memberOf). Few candidates are looked up, where the lists of these
-/// are long. What is read is counted: the reference sets, and no more items than they have components.
+/// The candidates among the components of the reference sets in a set: among the concepts that a member row with one of
+/// them leads to (Expression Constraint Language, "Simple Expression Constraints", memberOf). Few candidates are looked
+/// up, where the lists of these are long. What is read is counted: the reference sets, and no more items than they have
+/// components.
 pub fn members_within<S: ConceptSet>(
     reader: Reader<'_>,
     from: &Answer<S>,
@@ -28,10 +29,11 @@ pub fn members_within<S: ConceptSet>(
 ) -> Result<Answer<S>, AllocError>
     requires bound { S.bound_of from.now ≡ length reader.snapshot.now.release.concepts }
     requires candidates { AreConcepts S.ConceptSet reader.snapshot.now.release reader.indexes.now candidates.now }
-    ensures counted { CountsWithin (length (S.items_of from.now) + items_in reader.entry.indexes.now.members (S.items_of from.now)) visits.old visits.new }
+    ensures counted { CountsWithin (length (S.items_of from.now) + items_in reader.entry.indexes.now.members
+        (S.items_of from.now)) visits.old visits.new }
     ensures found { IfOk result (IsFound S.ConceptSet (length reader.entry.snapshot.now.release.concepts)
-        (filter (may_be S.items_of candidates.now) (components_of reader.entry.snapshot.now.release (S.items_of from.now)))
-        (length (S.items_of from.now)) visits.old visits.new) }
+        (filter (may_be S.items_of candidates.now) (components_of reader.entry.snapshot.now.release
+        (S.items_of from.now))) (length (S.items_of from.now)) visits.old visits.new) }
 {
     let numbers = from.items(reader.alloc, visits)?;
     let refsets = numbers.as_slice();
@@ -66,7 +68,8 @@ fn members_among<S: ConceptSet>(
     requires below { All (λ refset. refset < length reader.indexes.now.concepts) refsets.now }
     requires wanted { S.bound_of wanted.now ≡ length reader.snapshot.now.release.concepts }
     ensures counted { HandsOut (length (S.items_of wanted.now)) visits.old visits.new }
-    ensures items { IfOk result (λ found. S.items_of found ≡ filter (has (S.items_of wanted.now)) (components_of reader.entry.snapshot.now.release refsets.now)) }
+    ensures items { IfOk result (λ found. S.items_of found ≡ filter (has (S.items_of wanted.now))
+        (components_of reader.entry.snapshot.now.release refsets.now)) }
     ensures bound { IfOk result (λ found. S.bound_of found ≡ length reader.entry.snapshot.now.release.concepts) }
 {
     let own = wanted.items(reader.alloc, visits)?;
@@ -81,7 +84,8 @@ fn components_among(
     concepts: &[u32],
 ) -> Result<Vec<u32>, AllocError>
     requires below { All (λ refset. refset < length reader.indexes.now.concepts) refsets.now }
-    ensures { IfOk result (λ kept. kept.items ≡ filter (is_in_one_of reader.entry.indexes.now.members refsets.now) concepts.now) }
+    ensures { IfOk result (λ kept. kept.items ≡ filter (is_in_one_of reader.entry.indexes.now.members refsets.now)
+        concepts.now) }
 {
     let mut kept = Vec::new(reader.alloc);
     for concept in concepts {
@@ -112,7 +116,8 @@ fn members<S: ConceptSet>(
 ) -> Result<Answer<S>, AllocError>
     requires below { All (λ refset. refset < length reader.indexes.now.concepts) refsets.now }
     ensures counted { CountsWithin (items_in reader.entry.indexes.now.members refsets.now) visits.old visits.new }
-    ensures items { IfOk result (λ found. S.items_of found ≡ components_of reader.entry.snapshot.now.release refsets.now) }
+    ensures items { IfOk result (λ found. S.items_of found ≡ components_of reader.entry.snapshot.now.release
+        refsets.now) }
     ensures bound { IfOk result (λ found. S.bound_of found ≡ length reader.entry.snapshot.now.release.concepts) }
 {
     let found = components(reader, refsets, visits)?;
@@ -138,7 +143,8 @@ fn components(
     visits: &mut Counter,
 ) -> Result<Vec<u32>, AllocError>
     requires { All (λ refset. refset < length reader.indexes.now.concepts) refsets.now }
-    ensures items { IfOk result (λ found. found.items ≡ flat_map (list_of reader.entry.indexes.now.members) refsets.now) }
+    ensures items { IfOk result (λ found. found.items ≡ flat_map (list_of reader.entry.indexes.now.members)
+        refsets.now) }
     ensures counted { CountsWithin (items_in reader.entry.indexes.now.members refsets.now) visits.old visits.new }
 {
     let mut found = Vec::new(reader.alloc);

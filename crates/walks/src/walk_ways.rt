@@ -20,7 +20,8 @@ use reading::Reader;
 // The lists of more concepts than these are not added up one by one: all lists stand for them.
 const MANY: usize = 4096;
 
-// To find from which concepts an operator leads, for a concept of which that is asked, takes about as long as to read so many rows.
+// To find from which concepts an operator leads, for a concept of which that is asked, takes about as long as to read
+// so many rows.
 const ROWS: u64 = 16;
 
 /// A way to find them. No answer depends on it.
@@ -28,15 +29,16 @@ const ROWS: u64 = 16;
 pub struct WalkWay {
     /// Whether the candidates are asked one by one, each by the list that leads back from it.
     pub asks_candidates: bool,
-    /// Whether, where concepts of a set are looked for in the lists of its own, those one is-a row away are looked at first; and
-    /// how many items the whole lists may have that are looked at then, before a pass over the is-a rows stands for them.
+    /// Whether, where concepts of a set are looked for in the lists of its own, those one is-a row away are looked at
+    /// first; and how many items the whole lists may have that are looked at then, before a pass over the is-a rows
+    /// stands for them.
     pub near_first: Option<u64>,
     /// How many items are read at the most, but for a way whose bound is that of all lists.
     items: u64,
 }
 
-/// Whether few candidates are asked one by one, and the concepts, which are not few, are not even listed: the candidates and the lists
-/// by which they are asked have no more items than all lists.
+/// Whether few candidates are asked one by one, and the concepts, which are not few, are not even listed: the
+/// candidates and the lists by which they are asked have no more items than all lists.
 pub fn are_unlisted<S: ConceptSet>(
     reader: Reader<'_>,
     operator: Operator,
@@ -56,8 +58,9 @@ pub fn are_unlisted<S: ConceptSet>(
     }
 }
 
-/// Whether few candidates are asked, and before that it is found of all concepts from which of them an operator leads to these: where
-/// the candidates and the lists by which they are asked are few beside so many rows, which are read otherwise. They may be read thrice.
+/// Whether few candidates are asked, and before that it is found of all concepts from which of them an operator leads
+/// to these: where the candidates and the lists by which they are asked are few beside so many rows, which are read
+/// otherwise. They may be read thrice.
 pub fn are_enough<S: ConceptSet>(
     reader: Reader<'_>,
     operator: Operator,
@@ -78,8 +81,8 @@ pub fn are_enough<S: ConceptSet>(
     }
 }
 
-/// The way from some concepts. The candidates are asked where they are few and their lists have no more items than those of the
-/// concepts. Of all lists only the lengths are looked up.
+/// The way from some concepts. The candidates are asked where they are few and their lists have no more items than
+/// those of the concepts. Of all lists only the lengths are looked up.
 pub fn walk_way<S: ConceptSet>(
     reader: Reader<'_>,
     operator: Operator,
@@ -90,9 +93,10 @@ pub fn walk_way<S: ConceptSet>(
     requires over { IsOver count reader.indexes.now.hierarchy }
     requires rising { IsRisingBelow count concepts.now }
     requires listed { HaveExtent S.items_of (IsExtentOf reader.indexes.now) candidates.now }
-    ensures asked { OnTrue result.asks_candidates (AreAsked S.items_of reader.entry.indexes.now.hierarchy operator candidates.now
-        (walk_items reader.entry.indexes.now.hierarchy operator concepts.now)) }
-    ensures room { IfSome result.near_first (HasRoom reader.entry.indexes.now.hierarchy (family_of operator) count concepts.now) }
+    ensures asked { OnTrue result.asks_candidates (AreAsked S.items_of reader.entry.indexes.now.hierarchy operator
+        candidates.now (walk_items reader.entry.indexes.now.hierarchy operator concepts.now)) }
+    ensures room { IfSome result.near_first (HasRoom reader.entry.indexes.now.hierarchy (family_of operator) count
+        concepts.now) }
 {
     let step = Step::of(operator);
     let whole = whole_way(reader, step, concepts, count);
@@ -129,7 +133,8 @@ fn whole_way(reader: Reader<'_>, step: Step, concepts: &[u32], count: u32) -> Wa
     requires over { IsOver count reader.indexes.now.hierarchy }
     requires rising { IsRisingBelow count concepts.now }
     ensures within { result.items ≤ items_at_most reader.entry.indexes.now.hierarchy step.family concepts.now }
-    ensures room { IfSome result.near_first (HasRoom reader.entry.indexes.now.hierarchy step.family count concepts.now) }
+    ensures room { IfSome result.near_first (HasRoom reader.entry.indexes.now.hierarchy step.family count
+        concepts.now) }
     ensures asks { result.asks_candidates ≡ false }
 {
     let family = step.family;
@@ -143,8 +148,9 @@ fn whole_way(reader: Reader<'_>, step: Step, concepts: &[u32], count: u32) -> Wa
     without_candidates(None, with_pass(reader, family, concepts.len(), own, count))
 }
 
-// The way to those of some concepts that have none of them in their list. The near lists are looked at first where all lists have
-// room for them and for what is read then: the whole lists of those that are left, or a pass over the is-a rows.
+// The way to those of some concepts that have none of them in their list. The near lists are looked at first where all
+// lists have room for them and for what is read then: the whole lists of those that are left, or a pass over the is-a
+// rows.
 fn apart_way(reader: Reader<'_>, family: Family, concepts: &[u32], count: u32) -> WalkWay
     requires over { IsOver count reader.indexes.now.hierarchy }
     requires rising { IsRisingBelow count concepts.now }
@@ -179,8 +185,8 @@ fn items_or_all(reader: Reader<'_>, family: Family, concepts: &[u32], count: u32
     items_of_lists(reader, family, concepts, count, u64::MAX)
 }
 
-// How many items are read where the lists of so many concepts have so many: where the lists are left for a pass over the is-a rows,
-// those of the pass too.
+// How many items are read where the lists of so many concepts have so many: where the lists are left for a pass over
+// the is-a rows, those of the pass too.
 fn with_pass(reader: Reader<'_>, family: Family, concepts: usize, own: u64, count: u32) -> u64
     ensures few { concepts ≤ 1 → result ≡ own }
     ensures within { own ≤ all_items_of reader.entry.indexes.now.hierarchy family

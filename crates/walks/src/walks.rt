@@ -25,12 +25,13 @@ use std::alloc::{AllocError, Global};
 // A list of so many items is joined before the shorter ones: what it has need not be looked at again.
 const LONG: u64 = 64;
 
-// To go to one is-a row after the other in the order of the hierarchy takes about as long as to read so many items of lists.
+// To go to one is-a row after the other in the order of the hierarchy takes about as long as to read so many items of
+// lists.
 const PASS: u64 = 8;
 
-/// The concepts that a step leads to from those of a set. The set is given as a list too, since it is read once. The rows are counted
-/// of what is found from one concept, if that is asked for; of what is found otherwise it is not known how many there are. Which
-/// lists are looked at first, where the set is looked for in them, is as `WalkWay` says.
+/// The concepts that a step leads to from those of a set. The set is given as a list too, since it is read once. The
+/// rows are counted of what is found from one concept, if that is asked for; of what is found otherwise it is not known
+/// how many there are. Which lists are looked at first, where the set is looked for in them, is as `WalkWay` says.
 pub fn walk<S: ConceptSet>(
     reader: Reader<'_>,
     step: Step,
@@ -45,9 +46,11 @@ pub fn walk<S: ConceptSet>(
     requires concepts { concepts.now ≡ S.items_of operand.now }
     requires room { IfSome near_first (HasRoom reader.indexes.now.hierarchy step.family (S.bound_of operand.now)
         (S.items_of operand.now)) }
-    ensures counted { CountsWithin (items_at_most reader.entry.indexes.now.hierarchy step.family (S.items_of operand.now))
-        visits.old visits.new }
-    ensures items { IfOk result (λ found. S.items_of found ≡ stepped (lists_of reader.entry.indexes.now.hierarchy step.family) (S.bound_of operand.now) step.reach (S.items_of operand.now)) }
+    ensures counted { CountsWithin (items_at_most reader.entry.indexes.now.hierarchy step.family
+        (S.items_of operand.now)) visits.old visits.new }
+    ensures items { IfOk result (λ found. S.items_of found
+        ≡ stepped (lists_of reader.entry.indexes.now.hierarchy step.family) (S.bound_of operand.now) step.reach
+        (S.items_of operand.now)) }
     ensures bound { IfOk result (λ found. S.bound_of found ≡ S.bound_of operand.now) }
     ensures adds { IfOk result (λ found. Adds (S.items_of found) tally.old tally.new) }
 {
@@ -75,7 +78,8 @@ fn listed<S: ConceptSet>(
     requires concepts { concepts.now ≡ S.items_of operand.now }
     ensures counted { CountsWithin (items_at_most reader.entry.indexes.now.hierarchy family (S.items_of operand.now))
         visits.old visits.new }
-    ensures items { IfOk result (λ found. S.items_of found ≡ joined (S.bound_of operand.now) (lists_of reader.entry.indexes.now.hierarchy family) (S.items_of operand.now)) }
+    ensures items { IfOk result (λ found. S.items_of found ≡ joined (S.bound_of operand.now)
+        (lists_of reader.entry.indexes.now.hierarchy family) (S.items_of operand.now)) }
     ensures bound { IfOk result (λ found. S.bound_of found ≡ S.bound_of operand.now) }
     ensures adds { IfOk result (λ found. Adds (S.items_of found) tally.old tally.new) }
 {
@@ -105,7 +109,9 @@ fn listed_or_self<S: ConceptSet>(
     requires concepts { concepts.now ≡ S.items_of operand.now }
     ensures counted { CountsWithin (items_at_most reader.entry.indexes.now.hierarchy family (S.items_of operand.now))
         visits.old visits.new }
-    ensures items { IfOk result (λ found. S.items_of found ≡ all_items (S.bound_of operand.now) (S.items_of operand.now) (joined (S.bound_of operand.now) (lists_of reader.entry.indexes.now.hierarchy family) (S.items_of operand.now))) }
+    ensures items { IfOk result (λ found. S.items_of found ≡ all_items (S.bound_of operand.now) (S.items_of operand.now)
+        (joined (S.bound_of operand.now) (lists_of reader.entry.indexes.now.hierarchy family)
+        (S.items_of operand.now))) }
     ensures bound { IfOk result (λ found. S.bound_of found ≡ S.bound_of operand.now) }
     ensures adds { IfOk result (λ found. Adds (S.items_of found) tally.old tally.new) }
 {
@@ -128,7 +134,8 @@ fn list_of_one<S: ConceptSet>(
     requires below { concept < count }
     ensures counted { CountsWithin (length (list_of (lists_of reader.entry.indexes.now.hierarchy family) concept))
         visits.old visits.new }
-    ensures items { IfOk result (λ found. S.items_of found ≡ joined count (lists_of reader.entry.indexes.now.hierarchy family) (concept ∷ [])) }
+    ensures items { IfOk result (λ found. S.items_of found ≡ joined count (lists_of reader.entry.indexes.now.hierarchy
+        family) (concept ∷ [])) }
     ensures bound { IfOk result (λ found. S.bound_of found ≡ count) }
     ensures adds { IfOk result (λ found. Adds (S.items_of found) tally.old tally.new) }
 {
@@ -158,15 +165,16 @@ fn union<S: ConceptSet>(
     requires over { IsOf reader.snapshot.now.release (S.bound_of operand.now) reader.indexes.now.hierarchy }
     requires concepts { concepts.now ≡ S.items_of operand.now }
     ensures counted { CountsWithin (all_items_of reader.entry.indexes.now.hierarchy family) visits.old visits.new }
-    ensures items { IfOk result (λ found. S.items_of found ≡ joined (S.bound_of operand.now) (lists_of reader.entry.indexes.now.hierarchy family) (S.items_of operand.now)) }
+    ensures items { IfOk result (λ found. S.items_of found ≡ joined (S.bound_of operand.now)
+        (lists_of reader.entry.indexes.now.hierarchy family) (S.items_of operand.now)) }
     ensures bound { IfOk result (λ found. S.bound_of found ≡ S.bound_of operand.now) }
 {
     let found = all_listed(reader, family, concepts, operand, visits)?;
     Answer::from_words(reader.alloc, found.words(), operand.bound())
 }
 
-// The concepts in the lists of those of a set, as words of bits. Where the lists have too many items, one pass over the is-a rows is
-// the shorter way.
+// The concepts in the lists of those of a set, as words of bits. Where the lists have too many items, one pass over the
+// is-a rows is the shorter way.
 fn all_listed<S: ConceptSet>(
     reader: Reader<'_>,
     family: Family,
@@ -177,7 +185,8 @@ fn all_listed<S: ConceptSet>(
     requires over { IsOf reader.snapshot.now.release (S.bound_of operand.now) reader.indexes.now.hierarchy }
     requires concepts { concepts.now ≡ S.items_of operand.now }
     ensures counted { CountsWithin (all_items_of reader.entry.indexes.now.hierarchy family) visits.old visits.new }
-    ensures joined { IfOk result (λ found. AreJoined (lists_of reader.entry.indexes.now.hierarchy family) (S.items_of operand.now) (⟦<WordSet as ConceptSet>⟧.items_of found)) }
+    ensures joined { IfOk result (λ found. AreJoined (lists_of reader.entry.indexes.now.hierarchy family)
+        (S.items_of operand.now) (⟦<WordSet as ConceptSet>⟧.items_of found)) }
     ensures bound { IfOk result (λ found. ⟦<WordSet as ConceptSet>⟧.bound_of found ≡ S.bound_of operand.now) }
 {
     let count = operand.bound();
@@ -208,10 +217,11 @@ pub fn items_of_pass(reader: Reader<'_>, count: u32) -> u64
     (reader.link_count() as u64).saturating_add(u64::from(count))
 }
 
-/// How many items of lists are read at the most before the lists are left for a pass over the is-a rows. With those of the
-/// pass they are no more than all lists have; `None` where all lists have no room for a pass.
+/// How many items of lists are read at the most before the lists are left for a pass over the is-a rows. With those of
+/// the pass they are no more than all lists have; `None` where all lists have no room for a pass.
 pub fn most_items(reader: Reader<'_>, count: u32) -> Option<u64>
-    ensures { IfSome result (λ most. most + pass_items reader.entry.indexes.now.hierarchy count ≤ length (concat reader.entry.indexes.now.hierarchy.ancestors)) }
+    ensures { IfSome result (λ most. most + pass_items reader.entry.indexes.now.hierarchy count
+        ≤ length (concat reader.entry.indexes.now.hierarchy.ancestors)) }
 {
     let links = reader.link_count() as u64;
     let pairs = reader.ancestor_count() as u64;
@@ -223,8 +233,8 @@ pub fn most_items(reader: Reader<'_>, count: u32) -> Option<u64>
     }
 }
 
-// How many items of lists may be read before these are left for a pass over the is-a rows: where lists hold those of their own concepts,
-// and all lists have room for a pass. All may be read else.
+// How many items of lists may be read before these are left for a pass over the is-a rows: where lists hold those of
+// their own concepts, and all lists have room for a pass. All may be read else.
 fn limit_of_lists(reader: Reader<'_>, family: Family, count: u32) -> Option<u64>
     ensures { IfSome result (LeavesPass reader.entry.indexes.now.hierarchy family count) }
 {
@@ -234,8 +244,8 @@ fn limit_of_lists(reader: Reader<'_>, family: Family, count: u32) -> Option<u64>
     most_items(reader, count)
 }
 
-// Whether the lists of some concepts have more items than may be read. Of descendants this shows as they are read: most often one list
-// has the others in it.
+// Whether the lists of some concepts have more items than may be read. Of descendants this shows as they are read: most
+// often one list has the others in it.
 fn has_more_items(
     reader: Reader<'_>,
     family: Family,
@@ -266,7 +276,8 @@ pub fn items_of_lists(
     requires over { IsOver count reader.indexes.now.hierarchy }
     requires below { All (λ concept. concept < count) concepts.now }
     ensures few { result ≤ items_in (lists_of reader.entry.indexes.now.hierarchy family) concepts.now }
-    ensures all { result ≤ most → full (items_in (lists_of reader.entry.indexes.now.hierarchy family) concepts.now) ≤ result }
+    ensures all { result ≤ most → full (items_in (lists_of reader.entry.indexes.now.hierarchy family) concepts.now)
+        ≤ result }
 {
     let mut items = 0u64;
     for concept in concepts {
@@ -278,8 +289,8 @@ pub fn items_of_lists(
     items
 }
 
-// Adds to a set the lists of those concepts whose lists are long, or are not. Tells whether it has added all: no more items are read
-// than are left of some. A list that the set has already is not read.
+// Adds to a set the lists of those concepts whose lists are long, or are not. Tells whether it has added all: no more
+// items are read than are left of some. A list that the set has already is not read.
 fn add_lists<S: ConceptSet>(
     reader: Reader<'_>,
     family: Family,
@@ -291,8 +302,11 @@ fn add_lists<S: ConceptSet>(
 ) -> Result<bool, AllocError>
     requires over { IsOver (S.bound_of found.old) reader.indexes.now.hierarchy }
     requires below { All (λ concept. concept < S.bound_of found.old) concepts.now }
-    ensures joined { IfOk result (λ all. all ≡ true → (before : List ℕ) → AreJoined (lists_of reader.entry.indexes.now.hierarchy family) before (S.items_of found.old)
-        → AreJoined (lists_of reader.entry.indexes.now.hierarchy family) (before ++ with_length (lists_of reader.entry.indexes.now.hierarchy family) long concepts.now) (S.items_of found.new)) }
+    ensures joined { IfOk result (λ all. all ≡ true → (before : List ℕ)
+        → AreJoined (lists_of reader.entry.indexes.now.hierarchy family) before (S.items_of found.old)
+        → AreJoined (lists_of reader.entry.indexes.now.hierarchy family)
+        (before ++ with_length (lists_of reader.entry.indexes.now.hierarchy family) long concepts.now)
+        (S.items_of found.new)) }
     ensures limited { IfOk result (λ all. all ≡ false → IsSome left.old) }
     ensures bound { S.bound_of found.new ≡ S.bound_of found.old }
     ensures counted { CountsWithin (items_in (lists_of reader.entry.indexes.now.hierarchy family)
@@ -347,8 +361,9 @@ fn add_list<S: ConceptSet>(
 ) -> Result<(), AllocError>
     requires over { IsOver (S.bound_of found.old) reader.indexes.now.hierarchy }
     requires below { concept < S.bound_of found.old }
-    ensures joined { OnOk result ((before : List ℕ) → AreJoined (lists_of reader.entry.indexes.now.hierarchy family) before (S.items_of found.old)
-        → AreJoined (lists_of reader.entry.indexes.now.hierarchy family) (before ++ concept ∷ []) (S.items_of found.new)) }
+    ensures joined { OnOk result ((before : List ℕ) → AreJoined (lists_of reader.entry.indexes.now.hierarchy family)
+        before (S.items_of found.old) → AreJoined (lists_of reader.entry.indexes.now.hierarchy family)
+        (before ++ concept ∷ []) (S.items_of found.new)) }
     ensures bound { S.bound_of found.new ≡ S.bound_of found.old }
     ensures counted { CountsWithin (length (list_of (lists_of reader.entry.indexes.now.hierarchy family) concept))
         visits.old visits.new }
@@ -395,8 +410,8 @@ fn apart<S: ConceptSet>(
     Answer::from_items(reader.alloc, kept.as_slice(), operand.bound())
 }
 
-// Those of the concepts of a set whose list has none of it. Where that is asked for, the concepts one is-a row away are looked at
-// first: most often one of them is in the set, and the whole list lies far off in memory.
+// Those of the concepts of a set whose list has none of it. Where that is asked for, the concepts one is-a row away are
+// looked at first: most often one of them is in the set, and the whole list lies far off in memory.
 fn kept_apart<S: ConceptSet>(
     reader: Reader<'_>,
     family: Family,
@@ -410,7 +425,8 @@ fn kept_apart<S: ConceptSet>(
     requires concepts { concepts.now ≡ S.items_of set.now }
     requires below { All (λ concept. concept < S.bound_of set.now) concepts.now }
     requires room { IfSome near_first (HasRoom reader.indexes.now.hierarchy family (S.bound_of set.now) concepts.now) }
-    ensures counted { CountsWithin (items_at_most reader.entry.indexes.now.hierarchy family concepts.now) visits.old visits.new }
+    ensures counted { CountsWithin (items_at_most reader.entry.indexes.now.hierarchy family concepts.now) visits.old
+        visits.new }
     ensures kept { IfOk result (λ kept. kept.items ≡ filter (λ concept. not (list_any (has (S.items_of set.now))
         (list_of (lists_of reader.entry.indexes.now.hierarchy family) concept))) concepts.now) }
 {
@@ -421,8 +437,8 @@ fn kept_apart<S: ConceptSet>(
     kept_in_room(reader, family, left.as_slice(), set, concepts, room, visits)
 }
 
-// Those of some concepts whose list has none of a set, which is given as a list too. Where the lists have more items than there is
-// room for, one pass over the is-a rows takes their place.
+// Those of some concepts whose list has none of a set, which is given as a list too. Where the lists have more items
+// than there is room for, one pass over the is-a rows takes their place.
 fn kept_in_room<S: ConceptSet>(
     reader: Reader<'_>,
     family: Family,
@@ -479,7 +495,8 @@ fn kept_outside<S: ConceptSet>(
     concepts: &[u32],
     set: &S,
 ) -> Result<Vec<u32>, AllocError>
-    ensures { IfOk result (λ kept. kept.items ≡ filter (λ concept. not (has (S.items_of set.now) concept)) concepts.now) }
+    ensures { IfOk result (λ kept. kept.items ≡ filter (λ concept. not (has (S.items_of set.now) concept))
+        concepts.now) }
 {
     let mut kept = Vec::new(alloc);
     for concept in concepts {
