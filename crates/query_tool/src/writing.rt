@@ -8,7 +8,7 @@ ghost use Rattle.streams.specs.Waiting.{LeavesAnswer, Puts, is_write};
 ghost use Rattle.query_service.specs.Answer.{IsAnswer, constraint_answer};
 
 use crate::answering::concepts_of;
-use answer_printer::{print_fault, write_answer};
+use answer_printer::{AnswerForm, print_fault, write_answer};
 use constraint_tree::Constraint;
 use ecl_lexer::QueryFault;
 use ecl_parser::parse;
@@ -60,7 +60,7 @@ fn write_constraint<W: AnswerOutput>(
     ensures failed { IfErr result (λ fault. W.has_failed output.new ≡ is_write fault) }
 {
     match concepts_of::<MixedSet>(alloc, snapshot, indexes, constraint) {
-        Ok(found) => write_answer(alloc, snapshot, &found, piece, output),
+        Ok(found) => write_answer(alloc, snapshot, &found, AnswerForm::whole(), piece, output),
         Err(AllocError) => Err(AnswerFault::Memory),
     }
 }
