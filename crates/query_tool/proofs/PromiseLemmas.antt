@@ -37,7 +37,9 @@ use Rattle.query_service.specs.Serve.{EndsWith, IsAnswered, IsLoadOf, IsServed, 
 use Rattle.query_service.specs.Streams.{Streams}
 use Rattle.query_service.specs.declared.service.Status.TheVariants.{Done}
 use Rattle.query_service.proofs.WrittenLemmas.{AreAnswers-weaker}
-use Rattle.query_tool.specs.Promise.{Answers, HaveOwnNames, IsReleaseOf}
+use Rattle.query_service.specs.LimitedAnswer.{IsAnswerWithin}
+use Rattle.answer_printer.specs.declared.form.AnswerForm.{AnswerForm}
+use Rattle.query_tool.specs.Promise.{Answers, AnswersUnder, HaveOwnNames, IsReleaseOf}
 use Rattle.streams.specs.declared.output.AnswerOutput.{Ghosts as Output}
 use Rattle.streams.specs.declared.input.QueryInput.{Ghosts as Input}
 
@@ -91,6 +93,31 @@ answer_said contents rise line text (inl (tree, is, same)) = inl (
   },
 )
 answer_said contents rise line text (inr refused) = inr refused
+
+-- the answer to a line under a limit, in a form, in the words of the promise
+pub limited_answer_said : (limit : ℕ) (form : AnswerForm) (contents : Contents)
+    → IsStrictlyIncreasing contents.release.concepts → (line text : List ℕ)
+    → IsAnswerWithin limit form contents line text → AnswersUnder limit form contents line text
+limited_answer_said limit form contents rise line text (inl (tree, is, answers)) = inl (
+  tree,
+  is,
+  record {
+    indexed = answers.indexed;
+    of_release = answers.of_release;
+    explained = answers.explained;
+    concepts = denotation contents.release tree;
+    rising = IsStrictlyIncreasing-filter (denotes contents.release tree) contents.release.concepts rise;
+    exactly = kept (denotes contents.release tree) contents.release.concepts;
+    written = answers.written;
+  },
+)
+limited_answer_said limit form contents rise line text (inr refused) = inr refused
+
+-- the same contents have the same answers
+pub same_said : {own contents : Contents} (limit : ℕ) (form : AnswerForm) (line text : List ℕ) → own ≡ contents
+    → AnswersUnder limit form own line text → AnswersUnder limit form contents line text
+same_said limit form line text same said =
+    subst (λ (contents : Contents). AnswersUnder limit form contents line text) same said
 
 -- what was written behind known bytes is known
 appended : (there : List ℕ) (after : Option (List ℕ)) (text : List ℕ) → Appends (Some there) after text → after ≡ Some (there ++ text)
