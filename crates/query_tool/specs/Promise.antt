@@ -24,12 +24,13 @@ use Rattle.answer_printer.specs.declared.form.AnswerForm.{AnswerForm}
 use Rattle.query_run.specs.Lines.{AreAnswers, query_lines}
 use Rattle.query_service.specs.Explanation.{Explains}
 use Rattle.query_service.specs.LimitedAnswer.{least_plan, told_bound, unless_above}
-use Rattle.query_service.specs.Serve.{EndsWith, IsTask, Task}
+use Rattle.query_service.specs.Serve.{EndsWith, IsTask, Task, form_of}
 use Rattle.query_service.specs.Streams.{Streams}
 use Rattle.query_service.specs.declared.service.Status.TheVariants.{Done}
 use Rattle.streams.specs.declared.output.AnswerOutput.{Ghosts as Output}
 use Rattle.streams.specs.declared.input.QueryInput.{Ghosts as Input}
-use Rattle.command_line.specs.declared.words.Mode.TheVariants.{Query}
+use Rattle.command_line.specs.declared.words.Mode.TheVariants.{Query, QueryWith}
+use Rattle.command_line.specs.declared.words.QueryOptions.{QueryOptions}
 
 -- no two files have one name
 abbrev pub HaveOwnNames : List FileText → Type 0
@@ -87,3 +88,16 @@ abbrev pub AnswersUnder : ℕ → AnswerForm → Contents → List ℕ → List 
 AnswersUnder limit form contents line text =
     ((tree : Tree) × IsConstraint line tree × ListsWithin limit form contents tree text)
     ⊎ ((fault : QueryFault) × IsRefusalOf line fault × (text ≡ refusal_text fault))
+
+-- where a query request with options, over told files with names of their own and a told input, ends with status 0,
+-- this was written behind what was there
+abbrev pub KeepsTheLimitedPromise : {R W E : Type 0} → Input R → Output W → Output E → Type 0
+KeepsTheLimitedPromise {R} {W} {E} r w e =
+    (before after : Streams R W E) (files : List FileText) (language bytes there : List ℕ) (old new : History)
+    (task : Task) (options : QueryOptions)
+    → HaveOwnNames files → IsTask (Some files) old new language (QueryWith options) task
+    → EndsWith r w e task Done before after
+    → r.remaining before.input ≡ Some bytes → w.written before.output ≡ Some there
+    → (contents : Contents) × IsReleaseOf files language contents
+    × (text : List ℕ) × AreAnswers (AnswersUnder options.limit (form_of options) contents) (query_lines bytes) text
+    × (w.written after.output ≡ Some (there ++ text))
