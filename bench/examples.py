@@ -111,12 +111,6 @@ def scripts():
     )
     case("quality.sh, no query", run(f"{EXAMPLES}/quality.sh", "100005 AND", EDITION)[0], 2)
     case("quality.sh, no release", run(f"{EXAMPLES}/quality.sh", "*", "/nowhere")[0], 2)
-    query = "<100005:104001=106004"
-    answer = "OK 2\n101009 |Beta (finding)|\n102002 |Gamma (finding)|\n"
-    case("bounded.sh, a bound at the limit", run(f"{EXAMPLES}/bounded.sh", "17", query, EDITION), (0, answer))
-    case("bounded.sh, a bound above the limit", run(f"{EXAMPLES}/bounded.sh", "16", query, EDITION), (1, ""))
-    case("bounded.sh, no query", run(f"{EXAMPLES}/bounded.sh", "17", "100005 AND", EDITION)[0], 2)
-    case("bounded.sh, no release", run(f"{EXAMPLES}/bounded.sh", "17", "*", "/nowhere")[0], 2)
 
 
 def module():

@@ -323,6 +323,31 @@ def words():
         status, out, err = run(*given)
         case(f"words that are no command: {given}", (status, out, b"query_tool" in err, b"hosecrag" in err), (2, b"", False, True))
     case("ten folders", run("check", *"ABCDEFGHIJ"), (2, b"", b"at most 9 folders\n"))
+    for option in ("--limit", "--first"):
+        for number in ([], ["-1"], ["1e6"], ["1" * 21], ["+5"], [""], ["5", option, "6"]):
+            status, out, err = run("query", EDITION, option, *number)
+            case(f"{option} with {number}", (status, out, option.encode() in err), (2, b"", True))
+        for command in ("explain", "check"):
+            status, out, err = run(command, EDITION, option, "5")
+            case(f"{command} with {option}", (status, out, option.encode() in err), (2, b"", True))
+    status, out, err = run("query", EDITION, "--no-names", "--no-names")
+    case("--no-names twice", (status, out, b"--no-names" in err), (2, b"", True))
+
+
+def limits():
+    """The longest lines whose plans visit much: below its bound each is refused by it, and at its bound answered."""
+    most = str((1 << 64) - 1)
+    for part, between in ((b"*=*", b","), (b"R *=*", b","), (b"{[2..*]*=*}", b","), (b"*=(*:*=*)", b" OR ")):
+        line = b"*:" + between.join([part] * (65_533 // (len(part) + len(between)))) + b"\n"
+        bound = run("explain", EDITION, stdin=line)[1].split(b"\n")[0].split(b" ")[1]
+        below = str(int(bound) - 1)
+        answers = run("query", EDITION, "--limit", below, "--first", "0", stdin=line + QUERY)[1].split(b"\n")
+        case(f"{part}, below its bound", answers, [b"ERR bound " + bound, b"OK 3", b""])
+        for limit in (bound.decode(), most):
+            case(f"{part}, under {limit}", run("query", EDITION, "--limit", limit, "--first", "0", stdin=line)[1][:3], b"OK ")
+    counts = run("query", EDITION, "--limit", "0", "--first", "0", stdin=QUERY + b"*\n100005 XOR 101009\n")
+    case("a limit of 0", counts, (0, b"ERR bound 4\nOK 10\nERR token 7\n", b""))
+    case("leading zeros", run("query", EDITION, "--limit", "0004", "--first", "00", stdin=QUERY), (0, b"OK 3\n", b""))
 
 
 def long_lines():
@@ -485,7 +510,7 @@ if __name__ == "__main__":
         os.chmod(at, 0o755)
         PROGRAM = shutil.copy(given, f"{at}/hosecrag")
         os.chmod(PROGRAM, 0o755)
-        for part in (words, streams, links, several, names, kinds_of_file, long_lines, memory, allocations, spoiled, crafted, calls):
+        for part in (words, limits, streams, links, several, names, kinds_of_file, long_lines, memory, allocations, spoiled, crafted, calls):
             part()
     print(f"{passed} passed, {failed} failed")
     sys.exit(1 if failed else 0)

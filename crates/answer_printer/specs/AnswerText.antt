@@ -1,10 +1,12 @@
 -- The text that answers a query, or refuses a text that is none.
-use Rattle.std.specs.Prelude.{ℕ, ◌++◌, List, [], ◌∷◌, length, codes, decimal, Option}
+use Rattle.std.specs.Prelude.{ℕ, ◌++◌, Bool, true, false, List, [], ◌∷◌, length, take, codes, decimal}
+use Rattle.std.specs.Prelude.{Option, None, Some}
 use Rattle.std.specs.List.{flat_map}
 use Rattle.ecl_lexer.specs.Refusals.{feature_name}
 use Rattle.ecl_lexer.specs.declared.fault.QueryFault.{QueryFault}
 use Rattle.ecl_lexer.specs.declared.fault.QueryFault.TheVariants.{Long, Utf8, Token, Unsupported, Limit, Depth, Syntax, Memory}
 use Rattle.held_release.specs.Line.{concept_line}
+use Rattle.answer_printer.specs.declared.form.AnswerForm.{AnswerForm}
 
 -- a number on a line of its own
 abbrev pub number_line : ℕ → List ℕ
@@ -17,6 +19,30 @@ answer_head count = codes "OK " ++ number_line count
 -- then a line for each, with the names that they have
 abbrev pub answer_text : (ℕ → Option (List ℕ)) → List ℕ → List ℕ
 answer_text name concepts = answer_head (length concepts) ++ flat_map (concept_line name) concepts
+
+-- the form of an answer for which nothing is asked: every line, with names
+abbrev pub whole_form : AnswerForm
+whole_form = record { first = None; names = true }
+
+-- of concepts in order those whose lines are written: all of them, or the first so many
+abbrev pub shown_of : Option ℕ → List ℕ → List ℕ
+shown_of None concepts = concepts
+shown_of (Some first) concepts = take first concepts
+
+-- the names that are written: those that the concepts have, or none
+abbrev pub shown_names : Bool → (ℕ → Option (List ℕ)) → ℕ → Option (List ℕ)
+shown_names true name = name
+shown_names false name = λ concept. None
+
+-- an answer in a form: `OK` and how many concepts there are in all, then the lines that the form asks for
+abbrev pub answer_in : AnswerForm → (ℕ → Option (List ℕ)) → List ℕ → List ℕ
+answer_in form name concepts =
+    answer_head (length concepts)
+    ++ flat_map (concept_line (shown_names form.names name)) (shown_of form.first concepts)
+
+-- the line that refuses a constraint whose plan visits more items at most than a limit allows: so many
+abbrev pub bound_refusal : ℕ → List ℕ
+bound_refusal most = codes "ERR bound " ++ number_line most
 
 -- the line that refuses a text; want of memory has none
 abbrev pub refusal_text : QueryFault → List ℕ

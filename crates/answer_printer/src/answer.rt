@@ -4,9 +4,10 @@ ghost use Rattle.std.specs.List.{flat_map};
 ghost use Rattle.streams.specs.Waiting.{LeavesAnswer, Puts, WritesFront, is_write};
 ghost use Rattle.held_release.specs.Line.{concept_line};
 ghost use Rattle.held_release.specs.Name.{name_of};
-ghost use Rattle.answer_printer.specs.AnswerText.{answer_head, answer_text};
+ghost use Rattle.answer_printer.specs.AnswerText.{answer_head, answer_in, answer_text, number_line, shown_names};
 ghost use Rattle.answer_printer.specs.inside.Prefix.{IsPrefixOf};
 
+use crate::form::AnswerForm;
 use crate::numbers::append_number;
 use held_release::Snapshot;
 use idset::ConceptSet;
@@ -15,6 +16,9 @@ use streams::{AnswerFault, AnswerOutput, IoFault, Piece};
 
 // The bytes of the first line at the most: `OK `, 10 digits and LF.
 const HEAD_ROOM: usize = 14;
+
+// The bytes of a line without a name at the most: 18 digits and LF.
+const BARE_LINE_ROOM: usize = 19;
 
 /// Appends `OK`, the number of the concepts of a set, and then a line for each, in the rising order of
 /// their identifiers: the identifier, and the name if the concept has one (Expression Constraint
@@ -30,29 +34,52 @@ pub fn print_answer<S: ConceptSet>(
     ensures ok { OnOk result (output.new.items ≡ output.old.items ++ answer_text (name_of snapshot.now.release snapshot.now.language) (map (slice_index snapshot.now.release.concepts) (S.items_of set.now))) }
     ensures err { OnErr result (output.new.items ≡ output.old.items) }
 {
+    print_answer_in(alloc, snapshot, set, AnswerForm::whole(), output)
+}
+
+/// Appends the answer that `print_answer` appends in a form: the count is whole, and of the lines of the
+/// concepts those stand that the form asks for. `AllocError` is answered where memory is refused; `output` is
+/// unchanged then.
+pub fn print_answer_in<S: ConceptSet>(
+    alloc: Global,
+    snapshot: &Snapshot,
+    set: &S,
+    form: AnswerForm,
+    output: &mut Vec<u8>,
+) -> Result<(), AllocError>
+    requires { S.bound_of set.now ≡ length snapshot.now.release.concepts }
+    ensures ok { OnOk result (output.new.items ≡ output.old.items
+        ++ answer_in form (name_of snapshot.now.release snapshot.now.language)
+        (map (slice_index snapshot.now.release.concepts) (S.items_of set.now))) }
+    ensures err { OnErr result (output.new.items ≡ output.old.items) }
+{
     let concepts = set.items(alloc)?;
     let start = output.len();
-    let appended = append_answer(snapshot, concepts.as_slice(), output);
+    let appended = append_answer(snapshot, concepts.as_slice(), form, output);
     if appended.is_err() {
         output.truncate(start);
     }
     appended
 }
 
-// Appends the answer of concepts, or a part of it where memory is refused. The room is made at once, so
+// Appends the answer of concepts in a form, or a part of it where memory is refused. The room is made at once, so
 // that nothing is copied again.
 fn append_answer(
     snapshot: &Snapshot,
     concepts: &[u32],
+    form: AnswerForm,
     output: &mut Vec<u8>,
 ) -> Result<(), AllocError>
     requires { All (λ concept. concept < length snapshot.now.release.concepts) concepts.now }
-    ensures ok { OnOk result (output.new.items ≡ output.old.items ++ answer_text (name_of snapshot.now.release snapshot.now.language) (map (slice_index snapshot.now.release.concepts) concepts.now)) }
+    ensures ok { OnOk result (output.new.items ≡ output.old.items
+        ++ answer_in form (name_of snapshot.now.release snapshot.now.language)
+        (map (slice_index snapshot.now.release.concepts) concepts.now)) }
     ensures begun { IsPrefixOf output.old.items output.new.items }
 {
-    output.reserve(room_of(snapshot, concepts))?;
+    let shown = form.shown(concepts);
+    output.reserve(room_of(snapshot, shown, form.names))?;
     append_head(concepts.len(), output)?;
-    append_lines(snapshot, concepts, output)
+    append_lines(snapshot, shown, form.names, output)
 }
 
 // Appends the first line of the answer of so many concepts, or a part of it where memory is refused.
@@ -66,10 +93,13 @@ fn append_head(count: usize, output: &mut Vec<u8>) -> Result<(), AllocError>
     Ok(())
 }
 
-// How many bytes the answer of concepts has, or a few more; the greatest number where there are more.
-fn room_of(snapshot: &Snapshot, concepts: &[u32]) -> usize
+// How many bytes the answer that shows concepts has, or a few more; the greatest number where there are more.
+fn room_of(snapshot: &Snapshot, concepts: &[u32], names: bool) -> usize
     requires { All (λ concept. concept < length snapshot.now.release.concepts) concepts.now }
 {
+    if !names {
+        return HEAD_ROOM.saturating_add(concepts.len().saturating_mul(BARE_LINE_ROOM));
+    }
     let mut room = HEAD_ROOM;
     for concept in concepts {
         room = room.saturating_add(snapshot.line(*concept).len());
@@ -81,34 +111,61 @@ fn room_of(snapshot: &Snapshot, concepts: &[u32]) -> usize
 fn append_lines(
     snapshot: &Snapshot,
     concepts: &[u32],
+    names: bool,
     output: &mut Vec<u8>,
 ) -> Result<(), AllocError>
     requires { All (λ concept. concept < length snapshot.now.release.concepts) concepts.now }
-    ensures ok { OnOk result (output.new.items ≡ output.old.items ++ flat_map (concept_line (name_of snapshot.now.release snapshot.now.language)) (map (slice_index snapshot.now.release.concepts) concepts.now)) }
+    ensures ok { OnOk result (output.new.items ≡ output.old.items
+        ++ flat_map (concept_line (shown_names names (name_of snapshot.now.release snapshot.now.language)))
+        (map (slice_index snapshot.now.release.concepts) concepts.now)) }
     ensures begun { IsPrefixOf output.old.items output.new.items }
 {
     for concept in concepts {
-        output.extend_from_slice(snapshot.line(*concept))?;
+        append_line(snapshot, *concept, names, output)?;
     }
     Ok(())
 }
 
-/// Puts the text that `print_answer` appends into a piece of an output, line by line. All memory is taken before: where it is
-/// refused the piece and the output are as they were. Where the output fails a front of what waited and of the text was
-/// written, not all of it.
+// Appends the line of a concept, or a part of it where memory is refused.
+fn append_line(
+    snapshot: &Snapshot,
+    concept: u32,
+    names: bool,
+    output: &mut Vec<u8>,
+) -> Result<(), AllocError>
+    requires { concept < length snapshot.now.release.concepts }
+    ensures ok { OnOk result (output.new.items ≡ output.old.items
+        ++ concept_line (shown_names names (name_of snapshot.now.release snapshot.now.language))
+        (slice_index snapshot.now.release.concepts concept)) }
+    ensures begun { IsPrefixOf output.old.items output.new.items }
+{
+    if names {
+        return output.extend_from_slice(snapshot.line(concept));
+    }
+    append_number(snapshot.id_at(concept).number(), output)?;
+    output.push(b'\n')?;
+    Ok(())
+}
+
+/// Puts the text that `print_answer_in` appends into a piece of an output, line by line. All memory is taken before:
+/// where it is refused the piece and the output are as they were. Where the output fails a front of what waited and of
+/// the text was written, not all of it.
 pub fn write_answer<S: ConceptSet, W: AnswerOutput>(
     alloc: Global,
     snapshot: &Snapshot,
     set: &S,
+    form: AnswerForm,
     piece: &mut Piece,
     output: &mut W,
 ) -> Result<(), AnswerFault>
     requires set { S.bound_of set.now ≡ length snapshot.now.release.concepts }
     requires sound { W.has_failed output.old ≡ false }
     ensures ok { OnOk result (Puts (W.written output.old) (W.written output.new) piece.old
-        (answer_text (name_of snapshot.now.release snapshot.now.language) (map (slice_index snapshot.now.release.concepts) (S.items_of set.now))) piece.new) }
+        (answer_in form (name_of snapshot.now.release snapshot.now.language)
+            (map (slice_index snapshot.now.release.concepts) (S.items_of set.now))) piece.new) }
     ensures fault { IfErr result (λ fault. LeavesAnswer
-        (λ text. text ≡ answer_text (name_of snapshot.now.release snapshot.now.language) (map (slice_index snapshot.now.release.concepts) (S.items_of set.now)))
+        (λ text. text ≡ answer_in form (name_of snapshot.now.release snapshot.now.language)
+            (map (slice_index snapshot.now.release.concepts) (S.items_of set.now)))
         fault (W.written output.old) (W.written output.new) piece.old piece.new) }
     ensures sound { OnOk result (W.has_failed output.new ≡ false) }
     ensures failed { IfErr result (λ fault. W.has_failed output.new ≡ is_write fault) }
@@ -124,7 +181,8 @@ pub fn write_answer<S: ConceptSet, W: AnswerOutput>(
     match put_answer(
         snapshot,
         head.as_slice(),
-        concepts.as_slice(),
+        form.shown(concepts.as_slice()),
+        form.names,
         piece,
         output,
     ) {
@@ -147,43 +205,93 @@ fn put_answer<W: AnswerOutput>(
     snapshot: &Snapshot,
     head: &[u8],
     concepts: &[u32],
+    names: bool,
     piece: &mut Piece,
     output: &mut W,
 ) -> Result<(), IoFault>
     requires concepts { All (λ concept. concept < length snapshot.now.release.concepts) concepts.now }
     requires sound { W.has_failed output.old ≡ false }
     ensures ok { OnOk result (Puts (W.written output.old) (W.written output.new) piece.old
-        (head.now ++ flat_map (concept_line (name_of snapshot.now.release snapshot.now.language)) (map (slice_index snapshot.now.release.concepts) concepts.now)) piece.new) }
+        (head.now ++ flat_map (concept_line (shown_names names (name_of snapshot.now.release snapshot.now.language)))
+        (map (slice_index snapshot.now.release.concepts) concepts.now)) piece.new) }
     ensures err { OnErr result (WritesFront (W.written output.old) (W.written output.new) (piece.old
-        ++ (head.now ++ flat_map (concept_line (name_of snapshot.now.release snapshot.now.language)) (map (slice_index snapshot.now.release.concepts) concepts.now)))) }
+        ++ (head.now ++ flat_map (concept_line (shown_names names (name_of snapshot.now.release snapshot.now.language)))
+        (map (slice_index snapshot.now.release.concepts) concepts.now)))) }
     ensures failure { W.has_failed output.new ≡ is_err result }
 {
     match piece.put(head, output) {
-        Ok(()) => put_lines(snapshot, concepts, piece, output),
+        Ok(()) => put_lines(snapshot, concepts, names, piece, output),
         Err(fault) => Err(fault),
     }
 }
 
-// Puts the lines of concepts, as the snapshot keeps them.
+// Puts the lines of concepts.
 fn put_lines<W: AnswerOutput>(
     snapshot: &Snapshot,
     concepts: &[u32],
+    names: bool,
     piece: &mut Piece,
     output: &mut W,
 ) -> Result<(), IoFault>
     requires concepts { All (λ concept. concept < length snapshot.now.release.concepts) concepts.now }
     requires sound { W.has_failed output.old ≡ false }
     ensures ok { OnOk result (Puts (W.written output.old) (W.written output.new) piece.old
-        (flat_map (concept_line (name_of snapshot.now.release snapshot.now.language)) (map (slice_index snapshot.now.release.concepts) concepts.now)) piece.new) }
+        (flat_map (concept_line (shown_names names (name_of snapshot.now.release snapshot.now.language)))
+        (map (slice_index snapshot.now.release.concepts) concepts.now)) piece.new) }
     ensures err { OnErr result (WritesFront (W.written output.old) (W.written output.new) (piece.old
-        ++ flat_map (concept_line (name_of snapshot.now.release snapshot.now.language)) (map (slice_index snapshot.now.release.concepts) concepts.now))) }
+        ++ flat_map (concept_line (shown_names names (name_of snapshot.now.release snapshot.now.language)))
+        (map (slice_index snapshot.now.release.concepts) concepts.now))) }
     ensures failure { W.has_failed output.new ≡ is_err result }
 {
     for concept in concepts {
-        match piece.put(snapshot.line(*concept), output) {
+        match put_line(snapshot, *concept, names, piece, output) {
             Ok(()) => {}
             Err(fault) => return Err(fault),
         }
     }
     Ok(())
+}
+
+// Puts the line of a concept: with its name as the snapshot keeps it, or its identifier alone.
+fn put_line<W: AnswerOutput>(
+    snapshot: &Snapshot,
+    concept: u32,
+    names: bool,
+    piece: &mut Piece,
+    output: &mut W,
+) -> Result<(), IoFault>
+    requires concept { concept < length snapshot.now.release.concepts }
+    requires sound { W.has_failed output.old ≡ false }
+    ensures ok { OnOk result (Puts (W.written output.old) (W.written output.new) piece.old
+        (concept_line (shown_names names (name_of snapshot.now.release snapshot.now.language))
+        (slice_index snapshot.now.release.concepts concept)) piece.new) }
+    ensures err { OnErr result (WritesFront (W.written output.old) (W.written output.new) (piece.old
+        ++ concept_line (shown_names names (name_of snapshot.now.release snapshot.now.language))
+        (slice_index snapshot.now.release.concepts concept))) }
+    ensures failure { W.has_failed output.new ≡ is_err result }
+{
+    if names {
+        return piece.put(snapshot.line(concept), output);
+    }
+    put_number_line(snapshot.id_at(concept).number(), piece, output)
+}
+
+// Puts a number on a line of its own.
+fn put_number_line<W: AnswerOutput>(
+    number: u64,
+    piece: &mut Piece,
+    output: &mut W,
+) -> Result<(), IoFault>
+    requires { W.has_failed output.old ≡ false }
+    ensures ok { OnOk result (Puts (W.written output.old) (W.written output.new) piece.old
+        (number_line number) piece.new) }
+    ensures err { OnErr result (WritesFront (W.written output.old) (W.written output.new)
+        (piece.old ++ number_line number)) }
+    ensures failure { W.has_failed output.new ≡ is_err result }
+{
+    let mut digits = itoa::Buffer::new();
+    match piece.put(digits.format(number).as_bytes(), output) {
+        Ok(()) => piece.put(b"\n", output),
+        Err(fault) => Err(fault),
+    }
 }

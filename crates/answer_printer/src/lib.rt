@@ -7,6 +7,7 @@
 #![tactic(auto)]
 
 mod answer;
+mod form;
 mod laws;
 mod load_refusal;
 mod numbers;
@@ -16,9 +17,10 @@ mod query_refusal;
 mod report;
 mod told_name;
 
-pub use crate::answer::{print_answer, write_answer};
+pub use crate::answer::{print_answer, print_answer_in, write_answer};
+pub use crate::form::AnswerForm;
 pub use crate::laws::worked_texts_hold;
 pub use crate::load_refusal::print_load_fault;
 pub use crate::plan::print_plan;
-pub use crate::query_refusal::print_fault;
+pub use crate::query_refusal::{print_bound, print_fault};
 pub use crate::report::print_report;

@@ -1,7 +1,7 @@
 //! The line that refuses a text.
 ghost use Rattle.std.specs.Prelude.{◌≡◌, ◌≢◌, ◌++◌, ◌∷◌, decimal, IfOk, OnErr, OnOk};
 ghost use Rattle.ecl_lexer.specs.Refusals.{feature_name};
-ghost use Rattle.answer_printer.specs.AnswerText.{number_line, refusal_text};
+ghost use Rattle.answer_printer.specs.AnswerText.{bound_refusal, number_line, refusal_text};
 
 use crate::numbers::append_number;
 use ecl_lexer::{Feature, QueryFault};
@@ -19,6 +19,16 @@ pub fn print_fault(alloc: Global, fault: QueryFault, output: &mut Vec<u8>) -> Re
     output.extend_from_slice(line.as_slice())
 }
 
+/// Appends the line that refuses a constraint whose plan visits more items at most than a limit allows: `ERR bound`,
+/// how many it visits at most, and LF. `AllocError` is answered where memory is refused; `output` is unchanged then.
+pub fn print_bound(alloc: Global, bound: u64, output: &mut Vec<u8>) -> Result<(), AllocError>
+    ensures ok { OnOk result (output.new.items ≡ output.old.items ++ bound_refusal bound) }
+    ensures err { OnErr result (output.new.items ≡ output.old.items) }
+{
+    let text = numbered_line(alloc, b"ERR bound ", bound)?;
+    output.extend_from_slice(text.as_slice())
+}
+
 // The line that refuses a text, apart, so that a growth that is refused leaves no part of it behind.
 fn fault_line(alloc: Global, fault: QueryFault) -> Result<Vec<u8>, AllocError>
     requires { fault ≢ QueryFault.Memory }
@@ -27,21 +37,21 @@ fn fault_line(alloc: Global, fault: QueryFault) -> Result<Vec<u8>, AllocError>
     match fault {
         QueryFault::Long => Vec::from_slice(alloc, b"ERR long\n"),
         QueryFault::Utf8 => Vec::from_slice(alloc, b"ERR utf8\n"),
-        QueryFault::Token(offset) => offset_line(alloc, b"ERR token ", offset),
+        QueryFault::Token(offset) => numbered_line(alloc, b"ERR token ", offset as u64),
         QueryFault::Unsupported(offset, feature) => form_line(alloc, offset, feature),
-        QueryFault::Limit(offset) => offset_line(alloc, b"ERR limit ", offset),
+        QueryFault::Limit(offset) => numbered_line(alloc, b"ERR limit ", offset as u64),
         QueryFault::Depth => Vec::from_slice(alloc, b"ERR depth\n"),
         QueryFault::Syntax => Vec::from_slice(alloc, b"ERR syntax\n"),
         QueryFault::Memory => unreachable!(),
     }
 }
 
-// A line of words and an offset.
-fn offset_line(alloc: Global, words: &[u8], offset: usize) -> Result<Vec<u8>, AllocError>
-    ensures { IfOk result (λ line. line.items ≡ words.now ++ number_line offset) }
+// A line of words and a number.
+fn numbered_line(alloc: Global, words: &[u8], number: u64) -> Result<Vec<u8>, AllocError>
+    ensures { IfOk result (λ line. line.items ≡ words.now ++ number_line number) }
 {
     let mut line = Vec::from_slice(alloc, words)?;
-    append_number(offset as u64, &mut line)?;
+    append_number(number, &mut line)?;
     line.push(b'\n')?;
     Ok(line)
 }

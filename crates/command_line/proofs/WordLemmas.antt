@@ -1,18 +1,28 @@
 -- What a command that was named has, by the matches of the words.
-use Rattle.std.proofs.Common.{◌≡◌, ◌≢◌, ◌∙◌, ◌⊎◌, ◌||◌, Bool, true, false, if◌then◌else◌, inl, inr, ap, List, [], Option, None, Some, Box, Global, option_map, box_value, Result, Ok, Err, IfOk, IfErr, codes, refl, subst}
+use Rattle.std.proofs.Common.{ℕ, not, ◌≡◌, ◌≢◌, ◌∙◌, ◌⊎◌, ◌||◌, Bool, true, false, if◌then◌else◌, inl, inr, ap, List}
+use Rattle.std.proofs.Common.{[], Option, None, Some, Box, Global, option_map, box_value, Result, Ok, Err, IfOk, IfErr}
+use Rattle.std.proofs.Common.{codes, refl, subst, sym}
 use Rattle.std.specs.Borrow.{Bor}
 use Rattle.std.specs.Prelude.{bytes_eq, string_bytes, unwrap_or}
 use Rattle.std.proofs.lemmas.Slice.Eq.{bytes_eq-Decides}
-use Rattle.clap.specs.Words.{IsAmong, Row, Text, fault_of, found_of, rows_of, subcommand_of, subcommand_rows, subcommand_rows_of}
+use Rattle.clap.specs.Words.{AddsArg, App, IsAmong, Row, Rule, Text, app_of, fault_of, found_of, rows_of, rule_of}
+use Rattle.clap.specs.Words.{subcommand_of}
+use Rattle.clap.specs.Words.{subcommand_rows, subcommand_rows_of, with_rule}
+use Rattle.clap.specs.declared.builder.arg.Arg.{Arg}
+use Rattle.clap.specs.declared.builder.command.Command.{Command}
 use Rattle.clap.specs.Matches.{subcommand_name_of}
 use Rattle.clap.specs.declared.parser.matches.ArgMatches.{ArgMatches}
 use Rattle.clap.specs.declared.parser.matches.SubCommand.{SubCommand}
 use Rattle.clap.specs.declared.parser.matches.ArgMatches.TheViews.{out-ArgMatches, out-SubCommand}
 use Rattle.clap.specs.declared.error.kind.ErrorKind.{ErrorKind}
 use Rattle.clap.specs.declared.error.kind.ErrorKind.TheVariants.{MissingSubcommand, OutOfMemory}
-use Rattle.command_line.specs.CommandLine.{AreOneToNine, Asks, AsksFolders, CommandAsks, IsCall, IsFaultBy, IsNoRequest, IsRefusal, IsRequest, default_language, folders_in, folders_named, folders_of, program}
+use Rattle.command_line.specs.CommandLine.{AreOneToNine, Asks, AsksFolders, AsksQuery, CommandAsks, HasOwnArguments}
+use Rattle.command_line.specs.CommandLine.{IsCall, IsFaultBy, IsFaultOfFolders, IsFaultOfQuery, IsNoRequest, IsQueryOf}
+use Rattle.command_line.specs.CommandLine.{IsRefusal, IsRequest, default_language, folders_in, folders_named}
+use Rattle.command_line.specs.CommandLine.{folders_of, program, query_rows}
+use Rattle.command_line.specs.QueryWords.{IsFaultOfNumber, IsFaultOfNumbers, IsNoCall, IsNoNumber, is_given, mode_of}
 use Rattle.command_line.specs.declared.words.Mode.{Mode}
-use Rattle.command_line.specs.declared.words.Mode.TheVariants.{Sample, Query, Explain, Check}
+use Rattle.command_line.specs.declared.words.Mode.TheVariants.{Sample, Query, QueryWith, Explain, Check}
 use Rattle.command_line.specs.declared.words.Request.{Request}
 use Rattle.command_line.specs.declared.words.WordFault.{WordFault}
 use Rattle.command_line.specs.declared.words.WordFault.TheVariants.{Usage, Help, Memory}
@@ -50,6 +60,7 @@ words_ask : (mode : Mode) (words : List Text) (request : Request) → fault_of p
     → CommandAsks mode (subcommand_of program words) request → Asks mode words request
 words_ask Sample words request clean asked = absurd asked
 words_ask Query words request clean asked = (clean, asked)
+words_ask (QueryWith options) words request clean asked = (clean, asked)
 words_ask Explain words request clean asked = (clean, asked)
 words_ask Check words request clean asked = (clean, asked)
 
@@ -66,6 +77,34 @@ pub names_folders : (command : Option (Text × List Row)) (name : Text) (rows : 
 names_folders command name rows is (inl query) = ap folders_named is ∙ ap (λ (n : Text). folders_named (Some (n, rows))) query
 names_folders command name rows is (inr (inl explain)) = ap folders_named is ∙ ap (λ (n : Text). folders_named (Some (n, rows))) explain
 names_folders command name rows is (inr (inr check)) = ap folders_named is ∙ ap (λ (n : Text). folders_named (Some (n, rows))) check
+
+-- the rows of a command `query` are those of its options
+pub rows_of_query : (command : Option (Text × List Row)) (rows : List Row) → command ≡ Some (codes "query", rows)
+    → query_rows command ≡ rows
+rows_of_query command rows is = ap query_rows is
+
+-- what `query` asks for, in the mode that its options ask for
+pub asks_query : (command : Option (Text × List Row)) (rows : List Row) (request : Request)
+    → command ≡ Some (codes "query", rows) → IsQueryOf rows request → CommandAsks request.mode command request
+asks_query command rows request named (folders, lang, mode) =
+    subst (λ (own : Mode). CommandAsks own command request) (sym mode.mode_is)
+    (by mode.limit mode.first (not (is_given (codes "no-names") rows)) (rows, named, (folders, lang, mode)))
+  where
+    by : (limit first : Option ℕ) (names : Bool) → AsksQuery command request
+        → CommandAsks (mode_of limit first names) command request
+    by None None true asked = asked
+    by None None false asked = asked
+    by None (Some first) names asked = asked
+    by (Some limit) first names asked = asked
+
+-- where the rows of `query` are no request, the command is none
+pub is_no_query : (command : Option (Text × List Row)) (rows : List Row) (fault : WordFault)
+    → command ≡ Some (codes "query", rows) → IsFaultOfQuery rows fault → IsNoRequest command fault
+is_no_query command rows fault is (inl none) =
+    inl (subst (λ (folders : List Text). IsFaultOfFolders folders fault)
+    (sym (names_folders command (codes "query") rows is (inl refl))) none)
+is_no_query command rows fault is (inr none) =
+    inr (subst (λ (own : List Row). IsFaultOfNumbers own fault) (sym (rows_of_query command rows is)) none)
 
 -- the test whether two texts are the same, of two that are not
 unlike : (one other : Text) → one ≢ other → bytes_eq one other ≡ false
@@ -88,20 +127,21 @@ names_no_folder command name rows is no_query no_explain no_check =
 -- where a command names no folder, it is no request, and no call for help
 pub is_no_request : (command : Option (Text × List Row)) (fault : WordFault) → IsFaultBy MissingSubcommand fault
     → folders_named command ≡ [] → IsNoRequest command fault
-is_no_request command (Usage text) by none = inl none
+is_no_request command (Usage text) by none = inl (inl none)
 is_no_request command (Help text) by none = absurd (no_call by)
   where
     no_call : IsCall MissingSubcommand → ⊥
     no_call (inl help) = (cc)
     no_call (inr version) = (cc)
-is_no_request command Memory by none = tt
+is_no_request command Memory by none = inl tt
 
 -- where the command is that of the words, so is the refusal
 pub refusal_is : (words : List Text) (command : Option (Text × List Row)) (result : Result Request WordFault) → command ≡ subcommand_of program words
     → fault_of program words ≡ [] → IfErr result (IsNoRequest command) → IfErr result (IsRefusal words)
 refusal_is words command (Ok request) named clean none = tt
 refusal_is words command (Err (Usage text)) named clean none = inr (clean, subst (λ (c : Option (Text × List Row)). IsNoRequest c (Usage text)) named none)
-refusal_is words command (Err (Help text)) named clean none = absurd none
+refusal_is words command (Err (Help text)) named clean none =
+    elim none [ inl folders ↦ absurd folders | inr numbers ↦ absurd numbers ]
 refusal_is words command (Err Memory) named clean none = tt
 
 -- want of memory is no call
@@ -117,3 +157,18 @@ refusal_by words kind (Usage text) by (inr among) = inl (kind, among, by.0)
 refusal_by words kind (Help text) by (inl refused) = absurd (no_memory kind by refused)
 refusal_by words kind (Help text) by (inr among) = (kind, among, by)
 refusal_by words kind Memory by found = tt
+
+-- the fault of a number that is none is no call for help
+pub number_fault : (given : Option Text) (fault : WordFault) → IsNoCall fault → IsNoNumber given
+    → IsFaultOfNumber given fault
+number_fault given (Usage text) told none = none
+number_fault given (Help text) told none = absurd told
+number_fault given Memory told none = tt
+
+-- a command with one more argument has one more rule, and has its own arguments still
+module _ (old : Command) (arg : Arg) (new : Command) (adds : AddsArg old arg new) (local : arg.global ≡ false) where
+  pub rule_added : (app : App) (rule : Rule) → rule_of arg ≡ rule → app_of old ≡ app → app_of new ≡ with_rule app rule
+  rule_added app rule is so_far = adds.shape local ∙ (λ i. with_rule (so_far i) (is i))
+
+  pub own_added : HasOwnArguments old → HasOwnArguments new
+  own_added own = adds.globals ∙ (λ i. own i || local i)

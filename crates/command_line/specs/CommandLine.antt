@@ -1,15 +1,18 @@
 -- What the words of a command line ask for. The words begin with the program's name. How words are read as
 -- arguments is clap's; here is what the program takes, and what a request is of it.
-use Rattle.std.specs.Prelude.{◌≡◌, ◌≢◌, ◌⊎◌, ◌<◌, ◌≤◌, ◌||◌, ℕ, ⊤, false, true, if◌then◌else◌, List, [], bytes_eq, length, map, codes, string_bytes, unwrap_or, Option, None, Some}
+use Rattle.std.specs.Prelude.{◌≡◌, ◌-◌, ◌^◌, ◌≢◌, ◌⊎◌, ◌<◌, ◌≤◌, ◌||◌, ℕ, ⊤, false, true, if◌then◌else◌, List, []}
+use Rattle.std.specs.Prelude.{bytes_eq, length, map, codes, string_bytes, unwrap_or, Option, None, Some}
 use Rattle.clap.specs.Words.{App, IsAmong, Row, Rule, Text, all_of, fault_of, first_of, new_app, new_rule, subcommand_of, with_rule, with_subcommand}
-use Rattle.clap.specs.declared.builder.action.ArgAction.TheVariants.{Append}
+use Rattle.clap.specs.declared.builder.action.ArgAction.TheVariants.{Append, SetTrue}
+use Rattle.clap.specs.declared.builder.value_parser.ValueParser.TheVariants.{Unsigned}
 use Rattle.clap.specs.declared.builder.command.Command.{Command}
 use Rattle.clap.specs.declared.builder.command.Command.TheViews.{out-Command}
 use Rattle.clap.specs.declared.error.kind.ErrorKind.{ErrorKind}
 use Rattle.clap.specs.declared.error.kind.ErrorKind.TheVariants.{DisplayHelp, DisplayVersion, OutOfMemory}
 use Rattle.command_line.specs.declared.words.Mode.{Mode}
-use Rattle.command_line.specs.declared.words.Mode.TheVariants.{Sample, Query, Explain, Check}
+use Rattle.command_line.specs.declared.words.Mode.TheVariants.{Sample, Query, QueryWith, Explain, Check}
 use Rattle.command_line.specs.declared.words.Request.{Request}
+use Rattle.command_line.specs.QueryWords.{IsFaultOfNumbers, IsQueryMode}
 use Rattle.command_line.specs.declared.words.WordFault.{WordFault}
 use Rattle.command_line.specs.declared.words.WordFault.TheVariants.{Usage, Help, Memory}
 
@@ -20,9 +23,20 @@ folder_rule = record (new_rule (codes "FOLDER")) { required = true; action = Som
 abbrev pub lang_rule : Rule
 lang_rule = record (new_rule (codes "lang")) { long = Some (codes "lang"); value_names = 1 }
 
--- `query`, with both
+-- `--limit` and `--first`, each with a number of 64 bits
+abbrev pub number_rule : Text → Rule
+number_rule name =
+    record (new_rule name) { long = Some name; value_names = 1; parser = Some (Unsigned 0 (2 ^ 64 - 1)) }
+
+-- `--no-names`, without a value
+abbrev pub no_names_rule : Rule
+no_names_rule = record (new_rule (codes "no-names")) { long = Some (codes "no-names"); action = Some SetTrue }
+
+-- `query`, with all of these
 abbrev pub query_command : App
-query_command = with_rule (with_rule (new_app (codes "query")) folder_rule) lang_rule
+query_command =
+    with_rule (with_rule (with_rule (with_rule (with_rule (new_app (codes "query")) folder_rule) lang_rule)
+    (number_rule (codes "limit"))) (number_rule (codes "first"))) no_names_rule
 
 -- `explain` and `check`, with the folders alone
 abbrev pub explain_command : App
@@ -80,12 +94,16 @@ AsksSample words request = (length words ≤ 1) × (folders_in request ≡ []) �
 abbrev pub HasFoldersOf : List Row → Request → Type 0
 HasFoldersOf rows request = (folders_in request ≡ folders_of rows) × AreOneToNine (folders_of rows)
 
--- a command `query` asks for the release of its folders, and for its language first
-abbrev pub AsksQuery : Option (Text × List Row) → Request → Type 0
-AsksQuery command request =
-    (rows : List Row) × (command ≡ Some (codes "query", rows))
-    × HasFoldersOf rows request
+-- the rows of `query` ask for the release of their folders, for their language first, and for what their options say
+abbrev pub IsQueryOf : List Row → Request → Type 0
+IsQueryOf rows request =
+    HasFoldersOf rows request
     × (unwrap_or (first_of (codes "lang") rows) default_language ≡ string_bytes request.lang)
+    × IsQueryMode rows request.mode
+
+-- a command `query` asks for what its rows ask for
+abbrev pub AsksQuery : Option (Text × List Row) → Request → Type 0
+AsksQuery command request = (rows : List Row) × (command ≡ Some (codes "query", rows)) × IsQueryOf rows request
 
 -- a command of another name asks for the release of its folders alone
 abbrev pub AsksFolders : Text → Option (Text × List Row) → Request → Type 0
@@ -105,6 +123,7 @@ AsksCheck command request = AsksFolders (codes "check") command request
 abbrev pub CommandAsks : Mode → Option (Text × List Row) → Request → Type 0
 CommandAsks Sample command request = ⊥
 CommandAsks Query command request = AsksQuery command request
+CommandAsks (QueryWith options) command request = AsksQuery command request
 CommandAsks Explain command request = AsksExplain command request
 CommandAsks Check command request = AsksCheck command request
 
@@ -112,6 +131,7 @@ CommandAsks Check command request = AsksCheck command request
 abbrev pub Asks : Mode → List Text → Request → Type 0
 Asks Sample words request = AsksSample words request
 Asks Query words request = (fault_of program words ≡ []) × AsksQuery (subcommand_of program words) request
+Asks (QueryWith options) words request = (fault_of program words ≡ []) × AsksQuery (subcommand_of program words) request
 Asks Explain words request = (fault_of program words ≡ []) × AsksExplain (subcommand_of program words) request
 Asks Check words request = (fault_of program words ≡ []) × AsksCheck (subcommand_of program words) request
 
@@ -143,9 +163,19 @@ IsFaultOfFolders folders (Usage text) = (folders ≡ []) ⊎ ((most_folders < le
 IsFaultOfFolders folders (Help text) = ⊥
 IsFaultOfFolders folders Memory = ⊤
 
--- why a command that was named is no request: no release is read from the folders that it names
+-- why the rows of `query` are no request: no release is read from their folders, or an option has no number
+abbrev pub IsFaultOfQuery : List Row → WordFault → Type 0
+IsFaultOfQuery rows fault = IsFaultOfFolders (folders_of rows) fault ⊎ IsFaultOfNumbers rows fault
+
+-- the rows of a command `query`, if it was named
+abbrev pub query_rows : Option (Text × List Row) → List Row
+query_rows None = []
+query_rows (Some command) = if bytes_eq command.0 (codes "query") then command.1 else []
+
+-- why a command that was named is no request: no release is read from the folders that it names, or an option of
+-- `query` has no number
 abbrev pub IsNoRequest : Option (Text × List Row) → WordFault → Type 0
-IsNoRequest command fault = IsFaultOfFolders (folders_named command) fault
+IsNoRequest command fault = IsFaultOfFolders (folders_named command) fault ⊎ IsFaultOfNumbers (query_rows command) fault
 
 -- a call for help, or for the version
 abbrev pub IsCall : ErrorKind → Type 0
@@ -158,8 +188,8 @@ IsFaultBy kind (Help text) = IsCall kind
 IsFaultBy kind Memory = ⊤
 
 -- why words are refused: clap finds a fault in them that is no call for help or for the version; or it finds
--- none, and they name no folder for `query`, `explain` or `check`, or more than nine; or they are such a call; or memory was
--- refused
+-- none, and they name no folder for `query`, `explain` or `check`, or more than nine, or an option of `query` has no
+-- number; or they are such a call; or memory was refused
 abbrev pub IsRefusal : List Text → WordFault → Type 0
 IsRefusal words (Usage text) =
     ((kind : ErrorKind) × IsAmong kind (fault_of program words) × (¬ IsCall kind))

@@ -3,4 +3,4 @@
 
 mod words;
 
-pub use crate::words::{Mode, Request, WordFault, read_words};
+pub use crate::words::{Mode, QueryOptions, Request, WordFault, read_words};

@@ -1,10 +1,19 @@
 //! The words of the command line.
-ghost use Rattle.std.specs.Prelude.{◌≡◌, ◌≤◌, IfErr, IfOk, IsOkAnd, false, length, map, string_bytes};
-ghost use Rattle.clap.specs.Words.{app_of, found_of, kind_of, rows_of, rule_of, subcommand_rows_of, with_subcommand};
+ghost use Rattle.std.specs.Prelude.{ℕ, ◌≡◌, ◌≤◌, codes, IfErr, IfOk, IsOkAnd, MatchOption, false, length, map};
+ghost use Rattle.std.specs.Prelude.{string_bytes};
+ghost use Rattle.clap.specs.Words.{app_of, first_of, found_of, kind_of, new_app, rows_of, rule_of, subcommand_rows_of};
+ghost use Rattle.clap.specs.Words.{with_rule, with_subcommand};
 ghost use Rattle.clap.specs.declared.error.kind.ErrorKind.TheVariants.{MissingSubcommand};
 ghost use Rattle.text_parts.specs.Parts.{texts_of};
-ghost use Rattle.command_line.specs.CommandLine.{AreOneToNine, CommandAsks, HasOwnArguments, IsFaultBy, IsFaultOfFolders, IsNoRequest, IsRefusal, IsRequest, TellsTooMany, bare_program, check_command, explain_command, folder_rule, folders_in, folders_of, lang_rule, program, query_command};
+ghost use Rattle.command_line.specs.CommandLine.{AreOneToNine, CommandAsks, HasOwnArguments, IsFaultBy};
+ghost use Rattle.command_line.specs.CommandLine.{IsFaultOfFolders, IsFaultOfQuery, IsNoRequest, IsQueryOf, IsRefusal};
+ghost use Rattle.command_line.specs.CommandLine.{IsRequest, TellsTooMany, bare_program, check_command, explain_command};
+ghost use Rattle.command_line.specs.CommandLine.{folder_rule, folders_in, folders_of, lang_rule, no_names_rule};
+ghost use Rattle.command_line.specs.CommandLine.{number_rule, program, query_command};
+ghost use Rattle.command_line.specs.QueryWords.{GivesNumber, IsFaultOfNumber, IsFaultOfNumbers, IsNoCall, IsNumberText};
+ghost use Rattle.command_line.specs.QueryWords.{IsQueryMode, is_given, mode_of};
 
+use clap::builder::ValueParser;
 use clap::error::ErrorKind;
 use clap::{Arg, ArgAction, ArgMatches, Command, Error};
 use std::alloc::{AllocError, Global};
@@ -16,10 +25,24 @@ pub enum Mode {
     Sample,
     /// It answers queries over the release of folders.
     Query,
+    /// It answers queries over the release of folders, under a limit or in a form of its own.
+    QueryWith(QueryOptions),
     /// It tells how queries are executed over the release of folders, and how much each visits at most.
     Explain,
     /// It reports what the release of folders has.
     Check,
+}
+
+/// What is asked of the answers to queries.
+#[derive(Clone, Copy, Debug, PartialEq, Eq)]
+pub struct QueryOptions {
+    /// How many items the plan of a constraint may visit at the most; `u64::MAX`, above which no bound is, where no
+    /// limit is asked for.
+    pub limit: u64,
+    /// How many lines of concepts are written at the most, the first ones; all of them where it is `None`.
+    pub first: Option<u64>,
+    /// Whether the name of a concept stands in its line.
+    pub names: bool,
 }
 
 /// What the command line asks for.
@@ -105,6 +128,10 @@ const MOST_FOLDERS: usize = 9;
 // The version of the program. It stands nowhere else.
 const VERSION: &str = "0.1.0";
 
+// How `query` is used. It names each option, also where a word behind one is taken for a flag, as `-1` is.
+const QUERY_USAGE: &str =
+    "hosecrag query <FOLDER>... [--lang <CODE>] [--limit <VISITS>] [--first <N>] [--no-names]";
+
 // What help tells behind the commands.
 const USES: &str = "Five ways to start it:
   printf '<100005\\n' | hosecrag
@@ -121,8 +148,9 @@ It ends with a status:
   4  memory was refused";
 
 /// Reads the words of a command line, of which the first is the program's name: no more words,
-/// `query FOLDER.. [--lang CODE]`, `explain FOLDER..`, or `check FOLDER..`, each with 1 to 9 folders.
-/// `--help` and `--version` are answered as `Help`.
+/// `query FOLDER.. [--lang CODE] [--limit VISITS] [--first N] [--no-names]`, `explain FOLDER..`, or `check FOLDER..`,
+/// each with 1 to 9 folders. VISITS and N are decimal numbers of 64 bits without a sign. `--help` and `--version` are
+/// answered as `Help`.
 pub fn read_words<'a>(alloc: Global, words: &'a [&'a str]) -> Result<Request, WordFault>
     ensures asked { IfOk result (IsRequest (texts_of words.now)) }
     ensures refused { IfErr result (IsRefusal (texts_of words.now)) }
@@ -209,10 +237,32 @@ fn query_command<'a>(alloc: Global) -> Result<Command<'a>, AllocError>
     ensures shape { IfOk result (λ command. app_of command ≡ query_command) }
     ensures own { IfOk result HasOwnArguments }
 {
-    let with_folder = Command::new(alloc, "query")
+    let with_folder = query_of_folders(alloc)?;
+    let with_lang = with_folder.arg(lang_argument(alloc))?;
+    let with_limit = with_lang.arg(number_argument(
+        alloc,
+        "limit",
+        "VISITS",
+        "answers `ERR bound` where the plan of a query may visit more items, and reads nothing then",
+    ))?;
+    let with_first = with_limit.arg(number_argument(
+        alloc,
+        "first",
+        "N",
+        "writes the whole count and the first N lines",
+    ))?;
+    with_first.arg(no_names_argument(alloc))
+}
+
+// `query` without its options.
+fn query_of_folders<'a>(alloc: Global) -> Result<Command<'a>, AllocError>
+    ensures shape { IfOk result (λ command. app_of command ≡ with_rule (new_app (codes "query")) folder_rule) }
+    ensures own { IfOk result HasOwnArguments }
+{
+    Command::new(alloc, "query")
         .about("answers queries on the release of 1 to 9 folders")
-        .arg(folder_argument(alloc))?;
-    with_folder.arg(lang_argument(alloc))
+        .override_usage(QUERY_USAGE)
+        .arg(folder_argument(alloc))
 }
 
 fn explain_command<'a>(alloc: Global) -> Result<Command<'a>, AllocError>
@@ -259,6 +309,29 @@ fn lang_argument<'a>(alloc: Global) -> Arg<'a>
         .help("the language whose names come first, en by default")
 }
 
+// An option with a number that `query` takes.
+fn number_argument<'a>(alloc: Global, name: &'a str, value: &'a str, help: &'a str) -> Arg<'a>
+    ensures rule { rule_of result ≡ number_rule name.now }
+    ensures own { result.global ≡ false }
+{
+    Arg::new(alloc, name)
+        .long(name)
+        .value_name(value)
+        .value_parser(ValueParser::unsigned(0, u64::MAX))
+        .help(help)
+}
+
+// The option that leaves out names.
+fn no_names_argument<'a>(alloc: Global) -> Arg<'a>
+    ensures rule { rule_of result ≡ no_names_rule }
+    ensures own { result.global ≡ false }
+{
+    Arg::new(alloc, "no-names")
+        .long("no-names")
+        .action(ArgAction::SetTrue)
+        .help("writes identifiers alone")
+}
+
 // What is asked by the command that was named.
 fn command_request(alloc: Global, matches: &ArgMatches<'_>) -> Result<Request, WordFault>
     ensures asked { IfOk result (λ request. CommandAsks request.mode (subcommand_rows_of matches.now) request) }
@@ -267,11 +340,10 @@ fn command_request(alloc: Global, matches: &ArgMatches<'_>) -> Result<Request, W
     let Some((name, arguments)) = matches.subcommand() else {
         return Err(no_command(alloc));
     };
-    let folders = folders_of(arguments);
     if name == "query" {
-        let lang = arguments.get_str("lang").unwrap_or(DEFAULT_LANGUAGE);
-        return Request::of_folders(alloc, Mode::Query, folders, lang);
+        return query_request(alloc, arguments);
     }
+    let folders = folders_of(arguments);
     if name == "explain" {
         return Request::of_folders(alloc, Mode::Explain, folders, DEFAULT_LANGUAGE);
     }
@@ -279,6 +351,96 @@ fn command_request(alloc: Global, matches: &ArgMatches<'_>) -> Result<Request, W
         return Request::of_folders(alloc, Mode::Check, folders, DEFAULT_LANGUAGE);
     }
     Err(no_command(alloc))
+}
+
+// What is asked by the arguments of `query`.
+fn query_request(alloc: Global, arguments: &ArgMatches<'_>) -> Result<Request, WordFault>
+    ensures asked { IfOk result (IsQueryOf (rows_of (found_of arguments.now))) }
+    ensures refused { IfErr result (IsFaultOfQuery (rows_of (found_of arguments.now))) }
+{
+    let mode = match query_mode(alloc, arguments) {
+        Ok(mode) => mode,
+        Err(fault) => return Err(fault),
+    };
+    let lang = arguments.get_str("lang").unwrap_or(DEFAULT_LANGUAGE);
+    Request::of_folders(alloc, mode, folders_of(arguments), lang)
+}
+
+// What the options of `query` ask for. A number that is none is refused.
+fn query_mode(alloc: Global, arguments: &ArgMatches<'_>) -> Result<Mode, WordFault>
+    ensures asked { IfOk result (IsQueryMode (rows_of (found_of arguments.now))) }
+    ensures refused { IfErr result (IsFaultOfNumbers (rows_of (found_of arguments.now))) }
+{
+    let limit = number_given(alloc, arguments, "limit")?;
+    let first = number_given(alloc, arguments, "first")?;
+    let names = !is_given(arguments, "no-names");
+    Ok(mode_of(limit, first, names))
+}
+
+// What is done by the options that are given.
+fn mode_of(limit: Option<u64>, first: Option<u64>, names: bool) -> Mode
+    ensures { result ≡ mode_of limit first names }
+{
+    if limit.is_none() && first.is_none() && names {
+        return Mode::Query;
+    }
+    Mode::QueryWith(QueryOptions {
+        limit: limit.unwrap_or(u64::MAX),
+        first,
+        names,
+    })
+}
+
+// The number of an option, if it is given.
+fn number_given(
+    alloc: Global,
+    arguments: &ArgMatches<'_>,
+    name: &str,
+) -> Result<Option<u64>, WordFault>
+    ensures asked { IfOk result (GivesNumber (first_of name.now (rows_of (found_of arguments.now)))) }
+    ensures refused { IfErr result (IsFaultOfNumber (first_of name.now (rows_of (found_of arguments.now)))) }
+{
+    let Some(text) = arguments.get_str(name) else {
+        return Ok(None);
+    };
+    match decimal_number(text) {
+        Some(number) => Ok(Some(number)),
+        None => Err(no_number(alloc, name, text)),
+    }
+}
+
+// The number of 64 bits that a text of digits alone is.
+fn decimal_number(text: &str) -> Option<u64>
+    ensures { MatchOption result ((number : ℕ) → IsNumberText text.now number → ⊥) (IsNumberText text.now) }
+{
+    let bytes = text.as_bytes();
+    if bytes.is_empty() || bytes[0] == b'+' {
+        return None;
+    }
+    match text.parse::<u64>() {
+        Ok(number) => Some(number),
+        Err(_) => None,
+    }
+}
+
+// Whether an option without a value is given.
+fn is_given(arguments: &ArgMatches<'_>, name: &str) -> bool
+    ensures { result ≡ is_given name.now (rows_of (found_of arguments.now)) }
+{
+    let Some(text) = arguments.get_str(name) else {
+        return false;
+    };
+    text == "true"
+}
+
+// The fault of an option whose number is none.
+fn no_number(alloc: Global, name: &str, text: &str) -> WordFault
+    ensures { IsNoCall result }
+{
+    match format!(in alloc; "error: invalid value '{text}' for '--{name}'\n") {
+        Ok(text) => WordFault::Usage(text),
+        Err(_) => WordFault::Memory,
+    }
 }
 
 // The folders among the arguments of a command.

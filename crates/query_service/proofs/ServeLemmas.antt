@@ -1,5 +1,5 @@
 -- What a request ends with, by the status and the faults that it met.
-use Rattle.std.proofs.Common.{◌+◌, ◌≤◌, max, ℕ, ◌≡◌, ◌≢◌, ◌<◌, ◌⊎◌, inl, inr, false, true, List, [], length, map, take, Option, None, Some, Result, Ok, Err, refl, sym, ap, subst, ◌∙◌}
+use Rattle.std.proofs.Common.{◌+◌, ◌≤◌, max, ℕ, ◌≡◌, ◌≢◌, ◌<◌, ◌⊎◌, inl, inr, false, true, List, [], length, take, Option, None, Some, Result, Ok, Err, refl, sym, ap, subst, ◌∙◌}
 use Rattle.std.specs.Prelude.{IfSome}
 use Rattle.std.proofs.lemmas.Bool.{true≢false}
 use Rattle.std.specs.Io.KnownBytes.{Appends}
@@ -25,7 +25,8 @@ use Rattle.query_service.specs.declared.service.Status.TheVariants.{Done, Device
 use Rattle.streams.specs.declared.output.AnswerOutput.{Ghosts as Output}
 use Rattle.streams.specs.declared.input.QueryInput.{Ghosts as Input}
 use Rattle.command_line.specs.declared.words.Mode.{Mode}
-use Rattle.command_line.specs.declared.words.Mode.TheVariants.{Sample, Query, Explain, Check}
+use Rattle.command_line.specs.declared.words.Mode.TheVariants.{Sample, Query, QueryWith, Explain, Check}
+use Rattle.command_line.specs.declared.words.QueryOptions.{QueryOptions}
 
 -- a fault that came while a release was served, and was told by its line
 pub stops_with : {R W E : Type 0} (r : Input R) (w : Output W) (e : Output E) (mode : Mode) (contents : Contents)
@@ -73,17 +74,21 @@ pub asked_of_files : {told : Option (List FileText)} {old new : History} {langua
     → IsLoadedFrom told old new language task → IsAskedFor told old new language mode task
 asked_of_files Sample files loaded = absurd files
 asked_of_files Query files loaded = loaded
+asked_of_files (QueryWith options) files loaded = loaded
 asked_of_files Explain files loaded = loaded
 asked_of_files Check files loaded = absurd files
 
--- and unless it explains them it is that of queries
+-- and unless it explains them, or answers them under options, it is that of queries
 pub serves_files : {R W E : Type 0} (r : Input R) (w : Output W) (e : Output E) (mode : Mode) (contents : Contents) (status : Status)
-    (before after : Streams R W E) → AnswersFiles mode → mode ≢ Explain → ServesWith r w e Query contents status before after
-    → ServesWith r w e mode contents status before after
-serves_files r w e Sample contents status before after files other served = absurd files
-serves_files r w e Query contents status before after files other served = served
-serves_files r w e Explain contents status before after files other served = absurd (other refl)
-serves_files r w e Check contents status before after files other served = absurd files
+    (before after : Streams R W E) → AnswersFiles mode → ((options : QueryOptions) → mode ≢ QueryWith options)
+    → mode ≢ Explain
+    → ServesWith r w e Query contents status before after → ServesWith r w e mode contents status before after
+serves_files r w e Sample contents status before after files plain other served = absurd files
+serves_files r w e Query contents status before after files plain other served = served
+serves_files r w e (QueryWith options) contents status before after files plain other served =
+    absurd (plain options refl)
+serves_files r w e Explain contents status before after files plain other served = absurd (other refl)
+serves_files r w e Check contents status before after files plain other served = absurd files
 
 -- what is loaded is one thing, and a fault of it that of what is loaded
 pub same_contents : (loaded : Result Contents LoadFault) (own contents : Contents) → loaded ≡ Ok own → loaded ≡ Ok contents → contents ≡ own

@@ -1,5 +1,6 @@
 pub mod Answer
 pub mod Explanation
+pub mod LimitedAnswer
 pub mod Report
 pub mod Serve
 pub mod Streams

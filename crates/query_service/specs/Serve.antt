@@ -25,7 +25,10 @@ use Rattle.query_service.specs.declared.service.Status.TheVariants.{Done, Device
 use Rattle.streams.specs.declared.output.AnswerOutput.{Ghosts as Output}
 use Rattle.streams.specs.declared.input.QueryInput.{Ghosts as Input}
 use Rattle.command_line.specs.declared.words.Mode.{Mode}
-use Rattle.command_line.specs.declared.words.Mode.TheVariants.{Sample, Query, Explain, Check}
+use Rattle.command_line.specs.declared.words.Mode.TheVariants.{Sample, Query, QueryWith, Explain, Check}
+use Rattle.command_line.specs.declared.words.QueryOptions.{QueryOptions}
+use Rattle.answer_printer.specs.declared.form.AnswerForm.{AnswerForm}
+use Rattle.query_service.specs.LimitedAnswer.{IsAnswerWithin}
 
 -- the number that the program ends with
 abbrev pub status_code : Status → ℕ
@@ -90,6 +93,7 @@ pub record IsLoadedFrom (told : Option (List FileText)) (old new : History) (lan
 abbrev pub IsAskedFor : Option (List FileText) → History → History → List ℕ → Mode → Task → Type 0
 IsAskedFor told old new language Sample task = task.loaded ≡ Ok sample_contents
 IsAskedFor told old new language Query task = IsLoadedFrom told old new language task
+IsAskedFor told old new language (QueryWith options) task = IsLoadedFrom told old new language task
 IsAskedFor told old new language Explain task = IsLoadedFrom told old new language task
 IsAskedFor told old new language Check task = IsLoadedFrom told old new language task
 
@@ -97,6 +101,7 @@ IsAskedFor told old new language Check task = IsLoadedFrom told old new language
 abbrev pub AnswersFiles : Mode → Type 0
 AnswersFiles Sample = ⊥
 AnswersFiles Query = ⊤
+AnswersFiles (QueryWith options) = ⊤
 AnswersFiles Explain = ⊤
 AnswersFiles Check = ⊥
 
@@ -119,10 +124,16 @@ pub record IsReported {R W E : Type 0} (w : Output W) (contents : Contents) (bef
   pub read : after.input ≡ before.input
   pub written : Appends (w.written before.output) (w.written after.output) (report_text (report_of contents))
 
+-- the form of the answers that options ask for
+abbrev pub form_of : QueryOptions → AnswerForm
+form_of options = record { first = options.first; names = options.names }
+
 -- what a mode asks for was done with a release
 abbrev pub IsServed : {R W E : Type 0} → Input R → Output W → Mode → Contents → Streams R W E → Streams R W E → Type 0
 IsServed r w Sample contents before after = IsAnswered r w (IsAnswer contents) before after
 IsServed r w Query contents before after = IsAnswered r w (IsAnswer contents) before after
+IsServed r w (QueryWith options) contents before after =
+    IsAnswered r w (IsAnswerWithin options.limit (form_of options) contents) before after
 IsServed r w Explain contents before after = IsAnswered r w (IsExplanation contents) before after
 IsServed r w Check contents before after = IsReported w contents before after
 
@@ -139,6 +150,9 @@ IsCut r w Sample fault contents before after =
     EndsAt fault (IsAnswer contents) (r.remaining before.input) (r.remaining after.input) (w.written before.output) (w.written after.output)
 IsCut r w Query fault contents before after =
     EndsAt fault (IsAnswer contents) (r.remaining before.input) (r.remaining after.input) (w.written before.output) (w.written after.output)
+IsCut r w (QueryWith options) fault contents before after =
+    EndsAt fault (IsAnswerWithin options.limit (form_of options) contents) (r.remaining before.input)
+    (r.remaining after.input) (w.written before.output) (w.written after.output)
 IsCut r w Explain fault contents before after =
     EndsAt fault (IsExplanation contents) (r.remaining before.input) (r.remaining after.input) (w.written before.output) (w.written after.output)
 IsCut r w Check fault contents before after = IsReportCut w fault contents before after

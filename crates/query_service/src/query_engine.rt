@@ -11,8 +11,10 @@ ghost use Rattle.query_run.specs.Fault.{CountsTurns, EndsAt, HaveFailed};
 ghost use Rattle.query_run.specs.Lines.{AreWritten, query_lines};
 ghost use Rattle.query_service.specs.Answer.{IsAnswer};
 ghost use Rattle.query_service.specs.Explanation.{IsExplanation};
+ghost use Rattle.query_service.specs.LimitedAnswer.{IsAnswerWithin};
 ghost use Rattle.query_service.specs.Report.{report_of};
 
+use answer_printer::AnswerForm;
 use query_run::{AnswerLine, RunFault};
 use release_files::{FileSource, NamedBytes};
 use snapshot::{Limits, LoadFault, Report};
@@ -82,6 +84,28 @@ pub trait QueryEngine: AnswerLine + Drop {
         ensures answers { OnOk result (IfSome (R.remaining input.old) (λ bytes. AreWritten (IsExplanation (contents self.now)) (query_lines bytes) (W.written output.old) (W.written output.new))) }
         ensures sound { OnOk result ((R.has_failed input.new ≡ false) × (W.has_failed output.new ≡ false)) }
         ensures fault { IfErr result (λ fault. EndsAt fault (IsExplanation (contents self.now)) (R.remaining input.old) (R.remaining input.new) (W.written output.old) (W.written output.new)) }
+        ensures failed { IfErr result (λ fault. HaveFailed fault (R.has_failed input.new) (W.has_failed output.new)) }
+        ensures turns { IfErr result (λ fault. CountsTurns fault (R.read_count input.old) (R.read_count input.new)) };
+
+    /// Answers each query line of an input, in order, under a limit on what its plan visits, in a form. It reads,
+    /// writes and ends as `run` of `query_run` does.
+    fn run_within<R: QueryInput, W: AnswerOutput>(
+        &self,
+        alloc: Global,
+        limit: u64,
+        form: AnswerForm,
+        input: &mut R,
+        output: &mut W,
+    ) -> Result<u64, RunFault>
+        requires input { R.has_failed input.old ≡ false }
+        requires output { W.has_failed output.old ≡ false }
+        ensures end { OnOk result (IsAtEnd (R.remaining input.new)) }
+        ensures answers { OnOk result (IfSome (R.remaining input.old) (λ bytes.
+            AreWritten (IsAnswerWithin limit form (contents self.now)) (query_lines bytes) (W.written output.old)
+            (W.written output.new))) }
+        ensures sound { OnOk result ((R.has_failed input.new ≡ false) × (W.has_failed output.new ≡ false)) }
+        ensures fault { IfErr result (λ fault. EndsAt fault (IsAnswerWithin limit form (contents self.now))
+            (R.remaining input.old) (R.remaining input.new) (W.written output.old) (W.written output.new)) }
         ensures failed { IfErr result (λ fault. HaveFailed fault (R.has_failed input.new) (W.has_failed output.new)) }
         ensures turns { IfErr result (λ fault. CountsTurns fault (R.read_count input.old) (R.read_count input.new)) };
 

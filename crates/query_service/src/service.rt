@@ -13,13 +13,15 @@ ghost use Rattle.query_run.specs.Fault.{CountsTurns, EndsAt, HaveFailed};
 ghost use Rattle.query_run.specs.Lines.{AreWritten, query_lines};
 ghost use Rattle.query_service.specs.Answer.{IsAnswer};
 ghost use Rattle.query_service.specs.Report.{report_of};
-ghost use Rattle.query_service.specs.Serve.{AnswersFiles, EndsWith, IsLoadOf, IsTask, ServesWith, Task, TellsLoadFault, fault_text, memory_text, refusal_status_of, sample_task, status_code, status_of};
+ghost use Rattle.query_service.specs.Serve.{AnswersFiles, EndsWith, IsLoadOf, IsTask, ServesWith, Task, TellsLoadFault};
+ghost use Rattle.query_service.specs.Serve.{fault_text, form_of, memory_text, refusal_status_of, sample_task};
+ghost use Rattle.query_service.specs.Serve.{status_code, status_of};
 ghost use Rattle.query_service.specs.Streams.{IsTold, outputs, streams};
 ghost use Rattle.query_service.specs.WordRefusal.{TellsWordFault};
 
 use crate::query_engine::QueryEngine;
-use answer_printer::{print_load_fault, print_report};
-use command_line::{Mode, Request, WordFault};
+use answer_printer::{AnswerForm, print_load_fault, print_report};
+use command_line::{Mode, QueryOptions, Request, WordFault};
 use query_run::{RunFault, run};
 use release_files::FileSource;
 use sample_release::sample_files;
@@ -58,10 +60,9 @@ impl Status {
 }
 
 /// Does what is asked of a release, by an engine `Q`: of the one that is built in, or of that of the files of a source.
-/// Answers the query lines of an input; at `Explain` tells the plan of each; or, at `Check`, writes what
-/// the release has, and reads nothing.
-/// Nothing is written before the release is loaded. What is refused, and a fault, is told by one line on
-/// `errors`, whose own failure changes nothing.
+/// Answers the query lines of an input, at `QueryWith` under its options; at `Explain` tells the plan of each; or, at
+/// `Check`, writes what the release has, and reads nothing. Nothing is written before the release is loaded. What is
+/// refused, and a fault, is told by one line on `errors`, whose own failure changes nothing.
 pub fn serve<Q: QueryEngine, S: FileSource, R: QueryInput, W: AnswerOutput, E: AnswerOutput>(
     alloc: Global,
     request: &Request,
@@ -84,6 +85,15 @@ pub fn serve<Q: QueryEngine, S: FileSource, R: QueryInput, W: AnswerOutput, E: A
         Mode::Query => answer_source::<Q, S, R, W, E>(
             alloc,
             Mode::Query,
+            lang,
+            source,
+            input,
+            output,
+            errors,
+        ),
+        Mode::QueryWith(options) => answer_source::<Q, S, R, W, E>(
+            alloc,
+            Mode::QueryWith(options),
             lang,
             source,
             input,
@@ -193,6 +203,7 @@ fn serve_lines<Q: QueryEngine, R: QueryInput, W: AnswerOutput, E: AnswerOutput>(
         (streams input.old output.old errors.old) (streams input.new output.new errors.new) }
 {
     match mode {
+        Mode::QueryWith(options) => answer_all_with(alloc, engine, options, input, output, errors),
         Mode::Explain => explain_all(alloc, engine, input, output, errors),
         _ => answer_all(alloc, engine, input, output, errors),
     }
@@ -215,6 +226,38 @@ fn answer_all<Q: QueryEngine, R: QueryInput, W: AnswerOutput, E: AnswerOutput>(
     match run_answers(alloc, engine, input, output) {
         Ok(_) => Status::Done,
         Err(fault) => tell_fault(fault, errors),
+    }
+}
+
+// Answers the query lines of an input over a release, under options.
+fn answer_all_with<Q: QueryEngine, R: QueryInput, W: AnswerOutput, E: AnswerOutput>(
+    alloc: Global,
+    engine: &Q,
+    options: QueryOptions,
+    input: &mut R,
+    output: &mut W,
+    errors: &mut E,
+) -> Status
+    requires input { R.has_failed input.old ≡ false }
+    requires output { W.has_failed output.old ≡ false }
+    requires errors { E.AnswerOutput.has_failed errors.old ≡ false }
+    ensures { ServesWith R.QueryInput W.AnswerOutput E.AnswerOutput (Mode.QueryWith options) (Q.contents engine.now)
+        result (streams input.old output.old errors.old) (streams input.new output.new errors.new) }
+{
+    let form = form_of(options);
+    match engine.run_within(alloc, options.limit, form, input, output) {
+        Ok(_) => Status::Done,
+        Err(fault) => tell_fault(fault, errors),
+    }
+}
+
+// The form of the answers that options ask for.
+fn form_of(options: QueryOptions) -> AnswerForm
+    ensures { result ≡ form_of options }
+{
+    AnswerForm {
+        first: options.first,
+        names: options.names,
     }
 }
 

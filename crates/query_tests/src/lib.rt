@@ -7,6 +7,8 @@
 #[cfg(test)]
 mod folder_tests;
 #[cfg(test)]
+mod limit_tests;
+#[cfg(test)]
 mod piece_tests;
 #[cfg(test)]
 mod plan_tests;

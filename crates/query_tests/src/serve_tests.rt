@@ -1,7 +1,9 @@
 //! What the program answers to its words, and to releases that are refused.
 use crate::test_release::{sample, sample_and, sample_with};
 use crate::test_streams::{PieceInput, PieceOutput, ROOM};
-use query_tool::{Mode, QueryInput, Request, Status, WordFault, read_words, refuse_words, serve};
+use query_tool::{
+    Mode, QueryInput, QueryOptions, Request, Status, WordFault, read_words, refuse_words, serve,
+};
 use release_files::{MemoryFiles, NamedBytes};
 use std::alloc::{AllocError, Global};
 use std::process::Abort;
@@ -84,6 +86,35 @@ fn reads_words(rt: HostRuntime) {
             "",
         ),
         (
+            &[
+                "hosecrag",
+                "query",
+                "--limit",
+                "004",
+                "F",
+                "--no-names",
+                "--first",
+                "2",
+            ],
+            Mode::QueryWith(QueryOptions {
+                limit: 4,
+                first: Some(2),
+                names: false,
+            }),
+            &["F"],
+            "en",
+        ),
+        (
+            &["hosecrag", "query", "F", "--limit", "18446744073709551615"],
+            Mode::QueryWith(QueryOptions {
+                limit: u64::MAX,
+                first: None,
+                names: true,
+            }),
+            &["F"],
+            "en",
+        ),
+        (
             &["hosecrag", "explain", "F", "G"],
             Mode::Explain,
             &["F", "G"],
@@ -154,7 +185,16 @@ fn help_names_what_there_is(rt: HostRuntime) {
         ),
         (
             &["hosecrag", "query", "-h"],
-            &["FOLDER", "--lang", "CODE", "--help"],
+            &[
+                "FOLDER",
+                "--lang",
+                "CODE",
+                "--limit",
+                "VISITS",
+                "--first",
+                "--no-names",
+                "--help",
+            ],
         ),
         (&["hosecrag", "explain", "-h"], &["FOLDER", "--help"]),
         (&["hosecrag", "check", "-h"], &["FOLDER", "--help"]),
@@ -177,6 +217,37 @@ fn wrong_words_are_named(rt: HostRuntime) {
         (&["hosecrag", "check", "F", "--lang", "da"], &["--lang"]),
         (&["hosecrag", "query", "F", "--lang"], &["--lang", "CODE"]),
         (&["hosecrag", "explain"], &["FOLDER"]),
+        (
+            &["hosecrag", "query", "F", "--limit"],
+            &["--limit", "VISITS"],
+        ),
+        (&["hosecrag", "query", "F", "--limit", "-1"], &["--limit"]),
+        (
+            &["hosecrag", "query", "F", "--limit", "1e6"],
+            &["--limit", "1e6"],
+        ),
+        (
+            &["hosecrag", "query", "F", "--limit", "+5"],
+            &["--limit", "+5"],
+        ),
+        (
+            &["hosecrag", "query", "F", "--first", "111111111111111111111"],
+            &["--first"],
+        ),
+        (
+            &["hosecrag", "query", "F", "--first", "18446744073709551616"],
+            &["--first"],
+        ),
+        (
+            &["hosecrag", "query", "F", "--first", "1", "--first", "2"],
+            &["--first"],
+        ),
+        (
+            &["hosecrag", "query", "F", "--no-names", "--no-names"],
+            &["--no-names"],
+        ),
+        (&["hosecrag", "explain", "F", "--first", "1"], &["--first"]),
+        (&["hosecrag", "check", "F", "--limit", "1"], &["--limit"]),
         (&["hosecrag", "--"], &["query", "explain", "check"]),
     ];
     for (words, names) in wrong {

@@ -1,5 +1,5 @@
 -- What explains a line.
-use Rattle.std.proofs.Common.{ℕ, ◌≡◌, ap, subst}
+use Rattle.std.proofs.Common.{ℕ, ◌≡◌, ap, refl, subst}
 use Rattle.rf2_rows.specs.Release.{Release}
 use Rattle.constraint_tree.specs.Denotation.{denotes}
 use Rattle.constraint_tree.specs.Tree.{Tree}
@@ -11,6 +11,7 @@ use Rattle.planner.specs.Chosen.{chosen}
 use Rattle.plan_bounds.specs.Offered.{AreLeast}
 use Rattle.answer_printer.specs.PlanText.{plan_text}
 use Rattle.query_service.specs.Explanation.{Explains, executed_plan}
+use Rattle.query_service.specs.LimitedAnswer.{least_plan}
 
 -- the text of the plan by which a constraint is answered explains it
 pub explains : (contents : Contents) (tree : Tree) (indexed : Indexed) (plan : Physical) → IsIndexOf indexed contents.release
@@ -24,3 +25,12 @@ explains contents tree indexed plan of_release plan_is least same = record {
   least = subst (AreLeast indexed) plan_is least;
   written = ap (plan_text indexed) plan_is;
 }
+
+-- and the text of the plan that is executed explains it
+pub explains_least : (contents : Contents) (tree : Tree) (indexed : Indexed) (plan : Physical)
+    → IsIndexOf indexed contents.release → plan ≡ chosen indexed (executed_plan tree) → AreLeast indexed plan
+    → ((release : Release) (concept : ℕ) → means release (executed_plan tree) concept ≡ denotes release tree concept)
+    → Explains contents tree (plan_text indexed (least_plan indexed tree))
+explains_least contents tree indexed plan of_release plan_is least same =
+    explains contents tree indexed (least_plan indexed tree) of_release refl
+    (subst (AreLeast indexed) plan_is least) same

@@ -1,3 +1,4 @@
 mod AnswerLemmas
 mod ExplanationLemmas
+mod LimitLemmas
 mod PromiseLemmas

@@ -30,14 +30,18 @@ use Rattle.release_rows.specs.Pieces.{AreInOrder, listed, text_named}
 use Rattle.row_lists.specs.declared.fault.LoadFault.{LoadFault}
 use Rattle.row_lists.specs.declared.fault.LoadFault.TheVariants.{NoConceptFile}
 use Rattle.command_line.specs.declared.words.Mode.{Mode}
-use Rattle.command_line.specs.declared.words.Mode.TheVariants.{Query}
+use Rattle.command_line.specs.declared.words.Mode.TheVariants.{Query, QueryWith}
 use Rattle.query_run.specs.Lines.{AreAnswers, AreWritten, query_lines}
 use Rattle.query_service.specs.Answer.{IsAnswer}
-use Rattle.query_service.specs.Serve.{EndsWith, IsAnswered, IsLoadOf, IsServed, IsTask, Task}
+use Rattle.query_service.specs.Serve.{EndsWith, IsAnswered, IsAskedFor, IsLoadOf, IsLoadedFrom, IsServed, IsTask, Task}
+use Rattle.query_service.specs.Serve.{form_of}
 use Rattle.query_service.specs.Streams.{Streams}
 use Rattle.query_service.specs.declared.service.Status.TheVariants.{Done}
 use Rattle.query_service.proofs.WrittenLemmas.{AreAnswers-weaker}
-use Rattle.query_tool.specs.Promise.{Answers, HaveOwnNames, IsReleaseOf}
+use Rattle.query_service.specs.LimitedAnswer.{IsAnswerWithin}
+use Rattle.answer_printer.specs.declared.form.AnswerForm.{AnswerForm}
+use Rattle.query_tool.specs.Promise.{Answers, AnswersUnder, HaveOwnNames, IsReleaseOf, KeepsTheLimitedPromise}
+use Rattle.query_tool.specs.Promise.{KeepsThePromise}
 use Rattle.streams.specs.declared.output.AnswerOutput.{Ghosts as Output}
 use Rattle.streams.specs.declared.input.QueryInput.{Ghosts as Input}
 
@@ -92,6 +96,31 @@ answer_said contents rise line text (inl (tree, is, same)) = inl (
 )
 answer_said contents rise line text (inr refused) = inr refused
 
+-- the answer to a line under a limit, in a form, in the words of the promise
+pub limited_answer_said : (limit : ℕ) (form : AnswerForm) (contents : Contents)
+    → IsStrictlyIncreasing contents.release.concepts → (line text : List ℕ)
+    → IsAnswerWithin limit form contents line text → AnswersUnder limit form contents line text
+limited_answer_said limit form contents rise line text (inl (tree, is, answers)) = inl (
+  tree,
+  is,
+  record {
+    indexed = answers.indexed;
+    of_release = answers.of_release;
+    explained = answers.explained;
+    concepts = denotation contents.release tree;
+    rising = IsStrictlyIncreasing-filter (denotes contents.release tree) contents.release.concepts rise;
+    exactly = kept (denotes contents.release tree) contents.release.concepts;
+    written = answers.written;
+  },
+)
+limited_answer_said limit form contents rise line text (inr refused) = inr refused
+
+-- the same contents have the same answers
+pub same_said : {own contents : Contents} (limit : ℕ) (form : AnswerForm) (line text : List ℕ) → own ≡ contents
+    → AnswersUnder limit form own line text → AnswersUnder limit form contents line text
+same_said limit form line text same said =
+    subst (λ (contents : Contents). AnswersUnder limit form contents line text) same said
+
 -- what was written behind known bytes is known
 appended : (there : List ℕ) (after : Option (List ℕ)) (text : List ℕ) → Appends (Some there) after text → after ≡ Some (there ++ text)
 appended there None text none = absurd none
@@ -138,27 +167,53 @@ release_of files names language contents own order loads = record {
   accepted = loads;
 }
 
--- a query request that ends with status 0 keeps the promise
-pub promise_kept : {R W E : Type 0} → KeepsRising → (r : Input R) (w : Output W) (e : Output E) (before after : Streams R W E)
-    (files : List FileText) (language bytes there : List ℕ) (old new : History) (task : Task) → HaveOwnNames files → IsTask (Some files) old new language Query task
+-- a request that ends with status 0 in a mode whose lines have some answers, which are said in the words of a promise,
+-- keeps it
+kept_promise : {R W E : Type 0} → KeepsRising → (r : Input R) (w : Output W) (e : Output E)
+    (before after : Streams R W E) (files : List FileText) (language bytes there : List ℕ) (old new : History)
+    (task : Task) (mode : Mode) (answers said : Contents → List ℕ → List ℕ → Type 0)
+    → (IsAskedFor (Some files) old new language mode task → IsLoadedFrom (Some files) old new language task)
+    → ((contents : Contents) → IsServed r w mode contents before after → IsAnswered r w (answers contents) before after)
+    → ((contents : Contents) → IsStrictlyIncreasing contents.release.concepts → (line text : List ℕ)
+    → answers contents line text → said contents line text)
+    → HaveOwnNames files → IsTask (Some files) old new language mode task
     → EndsWith r w e task Done before after → r.remaining before.input ≡ Some bytes → w.written before.output ≡ Some there
     → (contents : Contents) × IsReleaseOf files language contents
-    × (text : List ℕ) × AreAnswers (Answers contents) (query_lines bytes) text × (w.written after.output ≡ Some (there ++ text))
-promise_kept rises r w e before after files language bytes there old new task own asked (inl served) reads wrote =
+    × (text : List ℕ) × AreAnswers (said contents) (query_lines bytes) text
+    × (w.written after.output ≡ Some (there ++ text))
+kept_promise rises r w e before after files language bytes there old new task mode answers said from_files
+    answered_lines in_words own asked (inl served) reads wrote =
     let contents = served.contents in
     let answers_from = λ (earlier : Option (List ℕ)) (known : List ℕ).
-    AreWritten (IsAnswer contents) (query_lines known) earlier (w.written after.output) in
-    let loads : IsLoadOf files language task.names (Ok contents) = subst (IsLoadOf files language task.names) served.loaded asked.loaded.loaded in
-    let answered : IsAnswered r w (IsAnswer contents) before after =
-    subst (λ (mode : Mode). IsServed r w mode contents before after) asked.mode_is served.ended.served in
-    let read : AreWritten (IsAnswer contents) (query_lines bytes) (w.written before.output) (w.written after.output) =
+    AreWritten (answers contents) (query_lines known) earlier (w.written after.output) in
+    let loads : IsLoadOf files language task.names (Ok contents) =
+    subst (IsLoadOf files language task.names) served.loaded (from_files asked.loaded).loaded in
+    let answered : IsAnswered r w (answers contents) before after =
+    answered_lines contents
+    (subst (λ (done : Mode). IsServed r w done contents before after) asked.mode_is served.ended.served) in
+    let read : AreWritten (answers contents) (query_lines bytes) (w.written before.output) (w.written after.output) =
     subst (λ (input : Option (List ℕ)). IfSome input (answers_from (w.written before.output))) reads answered.written in
-    let (text, answers, behind) = subst (λ (earlier : Option (List ℕ)). answers_from earlier bytes) wrote read in (
+    let (text, are_answers, behind) = subst (λ (earlier : Option (List ℕ)). answers_from earlier bytes) wrote read in (
       contents,
       release_of files task.names language contents own loads.0 loads.1,
       text,
-      AreAnswers-weaker (IsAnswer contents) (Answers contents)
-          (answer_said contents (concepts_rise rises language (listed files task.names) contents loads.1)) (query_lines bytes) text answers,
+      AreAnswers-weaker (answers contents) (said contents)
+          (in_words contents (concepts_rise rises language (listed files task.names) contents loads.1))
+          (query_lines bytes) text are_answers,
       appended there (w.written after.output) text behind,
     )
-promise_kept rises r w e before after files language bytes there old new task own asked (inr none) reads wrote = absurd none
+kept_promise rises r w e before after files language bytes there old new task mode answers said from_files
+    answered_lines in_words own asked (inr none) reads wrote = absurd none
+
+-- a query request that ends with status 0 keeps the promise, without options and with them
+pub promise_kept : {R W E : Type 0} → KeepsRising → (r : Input R) (w : Output W) (e : Output E) → KeepsThePromise r w e
+promise_kept rises r w e = λ before after files language bytes there old new task.
+    kept_promise rises r w e before after files language bytes there old new task Query IsAnswer Answers
+    (λ loaded. loaded) (λ contents served. served) answer_said
+
+pub limited_promise_kept : {R W E : Type 0} → KeepsRising → (r : Input R) (w : Output W) (e : Output E)
+    → KeepsTheLimitedPromise r w e
+limited_promise_kept rises r w e = λ before after files language bytes there old new task options.
+    kept_promise rises r w e before after files language bytes there old new task (QueryWith options)
+    (IsAnswerWithin options.limit (form_of options)) (AnswersUnder options.limit (form_of options))
+    (λ loaded. loaded) (λ contents served. served) (limited_answer_said options.limit (form_of options))

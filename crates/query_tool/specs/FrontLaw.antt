@@ -12,6 +12,8 @@ use Rattle.answer_printer.specs.AnswerText.{refusal_text}
 use Rattle.query_run.specs.KeptLine.{kept_of}
 use Rattle.query_service.specs.Answer.{IsAnswer, IsForLine, constraint_answer}
 use Rattle.query_service.specs.Explanation.{Explains, IsExplanation}
+use Rattle.query_service.specs.LimitedAnswer.{AnswersWithin, IsAnswerWithin}
+use Rattle.answer_printer.specs.declared.form.AnswerForm.{AnswerForm}
 
 -- a line that is too long has no text but that
 long_text : (IsFor : Tree → List ℕ → Type 0) (line text : List ℕ) → most_bytes < length line → IsForLine IsFor line text → text ≡ refusal_text Long
@@ -49,3 +51,9 @@ same_front contents = same_front_for (λ tree text. text ≡ constraint_answer c
 pub same_front_explained : (contents : Contents) (one other text : List ℕ) → kept_of one ≡ kept_of other → IsExplanation contents one text
     → IsExplanation contents other text
 same_front_explained contents = same_front_for (Explains contents)
+
+-- and are answered alike under a limit, in a form
+pub same_front_within : (limit : ℕ) (form : AnswerForm) (contents : Contents) (one other text : List ℕ)
+    → kept_of one ≡ kept_of other → IsAnswerWithin limit form contents one text
+    → IsAnswerWithin limit form contents other text
+same_front_within limit form contents = same_front_for (AnswersWithin limit form contents)

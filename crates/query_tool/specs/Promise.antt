@@ -17,14 +17,20 @@ use Rattle.held_release.specs.Contents.{Contents}
 use Rattle.snapshot.specs.Load.{load_of}
 use Rattle.release_rows.specs.Limits.{standard_limits}
 use Rattle.held_release.specs.Name.{name_of}
-use Rattle.answer_printer.specs.AnswerText.{answer_text, refusal_text}
+use Rattle.postings.specs.Indexed.{Indexed, IsIndexOf}
+use Rattle.answer_printer.specs.AnswerText.{answer_in, answer_text, refusal_text}
+use Rattle.answer_printer.specs.PlanText.{plan_text}
+use Rattle.answer_printer.specs.declared.form.AnswerForm.{AnswerForm}
 use Rattle.query_run.specs.Lines.{AreAnswers, query_lines}
-use Rattle.query_service.specs.Serve.{EndsWith, IsTask, Task}
+use Rattle.query_service.specs.Explanation.{Explains}
+use Rattle.query_service.specs.LimitedAnswer.{least_plan, told_bound, unless_above}
+use Rattle.query_service.specs.Serve.{EndsWith, IsTask, Task, form_of}
 use Rattle.query_service.specs.Streams.{Streams}
 use Rattle.query_service.specs.declared.service.Status.TheVariants.{Done}
 use Rattle.streams.specs.declared.output.AnswerOutput.{Ghosts as Output}
 use Rattle.streams.specs.declared.input.QueryInput.{Ghosts as Input}
-use Rattle.command_line.specs.declared.words.Mode.TheVariants.{Query}
+use Rattle.command_line.specs.declared.words.Mode.TheVariants.{Query, QueryWith}
+use Rattle.command_line.specs.declared.words.QueryOptions.{QueryOptions}
 
 -- no two files have one name
 abbrev pub HaveOwnNames : List FileText → Type 0
@@ -59,3 +65,39 @@ KeepsThePromise {R} {W} {E} r w e =
     → r.remaining before.input ≡ Some bytes → w.written before.output ≡ Some there
     → (contents : Contents) × IsReleaseOf files language contents
     × (text : List ℕ) × AreAnswers (Answers contents) (query_lines bytes) text × (w.written after.output ≡ Some (there ++ text))
+
+-- Under a limit on what a plan visits, in a form: over indexes of the release the plan that is executed is the one
+-- that explains the constraint, whose bound stands behind `PLAN` there. Where that bound is above the limit the answer
+-- is this bound alone; else it is the whole count, and of the lines those that the form asks for.
+pub record ListsWithin (limit : ℕ) (form : AnswerForm) (contents : Contents) (tree : Tree) (text : List ℕ)
+    : Type 0 where
+  pub indexed : Indexed
+  pub of_release : IsIndexOf indexed contents.release
+  pub explained : Explains contents tree (plan_text indexed (least_plan indexed tree))
+  pub concepts : List ℕ
+  pub rising : IsStrictlyIncreasing concepts
+  pub exactly : (concept : ℕ)
+      → Contains concepts concept
+      ↔ (Contains contents.release.concepts concept × IsTrue (denotes contents.release tree concept))
+  pub written : text
+      ≡ unless_above limit (told_bound indexed tree)
+      (answer_in form (name_of contents.release contents.language) concepts)
+
+-- and a text outside the grammar is answered by its refusal, under any limit
+abbrev pub AnswersUnder : ℕ → AnswerForm → Contents → List ℕ → List ℕ → Type 0
+AnswersUnder limit form contents line text =
+    ((tree : Tree) × IsConstraint line tree × ListsWithin limit form contents tree text)
+    ⊎ ((fault : QueryFault) × IsRefusalOf line fault × (text ≡ refusal_text fault))
+
+-- where a query request with options, over told files with names of their own and a told input, ends with status 0,
+-- this was written behind what was there
+abbrev pub KeepsTheLimitedPromise : {R W E : Type 0} → Input R → Output W → Output E → Type 0
+KeepsTheLimitedPromise {R} {W} {E} r w e =
+    (before after : Streams R W E) (files : List FileText) (language bytes there : List ℕ) (old new : History)
+    (task : Task) (options : QueryOptions)
+    → HaveOwnNames files → IsTask (Some files) old new language (QueryWith options) task
+    → EndsWith r w e task Done before after
+    → r.remaining before.input ≡ Some bytes → w.written before.output ≡ Some there
+    → (contents : Contents) × IsReleaseOf files language contents
+    × (text : List ℕ) × AreAnswers (AnswersUnder options.limit (form_of options) contents) (query_lines bytes) text
+    × (w.written after.output ≡ Some (there ++ text))

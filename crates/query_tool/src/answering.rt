@@ -1,5 +1,6 @@
 //! What is appended for a query line over a release and its indexes: its answer, or its plan.
-ghost use Rattle.std.specs.Prelude.{ℕ, ◌≡◌, ◌+◌, ◌-◌, ◌^◌, ◌≤◌, ◌++◌, List, IfOk, MatchOption, OnErr, OnOk, length, map, min, slice_index};
+ghost use Rattle.std.specs.Prelude.{ℕ, ◌≡◌, ◌≢◌, ◌+◌, ◌-◌, ◌^◌, ◌<◌, ◌≤◌, ◌++◌, ⊤, List, IfOk, MatchOption};
+ghost use Rattle.std.specs.Prelude.{OnErr, OnOk, length, map, min, slice_index};
 ghost use Rattle.ecl_lexer.specs.declared.fault.QueryFault.{QueryFault};
 ghost use Rattle.constraint_tree.specs.Denotation.{denotation, denotes};
 ghost use Rattle.constraint_tree.specs.Refusal.{IsConstraint, IsRefusalOf};
@@ -14,39 +15,65 @@ ghost use Rattle.plan_bounds.specs.Bounds.{bound as bound_of};
 ghost use Rattle.plan_bounds.specs.Floors.{floor as floor_of};
 ghost use Rattle.query_service.specs.Explanation.{Explains, IsExplanation};
 ghost use Rattle.query_tool.specs.inside.AskedPlan.{ReadsAsked};
+ghost use Rattle.query_tool.specs.inside.LineFound.{MatchFound, found_text};
 
+use crate::finding::LineFound;
 use crate::plans::{asked_plan, least_plan};
-use answer_printer::{print_answer, print_fault, print_plan};
+use answer_printer::{
+    AnswerForm, print_answer, print_answer_in, print_bound, print_fault, print_plan,
+};
 use constraint_tree::Constraint;
 use ecl_lexer::QueryFault;
 use ecl_parser::parse;
 use executor::{Visits, execute};
-use idset::{ConceptSet, MixedSet, SortedSet};
+use idset::{ConceptSet, SortedSet};
 use planner::{Choice, PhysicalPlan};
 use postings::Indexes;
 use rewrites::Step;
 use snapshot::Snapshot;
 use std::alloc::{AllocError, Global};
 
-/// Appends what answers a line over a release.
-pub fn answer_over(
+/// Appends what tells what a line came to over a release, which is let go.
+pub fn print_and_drop<S: ConceptSet>(
     alloc: Global,
     snapshot: &Snapshot,
-    indexes: &Indexes,
-    line: &[u8],
+    found: LineFound<S>,
+    form: AnswerForm,
     output: &mut Vec<u8>,
 ) -> Result<(), AllocError>
-    requires { IsIndexOf indexes.now snapshot.now.release }
-    ensures ok { OnOk result ((text : List ℕ) × IsAnswer snapshot.now line.now text × (output.new.items ≡ output.old.items ++ text)) }
+    requires { MatchFound found (λ fault. fault ≢ QueryFault.Memory) (λ _. ⊤)
+        (λ set. S.bound_of set ≡ length snapshot.now.release.concepts) }
+    ensures ok { OnOk result (output.new.items ≡ output.old.items
+        ++ found_text (λ set. S.items_of set) form snapshot.now found) }
     ensures err { OnErr result (output.new.items ≡ output.old.items) }
 {
-    match constraint_of(alloc, line, output)? {
-        Some(constraint) => answer_constraint(alloc, snapshot, indexes, constraint, output),
-        None => Ok(()),
+    let printed = print_found(alloc, snapshot, &found, form, output);
+    drop(found);
+    printed
+}
+
+// Appends what tells what a line came to: its refusal, the bound that is above the limit, or the answer in a form.
+fn print_found<S: ConceptSet>(
+    alloc: Global,
+    snapshot: &Snapshot,
+    found: &LineFound<S>,
+    form: AnswerForm,
+    output: &mut Vec<u8>,
+) -> Result<(), AllocError>
+    requires { MatchFound found.now (λ fault. fault ≢ QueryFault.Memory) (λ _. ⊤)
+        (λ set. S.bound_of set ≡ length snapshot.now.release.concepts) }
+    ensures ok { OnOk result (output.new.items ≡ output.old.items
+        ++ found_text (λ set. S.items_of set) form snapshot.now found.now) }
+    ensures err { OnErr result (output.new.items ≡ output.old.items) }
+{
+    match found {
+        LineFound::Refused(fault) => print_fault(alloc, *fault, output),
+        LineFound::Above(most) => print_bound(alloc, *most, output),
+        LineFound::Concepts(set) => print_answer_in(alloc, snapshot, set, form, output),
     }
 }
 
-/// The same by plans that are rewritten by steps, with choices that are asked for.
+/// Appends what answers a line over a release, by plans that are rewritten by steps, with choices that are asked for.
 pub fn answer_over_with(
     alloc: Global,
     snapshot: &Snapshot,
@@ -107,41 +134,8 @@ fn constraint_of(
     }
 }
 
-// Appends what answers a constraint over a release. (The constraint is dropped here, where there is one end, so that its lifetimes
-// are not followed to each end of a caller.)
-fn answer_constraint(
-    alloc: Global,
-    snapshot: &Snapshot,
-    indexes: &Indexes,
-    constraint: Constraint,
-    output: &mut Vec<u8>,
-) -> Result<(), AllocError>
-    requires { IsIndexOf indexes.now snapshot.now.release }
-    ensures ok { OnOk result (output.new.items ≡ output.old.items ++ constraint_answer snapshot.now (tree_of constraint)) }
-    ensures err { OnErr result (output.new.items ≡ output.old.items) }
-{
-    let answered = answer_by_least_plan(alloc, snapshot, indexes, &constraint, output);
-    drop(constraint);
-    answered
-}
-
-// The same by its own plan, with the choices of least bound.
-fn answer_by_least_plan(
-    alloc: Global,
-    snapshot: &Snapshot,
-    indexes: &Indexes,
-    constraint: &Constraint,
-    output: &mut Vec<u8>,
-) -> Result<(), AllocError>
-    requires { IsIndexOf indexes.now snapshot.now.release }
-    ensures ok { OnOk result (output.new.items ≡ output.old.items ++ constraint_answer snapshot.now (tree_of constraint.now)) }
-    ensures err { OnErr result (output.new.items ≡ output.old.items) }
-{
-    let found: MixedSet = concepts_of(alloc, snapshot, indexes, constraint)?;
-    print_answer(alloc, snapshot, &found, output)
-}
-
-// The same by its plan after some steps, with choices that are asked for.
+// Appends what answers a constraint over a release, by its plan after some steps, with choices that are asked for. (The
+// constraint is dropped here, where there is one end, so that its lifetimes are not followed to each end of a caller.)
 fn answer_with(
     alloc: Global,
     snapshot: &Snapshot,
@@ -217,30 +211,9 @@ fn asked_concepts<S: ConceptSet>(
     Ok(found)
 }
 
-/// The concepts that a constraint denotes over a release, by its plan, in one form of set.
-pub fn concepts_of<S: ConceptSet>(
-    alloc: Global,
-    snapshot: &Snapshot,
-    indexes: &Indexes,
-    constraint: &Constraint,
-) -> Result<S, AllocError>
-    requires { IsIndexOf indexes.now snapshot.now.release }
-    ensures concepts { IfOk result (λ found. map (slice_index snapshot.now.release.concepts) (S.items_of found) ≡ denotation snapshot.now.release (tree_of constraint.now)) }
-    ensures bound { IfOk result (λ found. S.bound_of found ≡ length snapshot.now.release.concepts) }
-{
-    let physical = least_plan(alloc, constraint, indexes)?;
-    let found: S = found_by(
-        alloc,
-        &physical,
-        snapshot,
-        indexes,
-        &mut Visits { count: 0 },
-    )?;
-    Ok(found)
-}
-
-// The concepts that a plan means over a release: those of any constraint that denotes what the plan means.
-fn found_by<S: ConceptSet>(
+/// The concepts that a plan means over a release: those of any constraint that denotes what the plan means. What is
+/// counted as read is no more than the bound of the plan, and no less than its floor unless memory is refused.
+pub fn found_by<S: ConceptSet>(
     alloc: Global,
     physical: &PhysicalPlan,
     snapshot: &Snapshot,
@@ -253,9 +226,13 @@ fn found_by<S: ConceptSet>(
         → map (slice_index snapshot.now.release.concepts) (S.items_of found) ≡ denotation snapshot.now.release tree) }
     ensures bound { IfOk result (λ found. S.bound_of found ≡ length snapshot.now.release.concepts) }
     ensures within { visits.new.count ≤ visits.old.count + bound_of indexes.now (physical_of physical.now.plan) }
+    ensures fits { visits.new.count < 2 ^ 64 }
     ensures floor { OnOk result (min (visits.old.count + floor_of indexes.now (physical_of physical.now.plan)) (2 ^ 64 - 1) ≤ visits.new.count) }
 {
-    let found: S = execute(alloc, physical, snapshot, indexes, visits)?;
+    let executed: Result<S, AllocError> = execute(alloc, physical, snapshot, indexes, visits);
+    // a proof has the range of the count from where it is read
+    let _count = visits.count;
+    let found = executed?;
     Ok(found)
 }
 

@@ -14,10 +14,17 @@ ghost use Rattle.release_rows.specs.DeviceFaults.{FailsAtRead, FileIs, RaisesOnl
 ghost use Rattle.release_files.specs.Source.{file_text};
 ghost use Rattle.query_service.specs.Answer.{IsAnswer};
 ghost use Rattle.query_service.specs.Explanation.{IsExplanation};
+ghost use Rattle.query_service.specs.LimitedAnswer.{IsAnswerCounted, IsAnswerWithin};
+ghost use Rattle.streams.specs.Waiting.{LeavesAnswer, Puts, is_write};
 ghost use Rattle.query_tool.specs.FrontLaw.{same_front};
+ghost use Rattle.query_tool.specs.Promise.{AnswersUnder};
 
-use crate::answering::{answer_over, answer_over_with, explain_over};
-use crate::writing::write_over;
+use crate::answering::{answer_over_with, explain_over, print_and_drop};
+use crate::finding::{LineFound, found_within};
+use crate::writing::write_and_drop;
+use answer_printer::AnswerForm;
+use executor::Visits;
+use idset::MixedSet;
 use planner::Choice;
 use postings::Indexes;
 use query_run::AnswerLine;
@@ -106,7 +113,82 @@ impl Engine {
         ensures err { OnErr result (output.new.items ≡ output.old.items) }
         ensures rising { (tree : Tree) → IsStrictlyIncreasing (denotation self.now.release tree) }
     {
-        answer_over(alloc, &self.snapshot, &self.indexes, line, output)
+        self.answer_within(
+            alloc,
+            line,
+            u64::MAX,
+            AnswerForm::whole(),
+            &mut Visits { count: 0 },
+            output,
+        )
+    }
+
+    /// Appends the answer to a query line under a limit, in a form. The bound of the plan that answers the constraint,
+    /// which is the one that `explain` tells behind `PLAN`, is asked before anything is read: where it is above
+    /// `limit`, the answer is the one line `ERR bound` and that bound, and nothing is read. Else it is the answer in
+    /// the form. A line that is no constraint is refused as `answer` does, under any limit. What is read is counted in
+    /// `visits`: never more than `limit`. With `u64::MAX` nothing is refused for its bound. Where memory is refused
+    /// `output` is unchanged.
+    pub fn answer_within(
+        &self,
+        alloc: Global,
+        line: &[u8],
+        limit: u64,
+        form: AnswerForm,
+        visits: &mut Visits,
+        output: &mut Vec<u8>,
+    ) -> Result<(), AllocError>
+        ensures ok { OnOk result ((text : List ℕ)
+            × IsAnswerCounted limit form self.now line.now visits.old.count visits.new.count text
+            × (output.new.items ≡ output.old.items ++ text)) }
+        ensures promised { OnOk result ((text : List ℕ) × AnswersUnder limit form self.now line.now text
+            × (output.new.items ≡ output.old.items ++ text)) }
+        ensures err { OnErr result (output.new.items ≡ output.old.items) }
+        ensures limit { visits.new.count ≤ visits.old.count + limit }
+        ensures rising { (tree : Tree) → IsStrictlyIncreasing (denotation self.now.release tree) }
+    {
+        let found: LineFound<MixedSet> = found_within(
+            alloc,
+            &self.snapshot,
+            &self.indexes,
+            line,
+            limit,
+            visits,
+        )?;
+        print_and_drop(alloc, &self.snapshot, found, form, output)
+    }
+
+    // Puts the answer to a line under a limit, in a form, into a piece of an output. The concepts are there before the
+    // first byte is.
+    pub(crate) fn write_within<W: AnswerOutput>(
+        &self,
+        alloc: Global,
+        line: &[u8],
+        limit: u64,
+        form: AnswerForm,
+        piece: &mut Piece,
+        output: &mut W,
+    ) -> Result<(), AnswerFault>
+        requires { W.has_failed output.old ≡ false }
+        ensures ok { OnOk result ((text : List ℕ) × IsAnswerWithin limit form self.now line.now text
+            × Puts (W.written output.old) (W.written output.new) piece.old text piece.new) }
+        ensures fault { IfErr result (λ fault. LeavesAnswer (IsAnswerWithin limit form self.now line.now) fault
+            (W.written output.old) (W.written output.new) piece.old piece.new) }
+        ensures sound { OnOk result (W.has_failed output.new ≡ false) }
+        ensures failed { IfErr result (λ fault. W.has_failed output.new ≡ is_write fault) }
+    {
+        let mut visits = Visits { count: 0 };
+        match found_within::<MixedSet>(
+            alloc,
+            &self.snapshot,
+            &self.indexes,
+            line,
+            limit,
+            &mut visits,
+        ) {
+            Ok(found) => write_and_drop(alloc, &self.snapshot, found, form, piece, output),
+            Err(AllocError) => Err(AnswerFault::Memory),
+        }
     }
 
     /// Appends the same answer, by another plan: that of the constraint after some steps of rewriting,
@@ -164,7 +246,7 @@ impl AnswerLine for Engine {
         piece: &mut Piece,
         output: &mut W,
     ) -> Result<(), AnswerFault> {
-        write_over(alloc, &self.snapshot, &self.indexes, line, piece, output)
+        self.write_within(alloc, line, u64::MAX, AnswerForm::whole(), piece, output)
     }
 }
 

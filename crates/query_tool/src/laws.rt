@@ -6,7 +6,7 @@ ghost use Rattle.constraint_tree.specs.Tree.{Tree};
 ghost use Rattle.set_algebra.specs.Depth.{plan_depth};
 ghost use Rattle.query_service.specs.Explanation.{executed_plan};
 ghost use Rattle.query_service.specs.Answer.{HasAnAnswer, HasOneAnswer};
-ghost use Rattle.query_tool.specs.Promise.{KeepsThePromise};
+ghost use Rattle.query_tool.specs.Promise.{KeepsTheLimitedPromise, KeepsThePromise};
 
 use ecl_parser::one_reading;
 use rewrites::simplified_plans_are_no_deeper;
@@ -33,6 +33,14 @@ pub fn executed_plans_are_not_deep()
 /// What `serve` says of a query request that ends with status 0 is the promise of the engine.
 pub fn promise_is_kept<R: QueryInput, W: AnswerOutput, E: AnswerOutput>()
     ensures { KeepsThePromise R.QueryInput W.AnswerOutput E.AnswerOutput }
+{
+    rising_keeps_the_members();
+}
+
+/// What `serve` says of a query request with options that ends with status 0 is the promise of the engine under a
+/// limit, in a form.
+pub fn limited_promise_is_kept<R: QueryInput, W: AnswerOutput, E: AnswerOutput>()
+    ensures { KeepsTheLimitedPromise R.QueryInput W.AnswerOutput E.AnswerOutput }
 {
     rising_keeps_the_members();
 }

@@ -5,7 +5,9 @@
 mod answering;
 mod engine;
 mod explaining;
+mod finding;
 mod laws;
+mod limiting;
 mod plans;
 mod program;
 mod serving;
@@ -13,10 +15,15 @@ mod writing;
 
 pub use crate::engine::Engine;
 pub use crate::explaining::run_explain;
-pub use crate::laws::{executed_plans_are_not_deep, one_answer, promise_is_kept};
+pub use crate::laws::{
+    executed_plans_are_not_deep, limited_promise_is_kept, one_answer, promise_is_kept,
+};
+pub use crate::limiting::run_within;
 pub use crate::program::start;
 pub use crate::serving::serve;
-pub use command_line::{Mode, Request, WordFault, read_words};
+pub use answer_printer::AnswerForm;
+pub use command_line::{Mode, QueryOptions, Request, WordFault, read_words};
+pub use executor::Visits;
 pub use planner::Choice;
 pub use query_run::{RunFault, run};
 pub use query_service::{Status, refuse_words};

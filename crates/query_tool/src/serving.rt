@@ -6,6 +6,8 @@ ghost use Rattle.query_service.specs.Streams.{streams};
 
 use crate::engine::Engine;
 use crate::explaining::run_explain;
+use crate::limiting::run_within;
+use answer_printer::AnswerForm;
 use command_line::{Mode, Request};
 use query_run::RunFault;
 use query_service::{QueryEngine, Status};
@@ -59,6 +61,17 @@ impl QueryEngine for Engine {
     ) -> Result<u64, RunFault> {
         run_explain(alloc, self, input, output)
     }
+
+    fn run_within<R: QueryInput, W: AnswerOutput>(
+        &self,
+        alloc: Global,
+        limit: u64,
+        form: AnswerForm,
+        input: &mut R,
+        output: &mut W,
+    ) -> Result<u64, RunFault> {
+        run_within(alloc, self, limit, form, input, output)
+    }
 }
 
 // What a release has, which is let go.
@@ -71,10 +84,9 @@ fn report_and_drop(snapshot: Snapshot) -> Report
 }
 
 /// Does what is asked of a release: of the one that is built in, or of that of the files of a source.
-/// Answers the query lines of an input; at `Explain` tells the plan of each; or, at `Check`, writes what
-/// the release has, and reads nothing.
-/// Nothing is written before the release is loaded. What is refused, and a fault, is told by one line on
-/// `errors`, whose own failure changes nothing.
+/// Answers the query lines of an input, at `QueryWith` under its options; at `Explain` tells the plan of each; or, at
+/// `Check`, writes what the release has, and reads nothing. Nothing is written before the release is loaded. What is
+/// refused, and a fault, is told by one line on `errors`, whose own failure changes nothing.
 pub fn serve<S: FileSource, R: QueryInput, W: AnswerOutput, E: AnswerOutput>(
     alloc: Global,
     request: &Request,

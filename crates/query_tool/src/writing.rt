@@ -1,67 +1,68 @@
 //! What is put into a piece of the output for a query line over a release and its indexes.
-ghost use Rattle.std.specs.Prelude.{ℕ, ◌≡◌, ◌≢◌, List, IfErr, OnOk, false};
+ghost use Rattle.std.specs.Prelude.{◌≡◌, ◌≢◌, ⊤, IfErr, OnOk, false, length};
 ghost use Rattle.ecl_lexer.specs.declared.fault.QueryFault.{QueryFault};
-ghost use Rattle.constraint_tree.specs.Tree.{tree_of};
-ghost use Rattle.postings.specs.Indexed.{IsIndexOf};
-ghost use Rattle.answer_printer.specs.AnswerText.{refusal_text};
+ghost use Rattle.answer_printer.specs.AnswerText.{bound_refusal, refusal_text};
 ghost use Rattle.streams.specs.Waiting.{LeavesAnswer, Puts, is_write};
-ghost use Rattle.query_service.specs.Answer.{IsAnswer, constraint_answer};
+ghost use Rattle.query_tool.specs.inside.LineFound.{MatchFound, found_text};
 
-use crate::answering::concepts_of;
-use answer_printer::{print_fault, write_answer};
-use constraint_tree::Constraint;
+use crate::finding::LineFound;
+use answer_printer::{AnswerForm, print_bound, print_fault, write_answer};
 use ecl_lexer::QueryFault;
-use ecl_parser::parse;
-use idset::MixedSet;
-use postings::Indexes;
+use idset::ConceptSet;
 use snapshot::Snapshot;
 use std::alloc::{AllocError, Global};
 use streams::{AnswerFault, AnswerOutput, Piece};
 
-/// Puts what answers a line over a release into a piece of an output. The text of a refusal is short, and built whole.
-pub fn write_over<W: AnswerOutput>(
+/// Puts what tells what a line came to over a release, which is let go, into a piece of an output.
+pub fn write_and_drop<S: ConceptSet, W: AnswerOutput>(
     alloc: Global,
     snapshot: &Snapshot,
-    indexes: &Indexes,
-    line: &[u8],
+    found: LineFound<S>,
+    form: AnswerForm,
     piece: &mut Piece,
     output: &mut W,
 ) -> Result<(), AnswerFault>
-    requires index { IsIndexOf indexes.now snapshot.now.release }
+    requires told { MatchFound found (λ fault. fault ≢ QueryFault.Memory) (λ _. ⊤)
+        (λ set. S.bound_of set ≡ length snapshot.now.release.concepts) }
     requires sound { W.has_failed output.old ≡ false }
-    ensures ok { OnOk result ((text : List ℕ) × IsAnswer snapshot.now line.now text
-        × Puts (W.written output.old) (W.written output.new) piece.old text piece.new) }
-    ensures fault { IfErr result (λ fault. LeavesAnswer (IsAnswer snapshot.now line.now) fault (W.written output.old) (W.written output.new) piece.old piece.new) }
+    ensures ok { OnOk result (Puts (W.written output.old) (W.written output.new) piece.old
+        (found_text (λ set. S.items_of set) form snapshot.now found) piece.new) }
+    ensures fault { IfErr result (λ fault. LeavesAnswer
+        (λ text. text ≡ found_text (λ set. S.items_of set) form snapshot.now found)
+        fault (W.written output.old) (W.written output.new) piece.old piece.new) }
     ensures sound { OnOk result (W.has_failed output.new ≡ false) }
     ensures failed { IfErr result (λ fault. W.has_failed output.new ≡ is_write fault) }
 {
-    match parse(alloc, line) {
-        Ok(constraint) => write_constraint(alloc, snapshot, indexes, &constraint, piece, output),
-        Err(QueryFault::Memory) => Err(AnswerFault::Memory),
-        Err(fault) => write_refusal(alloc, fault, piece, output),
-    }
+    let written = write_found(alloc, snapshot, &found, form, piece, output);
+    drop(found);
+    written
 }
 
-// Puts what answers a constraint over a release. The concepts are there before the first byte is.
-fn write_constraint<W: AnswerOutput>(
+// Puts what tells what a line came to: its refusal, the bound that is above the limit, or the answer in a form. The
+// text of a refusal is short, and built whole.
+fn write_found<S: ConceptSet, W: AnswerOutput>(
     alloc: Global,
     snapshot: &Snapshot,
-    indexes: &Indexes,
-    constraint: &Constraint,
+    found: &LineFound<S>,
+    form: AnswerForm,
     piece: &mut Piece,
     output: &mut W,
 ) -> Result<(), AnswerFault>
-    requires index { IsIndexOf indexes.now snapshot.now.release }
+    requires told { MatchFound found.now (λ fault. fault ≢ QueryFault.Memory) (λ _. ⊤)
+        (λ set. S.bound_of set ≡ length snapshot.now.release.concepts) }
     requires sound { W.has_failed output.old ≡ false }
-    ensures ok { OnOk result (Puts (W.written output.old) (W.written output.new) piece.old (constraint_answer snapshot.now (tree_of constraint.now)) piece.new) }
-    ensures fault { IfErr result (λ fault. LeavesAnswer (λ text. text ≡ constraint_answer snapshot.now (tree_of constraint.now)) fault
-        (W.written output.old) (W.written output.new) piece.old piece.new) }
+    ensures ok { OnOk result (Puts (W.written output.old) (W.written output.new) piece.old
+        (found_text (λ set. S.items_of set) form snapshot.now found.now) piece.new) }
+    ensures fault { IfErr result (λ fault. LeavesAnswer
+        (λ text. text ≡ found_text (λ set. S.items_of set) form snapshot.now found.now)
+        fault (W.written output.old) (W.written output.new) piece.old piece.new) }
     ensures sound { OnOk result (W.has_failed output.new ≡ false) }
     ensures failed { IfErr result (λ fault. W.has_failed output.new ≡ is_write fault) }
 {
-    match concepts_of::<MixedSet>(alloc, snapshot, indexes, constraint) {
-        Ok(found) => write_answer(alloc, snapshot, &found, piece, output),
-        Err(AllocError) => Err(AnswerFault::Memory),
+    match found {
+        LineFound::Refused(fault) => write_refusal(alloc, *fault, piece, output),
+        LineFound::Above(most) => write_bound(alloc, *most, piece, output),
+        LineFound::Concepts(set) => write_answer(alloc, snapshot, set, form, piece, output),
     }
 }
 
@@ -81,6 +82,28 @@ fn write_refusal<W: AnswerOutput>(
 {
     let mut line = Vec::new(alloc);
     match print_fault(alloc, fault, &mut line) {
+        Ok(()) => put_text(line.as_slice(), piece, output),
+        Err(AllocError) => Err(AnswerFault::Memory),
+    }
+}
+
+// Puts the line that refuses a constraint for the bound of its plan.
+fn write_bound<W: AnswerOutput>(
+    alloc: Global,
+    most: u64,
+    piece: &mut Piece,
+    output: &mut W,
+) -> Result<(), AnswerFault>
+    requires { W.has_failed output.old ≡ false }
+    ensures ok { OnOk result (Puts (W.written output.old) (W.written output.new) piece.old
+        (bound_refusal most) piece.new) }
+    ensures fault { IfErr result (λ other. LeavesAnswer (λ text. text ≡ bound_refusal most) other
+        (W.written output.old) (W.written output.new) piece.old piece.new) }
+    ensures sound { OnOk result (W.has_failed output.new ≡ false) }
+    ensures failed { IfErr result (λ other. W.has_failed output.new ≡ is_write other) }
+{
+    let mut line = Vec::new(alloc);
+    match print_bound(alloc, most, &mut line) {
         Ok(()) => put_text(line.as_slice(), piece, output),
         Err(AllocError) => Err(AnswerFault::Memory),
     }

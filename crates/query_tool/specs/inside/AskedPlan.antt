@@ -1,5 +1,5 @@
 -- The plan that is asked for by steps of rewriting and by choices, and how much it reads.
-use Rattle.std.specs.Prelude.{ℕ, ◌≡◌, ◌≤◌, ◌+◌, ◌-◌, ◌^◌, List, min}
+use Rattle.std.specs.Prelude.{◌≡◌, ◌≤◌, ◌+◌, ◌-◌, ◌^◌, List, min}
 use Rattle.constraint_tree.specs.Tree.{Tree}
 use Rattle.set_algebra.specs.Lowering.{lowered}
 use Rattle.set_algebra.specs.Physical.{Physical, logical}

@@ -4,12 +4,13 @@ use Rattle.std.specs.List.{flat_map}
 use Rattle.streams.specs.Waiting.{Puts}
 use Rattle.held_release.specs.Name.{name_of}
 use Rattle.held_release.specs.Line.{concept_line}
+use Rattle.answer_printer.specs.AnswerText.{shown_names}
 use Rattle.answer_printer.proofs.answer.put_lines.Given as goal
 
 -- the lines so far were put, and with those that are left they are all lines
 abbrev pub invariant-loop-concept : goal.invariant-loop-concept
 invariant-loop-concept g l =
-    let name = name_of l.snapshot.release l.snapshot.language in
+    let name = shown_names l.names (name_of l.snapshot.release l.snapshot.language) in
     let lines = λ (numbers : List ℕ). flat_map (concept_line name) (map (slice_index l.snapshot.release.concepts) numbers) in
     record {
       sound : g.W.AnswerOutput.has_failed l.output ≡ false;

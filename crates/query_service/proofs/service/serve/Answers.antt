@@ -15,6 +15,11 @@ returns-in-Query-clause-served g c =
     let (task, is, ends) = c.answer_source.ensures in
     (task, asked_as _ _ _ _ _ _ _ task c.in-Query.is c.as_str-lang.ensures.value is, ends)
 
+pub returns-in-QueryWith-clause-served : goal.returns-in-QueryWith-clause-served
+returns-in-QueryWith-clause-served g c =
+    let (task, is, ends) = c.answer_source-in-QueryWith.ensures in
+    (task, asked_as _ _ _ _ _ _ _ task c.in-QueryWith.is c.as_str-lang.ensures.value is, ends)
+
 pub returns-in-Explain-clause-served : goal.returns-in-Explain-clause-served
 returns-in-Explain-clause-served g c =
     let (task, is, ends) = c.answer_source-in-Explain.ensures in

@@ -13,7 +13,15 @@ returns-in-Explain g c =
     (g.Q.QueryEngine.contents c.args.engine.now) c.explain_all.result before after)
     (sym c.in-Explain.is) c.explain_all.ensures
 
+pub returns-in-QueryWith : goal.returns-in-QueryWith
+returns-in-QueryWith g c =
+    let before = streams c.args.input.now c.args.output.now c.args.errors.now in
+    let after = streams c.answer_all_with.new.input c.answer_all_with.new.output c.answer_all_with.new.errors in
+    subst (λ (mode : Mode). ServesWith g.R.QueryInput g.W.AnswerOutput g.E.AnswerOutput mode
+    (g.Q.QueryEngine.contents c.args.engine.now) c.answer_all_with.result before after)
+    (sym c.in-QueryWith.is) c.answer_all_with.ensures
+
 pub returns-in_default : goal.returns-in_default
 returns-in_default g c =
     serves_files g.R.QueryInput g.W.AnswerOutput g.E.AnswerOutput c.args.mode (g.Q.QueryEngine.contents c.args.engine.now) c.answer_all.result _ _
-    c.requires.mode c.in_default.not-Explain c.answer_all.ensures
+    c.requires.mode c.in_default.not-QueryWith c.in_default.not-Explain c.answer_all.ensures

@@ -1,11 +1,22 @@
-use Rattle.std.proofs.Common.{subst}
-use Rattle.std.specs.List.Sorted.{IsStrictlyIncreasing}
-use Rattle.std.proofs.lemmas.List.Kept.{IsStrictlyIncreasing-filter}
-use Rattle.constraint_tree.specs.Denotation.{denotation, denotes}
-use Rattle.held_release.specs.Contents.{Contents}
+use Rattle.std.proofs.Common.{◌-◌, ◌^◌, subst}
+use Rattle.std.proofs.lemmas.Result.{on_ok_weaker}
+use Rattle.answer_printer.specs.declared.form.AnswerForm.{AnswerForm}
+use Rattle.query_service.specs.LimitedAnswer.{IsAnswerWithin}
+use Rattle.query_tool.proofs.LimitLemmas.{counted_answers, unlimited_answers}
 use Rattle.query_tool.proofs.engine.Engine.answer.Goals as goal
 
-pub returns-clause-rising : goal.returns-clause-rising
-returns-clause-rising c = λ tree.
-    subst (λ (contents : Contents). IsStrictlyIncreasing (denotation contents.release tree)) c.self.view_is
-    (IsStrictlyIncreasing-filter (denotes c.self.inside.snapshot.release tree) c.self.inside.snapshot.release.concepts c.self.invariant.0)
+-- the answer without a limit, in the form of all lines with names
+pub returns-clause-ok : goal.returns-clause-ok
+returns-clause-ok c =
+    let contents = c.args.self.now in
+    let line = c.args.line.now in
+    on_ok_weaker c.answer_within.result
+    (λ answered.
+    let (text, is, told) = answered in (
+      text,
+      unlimited_answers contents line text
+          (subst (λ (form : AnswerForm). IsAnswerWithin (2 ^ 64 - 1) form contents line text) c.whole.ensures
+          (counted_answers (2 ^ 64 - 1) c.whole.result contents line _ _ text is)),
+      told,
+    ))
+    c.answer_within.ensures.ok

@@ -1,6 +1,6 @@
 use Rattle.std.proofs.Common.{◌∙◌}
 use Rattle.answer_printer.proofs.AnswerLemmas.{are_concepts}
-use Rattle.answer_printer.proofs.answer.print_answer.Goals as goal
+use Rattle.answer_printer.proofs.answer.print_answer_in.Goals as goal
 
 pub append_answer-appended-requires : goal.append_answer-appended-requires
 append_answer-appended-requires g c =

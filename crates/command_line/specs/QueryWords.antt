@@ -1,0 +1,62 @@
+-- What the options of `query` ask for, by a command's rows.
+use Rattle.std.specs.Prelude.{ℕ, ◌≡◌, ◌-◌, ◌^◌, ◌<◌, ◌⊎◌, ⊤, not, Bool, true, false, bytes_eq, codes, unwrap_or, List}
+use Rattle.std.specs.Prelude.{Option, None, Some}
+use Rattle.std.specs.Option.{option_map_or}
+use Rattle.std.specs.Str.Parse.{IsNumeral, digits_value}
+use Rattle.clap.specs.Words.{Row, Text, first_of}
+use Rattle.command_line.specs.declared.words.Mode.{Mode}
+use Rattle.command_line.specs.declared.words.Mode.TheVariants.{Query, QueryWith}
+use Rattle.command_line.specs.declared.words.WordFault.{WordFault}
+use Rattle.command_line.specs.declared.words.WordFault.TheVariants.{Usage, Help, Memory}
+
+-- a text is a number of 64 bits: digits alone, with no sign
+abbrev pub IsNumberText : Text → ℕ → Type 0
+IsNumberText text number = IsNumeral 10 text × (digits_value 10 text ≡ number) × (number < 2 ^ 64)
+
+-- the number of an option, by the text that is given for it, if there is one
+abbrev pub GivesNumber : Option Text → Option ℕ → Type 0
+GivesNumber None given = given ≡ None
+GivesNumber (Some text) given = (number : ℕ) × (given ≡ Some number) × IsNumberText text number
+
+-- an option without a value is given
+abbrev pub is_given : Text → List Row → Bool
+is_given name rows = option_map_or (λ text. bytes_eq text (codes "true")) (first_of name rows) false
+
+-- a limit, a number of lines and whether names are written: where nothing is asked for, queries are answered as they
+-- are
+abbrev pub mode_of : Option ℕ → Option ℕ → Bool → Mode
+mode_of None None true = Query
+mode_of limit first names =
+    QueryWith (record { limit = unwrap_or limit (2 ^ 64 - 1); first = first; names = names })
+
+-- what the options among a command's rows ask for
+pub record IsQueryMode (rows : List Row) (mode : Mode) : Type 0 where
+  pub limit : Option ℕ
+  pub first : Option ℕ
+  pub limit_given : GivesNumber (first_of (codes "limit") rows) limit
+  pub first_given : GivesNumber (first_of (codes "first") rows) first
+  pub mode_is : mode ≡ mode_of limit first (not (is_given (codes "no-names") rows))
+
+-- a fault that is no call for help or for the version
+abbrev pub IsNoCall : WordFault → Type 0
+IsNoCall (Usage text) = ⊤
+IsNoCall (Help text) = ⊥
+IsNoCall Memory = ⊤
+
+-- a text is given for an option that is no number
+abbrev pub IsNoNumber : Option Text → Type 0
+IsNoNumber None = ⊥
+IsNoNumber (Some text) = (number : ℕ) → IsNumberText text number → ⊥
+
+-- why the number of an option can't be had: it is none
+abbrev pub IsFaultOfNumber : Option Text → WordFault → Type 0
+IsFaultOfNumber given (Usage text) = IsNoNumber given
+IsFaultOfNumber given (Help text) = ⊥
+IsFaultOfNumber given Memory = ⊤
+
+-- that of a limit, or of a number of lines
+abbrev pub IsFaultOfNumbers : List Row → WordFault → Type 0
+IsFaultOfNumbers rows (Usage text) =
+    IsNoNumber (first_of (codes "limit") rows) ⊎ IsNoNumber (first_of (codes "first") rows)
+IsFaultOfNumbers rows (Help text) = ⊥
+IsFaultOfNumbers rows Memory = ⊤

@@ -1,0 +1,117 @@
+//! What `query` answers with its options: a limit on what a plan visits, the first lines alone, identifiers alone.
+use crate::test_release::sample;
+use crate::test_streams::{PieceInput, PieceOutput, ROOM};
+use query_tool::{AnswerForm, Engine, Mode, QueryOptions, Request, Status, Visits, serve};
+use release_files::MemoryFiles;
+use snapshot::Limits;
+use std::alloc::{AllocError, Global};
+use std::test::Fail;
+
+// How many bytes a source reads at once.
+const PIECE: usize = 4_096;
+
+// The concepts below Alpha, whose plan visits 4 items at most: Alpha, and the three of its list. Then a refinement of
+// them, by 17, as the worked plan has it; all concepts, by none; and a text that is no constraint.
+const LINES: &[u8] = b"<100005\n<100005:104001=106004\n*\n100005 XOR 101009\n";
+
+// Of these lines the answers under a limit of 4, which is the bound of the first.
+const WITHIN_FOUR: &[u8] =
+    b"OK 3\n101009 |Beta (finding)|\n102002 |Gamma (finding)|\n103007 |Delta (finding)|\n\
+ERR bound 17\n\
+OK 10\n100005 |Alpha (finding)|\n101009 |Beta (finding)|\n102002 |Gamma (finding)|\n103007 |Delta (finding)|\n\
+104001 |Type T (attribute)|\n105000 |Type U (attribute)|\n106004 |Value X (value)|\n107008 |Value Y (value)|\n\
+108003\n138875005 |Root (test)|\n\
+ERR token 7\n";
+
+// Under a limit of 3, with one line of each.
+const WITHIN_THREE: &[u8] =
+    b"ERR bound 4\nERR bound 17\nOK 10\n100005 |Alpha (finding)|\nERR token 7\n";
+
+// With two lines of each.
+const FIRST_TWO: &[u8] = b"OK 3\n101009 |Beta (finding)|\n102002 |Gamma (finding)|\n\
+OK 2\n101009 |Beta (finding)|\n102002 |Gamma (finding)|\n\
+OK 10\n100005 |Alpha (finding)|\n101009 |Beta (finding)|\nERR token 7\n";
+
+// With no line of any.
+const COUNTS: &[u8] = b"OK 3\nOK 2\nOK 10\nERR token 7\n";
+
+// With identifiers alone.
+const IDENTIFIERS: &[u8] = b"OK 3\n101009\n102002\n103007\nOK 2\n101009\n102002\n\
+OK 10\n100005\n101009\n102002\n103007\n104001\n105000\n106004\n107008\n108003\n138875005\nERR token 7\n";
+
+// With all three: a limit of 16, one line and no names.
+const ALL_THREE: &[u8] = b"OK 3\n101009\nERR bound 17\nOK 10\n100005\nERR token 7\n";
+
+#[test]
+fn answers_with_options(rt: HostRuntime) -> Result<(), Fail> {
+    let alloc = rt.alloc();
+    let cases = [
+        (options(4, None, true), WITHIN_FOUR),
+        (options(3, Some(1), true), WITHIN_THREE),
+        (options(u64::MAX, Some(2), true), FIRST_TWO),
+        (options(u64::MAX, Some(0), true), COUNTS),
+        (options(u64::MAX, None, false), IDENTIFIERS),
+        (options(16, Some(1), false), ALL_THREE),
+    ];
+    for (options, wanted) in cases {
+        assert!(rt; is_answered(alloc, options, wanted)?);
+    }
+    Ok(())
+}
+
+fn options(limit: u64, first: Option<u64>, names: bool) -> QueryOptions {
+    QueryOptions {
+        limit,
+        first,
+        names,
+    }
+}
+
+// Whether the lines are answered so with options, over the files of the sample.
+fn is_answered(alloc: Global, options: QueryOptions, wanted: &[u8]) -> Result<bool, AllocError> {
+    let request = Request {
+        mode: Mode::QueryWith(options),
+        folders: Vec::new(alloc),
+        lang: String::from_str(alloc, "en")?,
+    };
+    let files = sample();
+    let mut source = MemoryFiles::new(alloc, &files, PIECE, 0);
+    let mut input = PieceInput::new(LINES, ROOM, usize::MAX);
+    let mut output = PieceOutput::new(alloc, ROOM, ROOM);
+    let mut errors = PieceOutput::new(alloc, ROOM, ROOM);
+    let status = serve(
+        alloc,
+        &request,
+        &mut source,
+        &mut input,
+        &mut output,
+        &mut errors,
+    );
+    Ok(status == Status::Done && output.bytes.as_slice() == wanted && errors.bytes.is_empty())
+}
+
+// What is visited is counted: nothing where the bound is above the limit, and for `<100005` the four items of its floor
+// and bound.
+#[test]
+fn counts_visits_under_a_limit(rt: HostRuntime) -> Result<(), Fail> {
+    let alloc = rt.alloc();
+    match Engine::load(alloc, &sample(), "en", Limits::standard()) {
+        Ok(engine) => assert!(rt; counts_visits(alloc, &engine)?),
+        Err(_) => assert!(rt; false, "the sample loads"),
+    }
+    Ok(())
+}
+
+fn counts_visits(alloc: Global, engine: &Engine) -> Result<bool, AllocError> {
+    let mut visits = Visits { count: 10 };
+    let mut output = Vec::new(alloc);
+    let form = AnswerForm::whole();
+    engine.answer_within(alloc, b"<100005", 3, form, &mut visits, &mut output)?;
+    let refused = visits.count;
+    engine.answer_within(alloc, b"<100005", 4, form, &mut visits, &mut output)?;
+    Ok(
+        refused == 10
+            && visits.count == 14
+            && output.starts_with(b"ERR bound 4\nOK 3\n101009 |Beta (finding)|\n"),
+    )
+}

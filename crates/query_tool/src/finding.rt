@@ -1,0 +1,108 @@
+//! What a query line comes to under a limit on what its plan visits.
+ghost use Rattle.std.specs.Prelude.{◌≡◌, ◌+◌, ◌≤◌, ⊤, IfOk, length};
+ghost use Rattle.constraint_tree.specs.Refusal.{IsConstraint, IsRefusalOf};
+ghost use Rattle.constraint_tree.specs.Tree.{Tree, tree_of};
+ghost use Rattle.postings.specs.Indexed.{IsIndexOf};
+ghost use Rattle.query_tool.specs.inside.LineFound.{AreFound, IsAbove, MatchFound};
+
+use crate::answering::found_by;
+use crate::plans::least_plan;
+use constraint_tree::Constraint;
+use ecl_lexer::QueryFault;
+use ecl_parser::parse;
+use executor::Visits;
+use idset::ConceptSet;
+use planner::bound;
+use postings::Indexes;
+use snapshot::Snapshot;
+use std::alloc::{AllocError, Global};
+
+/// What a query line comes to under a limit on what its plan visits.
+#[derive(Drop)]
+pub enum LineFound<S> {
+    /// The line is no constraint.
+    Refused(QueryFault),
+    /// The plan of the constraint visits more items at most than the limit allows: so many.
+    Above(u64),
+    /// The concepts that the constraint denotes, by their numbers in the release.
+    Concepts(S),
+}
+
+/// What a query line comes to over a release, under a limit: nothing is read where the bound of its plan, the one that
+/// explains it, is above the limit, and else the concepts are found by that plan. The error is want of memory.
+pub fn found_within<S: ConceptSet>(
+    alloc: Global,
+    snapshot: &Snapshot,
+    indexes: &Indexes,
+    line: &[u8],
+    limit: u64,
+    visits: &mut Visits,
+) -> Result<LineFound<S>, AllocError>
+    requires { IsIndexOf indexes.now snapshot.now.release }
+    ensures found { IfOk result (λ found. MatchFound found
+        (λ fault. IsRefusalOf line.now fault × (visits.new.count ≡ visits.old.count))
+        (λ most. (tree : Tree) × IsConstraint line.now tree
+        × IsAbove limit snapshot.now indexes.now tree visits.old.count visits.new.count most)
+        (λ set. (tree : Tree) × IsConstraint line.now tree
+        × AreFound limit snapshot.now indexes.now tree visits.old.count visits.new.count (S.items_of set))) }
+    ensures bound { IfOk result (λ found. MatchFound found (λ _. ⊤) (λ _. ⊤)
+        (λ set. S.bound_of set ≡ length snapshot.now.release.concepts)) }
+    ensures limit { visits.new.count ≤ visits.old.count + limit }
+{
+    match parse(alloc, line) {
+        Ok(constraint) => found_and_drop(alloc, snapshot, indexes, constraint, limit, visits),
+        Err(QueryFault::Memory) => Err(AllocError),
+        Err(fault) => Ok(LineFound::Refused(fault)),
+    }
+}
+
+// What a constraint comes to, which is let go. (It is dropped here, where there is one end, so that its lifetimes are
+// not followed to each end of a caller.)
+fn found_and_drop<S: ConceptSet>(
+    alloc: Global,
+    snapshot: &Snapshot,
+    indexes: &Indexes,
+    constraint: Constraint,
+    limit: u64,
+    visits: &mut Visits,
+) -> Result<LineFound<S>, AllocError>
+    requires { IsIndexOf indexes.now snapshot.now.release }
+    ensures found { IfOk result (λ found. MatchFound found (λ _. ⊥)
+        (λ most. IsAbove limit snapshot.now indexes.now (tree_of constraint) visits.old.count visits.new.count most)
+        (λ set. AreFound limit snapshot.now indexes.now (tree_of constraint) visits.old.count visits.new.count
+        (S.items_of set))) }
+    ensures bound { IfOk result (λ found. MatchFound found (λ _. ⊤) (λ _. ⊤)
+        (λ set. S.bound_of set ≡ length snapshot.now.release.concepts)) }
+    ensures limit { visits.new.count ≤ visits.old.count + limit }
+{
+    let found = constraint_within(alloc, snapshot, indexes, &constraint, limit, visits);
+    drop(constraint);
+    found
+}
+
+// What a constraint comes to.
+fn constraint_within<S: ConceptSet>(
+    alloc: Global,
+    snapshot: &Snapshot,
+    indexes: &Indexes,
+    constraint: &Constraint,
+    limit: u64,
+    visits: &mut Visits,
+) -> Result<LineFound<S>, AllocError>
+    requires { IsIndexOf indexes.now snapshot.now.release }
+    ensures found { IfOk result (λ found. MatchFound found (λ _. ⊥)
+        (λ most. IsAbove limit snapshot.now indexes.now (tree_of constraint.now) visits.old.count visits.new.count most)
+        (λ set. AreFound limit snapshot.now indexes.now (tree_of constraint.now) visits.old.count visits.new.count
+        (S.items_of set))) }
+    ensures bound { IfOk result (λ found. MatchFound found (λ _. ⊤) (λ _. ⊤)
+        (λ set. S.bound_of set ≡ length snapshot.now.release.concepts)) }
+    ensures limit { visits.new.count ≤ visits.old.count + limit }
+{
+    let physical = least_plan(alloc, constraint, indexes)?;
+    let most = bound(&physical, indexes);
+    if most > limit {
+        return Ok(LineFound::Above(most));
+    }
+    let found: S = found_by(alloc, &physical, snapshot, indexes, visits)?;
+    Ok(LineFound::Concepts(found))
+}
