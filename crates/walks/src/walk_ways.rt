@@ -33,7 +33,7 @@ pub struct WalkWay {
     /// first; and how many items the whole lists may have that are looked at then, before a pass over the is-a rows
     /// stands for them.
     pub near_first: Option<u64>,
-    /// How many items are read at the most, but for a way whose bound is that of all lists.
+    /// About how many items are read, by the lengths of lists: it says which way is the shorter.
     items: u64,
 }
 
