@@ -1,15 +1,21 @@
 #!/usr/bin/env python3
-"""Runs what stands in examples/ and compares what is answered.
+"""Runs what stands in examples/, and the script ./hosecrag, and compares what is answered.
 
     bench/examples.py [PROGRAM]
 
 PROGRAM is the built program, crates/hosecrag/out/hosecrag where it is left out. A line is printed for each case, and at
-the end `N passed, M failed`.
+the end `N passed, M failed`. A copy of ./hosecrag in a temporary folder runs PROGRAM, so that nothing is built.
 """
 import filecmp
 import os
+import pty
+import re
+import select
+import shutil
+import signal
 import subprocess
 import sys
+import tempfile
 
 ROOT = os.path.dirname(os.path.dirname(os.path.abspath(__file__)))
 PROGRAM = os.path.abspath(sys.argv[1] if len(sys.argv) > 1 else f"{ROOT}/crates/hosecrag/out/hosecrag")
@@ -96,6 +102,8 @@ def scripts():
     case("refset.sh ends well", status, 0)
     case("refset.sh names the concepts", [row[5] for row in cells[1:-1]], ["101009", "102002", "103007"])
     case("refset.sh gives each row six columns and an identifier of its own", ({len(row) for row in cells[:-1]}, len({row[0] for row in cells})), ({6}, 5))
+    random_uuid = re.compile("[0-9a-f]{8}-[0-9a-f]{4}-4[0-9a-f]{3}-[89ab][0-9a-f]{3}-[0-9a-f]{12}")
+    case("refset.sh makes random UUIDs", [bool(random_uuid.fullmatch(row[0])) for row in cells[1:-1]], [True] * 3)
     case(
         "compare.sh",
         run(f"{EXAMPLES}/compare.sh", "<100005", EDITION, "--", EDITION, EXTENSION),
@@ -111,6 +119,98 @@ def scripts():
     )
     case("quality.sh, no query", run(f"{EXAMPLES}/quality.sh", "100005 AND", EDITION)[0], 2)
     case("quality.sh, no release", run(f"{EXAMPLES}/quality.sh", "*", "/nowhere")[0], 2)
+
+
+def rules():
+    def checked(text, *folders):
+        return run(f"{EXAMPLES}/quality.sh", "--rules", "/dev/stdin", *folders, stdin=text.encode())
+
+    kept = "(<100005:104001=*) MINUS (<100005:104001=<<106004)"
+    broken = "/* no Delta */ <100005 MINUS (*:104001=106004)"
+    told = f"/dev/stdin:4: 1 {broken}\n  103007 |Delta (finding)|\n"
+    case("quality.sh, rules that are kept", checked(f"{kept}\r\n\n{kept}", EDITION), (0, ""))
+    case("quality.sh, a rule of a file that is broken", checked(f"# rules\n{kept}\n \n{broken}\n{kept}\n", EDITION), (1, told))
+    case("quality.sh, a text among the rules that is no query", checked(f"{kept}\n100005 AND\n{kept}\n{broken}\n", EDITION), (2, told))
+    status, text = checked("*\n101009\n", EDITION)
+    lines = text.splitlines()
+    case("quality.sh prints ten concepts of a rule", (status, lines[0], len(lines), lines[11:]), (1, "/dev/stdin:1: 10 *", 13, ["/dev/stdin:2: 1 101009", "  101009 |Beta (finding)|"]))
+    with tempfile.TemporaryDirectory() as more:
+        with open(f"{more}/sct2_Concept_Snapshot_more.txt", "w", newline="") as it:
+            it.write("id\teffectiveTime\tactive\tmoduleId\tdefinitionStatusId\r\n404684003\t20240101\t1\t900000000000207008\t900000000000074008\r\n")
+        status, text = checked("*\n101009\n", EDITION, more)
+    lines = text.splitlines()
+    case("quality.sh prints no more than ten", (status, lines[0], lines[11:]), (1, "/dev/stdin:1: 11 *", ["/dev/stdin:2: 1 101009", "  101009 |Beta (finding)|"]))
+    case("quality.sh, a file without a rule", checked("\n# none\n", EDITION)[0], 2)
+    case("quality.sh, rules and no release", checked(kept, "/nowhere")[0], 2)
+    case("quality.sh, no file of rules", run(f"{EXAMPLES}/quality.sh", "--rules", "/nowhere", EDITION)[0], 2)
+
+
+def at_terminal(words, typed):
+    """Runs words at a terminal, and returns the status that a shell tells, and what stands on the terminal in the end. Of
+    `typed` each pair is a text that is waited for and the text that is typed then."""
+    child, terminal = pty.fork()
+    if child == 0:
+        os.execv(words[0], words)
+    shown = b""
+    for awaited, text in [*typed, (None, b"")]:
+        while awaited is None or awaited not in shown:
+            if not select.select([terminal], [], [], 60)[0]:
+                os.kill(child, signal.SIGKILL)
+            try:
+                shown += os.read(terminal, 65536)
+            except OSError:  # Linux answers so once the child has ended
+                break
+        else:
+            os.write(terminal, text)
+    os.close(terminal)
+    ended = os.waitpid(child, 0)[1]
+    return 128 + os.WTERMSIG(ended) if os.WIFSIGNALED(ended) else os.WEXITSTATUS(ended), shown.decode().replace("\r\n", "\n")
+
+
+def script():
+    with tempfile.TemporaryDirectory() as top:
+        os.makedirs(f"{top}/crates/hosecrag/out")
+        for name in ("hosecrag", "crates.txt"):
+            shutil.copyfile(f"{ROOT}/{name}", f"{top}/{name}")
+        os.chmod(f"{top}/hosecrag", 0o755)
+        # the program is the newest file, so the script takes it as it is
+        shutil.copyfile(PROGRAM, f"{top}/crates/hosecrag/out/hosecrag")
+        os.chmod(f"{top}/crates/hosecrag/out/hosecrag", 0o755)
+        missing_folders(f"{top}/hosecrag")
+        terminals(f"{top}/hosecrag")
+
+
+def missing_folders(started):
+    def told(*words):
+        ended = subprocess.run([started, *words], stdin=subprocess.DEVNULL, capture_output=True, cwd="/", timeout=60)
+        return ended.returncode, ended.stdout.decode(), ended.stderr.decode()
+
+    def named(*folders):
+        return 1, "", "".join(f"hosecrag: cannot find the folder {it}\n" for it in folders) + "REFUSED device\n"
+
+    for command in ("check", "query", "explain"):
+        case(f"./hosecrag {command} names a folder that does not exist", told(command, "/nowhere"), named("'/nowhere'"))
+    case("./hosecrag names each such folder", told("query", EDITION, "/no where", "nor/here"), named("'/no where'", "'nor/here'"))
+    case("./hosecrag names it on one line", told("check", "/no\nwhere"), named("$'/no\\nwhere'"))
+    case("./hosecrag takes words after -- for folders", told("check", "--", "--limit"), named("'--limit'"))
+    for words in (["--lang", "xx"], ["--lang=xx"], ["--limit", "16"], ["--limit=16"], ["--first", "2"], ["--first=2"], ["--no-names"]):
+        case(f"./hosecrag takes none of {' '.join(words)} for a folder", told("query", *words, EDITION), (0, "", ""))
+        case(f"./hosecrag finds the folder before {' '.join(words)}", told("query", "/nowhere", *words), named("'/nowhere'"))
+    case("./hosecrag says nothing beside help", told("query", "/nowhere", "--help")[2], "")
+    case("./hosecrag says nothing of a command that is none", "cannot find" in told("nowhere", "/nowhere")[2], False)
+
+
+def terminals(started):
+    greeting = "hosecrag: loading the release\nhosecrag: type one query a line; Ctrl-D ends\n"
+    answered = f"{greeting}103007\nOK 1\n103007 |Delta (finding)|\n"
+    words = [started, "query", EDITION]
+    ask = (b"Ctrl-D ends\r\n", b"103007\n")
+    case("./hosecrag query at a terminal, ended by Ctrl-D", at_terminal(words, [ask, (b"(finding)|\r\n", b"\x04")]), (0, answered))
+    status, shown = at_terminal(words, [ask, (b"(finding)|\r\n", b"\x03")])
+    case("./hosecrag query at a terminal, ended by Ctrl-C", (status, shown.replace("^C", "")), (130, answered))
+    case("./hosecrag check at a terminal", "loading" in at_terminal([started, "check", EDITION], [])[1], False)
+    piped = subprocess.run(words, input=b"103007\n", capture_output=True, timeout=60)
+    case("./hosecrag query in a pipe", (piped.returncode, piped.stdout, piped.stderr), (0, b"OK 1\n103007 |Delta (finding)|\n", b""))
 
 
 def module():
@@ -136,6 +236,8 @@ def module():
 queries()
 refusal()
 scripts()
+rules()
+script()
 module()
 print(f"{passed} passed, {failed} failed")
 sys.exit(1 if failed else 0)
