@@ -10,13 +10,14 @@ use held_release::Snapshot;
 use postings::Indexes;
 use std::alloc::Global;
 
-/// A release with its indexes, and where memory is taken. What executes a plan has the lists of both in a reader alone,
-/// whose fields are its own: so no list is read that is not counted.
+/// A release with its indexes, and where memory is taken. What executes a plan takes lists from the calls of a reader
+/// alone, which count them; `bench/uncounted.py` shows that it does.
 #[derive(Clone, Copy)]
 pub struct Reader<'a> {
     /// Where memory is taken.
     pub alloc: Global,
     pub(crate) snapshot: &'a Snapshot,
+    /// The indexes, for sizes and estimates, which ask for numbers and lengths alone.
     pub indexes: &'a Indexes,
     // the indexes are those of the release, whose concepts rise
     pub ghost index: { IsIndexOf indexes.now snapshot.now.release } by { Prim.hlevel props },
