@@ -162,10 +162,10 @@ pub fn write_answer<S: ConceptSet, W: AnswerOutput>(
     requires sound { W.has_failed output.old ≡ false }
     ensures ok { OnOk result (Puts (W.written output.old) (W.written output.new) piece.old
         (answer_in form (name_of snapshot.now.release snapshot.now.language)
-            (map (slice_index snapshot.now.release.concepts) (S.items_of set.now))) piece.new) }
+        (map (slice_index snapshot.now.release.concepts) (S.items_of set.now))) piece.new) }
     ensures fault { IfErr result (λ fault. LeavesAnswer
         (λ text. text ≡ answer_in form (name_of snapshot.now.release snapshot.now.language)
-            (map (slice_index snapshot.now.release.concepts) (S.items_of set.now)))
+        (map (slice_index snapshot.now.release.concepts) (S.items_of set.now)))
         fault (W.written output.old) (W.written output.new) piece.old piece.new) }
     ensures sound { OnOk result (W.has_failed output.new ≡ false) }
     ensures failed { IfErr result (λ fault. W.has_failed output.new ≡ is_write fault) }
