@@ -21,7 +21,8 @@ const FEW: u64 = 16;
 // sooner done.
 const WIDE: u64 = 64;
 
-// The same of groups, of which no more than the rows is looked up.
+// The rows of more groups than there are other rows to read, divided by this, are not counted. It is less than WIDE,
+// because of a group only the number of its rows is looked up.
 const WIDE_GROUPS: u64 = 16;
 
 // The lists of more candidates are not counted.
@@ -74,7 +75,7 @@ const UNLISTED: ListExtent = ListExtent {
 };
 
 impl Extent {
-    /// The same, where those are their rows that have one of them as their value.
+    /// This extent for attributes read backwards: its rows are those that have a candidate as their value.
     pub fn read_backwards(self) -> Extent
         ensures { result ≡ record self { rows = self.back_rows } }
     {

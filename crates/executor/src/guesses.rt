@@ -31,7 +31,7 @@ pub fn lead_of(parts: &[ConceptPlan], indexes: &Indexes) -> usize {
     lead
 }
 
-/// The same of groups.
+/// The place of the plan of groups with the smallest estimate: the one to execute first.
 pub fn group_lead_of(parts: &[UnitPlan], indexes: &Indexes) -> usize {
     let mut lead = 0;
     let mut least = u64::MAX;
@@ -251,7 +251,7 @@ fn place_behind(place: usize, first: usize) -> usize {
     }
 }
 
-/// The same of a plan of groups.
+/// How many rows a plan of groups reads where it reads none of candidates; none where it never does.
 pub fn unit_rows_without(plan: &UnitPlan, indexes: &Indexes) -> u64 {
     match plan {
         UnitPlan::Nothing | UnitPlan::Every => 0,

@@ -83,8 +83,8 @@ pub fn execute_within<S: ConceptSet>(
     Ok(found)
 }
 
-/// The same, and how many rows they have as values, if that is asked for and shows as they are found. Where there is no
-/// candidate the plan is left out, and its floor counted.
+/// Executes a plan of concepts for some candidates. Adds up how many rows the concepts found have as values, if the
+/// tally asks for it. Without candidates it executes nothing, and counts the floor of the plan.
 #[cycle(execute)]
 pub fn execute_tallied<S: ConceptSet>(
     reader: Reader<'_>,
@@ -114,7 +114,7 @@ pub fn execute_tallied<S: ConceptSet>(
     Ok(found)
 }
 
-// The same of a plan that is not left out.
+// Executes one node of a plan of concepts. The caller has ruled out that there is no candidate.
 #[cycle(execute)]
 #[tactic(auto, using(crate::proofs::Rules::node_parts))]
 fn execute_node<S: ConceptSet>(
@@ -180,8 +180,8 @@ fn members_of<S: ConceptSet>(
     Ok(found)
 }
 
-// The same of a plan of what the first of two plans means and the second does not. The second is executed for what is
-// left.
+// Executes a MINUS: the first plan for the candidates, then the second for what the first has found. Answers what the
+// first has found and the second has not.
 #[cycle(execute)]
 fn in_first_alone<S: ConceptSet>(
     reader: Reader<'_>,
@@ -204,7 +204,7 @@ fn in_first_alone<S: ConceptSet>(
     Ok(found)
 }
 
-// The same of a plan that counts pairs of a concept.
+// Executes a leaf: the candidates whose number of distinct pairs with such a type and value lies in the cardinality.
 #[cycle(execute)]
 fn pairs_within<S: ConceptSet>(
     reader: Reader<'_>,

@@ -53,7 +53,7 @@ pub fn execute_groups<S: ConceptSet>(
     Ok(found)
 }
 
-// The same of a plan that is not left out.
+// Executes one node of a plan of groups. The caller has ruled out that there is no candidate.
 #[cycle(execute)]
 #[tactic(auto, using(crate::proofs::Rules::node_parts))]
 fn execute_group_node<S: ConceptSet>(
@@ -84,8 +84,8 @@ fn execute_group_node<S: ConceptSet>(
     }
 }
 
-// The same of a plan of what the first of two plans means and the second does not. The second is executed for what is
-// left.
+// Executes a MINUS of groups: the first plan for the candidates, then the second for what the first has found. Answers
+// what the first has found and the second has not.
 #[cycle(execute)]
 fn groups_in_first_alone<S: ConceptSet>(
     reader: Reader<'_>,
@@ -109,7 +109,7 @@ fn groups_in_first_alone<S: ConceptSet>(
     Ok(groups)
 }
 
-// The same of a plan that counts pairs of a group.
+// Executes a leaf: the groups whose number of distinct pairs with such a type and value lies in the cardinality.
 #[cycle(execute)]
 fn groups_with_pairs<S: ConceptSet>(
     reader: Reader<'_>,

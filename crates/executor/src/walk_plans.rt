@@ -57,9 +57,8 @@ pub fn walk_from<S: ConceptSet>(
     Ok(found)
 }
 
-// Those of a set, which are few. They and the lists by which they are asked are read to see for which concepts the plan
-// has to be executed, which are enough for them; these may be read to see how much there is of them; and the few are
-// asked.
+// Executes a walk for few candidates. The lists that lead back from the candidates have all concepts on which the
+// answer depends, so the operand is executed for these alone. Then each candidate is tested by its list.
 #[cycle(execute)]
 fn walk_to_few<S: ConceptSet>(
     reader: Reader<'_>,

@@ -161,7 +161,7 @@ pub rows_few : (indexed : Indexed) → IsStrictlyIncreasing indexed.concepts →
 rows_few indexed rising numbers rises true = source_rows_few indexed rising numbers rises
 rows_few indexed rising numbers rises false = value_rows_few indexed rising numbers rises
 
--- nor is a row in two groups, so the rows of some groups are no more than all rows
+-- a row is in at most one group, so distinct groups have no more rows in all than there are
 pub group_rows_few : (indexed : Indexed) → IsStrictlyIncreasing indexed.concepts → (numbers : List ℕ)
     → IsRisingBelow (length (groups_in indexed)) numbers → sum_by (group_row_count indexed) numbers ≤ length indexed.rows
 group_rows_few indexed rising numbers rises =

@@ -383,8 +383,8 @@ fn is_concept(reader: Reader<'_>, value: u32) -> bool
     value < reader.concept_count()
 }
 
-// Pushes the values, by their numbers, of those of some rows that are the first with their pair, whose type is in a set
-// and whose value is a concept.
+// Pushes the number of the value of each row that is the first with its pair, has a type in the set and a concept as
+// its value.
 fn push_values<S: ConceptSet>(
     reader: Reader<'_>,
     hits: &mut Vec<u32>,
