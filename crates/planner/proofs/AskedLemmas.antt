@@ -1,26 +1,30 @@
--- A plan whose leaves take the choices that are asked for: it is the same logical plan, and its leaves have the choices of the list,
--- each of which they offer.
-use Rattle.std.proofs.Common.{◌≡◌, ◌++◌, ◌∷◌, [], ◌∙◌, Bool, cond, inl, inr, List, Option, Some, None, drop, refl, sym, ap, subst}
-use Rattle.std.proofs.Common.{append-nil, append_assoc}
+-- A plan whose leaves take the choices that are asked for: it is the same logical plan, and its leaves have the choices
+-- of the list, each of which they offer.
+use Rattle.std.proofs.Common.{◌≡◌, ◌++◌, ◌∷◌, [], ◌∙◌, Bool, cond, inl, inr, List, Option, Some, None, drop, refl, sym}
+use Rattle.std.proofs.Common.{ap, subst, append-nil, append_assoc}
 use Rattle.std.specs.Prelude.{IsTrue}
 use Rattle.std.proofs.lemmas.Bool.{cases_Bool}
 use Rattle.set_algebra.specs.declared.choice.Choice.{Choice}
-use Rattle.set_algebra.specs.Physical.{Physical, physical_empty, physical_all, physical_one, physical_walk, physical_members, physical_and}
-use Rattle.set_algebra.specs.Physical.{physical_or, physical_minus, physical_values, physical_pairs, physical_units}
-use Rattle.set_algebra.specs.Physical.{Physicals, no_physicals, physical_then, PhysicalUnits, physical_nothing, physical_every}
-use Rattle.set_algebra.specs.Physical.{physical_units_and, physical_units_or, physical_units_minus, physical_units_pairs}
-use Rattle.set_algebra.specs.Physical.{PhysicalUnitsList, no_physical_units, physical_units_then}
-use Rattle.set_algebra.specs.Physical.{PhysicalTest, physical_within, physical_outside, physical_number}
-use Rattle.set_algebra.specs.Physical.{logical, logical_test, logical_units, logical_units_list, logicals}
-use Rattle.set_algebra.specs.Plan.{walk_plan, members_plan, and_plan, or_plan, minus_plan, values_plan, pairs_plan, units_plan}
-use Rattle.set_algebra.specs.Plan.{plan_then, and_units, or_units, minus_units, pairs_units, unit_plan_then, within_plan, outside_plan}
+use Rattle.set_algebra.specs.Physical.{Physical, physical_empty, physical_all, physical_one, physical_walk}
+use Rattle.set_algebra.specs.Physical.{physical_members, physical_and, physical_or, physical_minus, physical_values}
+use Rattle.set_algebra.specs.Physical.{physical_pairs, physical_units, Physicals, no_physicals, physical_then}
+use Rattle.set_algebra.specs.Physical.{PhysicalUnits, physical_nothing, physical_every, physical_units_and}
+use Rattle.set_algebra.specs.Physical.{physical_units_or, physical_units_minus, physical_units_pairs, PhysicalUnitsList}
+use Rattle.set_algebra.specs.Physical.{no_physical_units, physical_units_then, PhysicalTest, physical_within}
+use Rattle.set_algebra.specs.Physical.{physical_outside, physical_number, logical, logical_test, logical_units}
+use Rattle.set_algebra.specs.Physical.{logical_units_list, logicals}
+use Rattle.set_algebra.specs.Plan.{walk_plan, members_plan, and_plan, or_plan, minus_plan, values_plan, pairs_plan}
+use Rattle.set_algebra.specs.Plan.{units_plan, plan_then, and_units, or_units, minus_units, pairs_units, unit_plan_then}
+use Rattle.set_algebra.specs.Plan.{within_plan, outside_plan}
 use Rattle.plan_bounds.specs.Alternatives.{offers}
 use Rattle.plan_bounds.specs.Counts.{is_within}
-use Rattle.plan_bounds.specs.Leaves.{choices_in, choices_in_each, choices_in_each_units, choices_in_test, choices_in_units}
+use Rattle.plan_bounds.specs.Leaves.{choices_in, choices_in_each, choices_in_each_units, choices_in_test}
+use Rattle.plan_bounds.specs.Leaves.{choices_in_units}
 use Rattle.plan_bounds.specs.Offered.{AreOffered, EachLeaf, GroupEach, GroupsEach, IsOffered, PlansEach, TestEach}
-use Rattle.planner.specs.Asked.{asked_or, each_asked_or, first_of, group_within, groups_within, plans_within, test_within, within_tests}
-use Rattle.planner.specs.inside.AskedInPlace.{PlanAndRest, all_with_asked, group_with_asked, groups_with_asked, test_with_asked}
-use Rattle.planner.specs.inside.AskedInPlace.{with_asked}
+use Rattle.planner.specs.Asked.{asked_or, each_asked_or, first_of, group_within, groups_within, plans_within}
+use Rattle.planner.specs.Asked.{test_within, within_tests}
+use Rattle.planner.specs.inside.AskedInPlace.{PlanAndRest, all_with_asked, group_with_asked, groups_with_asked}
+use Rattle.planner.specs.inside.AskedInPlace.{test_with_asked, with_asked}
 
 -- ---- the logical plan stays
 mutual
@@ -41,41 +45,49 @@ mutual
       (logical_test-asked (with_asked (drop 1 asked) types).rest test i)
   logical-asked asked (physical_units count units) = ap (units_plan count) (logical_units-asked asked units)
 
-  logicals-asked : (asked : List Choice) (parts : Physicals) → logicals (all_with_asked asked parts).plan ≡ logicals parts
+  logicals-asked : (asked : List Choice) (parts : Physicals) → logicals (all_with_asked asked parts).plan
+      ≡ logicals parts
   logicals-asked asked no_physicals = refl
   logicals-asked asked (physical_then first rest) =
       λ i. plan_then (logical-asked asked first i) (logicals-asked (with_asked asked first).rest rest i)
 
-  logical_units-asked : (asked : List Choice) (plan : PhysicalUnits) → logical_units (group_with_asked asked plan).plan ≡ logical_units plan
+  logical_units-asked : (asked : List Choice) (plan : PhysicalUnits) → logical_units (group_with_asked asked plan).plan
+      ≡ logical_units plan
   logical_units-asked asked physical_nothing = refl
   logical_units-asked asked physical_every = refl
   logical_units-asked asked (physical_units_and parts) = ap and_units (logical_units_list-asked asked parts)
   logical_units-asked asked (physical_units_or parts) = ap or_units (logical_units_list-asked asked parts)
   logical_units-asked asked (physical_units_minus first second) =
-      λ i. minus_units (logical_units-asked asked first i) (logical_units-asked (group_with_asked asked first).rest second i)
+      λ i. minus_units (logical_units-asked asked first i)
+      (logical_units-asked (group_with_asked asked first).rest second i)
   logical_units-asked asked (physical_units_pairs count types test choice) =
-      λ i. pairs_units count (logical-asked (drop 1 asked) types i) (logical_test-asked (with_asked (drop 1 asked) types).rest test i)
+      λ i. pairs_units count (logical-asked (drop 1 asked) types i)
+      (logical_test-asked (with_asked (drop 1 asked) types).rest test i)
 
   logical_units_list-asked : (asked : List Choice) (parts : PhysicalUnitsList)
       → logical_units_list (groups_with_asked asked parts).plan ≡ logical_units_list parts
   logical_units_list-asked asked no_physical_units = refl
   logical_units_list-asked asked (physical_units_then first rest) =
-      λ i. unit_plan_then (logical_units-asked asked first i) (logical_units_list-asked (group_with_asked asked first).rest rest i)
+      λ i. unit_plan_then (logical_units-asked asked first i)
+      (logical_units_list-asked (group_with_asked asked first).rest rest i)
 
-  logical_test-asked : (asked : List Choice) (test : PhysicalTest) → logical_test (test_with_asked asked test).plan ≡ logical_test test
+  logical_test-asked : (asked : List Choice) (test : PhysicalTest) → logical_test (test_with_asked asked test).plan
+      ≡ logical_test test
   logical_test-asked asked (physical_within operand) = ap within_plan (logical-asked asked operand)
   logical_test-asked asked (physical_outside operand) = ap outside_plan (logical-asked asked operand)
   logical_test-asked asked (physical_number compare number) = refl
 
 -- ---- the leaves offer what they then have
 -- whether a test says within which set a value is does not change
-is_within-asked : (asked : List Choice) (test : PhysicalTest) → is_within (test_with_asked asked test).plan ≡ is_within test
+is_within-asked : (asked : List Choice) (test : PhysicalTest) → is_within (test_with_asked asked test).plan
+    ≡ is_within test
 is_within-asked asked (physical_within operand) = refl
 is_within-asked asked (physical_outside operand) = refl
 is_within-asked asked (physical_number compare number) = refl
 
 -- the choice of one leaf, the choice of which was offered before
-leaf-offers : (within : Bool) (asked : Option Choice) (own : Choice) → IsTrue (offers within own) → IsTrue (offers within (asked_or within asked own))
+leaf-offers : (within : Bool) (asked : Option Choice) (own : Choice) → IsTrue (offers within own)
+    → IsTrue (offers within (asked_or within asked own))
 leaf-offers within None own offered = offered
 leaf-offers within (Some choice) own offered = elim (cases_Bool (offers within choice)) [
   | inl taken ↦ subst (λ (b : Bool). IsTrue (offers within (cond b choice own))) (sym taken) taken
@@ -85,11 +97,13 @@ leaf-offers within (Some choice) own offered = elim (cases_Bool (offers within c
 leaf-asked : (asked behind : List Choice) (test : PhysicalTest) (own : Choice) → IsTrue (offers (is_within test) own)
     → IsTrue (offers (is_within (test_with_asked behind test).plan) (asked_or (is_within test) (first_of asked) own))
 leaf-asked asked behind test own offered =
-    subst (λ (within : Bool). IsTrue (offers within (asked_or (is_within test) (first_of asked) own))) (sym (is_within-asked behind test))
+    subst (λ (within : Bool). IsTrue (offers within (asked_or (is_within test) (first_of asked) own)))
+    (sym (is_within-asked behind test))
     (leaf-offers (is_within test) (first_of asked) own offered)
 
 mutual
-  pub asked_are_offered : (asked : List Choice) (plan : Physical) → AreOffered plan → AreOffered (with_asked asked plan).plan
+  pub asked_are_offered : (asked : List Choice) (plan : Physical) → AreOffered plan
+      → AreOffered (with_asked asked plan).plan
   asked_are_offered asked physical_empty own = tt
   asked_are_offered asked physical_all own = tt
   asked_are_offered asked (physical_one number) own = tt
@@ -150,15 +164,16 @@ mutual
   offered_in_test asked (physical_outside operand) own = asked_are_offered asked operand own
   offered_in_test asked (physical_number compare number) own = tt
 
--- ---- leaf by leaf
--- of leaves with these tests and choices, in front of any others: which choices they take, and what is left of the list behind them
+-- ---- leaf by leaf of leaves with these tests and choices, in front of any others: which choices they take, and what
+-- is left of the list behind them
 abbrev Takes : List Choice → List Bool → List Choice → List Choice → List Choice → Type 0
 Takes asked tests own taken rest =
     (more_tests : List Bool) (more : List Choice)
     → each_asked_or (tests ++ more_tests) asked (own ++ more) ≡ taken ++ each_asked_or more_tests rest more
 
 -- the leaves of two parts
-takes_both : (asked between rest : List Choice) (one two : List Bool) (own_one own_two taken_one taken_two : List Choice)
+takes_both : (asked between rest : List Choice) (one two : List Bool)
+    (own_one own_two taken_one taken_two : List Choice)
     → Takes asked one own_one taken_one between → Takes between two own_two taken_two rest
     → Takes asked (one ++ two) (own_one ++ own_two) (taken_one ++ taken_two) rest
 takes_both asked between rest one two own_one own_two taken_one taken_two first second more_tests more =
@@ -176,7 +191,8 @@ takes_leaf asked rest within choice tests own taken inner more_tests more =
 
 mutual
   takes : (asked : List Choice) (plan : Physical)
-      → Takes asked (within_tests plan) (choices_in plan) (choices_in (with_asked asked plan).plan) (with_asked asked plan).rest
+      → Takes asked (within_tests plan) (choices_in plan) (choices_in (with_asked asked plan).plan)
+      (with_asked asked plan).rest
   takes asked physical_empty more_tests more = refl
   takes asked physical_all more_tests more = refl
   takes asked (physical_one number) more_tests more = refl
@@ -185,9 +201,11 @@ mutual
   takes asked (physical_and parts) more_tests more = takes_all asked parts more_tests more
   takes asked (physical_or parts) more_tests more = takes_all asked parts more_tests more
   takes asked (physical_minus first second) more_tests more =
-      takes_both asked (with_asked asked first).rest _ _ _ _ _ _ _ (takes asked first) (takes (with_asked asked first).rest second) more_tests more
+      takes_both asked (with_asked asked first).rest _ _ _ _ _ _ _ (takes asked first)
+      (takes (with_asked asked first).rest second) more_tests more
   takes asked (physical_values start names) more_tests more =
-      takes_both asked (with_asked asked start).rest _ _ _ _ _ _ _ (takes asked start) (takes_all (with_asked asked start).rest names) more_tests more
+      takes_both asked (with_asked asked start).rest _ _ _ _ _ _ _ (takes asked start)
+      (takes_all (with_asked asked start).rest names) more_tests more
   takes asked (physical_pairs back count types test choice) more_tests more =
       takes_leaf asked _ (is_within test) choice _ _ _
       (takes_both (drop 1 asked) (with_asked (drop 1 asked) types).rest _ _ _ _ _ _ _ (takes (drop 1 asked) types)
@@ -199,7 +217,8 @@ mutual
       (all_with_asked asked parts).rest
   takes_all asked no_physicals more_tests more = refl
   takes_all asked (physical_then first rest) more_tests more =
-      takes_both asked (with_asked asked first).rest _ _ _ _ _ _ _ (takes asked first) (takes_all (with_asked asked first).rest rest) more_tests more
+      takes_both asked (with_asked asked first).rest _ _ _ _ _ _ _ (takes asked first)
+      (takes_all (with_asked asked first).rest rest) more_tests more
 
   takes_group : (asked : List Choice) (plan : PhysicalUnits)
       → Takes asked (group_within plan) (choices_in_units plan) (choices_in_units (group_with_asked asked plan).plan)
@@ -217,7 +236,8 @@ mutual
       (takes_test (with_asked (drop 1 asked) types).rest test)) more_tests more
 
   takes_groups : (asked : List Choice) (parts : PhysicalUnitsList)
-      → Takes asked (groups_within parts) (choices_in_each_units parts) (choices_in_each_units (groups_with_asked asked parts).plan)
+      → Takes asked (groups_within parts) (choices_in_each_units parts)
+      (choices_in_each_units (groups_with_asked asked parts).plan)
       (groups_with_asked asked parts).rest
   takes_groups asked no_physical_units more_tests more = refl
   takes_groups asked (physical_units_then first rest) more_tests more =

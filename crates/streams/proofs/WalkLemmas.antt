@@ -1,5 +1,7 @@
 -- A walk through a folder, one name, one folder and one level after another.
-use Rattle.std.proofs.Common.{add-one, ◌≡◌, ◌∙◌, ℕ, suc, ◌+◌, ◌<◌, ◌≤◌, ◌++◌, List, [], ◌∷◌, Bool, true, false, Some, Result, Ok, Err, IfOk, OnOk, String, Global, get_or, length, drop, drop-cons, map, not, ap, sym, subst, refl, arith, is_lt, nat_cmp, string_bytes}
+use Rattle.std.proofs.Common.{add-one, ◌≡◌, ◌∙◌, ℕ, suc, ◌+◌, ◌<◌, ◌≤◌, ◌++◌, List, [], ◌∷◌, Bool, true, false, Some}
+use Rattle.std.proofs.Common.{Result, Ok, Err, IfOk, OnOk, String, Global, get_or, length, drop, drop-cons, map, not}
+use Rattle.std.proofs.Common.{ap, sym, subst, refl, arith, is_lt, nat_cmp, string_bytes}
 use Rattle.std.proofs.lemmas.Bool.{true≢false}
 use Rattle.std.proofs.lemmas.List.{drop_all, get_or-map, length-map}
 use Rattle.std.specs.Cmp.Lexicographic.{slice_cmp}
@@ -9,7 +11,8 @@ use Rattle.std.specs.Prelude.{nat_eq}
 use Rattle.std.specs.String.{string_cmp}
 use Rattle.first_met.specs.FirstMet.{keys_behind}
 use Rattle.streams.specs.Folders.{path_below}
-use Rattle.streams.specs.Walk.{AreFilesBelow, AreFilesOfAll, AreNamesIn, Descends, Enters, EntersAll, FolderTree, Found, again, deeper, ended, first, found_in, no_more, numbered_name, one_more}
+use Rattle.streams.specs.Walk.{AreFilesBelow, AreFilesOfAll, AreNamesIn, Descends, Enters, EntersAll, FolderTree, Found}
+use Rattle.streams.specs.Walk.{again, deeper, ended, first, found_in, no_more, numbered_name, one_more}
 use Rattle.streams.specs.declared.system.Standing.TheVariants.{Folder}
 
 -- what is ahead of one text more
@@ -22,7 +25,8 @@ texts_ahead texts i d text within is =
     ∙ ap (λ (n : ℕ). text ∷ map string_bytes (drop n texts)) (sym (add-one i))
 
 -- texts that rise have bytes that rise
-sorted_map : {X Y : Type 0} (f : X → Y) (lt : Y → Y → Bool) (xs : List X) → IsSortedBy (λ one other. lt (f one) (f other)) xs → IsSortedBy lt (map f xs)
+sorted_map : {X Y : Type 0} (f : X → Y) (lt : Y → Y → Bool) (xs : List X)
+    → IsSortedBy (λ one other. lt (f one) (f other)) xs → IsSortedBy lt (map f xs)
 sorted_map f lt [] sorted k default low high = absurd (omega arith)
 sorted_map f lt (x ∷ xs) sorted k default low high =
     grind (
@@ -33,7 +37,8 @@ sorted_map f lt (x ∷ xs) sorted k default low high =
       (sorted k x low),
     )
 
-pub names_in_order : (sorted : List (String Global)) → IsSorted string_cmp sorted → IsSorted (slice_cmp nat_cmp) (map string_bytes sorted)
+pub names_in_order : (sorted : List (String Global)) → IsSorted string_cmp sorted
+    → IsSorted (slice_cmp nat_cmp) (map string_bytes sorted)
 names_in_order sorted rising = sorted_map string_bytes (λ one other. is_lt (slice_cmp nat_cmp one other)) sorted rising
 
 -- whether a folder is new says whether its number was met
@@ -47,7 +52,8 @@ told_first true is_new is new = absurd (true≢false (sym new ∙ is))
 
 module _ (tree : FolderTree) (folder : List ℕ) where
   -- a folder that was entered before
-  pub enters_again : (below path : List ℕ) (number : ℕ) (old new : List ℕ) (found : Found) → path ≡ path_below folder below
+  pub enters_again : (below path : List ℕ) (number : ℕ) (old new : List ℕ) (found : Found)
+      → path ≡ path_below folder below
       → tree.at path ≡ Ok (Folder number) → list_any (nat_eq number) old ≡ true → new ≡ keys_behind old number
       → Enters tree folder below old found new found
   enters_again below path number old new found below_is stands met keys =
@@ -56,7 +62,8 @@ module _ (tree : FolderTree) (folder : List ℕ) where
       (again number old found (ap tree.at (sym below_is) ∙ stands) met)
 
   -- a folder that was not
-  pub enters_first : (below path : List ℕ) (number : ℕ) (old new : List ℕ) (before after : Found) (names : List (List ℕ))
+  pub enters_first : (below path : List ℕ) (number : ℕ) (old new : List ℕ) (before after : Found)
+      (names : List (List ℕ))
       → path ≡ path_below folder below → tree.at path ≡ Ok (Folder number) → list_any (nat_eq number) old ≡ false
       → new ≡ keys_behind old number → AreNamesIn tree path names → found_in tree folder below names before ≡ Some after
       → Enters tree folder below old before new after
@@ -67,39 +74,47 @@ module _ (tree : FolderTree) (folder : List ℕ) where
       (subst (λ (place : List ℕ). AreNamesIn tree place names) below_is are) found)
 
   -- so where what stands in it could be taken
-  pub enters_ok : {E : Type 0} (below path : List ℕ) (number : ℕ) (old middle new : List ℕ) (before after : Found) (names : List (List ℕ))
+  pub enters_ok : {E : Type 0} (below path : List ℕ) (number : ℕ) (old middle new : List ℕ) (before after : Found)
+      (names : List (List ℕ))
       (result : Result (Unit {0}) E) → path ≡ path_below folder below → tree.at path ≡ Ok (Folder number)
-      → list_any (nat_eq number) old ≡ false → middle ≡ keys_behind old number → new ≡ middle → AreNamesIn tree path names
+      → list_any (nat_eq number) old ≡ false → middle ≡ keys_behind old number → new ≡ middle
+      → AreNamesIn tree path names
       → OnOk result (found_in tree folder below names before ≡ Some after)
       → OnOk result (Enters tree folder below old before new after)
   enters_ok below path number old middle new before after names (Ok done) below_is stands fresh keys same are found =
       enters_first below path number old new before after names below_is stands fresh (same ∙ keys) are found
-  enters_ok below path number old middle new before after names (Err error) below_is stands fresh keys same are found = tt
+  enters_ok below path number old middle new before after names (Err error) below_is stands fresh keys same are found =
+      tt
 
   -- one folder of a level more was entered
-  pub enters_next : (level : List (String Global)) (i : ℕ) (d : String Global) (below : List ℕ) (one middle last : List ℕ) (old between new : Found)
+  pub enters_next : (level : List (String Global)) (i : ℕ) (d : String Global) (below : List ℕ)
+      (one middle last : List ℕ) (old between new : Found)
       → i < length level → below ≡ string_bytes (get_or level i d) → Enters tree folder below one old middle between
       → EntersAll tree folder (map string_bytes (drop (i + 1) level)) middle between last new
       → EntersAll tree folder (map string_bytes (drop i level)) one old last new
   enters_next level i d below one middle last old between new within is enters rest =
-      subst (λ (texts : List (List ℕ)). EntersAll tree folder texts one old last new) (sym (texts_ahead level i d below within is))
+      subst (λ (texts : List (List ℕ)). EntersAll tree folder texts one old last new)
+      (sym (texts_ahead level i d below within is))
       (one_more below (map string_bytes (drop (i + 1) level)) one middle last old between new enters rest)
 
   -- none is left
   pub enters_none : (level : List (String Global)) (i : ℕ) (entered : List ℕ) (found : Found) → length level ≤ i
       → EntersAll tree folder (map string_bytes (drop i level)) entered found entered found
   enters_none level i entered found behind =
-      subst (λ (texts : List (String Global)). EntersAll tree folder (map string_bytes texts) entered found entered found)
+      subst (λ (texts : List (String Global)). EntersAll tree folder (map string_bytes texts) entered found entered
+      found)
       (sym (drop_all i level behind)) (no_more entered found)
 
   -- one level more was gone through
-  pub level_next : (levels left : ℕ) (level next : List (List ℕ)) (one last after : List ℕ) (old found new : Found) (all : List (List ℕ))
+  pub level_next : (levels left : ℕ) (level next : List (List ℕ)) (one last after : List ℕ) (old found new : Found)
+      (all : List (List ℕ))
       → levels ≡ suc left → old.folders ≡ [] → EntersAll tree folder level one old last found
       → next ≡ found.folders → after ≡ last → new.files ≡ found.files
       → Descends tree folder left next after new.files all → Descends tree folder levels level one old.files all
   level_next levels left level next one last after old found new all is none enters next_is after_is files_is rest =
       let begun : EntersAll tree folder level one (record { files = old.files; folders = [] }) last found =
-      subst (λ (folders : List (List ℕ)). EntersAll tree folder level one (record { files = old.files; folders = folders }) last found) none enters in
+      subst (λ (folders : List (List ℕ)). EntersAll tree folder level one
+      (record { files = old.files; folders = folders }) last found) none enters in
       let below : Descends tree folder left found.folders last found.files all =
       subst (λ (texts : List (List ℕ)). Descends tree folder left texts last found.files all) next_is
       (subst (λ (keys : List ℕ). Descends tree folder left next keys found.files all) after_is
@@ -114,7 +129,8 @@ module _ (tree : FolderTree) (folder : List ℕ) where
       subst (λ (n : ℕ). Descends tree folder n level entered files files) (sym none) (ended level entered files)
 
 -- one folder of several more was listed
-pub folder_next : (tree : FolderTree) (folders : List (String Global)) (i number : ℕ) (d : String Global) (folder : List ℕ)
+pub folder_next : (tree : FolderTree) (folders : List (String Global)) (i number : ℕ) (d : String Global)
+    (folder : List ℕ)
     (own others : List (List ℕ)) → i < length folders → folder ≡ string_bytes (get_or folders i d)
     → AreFilesBelow tree folder own → AreFilesOfAll tree (number + 1) (drop (i + 1) folders) others
     → AreFilesOfAll tree number (drop i folders) (map (numbered_name number) own ++ others)
@@ -135,7 +151,8 @@ folder_none tree folders i number behind =
     subst (λ (some : List (String Global)). AreFilesOfAll tree number some []) (sym (drop_all i folders behind)) refl
 
 -- what is said of a value that was given is said of it where it is answered
-pub given_ok : {T E F : Type 0} (P : T → Type 0) (result : Result T E) (given : Result T F) → IfOk result (λ value. given ≡ Ok value)
+pub given_ok : {T E F : Type 0} (P : T → Type 0) (result : Result T E) (given : Result T F)
+    → IfOk result (λ value. given ≡ Ok value)
     → IfOk given P → IfOk result P
 given_ok {T} {E} {F} P (Ok value) given is said = subst (λ (one : Result T F). IfOk one P) is said
 given_ok {T} {E} {F} P (Err fault) given is said = tt

@@ -1,9 +1,11 @@
 -- What one pass over the is-a rows finds, in which each concept has its turn before those that are one row away.
-use Rattle.std.proofs.Common.{ℕ, zero, suc, ◌≡◌, ◌==◌, ◌<◌, [], ◌∷◌, ◌≤◌, ◌+◌, ◌-◌, ◌∙◌, true, false, not, Bool, ◌&&◌, ◌||◌, List, length, get_or, map, take, inl, inr, refl, sym, ap, subst, arith}
+use Rattle.std.proofs.Common.{ℕ, zero, suc, ◌≡◌, ◌==◌, ◌<◌, [], ◌∷◌, ◌≤◌, ◌+◌, ◌-◌, ◌∙◌, true, false, not, Bool, ◌&&◌}
+use Rattle.std.proofs.Common.{◌||◌, List, length, get_or, map, take, inl, inr, refl, sym, ap, subst, arith}
 use Rattle.std.specs.Prelude.{Contains, nat_eq}
 use Rattle.std.specs.List.{concat, list_all, list_any}
 use Rattle.std.specs.List.Sorted.{IsStrictlyIncreasing}
-use Rattle.std.proofs.lemmas.Bool.{and_parts, cases_eq, eq-eqb, eqb-false, eqb-true, false≢true, or_cases, or_left, or_right}
+use Rattle.std.proofs.lemmas.Bool.{and_parts, cases_eq, eq-eqb, eqb-false, eqb-true, false≢true, or_cases, or_left}
+use Rattle.std.proofs.lemmas.Bool.{or_right}
 use Rattle.std.proofs.lemmas.List.{get_or-take, get_or_default, length-take}
 use Rattle.std.proofs.lemmas.List.Elements.{Contains-get_or}
 use Rattle.std.proofs.lemmas.Map.Keys.{apart_from_distinct}
@@ -18,7 +20,7 @@ use Rattle.number_lists.proofs.ListLemmas.{passing_item, some_item_passes, both_
 use Rattle.number_lists.specs.Rising.{IsRisingBelow}
 use Rattle.idset.specs.Sets.{all_items}
 use Rattle.number_lists.specs.Members.{has}
-use Rattle.ancestor_index.specs.HierarchyLists.{Hierarchy, hierarchy_of, is_child}
+use Rattle.ancestor_index.specs.HierarchyLists.{Hierarchy, is_child}
 use Rattle.ancestor_index.proofs.BuildLemmas.{same_child, same_reach}
 use Rattle.number_lists.proofs.MemberLemmas.{contains_had, had_contained}
 use Rattle.ancestor_index.proofs.ClosureLemmas.{row_there, there_row}
@@ -28,15 +30,17 @@ use Rattle.reading.specs.declared.counter.Counter.{Counter}
 use Rattle.reading.proofs.CountLemmas.{counted_both, counted_out}
 use Rattle.walks.specs.inside.Counts.{pass_items}
 use Rattle.walks.specs.inside.Joined.{AreJoined, is_whole, near_of, turn_of}
-use Rattle.walks.specs.Led.{IsOver}
+use Rattle.walks.specs.Led.{IsOf, IsOver}
 use Rattle.walks.specs.Families.{lists_of}
 use Rattle.walks.specs.declared.family.Family.{Family}
 use Rattle.walks.specs.declared.family.Family.TheVariants as family
 use Rattle.number_lists.proofs.RisingLemmas.{all_below}
-use Rattle.walks.proofs.JoinedLemmas.{has_all, listed_stands, near_stands, over_length, over_rising, over_whole, stands, stands_listed}
+use Rattle.walks.proofs.JoinedLemmas.{has_all, listed_stands, near_stands, over_length, over_rising, over_whole, stands}
+use Rattle.walks.proofs.JoinedLemmas.{stands_listed}
 
 -- where all of some numbers are among others, each is
-all_have : (items found : List ℕ) → list_all (has items) found ≡ true → (n : ℕ) → has found n ≡ true → has items n ≡ true
+all_have : (items found : List ℕ) → list_all (has items) found ≡ true → (n : ℕ) → has found n ≡ true
+    → has items n ≡ true
 all_have items [] all n there = absurd (false≢true there)
 all_have items (x ∷ xs) all n there =
     let both = and_parts (has items x) (list_all (has items) xs) all in
@@ -45,13 +49,14 @@ all_have items (x ∷ xs) all n there =
       | inr later ↦ all_have items xs both.1 n later
     ]
 
--- what has been found before a turn: nothing but what items lead to; all that is one row away from an item; and of each concept that
--- had its turn, if it is an item or was found, all that is one row away
+-- what has been found before a turn: nothing but what items lead to; all that is one row away from an item; and of each
+-- concept that had its turn, if it is an item or was found, all that is one row away
 pub record IsPassed (lists near : List (List ℕ)) (at : ℕ → ℕ) (turn : ℕ) (items found : List ℕ) : Type 0 where
   pub sound : (n : ℕ) → has found n ≡ true → list_any (λ concept. has (list_of lists concept) n) items ≡ true
   pub full : (j : ℕ) → j < turn → (has items (at j) || has found (at j)) ≡ true
       → (n : ℕ) → has (list_of near (at j)) n ≡ true → has found n ≡ true
-  pub own : (concept : ℕ) → has items concept ≡ true → (n : ℕ) → has (list_of near concept) n ≡ true → has found n ≡ true
+  pub own : (concept : ℕ) → has items concept ≡ true → (n : ℕ) → has (list_of near concept) n ≡ true
+      → has found n ≡ true
 
 -- the concept of a turn has a place in the order
 pub turn_within : (turns : ℕ) (f : Family) (turn : ℕ) → turn < turns → turn_of f turns turn < turns
@@ -67,22 +72,38 @@ order_few count rows order first = length-le_from_distinct_below order count fir
   where
     swapped : (concept : ℕ) (numbers : List ℕ) → list_any (nat_eq concept) numbers ≡ true → has numbers concept ≡ true
     swapped concept [] there = there
-    swapped concept (number ∷ numbers) there = elim (or_cases (nat_eq concept number) (list_any (nat_eq concept) numbers) there) [
-      | inl here ↦ or_left (number == concept) (has numbers concept) (eq-eqb number concept (sym (eqb-true concept number here)))
-      | inr later ↦ or_right (number == concept) (has numbers concept) (swapped concept numbers later)
-    ]
+    swapped concept (number ∷ numbers) there =
+        elim (or_cases (nat_eq concept number) (list_any (nat_eq concept) numbers) there) [
+          | inl here ↦ or_left (number == concept) (has numbers concept)
+              (eq-eqb number concept (sym (eqb-true concept number here)))
+          | inr later ↦ or_right (number == concept) (has numbers concept) (swapped concept numbers later)
+        ]
 
 -- a pass counts each is-a link, and the concepts in their order
-pub pass_counted : (release : Release) (hierarchy : Hierarchy) (bound : ℕ) (order : List ℕ) {early between late : Counter}
-    → bound ≡ length release.concepts → IsOrderOf release order → HandsOut (length (concat hierarchy.parents)) early between
+pub pass_counted : (release : Release) (hierarchy : Hierarchy) (bound : ℕ)
+    (order : List ℕ) {early between late : Counter}
+    → bound ≡ length release.concepts → IsOrderOf release order
+    → HandsOut (length (concat hierarchy.parents)) early between
     → HandsOut (length order) between late → CountsWithin (pass_items hierarchy bound) early late
 pass_counted release hierarchy bound order counted is links concepts =
-    counted_both {first = length (concat hierarchy.parents)} {second = length order} (counted_out links (omega arith)) (counted_out concepts (omega arith))
+    counted_both {first = length (concat hierarchy.parents)} {second = length order} (counted_out links (omega arith))
+    (counted_out concepts (omega arith))
     (omega (arith, counted, order_few (length release.concepts) is.rows order is.first))
 
-module _ (release : Release) (rows : List (ℕ × ℕ)) (order : List ℕ) (rising : IsStrictlyIncreasing release.concepts)
-    (within : IsWithin (length release.concepts) rows) (are : map (row_of_numbers release.concepts) rows ≡ release.isa)
-    (first : IsParentsFirst (length release.concepts) rows order) where
+module _ (release : Release) (order : List ℕ) (rising : IsStrictlyIncreasing release.concepts)
+    (is_order : IsOrderOf release order) where
+  abbrev rows : List (ℕ × ℕ)
+  rows = is_order.rows
+
+  abbrev within : IsWithin (length release.concepts) rows
+  within = is_order.within
+
+  abbrev are : map (row_of_numbers release.concepts) rows ≡ release.isa
+  are = is_order.rows_are
+
+  abbrev first : IsParentsFirst (length release.concepts) rows order
+  first = is_order.first
+
   abbrev count : ℕ
   count = length release.concepts
 
@@ -98,16 +119,23 @@ module _ (release : Release) (rows : List (ℕ × ℕ)) (order : List ℕ) (risi
       (first.members (at f turn)).0 (Contains-get_or order (turn_of f turns turn) 0 (turn_within turns f turn inside))
 
   -- each concept has its turn
-  has_turn : (f : Family) → is_whole f ≡ true → (concept : ℕ) → concept < count → (turn : ℕ) × (turn < turns) × (at f turn ≡ concept)
+  has_turn : (f : Family) → is_whole f ≡ true → (concept : ℕ) → concept < count → (turn : ℕ) × (turn < turns)
+      × (at f turn ≡ concept)
   has_turn f whole concept below = by_family f whole ((first.members concept).1 below)
     where
-      by_family : (f : Family) → is_whole f ≡ true → Contains order concept → (turn : ℕ) × (turn < turns) × (at f turn ≡ concept)
+      by_family : (f : Family) → is_whole f ≡ true → Contains order concept → (turn : ℕ) × (turn < turns)
+          × (at f turn ≡ concept)
       by_family family.Ancestors whole there =
           let place = there.0 in
           let inside : place < turns = there.1 in
-          let back : turns - ((turns - (place + 1)) + 1) ≡ place = omega (arith, inside) in
-          (turns - (place + 1), omega (arith, inside), ap (λ (n : ℕ). get_or order n 0) back ∙ get_or_default order place 0 concept there.1 ∙ there.2)
-      by_family family.Descendants whole there = (there.0, there.1, get_or_default order there.0 0 concept there.1 ∙ there.2)
+          let back : turns - ((turns - (place + 1)) + 1) ≡ place = omega (arith, inside) in (
+            turns - (place + 1),
+            omega (arith, inside),
+            ap (λ (n : ℕ). get_or order n 0) back
+                ∙ get_or_default order place 0 concept there.1 ∙ there.2,
+          )
+      by_family family.Descendants whole there =
+          (there.0, there.1, get_or_default order there.0 0 concept there.1 ∙ there.2)
       by_family family.Parents whole there = absurd (false≢true whole)
       by_family family.Children whole there = absurd (false≢true whole)
 
@@ -118,10 +146,12 @@ module _ (release : Release) (rows : List (ℕ × ℕ)) (order : List ℕ) (risi
       let less : i < p = omega (arith, there.1, length-take p order) in
       let same : get_or order i 0 ≡ get_or order q 0 =
       sym (get_or-take p order i 0 less) ∙ get_or_default (take p order) i 0 (get_or order q 0) there.1 ∙ there.2 in
-      eqb-false (get_or order i 0) (get_or order q 0) (apart_from_distinct nat_eq order i q 0 first.once (omega (arith, less, before)) inside) same
+      eqb-false (get_or order i 0) (get_or order q 0)
+      (apart_from_distinct nat_eq order i q 0 first.once (omega (arith, less, before)) inside) same
 
   -- what is one row away from the concept of a turn had no turn before
-  no_turn_before : (f : Family) → is_whole f ≡ true → (j k : ℕ) → j < k → k < turns → stands release (near_of f) (at f k) (at f j) ≡ true → ⊥
+  no_turn_before : (f : Family) → is_whole f ≡ true → (j k : ℕ) → j < k → k < turns
+      → stands release (near_of f) (at f k) (at f j) ≡ true → ⊥
   no_turn_before family.Ancestors whole j k before inside near =
       let row = row_there rows (at family.Ancestors k) (at family.Ancestors j)
       (same_child release.concepts rows release.isa rising within are (at family.Ancestors k) (at family.Ancestors j)
@@ -130,16 +160,21 @@ module _ (release : Release) (rows : List (ℕ × ℕ)) (order : List ℕ) (risi
       (first.first (turns - (k + 1)) (at family.Ancestors j) (omega (arith, inside)) row)
   no_turn_before family.Descendants whole j k before inside near =
       let row = row_there rows (at family.Descendants j) (at family.Descendants k)
-      (same_child release.concepts rows release.isa rising within are (at family.Descendants j) (at family.Descendants k)
+      (same_child release.concepts rows release.isa rising within are (at family.Descendants j)
+      (at family.Descendants k)
       (at_below family.Descendants j (omega (arith, before, inside))) (at_below family.Descendants k inside) ∙ near) in
-      not_ahead j k (omega (arith, before)) inside (first.first j (at family.Descendants k) (omega (arith, before, inside)) row)
+      not_ahead j k (omega (arith, before)) inside
+      (first.first j (at family.Descendants k) (omega (arith, before, inside)) row)
   no_turn_before family.Parents whole j k before inside near = absurd (false≢true whole)
   no_turn_before family.Children whole j k before inside near = absurd (false≢true whole)
 
-  module _ (bound : ℕ) (hierarchy : Hierarchy) (is : hierarchy ≡ hierarchy_of release) (counted : bound ≡ count)
+  module _ (bound : ℕ) (hierarchy : Hierarchy) (is_of : IsOf release bound hierarchy)
       (f : Family) (whole : is_whole f ≡ true) (items : List ℕ) (items_rise : IsRisingBelow bound items) where
+    abbrev counted : bound ≡ count
+    counted = is_of.count_is
+
     abbrev over : IsOver bound hierarchy
-    over = record { release = release; hierarchy_is = is; count_is = counted }
+    over = record { release = release; hierarchy_is = is_of.hierarchy_is; count_is = counted }
 
     abbrev lists : List (List ℕ)
     lists = lists_of hierarchy f
@@ -153,7 +188,8 @@ module _ (release : Release) (rows : List (ℕ × ℕ)) (order : List ℕ) (risi
     below : (turn : ℕ) → turn < turns → at f turn < bound
     below turn inside = omega (arith, at_below f turn inside, counted)
 
-    near_listed : (concept n : ℕ) → concept < bound → has (list_of near concept) n ≡ true → has (list_of lists concept) n ≡ true
+    near_listed : (concept n : ℕ) → concept < bound → has (list_of near concept) n ≡ true
+        → has (list_of lists concept) n ≡ true
     near_listed concept n inside told =
         let stood = listed_stands bound hierarchy over (near_of f) concept n inside told in
         stands_listed bound hierarchy over f concept n inside stood.0 (near_stands release f concept n stood.1)
@@ -166,17 +202,22 @@ module _ (release : Release) (rows : List (ℕ × ℕ)) (order : List ℕ) (risi
     near_rises turn inside = over_rising bound hierarchy over (near_of f) (at f turn) (below turn inside)
 
     -- what is one row away from a concept that is led to is led to
-    led_on : (found : List ℕ) → ((n : ℕ) → has found n ≡ true → list_any (λ concept. has (list_of lists concept) n) items ≡ true)
-        → (concept n : ℕ) → concept < bound → (has items concept || has found concept) ≡ true → has (list_of near concept) n ≡ true
+    led_on : (found : List ℕ) → ((n : ℕ) → has found n ≡ true
+        → list_any (λ concept. has (list_of lists concept) n) items ≡ true)
+        → (concept n : ℕ) → concept < bound → (has items concept || has found concept) ≡ true
+        → has (list_of near concept) n ≡ true
         → list_any (λ concept. has (list_of lists concept) n) items ≡ true
     led_on found sound concept n inside told near_told = elim (or_cases (has items concept) (has found concept) told) [
       | inl own ↦
-          some_item_passes (λ c. has (list_of lists c) n) items concept (contains_had items concept own) (near_listed concept n inside near_told)
+          some_item_passes (λ c. has (list_of lists c) n) items concept (contains_had items concept own)
+          (near_listed concept n inside near_told)
       | inr was ↦
           let from = passing_item (λ c. has (list_of lists c) concept) items (sound concept was) in
-          let from_below : from.0 < bound = subst (λ (m : ℕ). m < bound) (from.1.2) (all_below bound items items_rise from.1.0 from.0 from.1.1) in
+          let from_below : from.0 < bound = subst (λ (m : ℕ). m < bound) (from.1.2)
+          (all_below bound items items_rise from.1.0 from.0 from.1.1) in
           some_item_passes (λ c. has (list_of lists c) n) items from.0 from.1
-          (over_whole bound hierarchy over f whole from.0 concept n from_below inside from.2 (near_listed concept n inside near_told))
+          (over_whole bound hierarchy over f whole from.0 concept n from_below inside from.2
+          (near_listed concept n inside near_told))
     ]
 
     first_true : (one other : Bool) → (one && other) ≡ true → one ≡ true
@@ -184,7 +225,8 @@ module _ (release : Release) (rows : List (ℕ × ℕ)) (order : List ℕ) (risi
     first_true false other both = both
 
     -- the turn of a concept that was found
-    pub passed_on : (turn : ℕ) (found list next : List ℕ) → turn < turns → IsRisingBelow bound found → list ≡ list_of near (at f turn)
+    pub passed_on : (turn : ℕ) (found list next : List ℕ) → turn < turns → IsRisingBelow bound found
+        → list ≡ list_of near (at f turn)
         → next ≡ all_items bound found list → (has found (at f turn) && not (has items (at f turn))) ≡ true
         → Passed turn found → Passed (turn + 1) next
     passed_on turn found list next inside rises list_is next_is chosen passed = record {
@@ -200,7 +242,8 @@ module _ (release : Release) (rows : List (ℕ × ℕ)) (order : List ℕ) (risi
             (subst (λ (m : ℕ). has (list_of near (at f m)) n ≡ true) same away)
         | inr other ↦
             let before : j < turn = omega (arith, less, other) in
-            grown n ∙ or_left (has found n) (has (list_of near (at f turn)) n) (passed.full j before (still j before told) n away)
+            grown n ∙ or_left (has found n) (has (list_of near (at f turn)) n)
+            (passed.full j before (still j before told) n away)
       ];
       own = λ concept there n away.
           grown n ∙ or_left (has found n) (has (list_of near (at f turn)) n) (passed.own concept there n away);
@@ -213,17 +256,19 @@ module _ (release : Release) (rows : List (ℕ × ℕ)) (order : List ℕ) (risi
             ∙ ap (λ (xs : List ℕ). has found n || has xs n) list_is
 
         -- what had its turn before is not found now
-        still : (j : ℕ) → j < turn → (has items (at f j) || has next (at f j)) ≡ true → (has items (at f j) || has found (at f j)) ≡ true
+        still : (j : ℕ) → j < turn → (has items (at f j) || has next (at f j)) ≡ true
+            → (has items (at f j) || has found (at f j)) ≡ true
         still j before told = elim (or_cases (has items (at f j)) (has next (at f j)) told) [
           | inl own ↦ or_left (has items (at f j)) (has found (at f j)) own
-          | inr was ↦ elim (or_cases (has found (at f j)) (has (list_of near (at f turn)) (at f j)) (sym (grown (at f j)) ∙ was)) [
-            | inl then ↦ or_right (has items (at f j)) (has found (at f j)) then
-            | inr now ↦ absurd (no_turn_before f whole j turn before inside
-                (listed_stands bound hierarchy over (near_of f) (at f turn) (at f j) (below turn inside) now).1)
-          ]
+          | inr was ↦ elim (or_cases (has found (at f j)) (has (list_of near (at f turn)) (at f j))
+              (sym (grown (at f j)) ∙ was)) [
+                | inl then ↦ or_right (has items (at f j)) (has found (at f j)) then
+                | inr now ↦ absurd (no_turn_before f whole j turn before inside
+                    (listed_stands bound hierarchy over (near_of f) (at f turn) (at f j) (below turn inside) now).1)
+              ]
         ]
 
-    -- and of one that was not found, or is an item
+    -- the turn of a concept that was not found, or is an item
     pub passed_over : (turn : ℕ) (found : List ℕ) → (has found (at f turn) && not (has items (at f turn))) ≡ false
         → Passed turn found → Passed (turn + 1) found
     passed_over turn found not_chosen passed = record {
@@ -248,16 +293,19 @@ module _ (release : Release) (rows : List (ℕ × ℕ)) (order : List ℕ) (risi
     passed_first found joined = record {
       sound = λ n told.
           let from = passing_item (λ c. has (list_of near c) n) items (sym (joined n) ∙ told) in
-          let from_below : from.0 < bound = subst (λ (m : ℕ). m < bound) from.1.2 (all_below bound items items_rise from.1.0 from.0 from.1.1) in
+          let from_below : from.0 < bound = subst (λ (m : ℕ). m < bound) from.1.2
+          (all_below bound items items_rise from.1.0 from.0 from.1.1) in
           some_item_passes (λ c. has (list_of lists c) n) items from.0 from.1 (near_listed from.0 n from_below from.2);
       full = λ j less. absurd (omega (arith, less));
       own = λ concept there n away.
-          joined n ∙ some_item_passes (λ c. has (list_of near c) n) items concept (contains_had items concept there) away;
+          joined n ∙ some_item_passes (λ c. has (list_of near c) n) items concept (contains_had items concept there)
+          away;
     }
 
     -- behind the last one all is found that items lead to
     pub passed_all : (turn : ℕ) (found : List ℕ) → turns ≤ turn → Passed turn found → AreJoined lists items found
-    passed_all turn found end passed n = both_ways (has found n) (list_any (λ concept. has (list_of lists concept) n) items) (passed.sound n) back
+    passed_all turn found end passed n =
+        both_ways (has found n) (list_any (λ concept. has (list_of lists concept) n) items) (passed.sound n) back
       where
         -- one row on
         one_on : (concept m : ℕ) → concept < count → m < count → (has items concept || has found concept) ≡ true
@@ -267,49 +315,65 @@ module _ (release : Release) (rows : List (ℕ × ℕ)) (order : List ℕ) (risi
             passed.full its.0 (omega (arith, its.1, end))
             (subst (λ (c : ℕ). (has items c || has found c) ≡ true) (sym its.2) told) m
             (ap (λ (c : ℕ). has (list_of near c) m) its.2
-            ∙ stands_listed bound hierarchy over (near_of f) concept m (omega (arith, inside, counted)) (omega (arith, m_inside, counted)) away)
+            ∙ stands_listed bound hierarchy over (near_of f) concept m (omega (arith, inside, counted))
+            (omega (arith, m_inside, counted)) away)
 
         ends : {a b : ℕ} → Contains rows (a, b) → (a < count) × (b < count)
-        ends {a} {b} there = subst (λ (row : ℕ × ℕ). (row.0 < count) × (row.1 < count)) there.2 (within there.0 (a, b) there.1)
+        ends {a} {b} there =
+            subst (λ (row : ℕ × ℕ). (row.0 < count) × (row.1 < count)) there.2 (within there.0 (a, b) there.1)
 
-        child : (a b : ℕ) → Contains rows (a, b) → is_child release.isa (get_or release.concepts a 0) (get_or release.concepts b 0) ≡ true
+        child : (a b : ℕ) → Contains rows (a, b) → is_child release.isa (get_or release.concepts a 0)
+            (get_or release.concepts b 0) ≡ true
         child a b there =
-            sym (same_child release.concepts rows release.isa rising within are a b (ends there).0 (ends there).1) ∙ there_row rows a b there
+            sym (same_child release.concepts rows release.isa rising within are a b (ends there).0 (ends there).1)
+            ∙ there_row rows a b there
 
-        up : f ≡ family.Ancestors → {a b : ℕ} → Reaches rows a b → (has items a || has found a) ≡ true → has found b ≡ true
+        up : f ≡ family.Ancestors → {a b : ℕ} → Reaches rows a b → (has items a || has found a) ≡ true
+            → has found b ≡ true
         up above {a} {b} (one_row there) told =
-            one_on a b (ends there).0 (ends there).1 told (ap (λ (g : Family). stands release (near_of g) a b) above ∙ child a b there)
+            one_on a b (ends there).0 (ends there).1 told
+            (ap (λ (g : Family). stands release (near_of g) a b) above ∙ child a b there)
         up above {a} {b} (more_rows {parent = p} there chain) told =
             up above chain (or_right (has items p) (has found p)
-            (one_on a p (ends there).0 (ends there).1 told (ap (λ (g : Family). stands release (near_of g) a p) above ∙ child a p there)))
+            (one_on a p (ends there).0 (ends there).1 told
+            (ap (λ (g : Family). stands release (near_of g) a p) above ∙ child a p there)))
 
-        down : f ≡ family.Descendants → {a b : ℕ} → Reaches rows a b → (has items b || has found b) ≡ true → has found a ≡ true
+        down : f ≡ family.Descendants → {a b : ℕ} → Reaches rows a b → (has items b || has found b) ≡ true
+            → has found a ≡ true
         down beneath {a} {b} (one_row there) told =
-            one_on b a (ends there).1 (ends there).0 told (ap (λ (g : Family). stands release (near_of g) b a) beneath ∙ child a b there)
+            one_on b a (ends there).1 (ends there).0 told
+            (ap (λ (g : Family). stands release (near_of g) b a) beneath ∙ child a b there)
         down beneath {a} {b} (more_rows {parent = p} there chain) told =
             one_on p a (ends there).1 (ends there).0 (or_right (has items p) (has found p) (down beneath chain told))
             (ap (λ (g : Family). stands release (near_of g) p a) beneath ∙ child a p there)
 
-        led : (g : Family) → f ≡ g → (concept : ℕ) → concept < count → n < count → has items concept ≡ true → stands release g concept n ≡ true
+        led : (g : Family) → f ≡ g → (concept : ℕ) → concept < count → n < count → has items concept ≡ true
+            → stands release g concept n ≡ true
             → has found n ≡ true
         led family.Ancestors same concept inside n_inside own stood =
-            up same (chain_from_test rows concept n (same_reach release.concepts rows release.isa rising within are concept n inside n_inside ∙ stood))
+            up same (chain_from_test rows concept n
+            (same_reach release.concepts rows release.isa rising within are concept n inside n_inside ∙ stood))
             (or_left (has items concept) (has found concept) own)
         led family.Descendants same concept inside n_inside own stood =
-            down same (chain_from_test rows n concept (same_reach release.concepts rows release.isa rising within are n concept n_inside inside ∙ stood))
+            down same (chain_from_test rows n concept
+            (same_reach release.concepts rows release.isa rising within are n concept n_inside inside ∙ stood))
             (or_left (has items concept) (has found concept) own)
         led family.Parents same concept inside n_inside own stood = absurd (false≢true (ap is_whole (sym same) ∙ whole))
-        led family.Children same concept inside n_inside own stood = absurd (false≢true (ap is_whole (sym same) ∙ whole))
+        led family.Children same concept inside n_inside own stood =
+            absurd (false≢true (ap is_whole (sym same) ∙ whole))
 
         back : list_any (λ concept. has (list_of lists concept) n) items ≡ true → has found n ≡ true
         back told =
             let from = passing_item (λ c. has (list_of lists c) n) items told in
-            let from_below : from.0 < bound = subst (λ (m : ℕ). m < bound) (from.1.2) (all_below bound items items_rise from.1.0 from.0 from.1.1) in
+            let from_below : from.0 < bound = subst (λ (m : ℕ). m < bound) (from.1.2)
+            (all_below bound items items_rise from.1.0 from.0 from.1.1) in
             let stood = listed_stands bound hierarchy over f from.0 n from_below from.2 in
-            led f refl from.0 (omega (arith, from_below, counted)) (omega (arith, stood.0, counted)) (had_contained items from.0 from.1) stood.1
+            led f refl from.0 (omega (arith, from_below, counted)) (omega (arith, stood.0, counted))
+            (had_contained items from.0 from.1) stood.1
 
     -- where all that is one row away from items is among them, no more is led to
-    pub all_among : (found : List ℕ) → AreJoined near items found → list_all (has items) found ≡ true → AreJoined lists items found
+    pub all_among : (found : List ℕ) → AreJoined near items found → list_all (has items) found ≡ true
+        → AreJoined lists items found
     all_among found joined among = passed_all turns found (omega arith) (passed_by turns)
       where
         inside : (n : ℕ) → (b : Bool) → has found n ≡ b → (b && not (has items n)) ≡ false

@@ -1,5 +1,6 @@
 -- How many items the lists of some concepts have together: no more than all lists of their family.
-use Rattle.std.proofs.Common.{ℕ, ◌+◌, ◌∷◌, [], ◌≡◌, ◌<◌, ◌≤◌, ◌∙◌, Bool, true, false, not, cond, List, length, map, refl, sym, ap, subst, arith, length-append}
+use Rattle.std.proofs.Common.{ℕ, ◌+◌, ◌∷◌, [], ◌≡◌, ◌<◌, ◌≤◌, ◌∙◌, Bool, true, false, not, cond, List, length, map}
+use Rattle.std.proofs.Common.{refl, sym, ap, subst, arith, length-append}
 use Rattle.std.specs.Bool.{beq}
 use Rattle.std.specs.Prelude.{filter, nat_lt}
 use Rattle.std.specs.List.{concat, flat_map, range_with_len, sum_by}
@@ -14,8 +15,9 @@ use Rattle.number_lists.specs.KeyedLists.{list_of}
 use Rattle.number_lists.specs.Members.{has}
 use Rattle.number_lists.specs.Rising.{IsRisingBelow, numbers_where}
 use Rattle.constraint_tree.specs.declared.operator.Operator.{Operator}
-use Rattle.constraint_tree.specs.declared.operator.Operator.TheVariants.{Descendants, DescendantsOrSelf, Children, ChildrenOrSelf}
-use Rattle.constraint_tree.specs.declared.operator.Operator.TheVariants.{Ancestors, AncestorsOrSelf, Parents, ParentsOrSelf, Top, Bottom}
+use Rattle.constraint_tree.specs.declared.operator.Operator.TheVariants.{Descendants, DescendantsOrSelf, Children}
+use Rattle.constraint_tree.specs.declared.operator.Operator.TheVariants.{ChildrenOrSelf, Ancestors, AncestorsOrSelf}
+use Rattle.constraint_tree.specs.declared.operator.Operator.TheVariants.{Parents, ParentsOrSelf, Top, Bottom}
 use Rattle.ancestor_index.specs.HierarchyLists.{Hierarchy, lists_where}
 use Rattle.postings.specs.Indexed.{Indexed}
 use Rattle.walks.specs.Asked.{asked_lists}
@@ -156,37 +158,51 @@ asked_within indexed operator f concepts extent is asked =
     )
 
 -- the lists by which concepts are asked have no more items than all lists of the operator, which are turned round
-pub asked_of_all : (count : ℕ) (hierarchy : Hierarchy) → IsOver count hierarchy → (operator : Operator) (concepts : List ℕ)
+pub asked_of_all : (count : ℕ) (hierarchy : Hierarchy) → IsOver count hierarchy
+    → (operator : Operator) (concepts : List ℕ)
     → IsRisingBelow count concepts
     → items_in (asked_lists hierarchy operator) concepts ≤ all_items_of hierarchy (family_of operator)
-asked_of_all count hierarchy over Descendants concepts rising = set_items count hierarchy over family.Ancestors concepts rising
-asked_of_all count hierarchy over DescendantsOrSelf concepts rising = set_items count hierarchy over family.Ancestors concepts rising
-asked_of_all count hierarchy over Children concepts rising = set_items count hierarchy over family.Parents concepts rising
-asked_of_all count hierarchy over ChildrenOrSelf concepts rising = set_items count hierarchy over family.Parents concepts rising
-asked_of_all count hierarchy over Ancestors concepts rising = set_items count hierarchy over family.Descendants concepts rising
-asked_of_all count hierarchy over AncestorsOrSelf concepts rising = set_items count hierarchy over family.Descendants concepts rising
-asked_of_all count hierarchy over Parents concepts rising = set_items count hierarchy over family.Children concepts rising
-asked_of_all count hierarchy over ParentsOrSelf concepts rising = set_items count hierarchy over family.Children concepts rising
+asked_of_all count hierarchy over Descendants concepts rising =
+    set_items count hierarchy over family.Ancestors concepts rising
+asked_of_all count hierarchy over DescendantsOrSelf concepts rising =
+    set_items count hierarchy over family.Ancestors concepts rising
+asked_of_all count hierarchy over Children concepts rising =
+    set_items count hierarchy over family.Parents concepts rising
+asked_of_all count hierarchy over ChildrenOrSelf concepts rising =
+    set_items count hierarchy over family.Parents concepts rising
+asked_of_all count hierarchy over Ancestors concepts rising =
+    set_items count hierarchy over family.Descendants concepts rising
+asked_of_all count hierarchy over AncestorsOrSelf concepts rising =
+    set_items count hierarchy over family.Descendants concepts rising
+asked_of_all count hierarchy over Parents concepts rising =
+    set_items count hierarchy over family.Children concepts rising
+asked_of_all count hierarchy over ParentsOrSelf concepts rising =
+    set_items count hierarchy over family.Children concepts rising
 asked_of_all count hierarchy over Top concepts rising = set_items count hierarchy over family.Ancestors concepts rising
-asked_of_all count hierarchy over Bottom concepts rising = set_items count hierarchy over family.Descendants concepts rising
+asked_of_all count hierarchy over Bottom concepts rising =
+    set_items count hierarchy over family.Descendants concepts rising
 
--- so to ask concepts, more than one, takes no more items than to go through them and to read what the operator leads to from them
-pub asked_from_many : (count : ℕ) (hierarchy : Hierarchy) → IsOver count hierarchy → (operator : Operator) (concepts : List ℕ)
+-- to ask several concepts takes no more items than to go through them and to read what the operator leads to from them
+pub asked_from_many : (count : ℕ) (hierarchy : Hierarchy) → IsOver count hierarchy
+    → (operator : Operator) (concepts : List ℕ)
     → IsRisingBelow count concepts → 1 < length concepts
     → asked_items hierarchy operator concepts ≤ length concepts + walk_items hierarchy operator concepts
 asked_from_many count hierarchy over operator concepts rising many =
     omega (
       arith,
       asked_of_all count hierarchy over operator concepts rising,
-      ap (λ (is : Bool). cond is (all_items_of hierarchy (family_of operator)) (items_in (lists_of hierarchy (family_of operator)) concepts))
+      ap (λ (is : Bool). cond is (all_items_of hierarchy (family_of operator))
+          (items_in (lists_of hierarchy (family_of operator)) concepts))
           (lt-ltb 1 (length concepts) many),
     )
 
 -- the long lists and the others are all lists of some concepts
 pub long_and_others : (lists : List (List ℕ)) (concepts : List ℕ)
-    → items_in lists (with_length lists true concepts) + items_in lists (with_length lists false concepts) ≡ items_in lists concepts
+    → items_in lists (with_length lists true concepts) + items_in lists (with_length lists false concepts)
+    ≡ items_in lists concepts
 long_and_others lists concepts =
-    sum_by-filter_both (λ concept. beq (is_long (list_of lists concept)) true) (λ concept. beq (is_long (list_of lists concept)) false)
+    sum_by-filter_both (λ concept. beq (is_long (list_of lists concept)) true)
+    (λ concept. beq (is_long (list_of lists concept)) false)
     (λ concept. either (is_long (list_of lists concept))) (λ concept. length (list_of lists concept)) concepts
   where
     either : (long : Bool) → beq long false ≡ not (beq long true)
@@ -207,7 +223,8 @@ pub items_of_kept : (lists : List (List ℕ)) (test : ℕ → Bool) (concepts : 
 items_of_kept lists test concepts = sum_of_some (λ concept. length (list_of lists concept)) test concepts
 
 -- concepts that are asked, and the lists by which they are
-pub asked_counted : (hierarchy : Hierarchy) (operator : Operator) (f : Family) {concepts own : List ℕ} {early between late : Counter}
+pub asked_counted : (hierarchy : Hierarchy) (operator : Operator) (f : Family) {concepts own : List ℕ}
+    {early between late : Counter}
     → lists_of hierarchy f ≡ asked_lists hierarchy operator → own ≡ concepts
     → HandsOut (length concepts) early between → CountsWithin (items_in (lists_of hierarchy f) own) between late
     → CountsWithin (asked_items hierarchy operator concepts) early late
@@ -221,7 +238,8 @@ asked_counted hierarchy operator f {concepts} asked same out lists =
 
 -- concepts, each with its list behind it
 pub with_lists_length : (lists : List (List ℕ)) (concepts : List ℕ)
-    → length (flat_map (λ concept. concept ∷ list_of lists concept) concepts) ≡ length concepts + items_in lists concepts
+    → length (flat_map (λ concept. concept ∷ list_of lists concept) concepts) ≡ length concepts
+    + items_in lists concepts
 with_lists_length lists [] = omega arith
 with_lists_length lists (concept ∷ concepts) =
     omega (

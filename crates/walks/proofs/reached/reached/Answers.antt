@@ -8,7 +8,8 @@ use Rattle.idset.specs.Words.{is_set}
 use Rattle.walks.specs.inside.Joined.{AreJoined, near_of, turn_of}
 use Rattle.walks.specs.Families.{lists_of}
 use Rattle.number_lists.proofs.RisingLemmas.{all_below}
-use Rattle.walks.proofs.ReachedLemmas.{IsPassed, all_among, near_rises, near_there, pass_counted, passed_all, passed_first, passed_on, passed_over, turn_within}
+use Rattle.walks.proofs.ReachedLemmas.{IsPassed, all_among, near_rises, near_there, pass_counted, passed_all}
+use Rattle.walks.proofs.ReachedLemmas.{passed_first, passed_on, passed_over, turn_within}
 use Rattle.walks.proofs.reached.reached.Goals as goal
 use Rattle.walks.proofs.reached.reached.Goals.{then-is_in_first_alone+in_ok-add_all, else-is_in_first_alone}
 
@@ -26,18 +27,22 @@ bounds-order-place_of_turn g c =
     (turn_within (length order) c.args.family c.loop-turn.turn c.loop-turn-test.true)
 
 pub loop-turn-init : goal.loop-turn-init
-loop-turn-init g c = record {
-  passed = passed_first c.args.reader.snapshot.now.release c.parents_first-order.ensures.order.rows c.parents_first-order.result.now
-      c.concept_count.ensures.rising c.parents_first-order.ensures.order.within
-      c.parents_first-order.ensures.order.rows_are c.parents_first-order.ensures.order.first
-      (g.S.ConceptSet.bound_of c.args.set.now) c.args.reader.indexes.now.hierarchy c.requires.over.hierarchy_is c.requires.over.count_is c.args.family c.requires.whole
-      (g.S.ConceptSet.items_of c.args.set.now) (g.met.S.ConceptSet.rising c.args.set.now)
-      (numbers_where c.in_ok-found.found.bound (is_set c.in_ok-found.found.words.items))
-      (subst (λ (own : List ℕ). AreJoined (lists_of c.args.reader.indexes.now.hierarchy (near_of c.args.family)) own
-      (numbers_where c.in_ok-found.found.bound (is_set c.in_ok-found.found.words.items))) c.requires.concepts
-      c.in_ok-found.ensures.joined);
-  bound = c.in_ok-found.ensures.bound ∙ c.bound.ensures;
-}
+loop-turn-init g c =
+    let release = c.args.reader.snapshot.now.release in
+    let order = c.parents_first-order.result.now in
+    let count = g.S.ConceptSet.bound_of c.args.set.now in
+    let hierarchy = c.args.reader.indexes.now.hierarchy in
+    let f = c.args.family in
+    let items = g.S.ConceptSet.items_of c.args.set.now in
+    let found : List ℕ = numbers_where c.in_ok-found.found.bound (is_set c.in_ok-found.found.words.items) in
+    record {
+      passed =
+          passed_first release order c.concept_count.ensures.rising c.parents_first-order.ensures.order count hierarchy
+          c.requires.over f c.requires.whole items (g.met.S.ConceptSet.rising c.args.set.now) found
+          (subst (λ (own : List ℕ). AreJoined (lists_of hierarchy (near_of f)) own found) c.requires.concepts
+          c.in_ok-found.ensures.joined);
+      bound = c.in_ok-found.ensures.bound ∙ c.bound.ensures;
+    }
 
 pub near_of_all-requires-clause-below : goal.near_of_all-requires-clause-below
 near_of_all-requires-clause-below g c =
@@ -49,65 +54,76 @@ near_of_all-requires-clause-below g c =
 
 pub of-requires : goal.of-requires
 of-requires g c =
+    let release = c.args.reader.snapshot.now.release in
     let order = c.parents_first-order.result.now in
-    subst (λ (lists : List (List ℕ)). get_or order c.place_of_turn.result 0 < length lists) (sym c.near_lists-near.ensures.lists)
-    (subst (λ (place : ℕ). get_or order place 0 < length (lists_of c.args.reader.indexes.now.hierarchy (near_of c.args.family))) (sym c.place_of_turn.ensures)
-    (near_there c.args.reader.snapshot.now.release c.parents_first-order.ensures.order.rows order c.concept_count.ensures.rising c.parents_first-order.ensures.order.within
-    c.parents_first-order.ensures.order.rows_are c.parents_first-order.ensures.order.first
-    (g.S.ConceptSet.bound_of c.args.set.now) c.args.reader.indexes.now.hierarchy c.requires.over.hierarchy_is c.requires.over.count_is c.args.family c.requires.whole
-    (g.S.ConceptSet.items_of c.args.set.now) (g.met.S.ConceptSet.rising c.args.set.now) c.loop-turn.turn c.loop-turn-test.true))
+    let count = g.S.ConceptSet.bound_of c.args.set.now in
+    let hierarchy = c.args.reader.indexes.now.hierarchy in
+    let f = c.args.family in
+    let items = g.S.ConceptSet.items_of c.args.set.now in
+    subst (λ (lists : List (List ℕ)). get_or order c.place_of_turn.result 0 < length lists)
+    (sym c.near_lists-near.ensures.lists)
+    (subst (λ (place : ℕ). get_or order place 0 < length (lists_of hierarchy (near_of f))) (sym c.place_of_turn.ensures)
+    (near_there release order c.concept_count.ensures.rising c.parents_first-order.ensures.order count hierarchy
+    c.requires.over f c.requires.whole items (g.met.S.ConceptSet.rising c.args.set.now) c.loop-turn.turn
+    c.loop-turn-test.true))
 
 pub add_all-requires : goal.add_all-requires
 add_all-requires g c =
+    let release = c.args.reader.snapshot.now.release in
     let order = c.parents_first-order.result.now in
-    let listed : c.of.result.now ≡ list_of (lists_of c.args.reader.indexes.now.hierarchy (near_of c.args.family))
-    (get_or order (turn_of c.args.family (length order) c.loop-turn.turn) 0) =
+    let count = g.S.ConceptSet.bound_of c.args.set.now in
+    let hierarchy = c.args.reader.indexes.now.hierarchy in
+    let f = c.args.family in
+    let items = g.S.ConceptSet.items_of c.args.set.now in
+    let turn = c.loop-turn.turn in
+    let listed : c.of.result.now
+    ≡ list_of (lists_of hierarchy (near_of f)) (get_or order (turn_of f (length order) turn) 0) =
     c.of.ensures ∙ (λ i. list_of (c.near_lists-near.ensures.lists i) (get_or order (c.place_of_turn.ensures i) 0)) in
     subst (λ (bound : ℕ). IsRisingBelow bound c.of.result.now) (sym c.loop-turn.invariant.bound)
-    (subst (λ (list : List ℕ). IsRisingBelow (g.S.ConceptSet.bound_of c.args.set.now) list) (sym listed)
-    (near_rises c.args.reader.snapshot.now.release c.parents_first-order.ensures.order.rows order c.concept_count.ensures.rising c.parents_first-order.ensures.order.within
-    c.parents_first-order.ensures.order.rows_are c.parents_first-order.ensures.order.first
-    (g.S.ConceptSet.bound_of c.args.set.now) c.args.reader.indexes.now.hierarchy c.requires.over.hierarchy_is c.requires.over.count_is c.args.family c.requires.whole
-    (g.S.ConceptSet.items_of c.args.set.now) (g.met.S.ConceptSet.rising c.args.set.now) c.loop-turn.turn c.loop-turn-test.true))
+    (subst (λ (list : List ℕ). IsRisingBelow count list) (sym listed)
+    (near_rises release order c.concept_count.ensures.rising c.parents_first-order.ensures.order count hierarchy
+    c.requires.over f c.requires.whole items (g.met.S.ConceptSet.rising c.args.set.now) turn c.loop-turn-test.true))
 
 pub loop-turn-preserved : goal.loop-turn-preserved
 loop-turn-preserved g c =
+    let release = c.args.reader.snapshot.now.release in
     let order = c.parents_first-order.result.now in
-    let f = c.args.family in
     let count = g.S.ConceptSet.bound_of c.args.set.now in
+    let hierarchy = c.args.reader.indexes.now.hierarchy in
+    let f = c.args.family in
     let items = g.S.ConceptSet.items_of c.args.set.now in
     let turn = c.loop-turn.turn in
     let found : List ℕ = numbers_where c.loop-turn.found.bound (is_set c.loop-turn.found.words.items) in
     let concept : ℕ = get_or order (turn_of f (length order) turn) 0 in
     let asked : (has found concept && not (has items concept)) ≡ c.is_in_first_alone.result =
-    (λ i. has found (get_or order (sym c.place_of_turn.ensures i) 0) && not (has items (get_or order (sym c.place_of_turn.ensures i) 0)))
+    (λ i. has found (get_or order (sym c.place_of_turn.ensures i) 0)
+    && not (has items (get_or order (sym c.place_of_turn.ensures i) 0)))
     ∙ sym c.is_in_first_alone.ensures in
     elim c.if-is_in_first_alone.branch [
       | then-is_in_first_alone+in_ok-add_all w ↦ record {
         passed =
-            subst (IsPassed (lists_of c.args.reader.indexes.now.hierarchy f) (lists_of c.args.reader.indexes.now.hierarchy (near_of f))
+            subst (IsPassed (lists_of hierarchy f) (lists_of hierarchy (near_of f))
             (λ turn. get_or order (turn_of f (length order) turn) 0) (turn + 1) items)
             (sym (ap (λ (set : _). numbers_where set.bound (is_set set.words.items)) w.found-is))
-            (passed_on c.args.reader.snapshot.now.release c.parents_first-order.ensures.order.rows order c.concept_count.ensures.rising c.parents_first-order.ensures.order.within
-            c.parents_first-order.ensures.order.rows_are c.parents_first-order.ensures.order.first
-            count c.args.reader.indexes.now.hierarchy c.requires.over.hierarchy_is c.requires.over.count_is f c.requires.whole items
-            (g.met.S.ConceptSet.rising c.args.set.now) turn found
-            w.of.result.now (numbers_where w.add_all.new.self.bound (is_set w.add_all.new.self.words.items)) c.loop-turn-test.true
+            (passed_on release order c.concept_count.ensures.rising c.parents_first-order.ensures.order count hierarchy
+            c.requires.over f c.requires.whole items (g.met.S.ConceptSet.rising c.args.set.now) turn found
+            w.of.result.now (numbers_where w.add_all.new.self.bound (is_set w.add_all.new.self.words.items))
+            c.loop-turn-test.true
             (subst (λ (bound : ℕ). IsRisingBelow bound found) c.loop-turn.invariant.bound c.loop-turn.found.rising)
-            (w.of.ensures ∙ (λ i. list_of (c.near_lists-near.ensures.lists i) (get_or order (c.place_of_turn.ensures i) 0)))
+            (w.of.ensures
+            ∙ (λ i. list_of (c.near_lists-near.ensures.lists i) (get_or order (c.place_of_turn.ensures i) 0)))
             (w.in_ok-add_all.ensures.items ∙ (λ i. all_items (c.loop-turn.invariant.bound i) found w.of.result.now))
             (asked ∙ w.if-is_in_first_alone.true) c.loop-turn.invariant.passed);
         bound = ap (λ (set : _). set.bound) w.found-is ∙ w.in_ok-add_all.ensures.bound ∙ c.loop-turn.invariant.bound;
       }
       | else-is_in_first_alone w ↦ record {
         passed =
-            subst (IsPassed (lists_of c.args.reader.indexes.now.hierarchy f) (lists_of c.args.reader.indexes.now.hierarchy (near_of f))
+            subst (IsPassed (lists_of hierarchy f) (lists_of hierarchy (near_of f))
             (λ turn. get_or order (turn_of f (length order) turn) 0) (turn + 1) items)
             (sym (ap (λ (set : _). numbers_where set.bound (is_set set.words.items)) w.found-is))
-            (passed_over c.args.reader.snapshot.now.release c.parents_first-order.ensures.order.rows order c.concept_count.ensures.rising c.parents_first-order.ensures.order.within
-            c.parents_first-order.ensures.order.rows_are c.parents_first-order.ensures.order.first
-            count c.args.reader.indexes.now.hierarchy c.requires.over.hierarchy_is c.requires.over.count_is f c.requires.whole items
-            (g.met.S.ConceptSet.rising c.args.set.now) turn found
+            (passed_over release order c.concept_count.ensures.rising c.parents_first-order.ensures.order count
+            hierarchy
+            c.requires.over f c.requires.whole items (g.met.S.ConceptSet.rising c.args.set.now) turn found
             (asked ∙ w.if-is_in_first_alone.false) c.loop-turn.invariant.passed);
         bound = ap (λ (set : _). set.bound) w.found-is ∙ c.loop-turn.invariant.bound;
       }
@@ -115,50 +131,58 @@ loop-turn-preserved g c =
 
 pub returns-then-closed-clause-joined : goal.returns-then-closed-clause-joined
 returns-then-closed-clause-joined g c =
+    let release = c.args.reader.snapshot.now.release in
+    let order = c.parents_first-order.result.now in
+    let count = g.S.ConceptSet.bound_of c.args.set.now in
+    let hierarchy = c.args.reader.indexes.now.hierarchy in
+    let f = c.args.family in
     let items = g.S.ConceptSet.items_of c.args.set.now in
     let found : List ℕ = numbers_where c.in_ok-found.found.bound (is_set c.in_ok-found.found.words.items) in
-    all_among c.args.reader.snapshot.now.release c.parents_first-order.ensures.order.rows c.parents_first-order.result.now c.concept_count.ensures.rising c.parents_first-order.ensures.order.within
-    c.parents_first-order.ensures.order.rows_are c.parents_first-order.ensures.order.first
-    (g.S.ConceptSet.bound_of c.args.set.now) c.args.reader.indexes.now.hierarchy c.requires.over.hierarchy_is c.requires.over.count_is c.args.family c.requires.whole
-    items (g.met.S.ConceptSet.rising c.args.set.now) found
-    (subst (λ (own : List ℕ). AreJoined (lists_of c.args.reader.indexes.now.hierarchy (near_of c.args.family)) own found) c.requires.concepts
+    all_among release order c.concept_count.ensures.rising c.parents_first-order.ensures.order count hierarchy
+    c.requires.over f c.requires.whole items (g.met.S.ConceptSet.rising c.args.set.now) found
+    (subst (λ (own : List ℕ). AreJoined (lists_of hierarchy (near_of f)) own found) c.requires.concepts
     c.in_ok-found.ensures.joined)
     (sym c.in_ok-closed.ensures ∙ c.if-closed.true)
 
 pub returns-clause-joined : goal.returns-clause-joined
 returns-clause-joined g c =
-    passed_all c.args.reader.snapshot.now.release c.parents_first-order.ensures.order.rows c.parents_first-order.result.now c.concept_count.ensures.rising c.parents_first-order.ensures.order.within
-    c.parents_first-order.ensures.order.rows_are c.parents_first-order.ensures.order.first
-    (g.S.ConceptSet.bound_of c.args.set.now) c.args.reader.indexes.now.hierarchy c.requires.over.hierarchy_is c.requires.over.count_is c.args.family c.requires.whole
-    (g.S.ConceptSet.items_of c.args.set.now) (g.met.S.ConceptSet.rising c.args.set.now)
-    c.loop-turn.turn (numbers_where c.loop-turn.found.bound (is_set c.loop-turn.found.words.items)) (omega arith) c.loop-turn.invariant.passed
+    let release = c.args.reader.snapshot.now.release in
+    let order = c.parents_first-order.result.now in
+    let count = g.S.ConceptSet.bound_of c.args.set.now in
+    let hierarchy = c.args.reader.indexes.now.hierarchy in
+    let f = c.args.family in
+    let items = g.S.ConceptSet.items_of c.args.set.now in
+    passed_all release order c.concept_count.ensures.rising c.parents_first-order.ensures.order count hierarchy
+    c.requires.over f c.requires.whole items (g.met.S.ConceptSet.rising c.args.set.now) c.loop-turn.turn
+    (numbers_where c.loop-turn.found.bound (is_set c.loop-turn.found.words.items)) (omega arith)
+    c.loop-turn.invariant.passed
 
 pub returns-in_err-found-clause-counted : goal.returns-in_err-found-clause-counted
 returns-in_err-found-clause-counted g c =
-    pass_counted c.args.reader.snapshot.now.release c.args.reader.indexes.now.hierarchy (g.S.ConceptSet.bound_of c.args.set.now)
-    c.parents_first-order.result.now c.requires.over.count_is c.parents_first-order.ensures.order
-    c.near_lists-near.ensures.counted c.parents_first-order.ensures.counted
+    pass_counted c.args.reader.snapshot.now.release c.args.reader.indexes.now.hierarchy
+    (g.S.ConceptSet.bound_of c.args.set.now) c.parents_first-order.result.now c.requires.over.count_is
+    c.parents_first-order.ensures.order c.near_lists-near.ensures.counted c.parents_first-order.ensures.counted
 
 pub returns-in_err-closed-clause-counted : goal.returns-in_err-closed-clause-counted
 returns-in_err-closed-clause-counted g c =
-    pass_counted c.args.reader.snapshot.now.release c.args.reader.indexes.now.hierarchy (g.S.ConceptSet.bound_of c.args.set.now)
-    c.parents_first-order.result.now c.requires.over.count_is c.parents_first-order.ensures.order
-    c.near_lists-near.ensures.counted c.parents_first-order.ensures.counted
+    pass_counted c.args.reader.snapshot.now.release c.args.reader.indexes.now.hierarchy
+    (g.S.ConceptSet.bound_of c.args.set.now) c.parents_first-order.result.now c.requires.over.count_is
+    c.parents_first-order.ensures.order c.near_lists-near.ensures.counted c.parents_first-order.ensures.counted
 
 pub returns-then-closed-clause-counted : goal.returns-then-closed-clause-counted
 returns-then-closed-clause-counted g c =
-    pass_counted c.args.reader.snapshot.now.release c.args.reader.indexes.now.hierarchy (g.S.ConceptSet.bound_of c.args.set.now)
-    c.parents_first-order.result.now c.requires.over.count_is c.parents_first-order.ensures.order
-    c.near_lists-near.ensures.counted c.parents_first-order.ensures.counted
+    pass_counted c.args.reader.snapshot.now.release c.args.reader.indexes.now.hierarchy
+    (g.S.ConceptSet.bound_of c.args.set.now) c.parents_first-order.result.now c.requires.over.count_is
+    c.parents_first-order.ensures.order c.near_lists-near.ensures.counted c.parents_first-order.ensures.counted
 
 pub returns-in_err-add_all-clause-counted : goal.returns-in_err-add_all-clause-counted
 returns-in_err-add_all-clause-counted g c =
-    pass_counted c.args.reader.snapshot.now.release c.args.reader.indexes.now.hierarchy (g.S.ConceptSet.bound_of c.args.set.now)
-    c.parents_first-order.result.now c.requires.over.count_is c.parents_first-order.ensures.order
-    c.near_lists-near.ensures.counted c.parents_first-order.ensures.counted
+    pass_counted c.args.reader.snapshot.now.release c.args.reader.indexes.now.hierarchy
+    (g.S.ConceptSet.bound_of c.args.set.now) c.parents_first-order.result.now c.requires.over.count_is
+    c.parents_first-order.ensures.order c.near_lists-near.ensures.counted c.parents_first-order.ensures.counted
 
 pub returns-clause-counted : goal.returns-clause-counted
 returns-clause-counted g c =
-    pass_counted c.args.reader.snapshot.now.release c.args.reader.indexes.now.hierarchy (g.S.ConceptSet.bound_of c.args.set.now)
-    c.parents_first-order.result.now c.requires.over.count_is c.parents_first-order.ensures.order
-    c.near_lists-near.ensures.counted c.parents_first-order.ensures.counted
+    pass_counted c.args.reader.snapshot.now.release c.args.reader.indexes.now.hierarchy
+    (g.S.ConceptSet.bound_of c.args.set.now) c.parents_first-order.result.now c.requires.over.count_is
+    c.parents_first-order.ensures.order c.near_lists-near.ensures.counted c.parents_first-order.ensures.counted
