@@ -1,9 +1,11 @@
 //! The text of a plan: how it is executed, and how many items each node of it visits at most.
 ghost use Rattle.std.specs.Prelude.{◌≡◌, ◌++◌, ◌∷◌, IfOk, OnErr, OnOk, codes, drop, length};
-ghost use Rattle.set_algebra.specs.Physical.{physical_units_of, physical_units_list_of, physical_of, physicals_of, physical_test_of};
+ghost use Rattle.set_algebra.specs.Physical.{physical_units_of, physical_units_list_of, physical_of, physicals_of};
+ghost use Rattle.set_algebra.specs.Physical.{physical_test_of};
 ghost use Rattle.answer_printer.specs.AnswerText.{number_line};
 ghost use Rattle.answer_printer.specs.inside.PlanLines.{before_bound, below, below_group, first_bound, with_bounds};
-ghost use Rattle.answer_printer.specs.PlanText.{bound_line, group_outline, group_words, groups_outline, node_words, outline, plan_text, plans_outline, test_outline};
+ghost use Rattle.answer_printer.specs.PlanText.{bound_line, group_outline, group_words, groups_outline, node_words};
+ghost use Rattle.answer_printer.specs.PlanText.{outline, plan_text, plans_outline, test_outline};
 
 use crate::numbers::append_number;
 use crate::plan_words::{write_node, write_unit_node};
@@ -12,17 +14,18 @@ use postings::Indexes;
 use set_algebra::{ConceptPlan, UnitPlan, ValueTest};
 use std::alloc::{AllocError, Global};
 
-/// Appends the text of a plan over the indexes of a release: `PLAN` and how many items it visits at most, then a line for each node,
-/// a node before its children, which have one space more before them. A line says what the node is, of a leaf also from which rows it
-/// is answered, and how many items the node visits at most beside its children. Every line ends in LF. `AllocError` is answered where
-/// memory is refused; `output` is unchanged then.
+/// Appends the text of a plan over the indexes of a release: `PLAN` and how many items it visits at most, then a line
+/// for each node, a node before its children, which have one space more before them. A line says what the node is, of a
+/// leaf also from which rows it is answered, and how many items the node visits at most beside its children. Every line
+/// ends in LF. `AllocError` is answered where memory is refused; `output` is unchanged then.
 pub fn print_plan(
     alloc: Global,
     physical: &PhysicalPlan,
     indexes: &Indexes,
     output: &mut Vec<u8>,
 ) -> Result<(), AllocError>
-    ensures ok { OnOk result (output.new.items ≡ output.old.items ++ plan_text indexes.now (physical_of physical.now.plan)) }
+    ensures ok { OnOk result (output.new.items ≡ output.old.items ++ plan_text indexes.now
+        (physical_of physical.now.plan)) }
     ensures err { OnErr result (output.new.items ≡ output.old.items) }
 {
     let text = plan_bytes(alloc, physical, indexes)?;
@@ -44,7 +47,8 @@ fn plan_bytes(
     Ok(text)
 }
 
-// Adds the lines of a plan of concepts behind some spaces, where its bounds stand at the front of a list. Answers those behind them.
+// Adds the lines of a plan of concepts behind some spaces, where its bounds stand at the front of a list. Answers those
+// behind them.
 #[cycle(write)]
 fn write_plan<'a>(
     alloc: Global,
@@ -53,8 +57,10 @@ fn write_plan<'a>(
     bounds: &'a [u64],
     text: &mut Vec<u8>,
 ) -> Result<&'a [u64], AllocError>
-    ensures text { OnOk result (text.new.items ≡ text.old.items ++ with_bounds (outline before_bound spaces.now (physical_of plan.now)) bounds.now) }
-    ensures bounds { IfOk result (λ left. left.now ≡ drop (length (outline before_bound spaces.now (physical_of plan.now))) bounds.now) }
+    ensures text { OnOk result (text.new.items ≡ text.old.items ++ with_bounds
+        (outline before_bound spaces.now (physical_of plan.now)) bounds.now) }
+    ensures bounds { IfOk result (λ left. left.now
+        ≡ drop (length (outline before_bound spaces.now (physical_of plan.now))) bounds.now) }
 {
     let behind = write_line(plan, spaces, bounds, text)?;
     let deeper = one_space_more(alloc, spaces)?;
@@ -71,8 +77,10 @@ fn write_below<'a>(
     bounds: &'a [u64],
     text: &mut Vec<u8>,
 ) -> Result<&'a [u64], AllocError>
-    ensures text { OnOk result (text.new.items ≡ text.old.items ++ with_bounds (below before_bound spaces.now (physical_of plan.now)) bounds.now) }
-    ensures bounds { IfOk result (λ left. left.now ≡ drop (length (below before_bound spaces.now (physical_of plan.now))) bounds.now) }
+    ensures text { OnOk result (text.new.items ≡ text.old.items ++ with_bounds
+        (below before_bound spaces.now (physical_of plan.now)) bounds.now) }
+    ensures bounds { IfOk result (λ left. left.now
+        ≡ drop (length (below before_bound spaces.now (physical_of plan.now))) bounds.now) }
 {
     match plan {
         ConceptPlan::Empty | ConceptPlan::All | ConceptPlan::One(_) => Ok(bounds),
@@ -107,8 +115,10 @@ fn write_units<'a>(
     bounds: &'a [u64],
     text: &mut Vec<u8>,
 ) -> Result<&'a [u64], AllocError>
-    ensures text { OnOk result (text.new.items ≡ text.old.items ++ with_bounds (group_outline before_bound spaces.now (physical_units_of plan.now)) bounds.now) }
-    ensures bounds { IfOk result (λ left. left.now ≡ drop (length (group_outline before_bound spaces.now (physical_units_of plan.now))) bounds.now) }
+    ensures text { OnOk result (text.new.items ≡ text.old.items ++ with_bounds
+        (group_outline before_bound spaces.now (physical_units_of plan.now)) bounds.now) }
+    ensures bounds { IfOk result (λ left. left.now
+        ≡ drop (length (group_outline before_bound spaces.now (physical_units_of plan.now))) bounds.now) }
 {
     let behind = write_unit_line(plan, spaces, bounds, text)?;
     let deeper = one_space_more(alloc, spaces)?;
@@ -125,8 +135,10 @@ fn write_below_unit<'a>(
     bounds: &'a [u64],
     text: &mut Vec<u8>,
 ) -> Result<&'a [u64], AllocError>
-    ensures text { OnOk result (text.new.items ≡ text.old.items ++ with_bounds (below_group before_bound spaces.now (physical_units_of plan.now)) bounds.now) }
-    ensures bounds { IfOk result (λ left. left.now ≡ drop (length (below_group before_bound spaces.now (physical_units_of plan.now))) bounds.now) }
+    ensures text { OnOk result (text.new.items ≡ text.old.items ++ with_bounds
+        (below_group before_bound spaces.now (physical_units_of plan.now)) bounds.now) }
+    ensures bounds { IfOk result (λ left. left.now
+        ≡ drop (length (below_group before_bound spaces.now (physical_units_of plan.now))) bounds.now) }
 {
     match plan {
         UnitPlan::Nothing | UnitPlan::Every => Ok(bounds),
@@ -153,8 +165,10 @@ fn write_test<'a>(
     bounds: &'a [u64],
     text: &mut Vec<u8>,
 ) -> Result<&'a [u64], AllocError>
-    ensures text { OnOk result (text.new.items ≡ text.old.items ++ with_bounds (test_outline before_bound spaces.now (physical_test_of test.now)) bounds.now) }
-    ensures bounds { IfOk result (λ left. left.now ≡ drop (length (test_outline before_bound spaces.now (physical_test_of test.now))) bounds.now) }
+    ensures text { OnOk result (text.new.items ≡ text.old.items ++ with_bounds
+        (test_outline before_bound spaces.now (physical_test_of test.now)) bounds.now) }
+    ensures bounds { IfOk result (λ left. left.now
+        ≡ drop (length (test_outline before_bound spaces.now (physical_test_of test.now))) bounds.now) }
 {
     match test {
         ValueTest::Within(operand) | ValueTest::Outside(operand) => {
@@ -173,8 +187,10 @@ fn write_parts<'a>(
     bounds: &'a [u64],
     text: &mut Vec<u8>,
 ) -> Result<&'a [u64], AllocError>
-    ensures text { OnOk result (text.new.items ≡ text.old.items ++ with_bounds (plans_outline before_bound spaces.now (physicals_of parts.now)) bounds.now) }
-    ensures bounds { IfOk result (λ left. left.now ≡ drop (length (plans_outline before_bound spaces.now (physicals_of parts.now))) bounds.now) }
+    ensures text { OnOk result (text.new.items ≡ text.old.items ++ with_bounds
+        (plans_outline before_bound spaces.now (physicals_of parts.now)) bounds.now) }
+    ensures bounds { IfOk result (λ left. left.now
+        ≡ drop (length (plans_outline before_bound spaces.now (physicals_of parts.now))) bounds.now) }
 {
     let mut left = bounds;
     for place in 0..parts.len() {
@@ -192,8 +208,10 @@ fn write_unit_parts<'a>(
     bounds: &'a [u64],
     text: &mut Vec<u8>,
 ) -> Result<&'a [u64], AllocError>
-    ensures text { OnOk result (text.new.items ≡ text.old.items ++ with_bounds (groups_outline before_bound spaces.now (physical_units_list_of parts.now)) bounds.now) }
-    ensures bounds { IfOk result (λ left. left.now ≡ drop (length (groups_outline before_bound spaces.now (physical_units_list_of parts.now))) bounds.now) }
+    ensures text { OnOk result (text.new.items ≡ text.old.items ++ with_bounds (groups_outline before_bound spaces.now
+        (physical_units_list_of parts.now)) bounds.now) }
+    ensures bounds { IfOk result (λ left. left.now
+        ≡ drop (length (groups_outline before_bound spaces.now (physical_units_list_of parts.now))) bounds.now) }
 {
     let mut left = bounds;
     for place in 0..parts.len() {
@@ -209,7 +227,8 @@ fn write_line<'a>(
     bounds: &'a [u64],
     text: &mut Vec<u8>,
 ) -> Result<&'a [u64], AllocError>
-    ensures text { OnOk result (text.new.items ≡ text.old.items ++ bound_line (spaces.now ++ node_words (physical_of plan.now)) (first_bound bounds.now)) }
+    ensures text { OnOk result (text.new.items ≡ text.old.items ++ bound_line
+        (spaces.now ++ node_words (physical_of plan.now)) (first_bound bounds.now)) }
     ensures behind { IfOk result (λ behind. behind.now ≡ drop 1 bounds.now) }
 {
     text.extend_from_slice(spaces)?;
@@ -225,7 +244,8 @@ fn write_unit_line<'a>(
     bounds: &'a [u64],
     text: &mut Vec<u8>,
 ) -> Result<&'a [u64], AllocError>
-    ensures text { OnOk result (text.new.items ≡ text.old.items ++ bound_line (spaces.now ++ group_words (physical_units_of plan.now)) (first_bound bounds.now)) }
+    ensures text { OnOk result (text.new.items ≡ text.old.items ++ bound_line
+        (spaces.now ++ group_words (physical_units_of plan.now)) (first_bound bounds.now)) }
     ensures behind { IfOk result (λ behind. behind.now ≡ drop 1 bounds.now) }
 {
     text.extend_from_slice(spaces)?;
@@ -236,7 +256,8 @@ fn write_unit_line<'a>(
 
 // Ends a line with the first of some bounds, and gives those behind it.
 fn write_bound<'a>(bounds: &'a [u64], text: &mut Vec<u8>) -> Result<&'a [u64], AllocError>
-    ensures text { OnOk result (text.new.items ≡ text.old.items ++ (codes " " ++ number_line (first_bound bounds.now))) }
+    ensures text { OnOk result (text.new.items ≡ text.old.items ++
+        (codes " " ++ number_line (first_bound bounds.now))) }
     ensures behind { IfOk result (λ behind. behind.now ≡ drop 1 bounds.now) }
 {
     text.push(b' ')?;
