@@ -32,6 +32,11 @@ counted_both one other room = record {
   within = omega (arith, one.within, other.within, room);
 }
 
+-- two calls one after the other count no more than both may
+pub counted_then : {first second : ℕ} {early between late : Counter} → CountsWithin first early between
+    → CountsWithin second between late → CountsWithin (first + second) early late
+counted_then one other = counted_both one other (omega arith)
+
 pub counted_thrice : {first second third all : ℕ} {early one two late : Counter} → CountsWithin first early one
     → CountsWithin second one two → CountsWithin third two late → (first + second) + third ≤ all
     → CountsWithin all early late

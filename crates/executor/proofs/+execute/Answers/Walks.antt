@@ -9,6 +9,7 @@ use Rattle.executor.specs.inside.Logical.{logical_of}
 use Rattle.number_lists.specs.Members.{has}
 use Rattle.walks.specs.Led.{led_to}
 use Rattle.reading.specs.Counted.{full}
+use Rattle.reading.proofs.CountLemmas.{counted_full, counted_then}
 use Rattle.std.specs.Bool.{OnTrue}
 use Rattle.walks.specs.Families.{all_items_of, family_of}
 use Rattle.walks.specs.Reads.{AreAsked, asked_items}
@@ -48,79 +49,66 @@ walk_to_few-returns-clause-found g t c =
       );
     }
 
--- what is enough for the few, how much there is of that, and the few that are asked, are each a third of all lists at the most
-pub walk_to_few-returns-clause-counted : goal.walk_plans::walk_to_few-returns-clause-counted
+-- the lists that are enough for the few, what is counted to see how much there is of these, and the lists by which the
+-- few are asked are each at most a third of all lists
+pub walk_to_few-returns-clause-counted :
+    goal.walk_plans::walk_to_few-returns-clause-counted
 walk_to_few-returns-clause-counted g t c =
     let indexed = c.args.reader.indexes.now in
     let plan = physical_of c.args.operand.now in
-    record {
-      grows = omega (arith, c.enough_for.ensures.counted.grows, c.extent_of.ensures.counted.grows, c.execute_within.ensures.counted.grows, c.led_among.ensures.counted.grows);
-      within = omega (
-        arith,
-        c.requires.room,
-        c.enough_for.ensures.counted.within,
-        c.in_ok-enough.ensures.few,
-        c.extent_of.ensures.counted.within,
-        c.execute_within.ensures.counted.within,
-        c.led_among.ensures.counted.within,
-        c.led_among.new.visits.fits,
-        several_bound indexed c.args.operator (one_of plan) (size indexed plan) c.requires.several,
-      );
-    }
+    counted_full
+    (counted_then (counted_then (counted_then c.enough_for.ensures.counted c.extent_of.ensures.counted)
+    c.execute_within.ensures.counted) c.led_among.ensures.counted)
+    (omega (
+      arith,
+      c.requires.room,
+      c.in_ok-enough.ensures.few,
+      several_bound indexed c.args.operator (one_of plan) (size indexed plan) c.requires.several,
+    ))
 
-pub walk_to_few-returns-in_err-found-clause-counted : goal.walk_plans::walk_to_few-returns-in_err-found-clause-counted
+pub walk_to_few-returns-in_err-found-clause-counted :
+    goal.walk_plans::walk_to_few-returns-in_err-found-clause-counted
 walk_to_few-returns-in_err-found-clause-counted g t c =
     let indexed = c.args.reader.indexes.now in
     let plan = physical_of c.args.operand.now in
-    record {
-      grows = omega (arith, c.enough_for.ensures.counted.grows, c.extent_of.ensures.counted.grows, c.execute_within.ensures.counted.grows, c.led_among.ensures.counted.grows);
-      within = omega (
-        arith,
-        c.requires.room,
-        c.enough_for.ensures.counted.within,
-        c.in_ok-enough.ensures.few,
-        c.extent_of.ensures.counted.within,
-        c.execute_within.ensures.counted.within,
-        c.led_among.ensures.counted.within,
-        c.led_among.new.visits.fits,
-        several_bound indexed c.args.operator (one_of plan) (size indexed plan) c.requires.several,
-      );
-    }
+    counted_full
+    (counted_then (counted_then (counted_then c.enough_for.ensures.counted c.extent_of.ensures.counted)
+    c.execute_within.ensures.counted) c.led_among.ensures.counted)
+    (omega (
+      arith,
+      c.requires.room,
+      c.in_ok-enough.ensures.few,
+      several_bound indexed c.args.operator (one_of plan) (size indexed plan) c.requires.several,
+    ))
 
-pub walk_to_few-returns-in_err-from-clause-counted : goal.walk_plans::walk_to_few-returns-in_err-from-clause-counted
+pub walk_to_few-returns-in_err-from-clause-counted :
+    goal.walk_plans::walk_to_few-returns-in_err-from-clause-counted
 walk_to_few-returns-in_err-from-clause-counted g t c =
     let indexed = c.args.reader.indexes.now in
     let plan = physical_of c.args.operand.now in
-    record {
-      grows = omega (arith, c.enough_for.ensures.counted.grows, c.extent_of.ensures.counted.grows, c.execute_within.ensures.counted.grows);
-      within = omega (
-        arith,
-        c.requires.room,
-        c.enough_for.ensures.counted.within,
-        c.in_ok-enough.ensures.few,
-        c.extent_of.ensures.counted.within,
-        c.execute_within.ensures.counted.within,
-        c.execute_within.new.visits.fits,
-        several_bound indexed c.args.operator (one_of plan) (size indexed plan) c.requires.several,
-      );
-    }
+    counted_full
+    (counted_then (counted_then c.enough_for.ensures.counted c.extent_of.ensures.counted)
+    c.execute_within.ensures.counted)
+    (omega (
+      arith,
+      c.requires.room,
+      c.in_ok-enough.ensures.few,
+      several_bound indexed c.args.operator (one_of plan) (size indexed plan) c.requires.several,
+    ))
 
-pub walk_to_few-returns-in_err-extent-clause-counted : goal.walk_plans::walk_to_few-returns-in_err-extent-clause-counted
+pub walk_to_few-returns-in_err-extent-clause-counted :
+    goal.walk_plans::walk_to_few-returns-in_err-extent-clause-counted
 walk_to_few-returns-in_err-extent-clause-counted g t c =
     let indexed = c.args.reader.indexes.now in
     let plan = physical_of c.args.operand.now in
-    record {
-      grows = omega (arith, c.enough_for.ensures.counted.grows, c.extent_of.ensures.counted.grows);
-      within = omega (
-        arith,
-        c.requires.room,
-        c.enough_for.ensures.counted.within,
-        c.in_ok-enough.ensures.few,
-        c.extent_of.ensures.counted.within,
-        c.extent_of.new.visits.fits,
-        several_bound indexed c.args.operator (one_of plan) (size indexed plan) c.requires.several,
-      );
-    }
+    counted_full
+    (counted_then c.enough_for.ensures.counted c.extent_of.ensures.counted)
+    (omega (
+      arith,
+      c.requires.room,
+      c.in_ok-enough.ensures.few,
+      several_bound indexed c.args.operator (one_of plan) (size indexed plan) c.requires.several,
+    ))
 
 pub walk_from-walk_to_few-requires : goal.walk_plans::walk_from-walk_to_few-requires
 walk_from-walk_to_few-requires g t c =
