@@ -30,8 +30,9 @@ length-rising [] = omega arith
 length-rising (x ∷ xs) = omega (arith, length-put x (rising xs), length-rising xs)
 
 -- the contents that numbered concepts and rows stand for
-abbrev contents_by_number : List ℕ → ℕ → List ℕ → List (ℕ × ℕ) → List Attribute → List (ℕ × ℕ) → List Name → ℕ → Contents
-contents_by_number language files concepts isa attributes members names passed = record {
+abbrev contents_by_number : List ℕ → ℕ → List ℕ → List ℕ → List (ℕ × ℕ) → List Attribute → List (ℕ × ℕ) → List Name → ℕ
+    → Contents
+contents_by_number language files concepts inactive isa attributes members names passed = record {
   release = record {
     concepts = concepts;
     isa = map (row_of_numbers concepts) isa;
@@ -39,22 +40,25 @@ contents_by_number language files concepts isa attributes members names passed =
     members = map (row_of_numbers concepts) members;
     names = names;
   };
+  inactive = inactive;
   language = language;
   files = files;
   passed = passed;
 }
 
 -- where no concept reaches itself, the snapshot is of the contents made of what was listed
-pub finished-Ok : (language : List ℕ) (files count : ℕ) (listed : ReleaseLists) (concepts : List ℕ)
+pub finished-Ok : (language : List ℕ) (files count : ℕ) (listed : ReleaseLists) (concepts inactive : List ℕ)
     (isa : List (ℕ × ℕ)) (attributes : List Attribute) (members : List (ℕ × ℕ)) (names : List Name) (passed : ℕ)
-    → concepts ≡ rising listed.active_concepts → isa ≡ filter_map (numbered_row concepts) listed.isa_ends
+    → concepts ≡ rising listed.active_concepts → inactive ≡ rising listed.inactive_concepts
+    → isa ≡ filter_map (numbered_row concepts) listed.isa_ends
     → attributes ≡ attributes_among concepts listed.attributes → members ≡ filter_map (numbered_row concepts) listed.member_ends
     → names ≡ names_among concepts listed.names
     → first_cyclic concepts (rows_among concepts listed.isa_ends) ≡ None
     → passed ≡ count - (length concepts + length isa + length attributes + length members + length names)
-    → finished language files count listed ≡ Ok (contents_by_number language files concepts isa attributes members names passed)
-finished-Ok language files count listed concepts isa attributes members names passed rises isa_is attributes_are
-    members_are named acyclic counted = grind (arith, rows_of_numbers, length-map)
+    → finished language files count listed
+    ≡ Ok (contents_by_number language files concepts inactive isa attributes members names passed)
+finished-Ok language files count listed concepts inactive isa attributes members names passed rises inactive_rise isa_is
+    attributes_are members_are named acyclic counted = grind (arith, rows_of_numbers, length-map)
 
 -- where one does, the least is the fault
 pub finished-Err : (language : List ℕ) (files count : ℕ) (listed : ReleaseLists) (concepts : List ℕ) (fault : LoadFault)

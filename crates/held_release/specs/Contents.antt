@@ -6,10 +6,11 @@ use Rattle.rf2_rows.specs.Release.{Release}
 use Rattle.row_lists.specs.declared.fault.LoadFault.{LoadFault}
 use Rattle.row_lists.specs.declared.fault.LoadFault.TheVariants.{Cycle, Memory}
 
--- what a snapshot is of: a release, the language whose names come first, how many files have a kind, and
--- how many rows are in none of the release's lists
+-- what a snapshot is of: a release, the identifiers of concepts whose row that counts is inactive, in rising order, the
+-- language whose names come first, how many files have a kind, and how many rows are in none of the release's lists
 pub record Contents : Type 0 where
   pub release : Release
+  pub inactive : List ℕ
   pub language : List ℕ
   pub files : ℕ
   pub passed : ℕ

@@ -39,6 +39,7 @@ release_from listed =
 abbrev pub contents_from : List ℕ → ℕ → ℕ → ReleaseLists → Contents
 contents_from language files count listed = record {
   release = release_from listed;
+  inactive = rising listed.inactive_concepts;
   language = language;
   files = files;
   passed = count - listed_count (release_from listed);

@@ -44,12 +44,14 @@ pub fn finish(
     let ReadRows { lists, count } = read;
     let RowLists {
         concepts,
+        inactive_concepts,
         names,
         isa_ends,
         attributes,
         member_ends,
         ..
     } = lists;
+    let inactive = rising(inactive_concepts);
     let concepts = Concepts::new(alloc, rising(concepts))?;
     match number_hierarchy(alloc, &concepts, isa_ends.as_slice()) {
         Ok(hierarchy) => {
@@ -76,6 +78,7 @@ pub fn finish(
                 + lines.name_count() as u64;
             Ok(Snapshot {
                 concepts,
+                inactive,
                 isa,
                 order,
                 attributes,

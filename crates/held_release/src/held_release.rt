@@ -7,6 +7,7 @@ ghost use Rattle.held_release.specs.ValuesInForce.{AreValuesInForce, is_value_am
 ghost use Rattle.held_release.specs.Line.{concept_line};
 ghost use Rattle.held_release.specs.Name.{name_of, text_lent};
 ghost use Rattle.hierarchy.specs.Hierarchy.{IsWithin};
+ghost use Rattle.number_lists.specs.Members.{has};
 ghost use Rattle.held_release.specs.Numbering.{concept_number, row_of_numbers};
 ghost use Rattle.rf2_rows.specs.Rows.{value_lent};
 ghost use Rattle.hierarchy.specs.ParentsFirst.{IsParentsFirst};
@@ -21,12 +22,14 @@ use sctid::SctId;
 use std::marker::Model;
 
 /// The rows in force of a release. Its concepts have the numbers from 0, in the rising order of
-/// their identifiers. Contracts see the release, the asked language, and the counts of files and of
-/// rows that are passed over.
+/// their identifiers. Contracts see the release, the inactive concepts, the asked language, and the counts
+/// of files and of rows that are passed over.
 #[derive(Drop)]
 pub struct Snapshot {
     // the concepts in force
     pub(crate) concepts: Concepts,
+    // the concepts whose row that counts is inactive, in rising order
+    pub(crate) inactive: Vec<SctId>,
     // child and parent of each is-a row, in the order of the rows
     pub(crate) isa: Vec<(u32, u32)>,
     // the numbers of the concepts in an order in which parents come first
@@ -41,7 +44,7 @@ pub struct Snapshot {
     pub(crate) language: String,
     // how many files have a kind
     pub(crate) files: u64,
-    // how many rows are in none of the lists
+    // how many rows are in none of the release's lists
     pub(crate) passed: u64,
     // the seed of the hashes over what the rows hold
     pub(crate) seed: Seed,
@@ -79,6 +82,14 @@ impl Snapshot {
         ensures { result ≡ concept_number self.now.release.concepts id }
     {
         self.concepts.index_of(id)
+    }
+
+    /// Whether an identifier is that of a concept whose row that counts is inactive (Release File Specification,
+    /// "Concept file", active).
+    pub fn is_inactive(&self, id: u64) -> bool
+        ensures { result ≡ has self.now.inactive id }
+    {
+        is_among(id, self.inactive.as_slice())
     }
 
     /// The identifier of a concept by its number, which is below `concept_count`.
@@ -202,6 +213,20 @@ impl Snapshot {
             passed: self.passed,
         }
     }
+}
+
+// Whether an identifier is that of a concept in a rising list.
+fn is_among(id: u64, concepts: &[SctId]) -> bool
+    requires { IsStrictlyIncreasing concepts.now }
+    ensures { result ≡ has concepts.now id }
+{
+    let place = concepts.binary_search_by_key(
+        &id,
+        |concept: &SctId| -> u64
+            ensures { result ≡ concept.now }
+        { concept.number() },
+    );
+    place.is_ok()
 }
 
 // A value with a concept by its identifier in place of its number.

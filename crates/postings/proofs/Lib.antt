@@ -21,6 +21,7 @@ pub mod KeyLemmas
 pub mod KeyedPlacesLemmas
 pub mod LookUpLemmas
 pub mod MarkLemmas
+pub mod MemberLists
 pub mod NumberLemmas
 pub mod OnceLemmas
 pub mod PairKeyLemmas

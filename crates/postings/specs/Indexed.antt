@@ -1,7 +1,9 @@
 -- What the indexes of a release hold. Concepts go by their numbers: their places, from 0, in the rising list of those in force.
 -- Attribute rows go by theirs: by source, and those of one source in the order of the files and their lines.
-use Rattle.std.specs.Prelude.{ℕ, ℤ, ◌≡◌, ◌==◌, ◌++◌, List, [], Option, None, Some, length, map, nat_eq, slice_index, slice_index_or}
+use Rattle.std.specs.Prelude.{Bool, ℕ, ℤ, ◌≡◌, ◌==◌, ◌++◌, List, [], Option, None, Some, length, map, nat_eq, not, slice_index, slice_index_or}
 use Rattle.number_lists.specs.Distinct.{distinct}
+use Rattle.number_lists.specs.KeyedLists.{list_of}
+use Rattle.number_lists.specs.Rising.{numbers_where}
 use Rattle.rf2_rows.specs.Pairs.{value_eq}
 use Rattle.rf2_rows.specs.Release.{Attribute, Release, Value, concept_value, number_value, text_value}
 use Rattle.held_release.specs.AttributesBySource.{attributes_by_source}
@@ -33,6 +35,18 @@ pub record IsIndexOf (indexed : Indexed) (release : Release) : Type 0 where
   pub rows : indexed.rows ≡ attributes_by_source release
   pub members : indexed.members ≡ members_of release
   pub values : AreTablesOf (attributes_by_source release) indexed.decimals indexed.texts
+
+-- a concept has members: its list of them is not empty
+abbrev pub has_members : List (List ℕ) → ℕ → Bool
+has_members members concept = not (length (list_of members concept) == 0)
+
+-- the concepts that have members, by their numbers in rising order
+abbrev pub with_members : List (List ℕ) → List ℕ
+with_members members = numbers_where (length members) (has_members members)
+
+-- the concepts that are the reference set of some member row, by their numbers in rising order
+abbrev pub reference_sets_of : Indexed → List ℕ
+reference_sets_of indexed = with_members indexed.members
 
 -- each concept below a count has a list in each of the four families of a hierarchy
 pub record HasListsFor (count : ℕ) (hierarchy : Hierarchy) : Type 0 where

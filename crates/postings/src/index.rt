@@ -10,7 +10,7 @@ ghost use Rattle.held_release.specs.Numbering.{concept_number};
 ghost use Rattle.postings.specs.Entries.{entries_of};
 ghost use Rattle.postings.specs.Groups.{group_of, groups_before, groups_in, rows_of_group};
 ghost use Rattle.postings.specs.inside.RowIndexes.{AreRowIndexes};
-ghost use Rattle.postings.specs.Indexed.{HasListsFor, IsIndexOf, concept_of_type, rows_by_source, rows_by_type, rows_by_value, types_of, value_at, values_of};
+ghost use Rattle.postings.specs.Indexed.{HasListsFor, IsIndexOf, concept_of_type, reference_sets_of, rows_by_source, rows_by_type, rows_by_value, types_of, value_at, values_of, with_members};
 ghost use Rattle.postings.specs.RowColumns.{AreRowCells, AreTypeColumns, AreValueColumns};
 ghost use Rattle.postings.specs.Stats.{stats_in, stats_of};
 
@@ -50,6 +50,8 @@ pub struct Indexes {
     hierarchy: AncestorIndex,
     rows: RowIndexes,
     members: KeyedLists,
+    // the concepts that have members, in rising order
+    reference_sets: Vec<u32>,
     // of each type of rows, by its place, the number of the concept that it is
     type_concepts: Vec<Option<u32>>,
 }
@@ -74,6 +76,7 @@ impl Indexes {
         // The hierarchy takes most memory while it is made, so nothing else is held then.
         let hierarchy = AncestorIndex::build(alloc, snapshot)?;
         let members = linked_lists(alloc, snapshot.concept_count(), snapshot.member_rows())?;
+        let reference_sets = with_members(alloc, &members)?;
         let concepts = identifiers(alloc, snapshot)?;
         let (rows, type_concepts) = typed_rows(alloc, snapshot, concepts.as_slice())?;
         Ok(Indexes {
@@ -81,6 +84,7 @@ impl Indexes {
             hierarchy,
             rows,
             members,
+            reference_sets,
             type_concepts,
         })
     }
@@ -132,6 +136,14 @@ impl Indexes {
         ensures { result.now ≡ list_of self.now.members concept }
     {
         self.members.of(concept)
+    }
+
+    /// The concepts that are the reference set of some member row, by their numbers in rising order (Release File
+    /// Specification, "Simple reference set").
+    pub fn reference_sets(&self) -> &[u32]
+        ensures { result.now ≡ reference_sets_of self.now }
+    {
+        self.reference_sets.as_slice()
     }
 
     /// How many attribute rows are in force.
@@ -331,6 +343,21 @@ impl Indexes {
         let place = self.rows.places[n as usize];
         self.rows.by_type.groups[place as usize].number()
     }
+}
+
+// The concepts that have members, in rising order.
+fn with_members(alloc: Global, members: &KeyedLists) -> Result<Vec<u32>, AllocError>
+    requires { length members.now < 2 ^ 32 }
+    ensures { IfOk result (λ concepts. concepts.items ≡ with_members members.now) }
+{
+    let mut concepts = Vec::new(alloc);
+    for concept in 0..members.len() {
+        if members.of(concept).is_empty() {
+            continue;
+        }
+        concepts.push(concept)?;
+    }
+    Ok(concepts)
 }
 
 // The identifiers of the concepts in force.

@@ -12,7 +12,7 @@ use Rattle.row_lists.specs.ListsRead.{unmarked}
 use Rattle.release_rows.specs.ReadRows.{IsReadFrom}
 use Rattle.release_rows.specs.inside.RowStore.{RowStore, nothing_kept}
 use Rattle.release_rows.specs.inside.Keys.{AreSingle, uuids_behind}
-use Rattle.row_lists.specs.ReleaseLists.{ReleaseLists, attribute_listed, isa_listed, listed_of, listing_of, member_listed, name_listed}
+use Rattle.row_lists.specs.ReleaseLists.{ReleaseLists, attribute_listed, inactive_listed, isa_listed, listed_of, listing_of, member_listed, name_listed}
 use Rattle.row_lists.specs.ChosenLists.{in_list, items_chosen, listed_chosen, same_listing}
 use Rattle.release_rows.specs.Limits.{row_total}
 use Rattle.release_rows.specs.inside.FirstPass.{AreChoicesAmong, AreSeen, IsSeen, first_conflict, kept_rows, keys_behind}
@@ -36,6 +36,9 @@ module _ (list : Listing) {X : Type 0} (pick : RowText → Option X) (same : (ro
       → items_chosen (in_list list (map listing_of rows)) choices (filter_map pick rows) ≡ filter_map pick (marked choices rows)
   list-chosen rows choices = grind (arith, chosen-picked, (heres-is rows))
 
+inactive-here : (row : RowText) → same_listing (listing_of row) listing.Inactive ≡ is_some (inactive_listed row)
+inactive-here row = grind (arith, common_steps)
+
 name-here : (row : RowText) → same_listing (listing_of row) listing.Name ≡ is_some (name_listed row)
 name-here row = grind (arith, common_steps)
 
@@ -49,7 +52,7 @@ member-here : (row : RowText) → same_listing (listing_of row) listing.Member �
 member-here row = grind (arith, common_steps)
 
 lists-chosen : (rows : List RowText) (choices : List Bool) → unmarked (listed_chosen (listed_of rows) choices) ≡ unmarked (listed_of (marked choices rows))
-lists-chosen rows choices = grind (arith, attribute-here, isa-here, list-chosen, member-here, name-here)
+lists-chosen rows choices = grind (arith, attribute-here, inactive-here, isa-here, list-chosen, member-here, name-here)
 
 -- ---- what was seen
 keyed-seen : (limits : Limits) (kept : RowStore) (rows : List RowAt) → kept ≡ kept_rows (nothing_kept limits) rows → kept.keyed.keys ≡ keys_behind [] rows

@@ -2,7 +2,7 @@
 use Rattle.std.specs.Prelude.{Bool, true, false, List, [], ◌∷◌, ◌++◌, map, option_to_list}
 use Rattle.rf2_rows.specs.RowTexts.{RowText}
 use Rattle.row_lists.specs.Marked.{marked}
-use Rattle.row_lists.specs.ReleaseLists.{ReleaseLists, attribute_listed, concept_listed, isa_listed, listing_of, member_listed, name_listed}
+use Rattle.row_lists.specs.ReleaseLists.{ReleaseLists, attribute_listed, concept_listed, inactive_listed, isa_listed, listing_of, member_listed, name_listed}
 use Rattle.row_lists.specs.declared.row_lists.Listing.{Listing}
 use Rattle.row_lists.specs.declared.row_lists.Listing.TheVariants as listing
 
@@ -11,6 +11,7 @@ abbrev pub listed_behind : ReleaseLists → RowText → ReleaseLists
 listed_behind listed row = record {
   marks = listed.marks ++ listing_of row ∷ [];
   active_concepts = listed.active_concepts ++ option_to_list (concept_listed row);
+  inactive_concepts = listed.inactive_concepts ++ option_to_list (inactive_listed row);
   names = listed.names ++ option_to_list (name_listed row);
   isa_ends = listed.isa_ends ++ option_to_list (isa_listed row);
   attributes = listed.attributes ++ option_to_list (attribute_listed row);
@@ -29,6 +30,7 @@ same_listing listing.Name listing.Name = true
 same_listing listing.IsA listing.IsA = true
 same_listing listing.Attribute listing.Attribute = true
 same_listing listing.Member listing.Member = true
+same_listing listing.Inactive listing.Inactive = true
 same_listing one other = false
 
 -- of the items of a list those whose rows are chosen, where it is told of each row whether it is in the list and
@@ -44,6 +46,7 @@ in_list list marks = map (λ mark. same_listing mark list) marks
 abbrev pub listed_chosen : ReleaseLists → List Bool → ReleaseLists
 listed_chosen listed choices = record listed {
   active_concepts = items_chosen (in_list listing.Concept listed.marks) choices listed.active_concepts;
+  inactive_concepts = items_chosen (in_list listing.Inactive listed.marks) choices listed.inactive_concepts;
   names = items_chosen (in_list listing.Name listed.marks) choices listed.names;
   isa_ends = items_chosen (in_list listing.IsA listed.marks) choices listed.isa_ends;
   attributes = items_chosen (in_list listing.Attribute listed.marks) choices listed.attributes;

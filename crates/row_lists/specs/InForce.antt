@@ -62,6 +62,12 @@ rows_among concepts rows = filter (λ (row : ℕ × ℕ). has concepts row.0 && 
 abbrev pub concepts_in_force : List RowText → List ℕ
 concepts_in_force rows = rising (map (λ (row : ConceptRow). row.id) (filter (λ (row : ConceptRow). row.active) (concept_rows rows)))
 
+-- a concept row whose active is 0 says that the concept was inactive from the row's effective time on (Release File
+-- Specification, "Concept file", active): the identifiers of these rows in rising order, once each
+abbrev pub inactive_concepts : List RowText → List ℕ
+inactive_concepts rows =
+    rising (map (λ (row : ConceptRow). row.id) (filter (λ (row : ConceptRow). not row.active) (concept_rows rows)))
+
 -- a relationship row is in force where it is active and inferred and both its ends are concepts in force
 abbrev pub is_in_force : List ℕ → RelationshipRow → Bool
 is_in_force concepts row =

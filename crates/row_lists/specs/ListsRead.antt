@@ -8,6 +8,7 @@ abbrev pub listed_in : RowLists → ReleaseLists
 listed_in lists = record {
   marks = lists.marks.items;
   active_concepts = lists.concepts.items;
+  inactive_concepts = lists.inactive_concepts.items;
   names = lists.names;
   isa_ends = lists.isa_ends.items;
   attributes = lists.attributes;
@@ -19,6 +20,7 @@ abbrev pub read_in : RowLists → ReleaseLists
 read_in lists = record {
   marks = [];
   active_concepts = lists.concepts.items;
+  inactive_concepts = lists.inactive_concepts.items;
   names = lists.names;
   isa_ends = lists.isa_ends.items;
   attributes = lists.attributes;
@@ -33,6 +35,7 @@ unmarked listed = record listed { marks = [] }
 pub record AreFew (count : ℕ) (listed : ReleaseLists) : Type 0 where
   pub few : count ≤ 68000000
   pub few_concepts : length listed.active_concepts ≤ count
+  pub few_inactive : length listed.inactive_concepts ≤ count
   pub few_names : length listed.names ≤ count
   pub few_isa : length listed.isa_ends ≤ count
   pub few_attributes : length listed.attributes ≤ count

@@ -12,12 +12,13 @@ use Rattle.row_lists.specs.Metadata.{is_a, inferred_relationship}
 use Rattle.row_lists.specs.declared.row_lists.Listing.{Listing}
 use Rattle.row_lists.specs.declared.row_lists.Listing.TheVariants as listing
 
--- for each row the list that it is in; the active concepts; the name rows; child and parent of the active, inferred
--- is-a rows; the other active, inferred rows of both kinds of relationship; and reference set and component of the
--- active member rows, all in the order of the rows
+-- for each row the list that it is in; the active concepts; the inactive concepts; the name rows; child and parent of
+-- the active, inferred is-a rows; the other active, inferred rows of both kinds of relationship; and reference set and
+-- component of the active member rows, all in the order of the rows
 pub record ReleaseLists : Type 0 where
   pub marks : List Listing
   pub active_concepts : List ℕ
+  pub inactive_concepts : List ℕ
   pub names : List Name
   pub isa_ends : List (ℕ × ℕ)
   pub attributes : List Attribute
@@ -36,7 +37,7 @@ is_concrete_attribute row = row.active && (row.characteristic_type_id == inferre
 
 -- the list that a row is in
 abbrev pub listing_of : RowText → Listing
-listing_of (of_concept row) = if row.active then listing.Concept else listing.Nowhere
+listing_of (of_concept row) = if row.active then listing.Concept else listing.Inactive
 listing_of (of_description row) = if is_name row then listing.Name else listing.Nowhere
 listing_of (of_relationship row) = if is_isa row then listing.IsA else if is_attribute row then listing.Attribute else listing.Nowhere
 listing_of (of_concrete row) = if is_concrete_attribute row then listing.Attribute else listing.Nowhere
@@ -45,6 +46,10 @@ listing_of (of_member row) = if row.active then listing.Member else listing.Nowh
 -- what each list has of a row
 abbrev pub concept_listed : RowText → Option ℕ
 concept_listed row = option_and_then (λ (row : ConceptRow). if row.active then Some row.id else None) (concept_in row)
+
+abbrev pub inactive_listed : RowText → Option ℕ
+inactive_listed row =
+    option_and_then (λ (row : ConceptRow). if not row.active then Some row.id else None) (concept_in row)
 
 abbrev pub name_listed : RowText → Option Name
 name_listed row = option_and_then (λ (row : DescriptionText). if is_name row then Some (name_on row) else None) (description_in row)
@@ -67,6 +72,7 @@ abbrev pub listed_of : List RowText → ReleaseLists
 listed_of rows = record {
   marks = map listing_of rows;
   active_concepts = filter_map concept_listed rows;
+  inactive_concepts = filter_map inactive_listed rows;
   names = filter_map name_listed rows;
   isa_ends = filter_map isa_listed rows;
   attributes = filter_map attribute_listed rows;

@@ -27,6 +27,7 @@ impl ReadRows {
         let most = lists
             .concepts
             .len()
+            .max(lists.inactive_concepts.len())
             .max(lists.names.len())
             .max(lists.isa_ends.len())
             .max(lists.attributes.len())

@@ -32,6 +32,7 @@ pub enum Listing {
     IsA,
     Attribute,
     Member,
+    Inactive,
 }
 
 /// What the rows of a release are made of, as far as the rows themselves tell.
@@ -39,6 +40,8 @@ pub enum Listing {
 pub struct RowLists {
     /// The active concepts.
     pub concepts: Vec<SctId>,
+    /// The inactive concepts.
+    pub inactive_concepts: Vec<SctId>,
     /// The active fully specified names.
     pub names: Names,
     /// Child and parent of the active, inferred is-a rows.
@@ -58,6 +61,7 @@ impl RowLists {
     {
         RowLists {
             concepts: Vec::new(alloc),
+            inactive_concepts: Vec::new(alloc),
             names: Names::new(alloc),
             isa_ends: Vec::new(alloc),
             attributes: Attributes::new(alloc),
@@ -85,11 +89,12 @@ impl RowLists {
         ensures list { IfOk result (λ listing. listing ≡ listing_of (of_concept row.now)) }
         ensures lists { OnOk result (listed_in self.new ≡ filled (listed_in self.old) (of_concept row.now)) }
     {
-        if !row.active {
-            return Ok(Listing::Nowhere);
+        if row.active {
+            self.concepts.push(row.id)?;
+            return Ok(Listing::Concept);
         }
-        self.concepts.push(row.id)?;
-        Ok(Listing::Concept)
+        self.inactive_concepts.push(row.id)?;
+        Ok(Listing::Inactive)
     }
 
     fn add_description(&mut self, row: &DescriptionRow<'_>) -> Result<Listing, AllocError>
@@ -156,6 +161,13 @@ impl RowLists {
             self.concepts.as_slice(),
             marks,
             Listing::Concept,
+            choices,
+        )?;
+        self.inactive_concepts = chosen_items(
+            alloc,
+            self.inactive_concepts.as_slice(),
+            marks,
+            Listing::Inactive,
             choices,
         )?;
         self.isa_ends = chosen_items(

@@ -3,10 +3,12 @@ use Rattle.std.specs.Prelude.{ℕ, List, [], ◌∷◌, codes}
 use Rattle.constraint_tree.specs.Sample.{sample}
 use Rattle.held_release.specs.Contents.{Contents}
 
--- the sample release, with English names first: all five files are read, and six of their rows are in no list
+-- the sample release, with English names first: one concept is inactive, all five files are read, and six of their rows
+-- are in no list of the release
 abbrev pub sample_contents : Contents
 sample_contents = record {
   release = sample;
+  inactive = 109006 ∷ [];
   language = codes "en";
   files = 5;
   passed = 6;

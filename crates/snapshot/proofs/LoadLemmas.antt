@@ -1,5 +1,5 @@
 -- What is listed of rows makes the release that the definitions say, and what a load is then.
-use Rattle.std.proofs.Common.{rules, arith, ℕ, ◌≡◌, ◌&&◌, ◌||◌, ◌==◌, List, [], ◌∷◌, length, map, Option, None, Some, Err, sym, ◌∙◌, ap, refl, Bool, true, false, cond, codes, is_some, option_and_then, filter, count_by, filter_map}
+use Rattle.std.proofs.Common.{rules, arith, ℕ, ◌≡◌, ◌&&◌, ◌||◌, ◌==◌, List, [], ◌∷◌, length, map, Option, None, Some, Err, sym, ◌∙◌, ap, refl, Bool, true, false, cond, codes, is_some, option_and_then, filter, count_by, filter_map, not}
 use Rattle.std.proofs.lemmas.Bool.Decides.{nat_tests}
 use Rattle.std.proofs.lemmas.Grind.{common_steps}
 use Rattle.std.specs.List.{list_any}
@@ -18,12 +18,13 @@ use Rattle.snapshot.specs.Load.{contents_of, load_of, loaded_from}
 use Rattle.release_rows.specs.Files.{text_of_row, Place, RowAt, is_concept_file, is_concept_kind, has_kind, places_from}
 use Rattle.rf2_rows.specs.Files.{file_kind_of}
 use Rattle.number_lists.specs.Members.{has}
-use Rattle.row_lists.specs.InForce.{attribute_in, attributes_in_force, concept_in, concept_rows, concepts_in_force, description_in, is_in_force, is_member_in_force, is_name, isa_in_force, member_in, members_in_force, name_on, names_in_force, relationship_in, release_of, rows_among}
+use Rattle.number_lists.specs.RisingOrder.{rising}
+use Rattle.row_lists.specs.InForce.{attribute_in, attributes_in_force, concept_in, concept_rows, concepts_in_force, description_in, inactive_concepts, is_in_force, is_member_in_force, is_name, isa_in_force, member_in, members_in_force, name_on, names_in_force, relationship_in, release_of, rows_among}
 use Rattle.release_rows.specs.ReadRows.{IsReadFrom}
 use Rattle.held_release.specs.Finished.{attributes_among, contents_from, finished, names_among, release_from}
 use Rattle.held_release.specs.ValuesInForce.{is_value_among}
 use Rattle.release_rows.specs.Limits.{limits_in_force}
-use Rattle.row_lists.specs.ReleaseLists.{ReleaseLists, attribute_listed, concept_listed, is_isa, isa_listed, listed_of, member_listed, name_listed}
+use Rattle.row_lists.specs.ReleaseLists.{ReleaseLists, attribute_listed, concept_listed, inactive_listed, is_isa, isa_listed, listed_of, member_listed, name_listed}
 use Rattle.row_lists.specs.Metadata.{is_a}
 use Rattle.release_rows.specs.Pieces.{cut_file, listed, text_named}
 use Rattle.snapshot.proofs.LimitLemmas.{cut_first_fault, cut_places}
@@ -70,6 +71,11 @@ pub concepts-listed : (rows : List RowText)
     → map (λ (row : ConceptRow). row.id) (filter (λ (row : ConceptRow). row.active) (concept_rows rows))
     ≡ filter_map concept_listed rows
 concepts-listed rows = picked concept_in (λ (row : ConceptRow). row.id) (λ (row : ConceptRow). row.active) rows
+
+-- the inactive concepts are those listed, in rising order
+pub inactive-listed : (rows : List RowText) → inactive_concepts rows ≡ rising (filter_map inactive_listed rows)
+inactive-listed rows =
+    ap rising (picked concept_in (λ (row : ConceptRow). row.id) (λ (row : ConceptRow). not row.active) rows)
 
 module _ (concepts : List ℕ) where
   -- the names in force are the active fully specified names of concepts in force
@@ -136,7 +142,8 @@ listed-named known name_of (item ∷ items) = ap (λ rest. text_named known (nam
 -- what places without a fault contain is made of what was listed of them
 contents_of-read : (limits : Limits) (language : List ℕ) (kinds : ℕ) (places : List Place) (count : ℕ) (listed : ReleaseLists)
     → IsReadFrom limits places count listed → contents_of language kinds places ≡ contents_from language kinds count listed
-contents_of-read limits language kinds places count listed read = grind (arith, common_steps, nat_tests, release_of-listed)
+contents_of-read limits language kinds places count listed read =
+    grind (arith, common_steps, nat_tests, release_of-listed, inactive-listed)
 
 -- what is made of places without a fault by file and line
 pub loaded_from-read : (limits : Limits) (language : List ℕ) (kinds : ℕ) (places : List Place) (count : ℕ) (listed : ReleaseLists)

@@ -2,7 +2,7 @@
 use Rattle.std.specs.Prelude.{ℕ, ◌-◌, if◌then◌else◌, List, [], length, map, filter, Option, None, Some, Result, Err}
 use Rattle.std.specs.List.{list_any}
 use Rattle.release_files.specs.Source.{FileText}
-use Rattle.row_lists.specs.InForce.{release_of, listed_count}
+use Rattle.row_lists.specs.InForce.{inactive_concepts, listed_count, release_of}
 use Rattle.row_lists.specs.declared.fault.LoadFault.{LoadFault}
 use Rattle.row_lists.specs.declared.fault.LoadFault.TheVariants.{NoConceptFile}
 use Rattle.held_release.specs.Contents.{Contents, least_cyclic, unless_cyclic}
@@ -12,12 +12,15 @@ use Rattle.release_rows.specs.Files.{Place, places_from, rows_of, text_of_row, i
 use Rattle.release_rows.specs.Limits.{limits_in_force}
 use Rattle.release_rows.specs.declared.limits.Limits.{Limits}
 
--- what the places of so many files without a fault contain: the release that the chosen rows make
+-- what the places of so many files without a fault contain: the release that the chosen rows make, and the inactive
+-- concepts among these rows
 abbrev pub contents_of : List ℕ → ℕ → List Place → Contents
 contents_of language count places =
-    let release = release_of (map text_of_row (chosen (rows_of places))) in
+    let rows = map text_of_row (chosen (rows_of places)) in
+    let release = release_of rows in
     record {
       release = release;
+      inactive = inactive_concepts rows;
       language = language;
       files = count;
       passed = length (rows_of places) - listed_count release;

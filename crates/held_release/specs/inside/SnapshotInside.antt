@@ -22,6 +22,7 @@ contents_in inside = record {
     members = map (row_of_numbers inside.concepts) inside.members.items;
     names = inside.lines.names;
   };
+  inactive = inside.inactive.items;
   language = string_bytes inside.language;
   files = inside.files;
   passed = inside.passed;
@@ -29,7 +30,7 @@ contents_in inside = record {
 
 -- the concepts rise; the numbers in rows are those of concepts; the lines are those of the concepts; parents come
 -- first in the order of the concepts; the attribute rows are sorted by source, few enough to number; their values
--- that are concepts are in force; and there are few is-a rows and member rows
+-- that are concepts are in force; there are few is-a rows and member rows; and the inactive concepts rise
 abbrev pub IsNumbered : Inside → Type 0
 IsNumbered inside =
     IsStrictlyIncreasing inside.concepts
@@ -42,3 +43,4 @@ IsNumbered inside =
     × All (λ (row : Attribute). is_value_among inside.concepts row.value ≡ true) (in_file_order inside.concepts inside.attributes)
     × (length inside.isa.items < 2 ^ 31)
     × (length inside.members.items < 2 ^ 31)
+    × IsStrictlyIncreasing inside.inactive.items

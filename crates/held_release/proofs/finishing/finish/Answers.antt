@@ -140,6 +140,7 @@ invariant_of-result c =
           (attributes_among-values concepts c.args.read.lists.attributes),
       few_isa known,
       few_members known,
+      c.rising-inactive.ensures.increasing,
     )
 
 pub returns-in_ok-lists-in-Ok-clause-ok : goal.returns-in_ok-lists-in-Ok-clause-ok
@@ -147,9 +148,11 @@ returns-in_ok-lists-in-Ok-clause-ok c =
     let listed = read_in c.args.read.lists in
     let concepts = c.in_ok-concepts.concepts in
     let lists = c.in_ok-lists-in-Ok.lists in
-    finished-Ok (string_bytes c.args.language) c.args.files c.args.read.count listed concepts c.in-Ok.hierarchy.isa.items
+    finished-Ok (string_bytes c.args.language) c.args.files c.args.read.count listed concepts
+    c.rising-inactive.result.items c.in-Ok.hierarchy.isa.items
     (in_file_order concepts lists.attributes) lists.members.items lists.lines.names c.saturating_sub.result
-    (grind (arith, c.in_ok-concepts.ensures, c.rising.ensures.rising)) (grind (arith, c.in-Ok.ensures.rows, c.as_slice.ensures.value))
+    (grind (arith, c.in_ok-concepts.ensures, c.rising.ensures.rising)) c.rising-inactive.ensures.rising
+    (grind (arith, c.in-Ok.ensures.rows, c.as_slice.ensures.value))
     c.in_ok-lists-in-Ok.ensures.attributes
     (grind (arith, c.in_ok-lists-in-Ok.ensures.members, c.as_slice-in-Ok.ensures.value)) c.in_ok-lists-in-Ok.ensures.names
     (grind (arith, c.in-Ok.ensures.acyclic, c.as_slice.ensures.value)) (omega (arith, c.in_ok-lists-in-Ok.ensures.sorted.count))

@@ -1,10 +1,20 @@
-use Rattle.std.proofs.Common.{ℕ, ◌≡◌, ◌<◌, ◌^◌, ◌∙◌, List, length, map, subst, sym}
+use Rattle.std.proofs.Common.{ℕ, ◌≡◌, ◌<◌, ◌^◌, ◌∙◌, List, arith, length, map, refl, subst, sym}
 use Rattle.std.specs.List.Sorted.{IsStrictlyIncreasing}
 use Rattle.held_release.specs.AttributesBySource.{attributes_by_source}
 use Rattle.held_release.specs.Numbering.{concept_number}
 use Rattle.postings.proofs.BuildLemmas.{indexes_of_own, length-members, members_told, rows_told}
 use Rattle.postings.proofs.StatsLemmas.{lists_for}
 use Rattle.postings.proofs.index.Indexes.build.Goals as goal
+
+pub with_members-requires : goal.with_members-requires
+with_members-requires c =
+    let ids = c.args.snapshot.now.release.concepts in
+    omega (
+      arith,
+      c.concept_count.ensures.few,
+      length-members ids ids c.concept_count.result c.member_rows.result.now c.in_ok-members.members refl
+          c.concept_count.ensures.count c.in_ok-members.ensures,
+    )
 
 pub typed_rows-requires-clause-rising : goal.typed_rows-requires-clause-rising
 typed_rows-requires-clause-rising c =
@@ -25,6 +35,7 @@ invariant_of-result c =
       hierarchy = lists_for all release c.in_ok-hierarchy.hierarchy same c.in_ok-hierarchy.ensures.hierarchy;
       members = length-members release.concepts all c.concept_count.result c.member_rows.result.now c.in_ok-members.members same
           c.concept_count.ensures.count c.in_ok-members.ensures;
+      reference_sets = c.in_ok-reference_sets.ensures;
       types = c.in_ok-rows.ensures.types
           ∙ (λ i. map (concept_number (c.as_slice.ensures.value i)) c.in_ok-rows.rows.types.ids.items);
     }

@@ -1,7 +1,7 @@
 use Rattle.std.proofs.Common.{ℕ, List, ◌<◌, ◌∙◌, arith, length, sym, ap, subst}
 use Rattle.number_lists.specs.Rising.{IsRising}
 use Rattle.number_lists.specs.KeyedLists.{list_of}
-use Rattle.reading.proofs.MemberLists.{members_rise}
+use Rattle.postings.proofs.MemberLists.{members_rise}
 use Rattle.reading.proofs.reader.Reader.is_member.Goals as goal
 
 pub has_number-requires : goal.has_number-requires
