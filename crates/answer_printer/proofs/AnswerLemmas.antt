@@ -1,13 +1,13 @@
 -- The numbers that an answer is printed from, and the texts that are printed of the items of a list.
-use Rattle.std.proofs.Common.{◌≡◌, ◌∙◌, ℕ, ◌+◌, ◌<◌, ◌≤◌, ◌++◌, ◌∷◌, [], All, List, Option}
-use Rattle.std.proofs.Common.{append-nil, append_assoc, ap}
-use Rattle.std.proofs.Common.{arith, drop, get_or, length, map, None, refl, Some, subst, sym, take}
+use Rattle.std.proofs.Common.{◌≡◌, ◌∙◌, ℕ, ◌+◌, ◌<◌, ◌≤◌, ◌-◌, ◌^◌, ◌++◌, ◌∷◌, [], All, List, Option}
+use Rattle.std.proofs.Common.{append-nil, append_assoc, ap, unwrap_or}
+use Rattle.std.proofs.Common.{arith, drop, get_or, length, map, None, Some, subst, sym, take}
 use Rattle.std.specs.Prelude.{slice_index}
 use Rattle.std.specs.List.{flat_map}
 use Rattle.std.proofs.Math.Seq.{take-append_seam}
-use Rattle.std.proofs.lemmas.List.{at_drop_all, at_drop_more, length-map, length-take, take-append-drop}
-use Rattle.std.proofs.lemmas.List.{take-append-le, take-map}
-use Rattle.std.proofs.lemmas.List.Elements.{All-take}
+use Rattle.std.proofs.lemmas.List.{at_drop_all, at_drop_more, drop-map, length-map, length-take, take_all}
+use Rattle.std.proofs.lemmas.List.{take-append-drop, take-append-le, take-map}
+use Rattle.std.proofs.lemmas.List.Elements.{All-drop, All-take}
 use Rattle.number_lists.specs.Rising.{IsRisingBelow}
 use Rattle.idset.proofs.WordLemmas.{items_below}
 use Rattle.held_release.specs.Line.{concept_line}
@@ -15,40 +15,51 @@ use Rattle.answer_printer.specs.AnswerText.{answer_head, answer_in, shown_names,
 use Rattle.answer_printer.specs.declared.form.AnswerForm.{AnswerForm}
 use Rattle.answer_printer.specs.inside.Prefix.{IsPrefixOf}
 
--- the numbers in a set are those of concepts
-pub are_concepts : (bound count : ℕ) (items numbers : List ℕ) → IsRisingBelow bound items → bound ≡ count → numbers ≡ items
-    → All (λ concept. concept < count) numbers
-are_concepts bound count items numbers rising same is =
-    let numbered = subst (λ (least : ℕ). All (λ concept. concept < least) items) same (items_below bound items rising) in
-    subst (λ (found : List ℕ). All (λ concept. concept < count) found) (sym is) numbered
+-- items of which no number is asked for are shown to their end: a list in memory is shorter than the greatest number
+pub most_shown : (offset : ℕ) (first : Option ℕ) (items shown : List ℕ)
+    → shown ≡ take (unwrap_or first (2 ^ 64 - 1)) (drop offset items) → length shown < 2 ^ 63
+    → shown ≡ shown_of offset first items
+most_shown offset (Some first) items shown is small = is
+most_shown offset None items shown is small =
+    is ∙ take_all (2 ^ 64 - 1) (drop offset items)
+    (omega (arith, ap length is, length-take (2 ^ 64 - 1) (drop offset items)))
 
--- the concepts that are shown are concepts
-pub shown_are_concepts : (count : ℕ) (first : Option ℕ) (numbers shown : List ℕ) → shown ≡ shown_of first numbers
-    → All (λ concept. concept < count) numbers → All (λ concept. concept < count) shown
-shown_are_concepts count None numbers shown is all =
-    subst (λ (those : List ℕ). All (λ concept. concept < count) those) (sym is) all
-shown_are_concepts count (Some first) numbers shown is all =
-    subst (λ (those : List ℕ). All (λ concept. concept < count) those) (sym is)
-    (All-take (λ concept. concept < count) first numbers all)
+-- the concepts of a set that are shown are concepts
+pub shown_are_concepts : (bound count offset : ℕ) (first : Option ℕ) (items shown : List ℕ)
+    → shown ≡ shown_of offset first items → IsRisingBelow bound items → bound ≡ count
+    → All (λ concept. concept < count) shown
+shown_are_concepts bound count offset first items shown is rising same =
+    subst (λ (those : List ℕ). All (λ concept. concept < count) those) (sym is) (of_each first)
+  where
+    all : All (λ concept. concept < count) items
+    all = subst (λ (least : ℕ). All (λ concept. concept < least) items) same (items_below bound items rising)
+
+    behind : All (λ concept. concept < count) (drop offset items)
+    behind = All-drop (λ concept. concept < count) offset items all
+
+    of_each : (first : Option ℕ) → All (λ concept. concept < count) (shown_of offset first items)
+    of_each None = behind
+    of_each (Some first) = All-take (λ concept. concept < count) first (drop offset items) behind
 
 -- by their numbers or by their identifiers the same concepts are shown
-shown_mapped : (concepts : List ℕ) (first : Option ℕ) (numbers : List ℕ)
-    → map (slice_index concepts) (shown_of first numbers) ≡ shown_of first (map (slice_index concepts) numbers)
-shown_mapped concepts None numbers = refl
-shown_mapped concepts (Some first) numbers = sym (take-map (slice_index concepts) first numbers)
+shown_mapped : (concepts : List ℕ) (offset : ℕ) (first : Option ℕ) (items : List ℕ)
+    → map (slice_index concepts) (shown_of offset first items)
+    ≡ shown_of offset first (map (slice_index concepts) items)
+shown_mapped concepts offset None items = sym (drop-map (slice_index concepts) offset items)
+shown_mapped concepts offset (Some first) items =
+    sym (take-map (slice_index concepts) first (drop offset items))
+    ∙ ap (take first) (sym (drop-map (slice_index concepts) offset items))
 
 -- the lines of the concepts that are shown, behind the line that counts all, are the answer
-pub lines_answer : (form : AnswerForm) (name : ℕ → Option (List ℕ))
-    (concepts items numbers shown head : List ℕ) (count : ℕ)
-    → head ≡ answer_head count → count ≡ length numbers → numbers ≡ items → shown ≡ shown_of form.first numbers
+pub lines_answer : (form : AnswerForm) (name : ℕ → Option (List ℕ)) (concepts items shown head : List ℕ) (count : ℕ)
+    → head ≡ answer_head count → count ≡ length items → shown ≡ shown_of form.offset form.first items
     → head ++ flat_map (concept_line (shown_names form.names name)) (map (slice_index concepts) shown)
     ≡ answer_in form name (map (slice_index concepts) items)
-lines_answer form name concepts items numbers shown head count head_is count_is same shown_is =
+lines_answer form name concepts items shown head count head_is count_is shown_is =
     let lines = λ (those : List ℕ). flat_map (concept_line (shown_names form.names name)) those in
-    let counted = head_is ∙ ap answer_head (count_is ∙ sym (length-map numbers (slice_index concepts))) in
-    let among = ap (map (slice_index concepts)) shown_is ∙ shown_mapped concepts form.first numbers in
+    let counted = head_is ∙ ap answer_head (count_is ∙ sym (length-map items (slice_index concepts))) in
+    let among = ap (map (slice_index concepts)) shown_is ∙ shown_mapped concepts form.offset form.first items in
     (λ i. counted i ++ lines (among i))
-    ∙ ap (λ (found : List ℕ). answer_in form name (map (slice_index concepts) found)) same
 
 -- the texts of the items of a list are written one after the other: what was written and what is left are the whole
 module _ {X : Type 0} (texts : List X → List ℕ) (items : List X) (place : ℕ) (so_far whole : List ℕ)

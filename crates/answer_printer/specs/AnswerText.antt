@@ -1,5 +1,5 @@
 -- The text that answers a query, or refuses a text that is none.
-use Rattle.std.specs.Prelude.{ℕ, ◌++◌, Bool, true, false, List, [], ◌∷◌, length, take, codes, decimal}
+use Rattle.std.specs.Prelude.{ℕ, ◌++◌, Bool, true, false, List, [], ◌∷◌, length, drop, take, codes, decimal}
 use Rattle.std.specs.Prelude.{Option, None, Some}
 use Rattle.std.specs.List.{flat_map}
 use Rattle.ecl_lexer.specs.Refusals.{feature_name}
@@ -22,12 +22,12 @@ answer_text name concepts = answer_head (length concepts) ++ flat_map (concept_l
 
 -- the form of an answer for which nothing is asked: every line, with names
 abbrev pub whole_form : AnswerForm
-whole_form = record { first = None; names = true }
+whole_form = record { offset = 0; first = None; names = true }
 
--- of concepts in order those whose lines are written: all of them, or the first so many
-abbrev pub shown_of : Option ℕ → List ℕ → List ℕ
-shown_of None concepts = concepts
-shown_of (Some first) concepts = take first concepts
+-- of concepts in order those whose lines are written: behind the first `offset` all of them, or the first so many
+abbrev pub shown_of : ℕ → Option ℕ → List ℕ → List ℕ
+shown_of offset None concepts = drop offset concepts
+shown_of offset (Some first) concepts = take first (drop offset concepts)
 
 -- the names that are written: those that the concepts have, or none
 abbrev pub shown_names : Bool → (ℕ → Option (List ℕ)) → ℕ → Option (List ℕ)
@@ -38,7 +38,7 @@ shown_names false name = λ concept. None
 abbrev pub answer_in : AnswerForm → (ℕ → Option (List ℕ)) → List ℕ → List ℕ
 answer_in form name concepts =
     answer_head (length concepts)
-    ++ flat_map (concept_line (shown_names form.names name)) (shown_of form.first concepts)
+    ++ flat_map (concept_line (shown_names form.names name)) (shown_of form.offset form.first concepts)
 
 -- the line that refuses a constraint whose plan visits more items at most than a limit allows: so many
 abbrev pub bound_refusal : ℕ → List ℕ

@@ -4,7 +4,8 @@ ghost use Rattle.std.specs.List.{flat_map};
 ghost use Rattle.streams.specs.Waiting.{LeavesAnswer, Puts, WritesFront, is_write};
 ghost use Rattle.held_release.specs.Line.{concept_line};
 ghost use Rattle.held_release.specs.Name.{name_of};
-ghost use Rattle.answer_printer.specs.AnswerText.{answer_head, answer_in, answer_text, number_line, shown_names};
+ghost use Rattle.answer_printer.specs.AnswerText.{answer_head, answer_in, answer_text, number_line};
+ghost use Rattle.answer_printer.specs.AnswerText.{shown_names, shown_of};
 ghost use Rattle.answer_printer.specs.inside.Prefix.{IsPrefixOf};
 
 use crate::form::AnswerForm;
@@ -53,9 +54,9 @@ pub fn print_answer_in<S: ConceptSet>(
         (map (slice_index snapshot.now.release.concepts) (S.items_of set.now))) }
     ensures err { OnErr result (output.new.items ≡ output.old.items) }
 {
-    let concepts = set.items(alloc)?;
+    let shown = form.shown(alloc, set)?;
     let start = output.len();
-    let appended = append_answer(snapshot, concepts.as_slice(), form, output);
+    let appended = append_answer(snapshot, set, shown.as_slice(), form, output);
     if appended.is_err() {
         output.truncate(start);
     }
@@ -64,21 +65,22 @@ pub fn print_answer_in<S: ConceptSet>(
 
 // Appends the answer of concepts in a form, or a part of it where memory is refused. The room is made at once, so
 // that nothing is copied again.
-fn append_answer(
+fn append_answer<S: ConceptSet>(
     snapshot: &Snapshot,
-    concepts: &[u32],
+    set: &S,
+    shown: &[u32],
     form: AnswerForm,
     output: &mut Vec<u8>,
 ) -> Result<(), AllocError>
-    requires { All (λ concept. concept < length snapshot.now.release.concepts) concepts.now }
+    requires set { S.bound_of set.now ≡ length snapshot.now.release.concepts }
+    requires shown { shown.now ≡ shown_of form.offset form.first (S.items_of set.now) }
     ensures ok { OnOk result (output.new.items ≡ output.old.items
         ++ answer_in form (name_of snapshot.now.release snapshot.now.language)
-        (map (slice_index snapshot.now.release.concepts) concepts.now)) }
+        (map (slice_index snapshot.now.release.concepts) (S.items_of set.now))) }
     ensures begun { IsPrefixOf output.old.items output.new.items }
 {
-    let shown = form.shown(concepts);
     output.reserve(room_of(snapshot, shown, form.names))?;
-    append_head(concepts.len(), output)?;
+    append_head(set.count() as usize, output)?;
     append_lines(snapshot, shown, form.names, output)
 }
 
@@ -170,18 +172,18 @@ pub fn write_answer<S: ConceptSet, W: AnswerOutput>(
     ensures sound { OnOk result (W.has_failed output.new ≡ false) }
     ensures failed { IfErr result (λ fault. W.has_failed output.new ≡ is_write fault) }
 {
-    let concepts = match set.items(alloc) {
-        Ok(concepts) => concepts,
+    let shown = match form.shown(alloc, set) {
+        Ok(shown) => shown,
         Err(AllocError) => return Err(AnswerFault::Memory),
     };
-    let head = match head_line(alloc, concepts.len()) {
+    let head = match head_line(alloc, set.count() as usize) {
         Ok(head) => head,
         Err(AllocError) => return Err(AnswerFault::Memory),
     };
     match put_answer(
         snapshot,
         head.as_slice(),
-        form.shown(concepts.as_slice()),
+        shown.as_slice(),
         form.names,
         piece,
         output,

@@ -1,5 +1,5 @@
 -- How many bits are set: those of a word, of a vector of words and of a list of words are as many as the numbers that they stand for.
-use Rattle.std.proofs.Common.{ℕ, zero, suc, ◌+◌, ◌*◌, ◌/◌, ◌%◌, ◌<◌, ◌≤◌, ◌≡◌, ◌^◌, Bool, true, false, cond, eqb, List, [], ◌∷◌, length, take, get_or, refl, sym, ap, ◌∙◌, arith, map, sum_by, count_ones, Fits, w64, length-append, add-zero, zero-add, add_assoc}
+use Rattle.std.proofs.Common.{ℕ, zero, suc, ◌+◌, ◌-◌, ◌*◌, ◌/◌, ◌%◌, ◌<◌, ◌≤◌, ◌≡◌, ◌^◌, Bool, true, false, cond, eqb, List, [], ◌∷◌, length, take, get_or, refl, sym, ap, ◌∙◌, arith, map, sum_by, count_ones, Fits, w64, length-append, add-zero, zero-add, add_assoc}
 use Rattle.std.specs.Int.{bit_at}
 use Rattle.std.specs.Int.Count.{ones_step, ones-le}
 use Rattle.std.specs.Simd.Lanes.{Each1, chunk, fold_l}
@@ -8,7 +8,7 @@ use Rattle.std.proofs.lemmas.Nat.Bits.{bit_at_lowest, bit_at-suc}
 use Rattle.std.proofs.Math.Nat.{pow-suc}
 use Rattle.std.proofs.Math.Seq.{take-add}
 use Rattle.number_lists.specs.Rising.{numbers_where}
-use Rattle.idset.specs.Words.{AreWordsBelow, is_set}
+use Rattle.idset.specs.Words.{AreWordsBelow, is_set, numbers_in}
 use Rattle.number_lists.proofs.WhereLemmas.{numbers_from, numbers_from-add, numbers_where-skip}
 
 -- ---- a vector
@@ -53,6 +53,16 @@ bits_counted (suc k) w low p small same =
     front : (b : Bool) (x : ℕ) (xs : List ℕ) → length (cond b (x ∷ xs) xs) ≡ length {A = ℕ} (cond b (0 ∷ []) []) + length xs
     front true x xs = omega arith
     front false x xs = omega arith
+
+-- a word has as many bits set as it stands for numbers
+pub length-numbers_in : (first word : ℕ) → word < 2 ^ 64 → length (numbers_in first word) ≡ count_ones word
+unfolding numbers_in
+length-numbers_in first word narrow =
+    bits_counted 64 word first (λ number. eqb (bit_at word (number - first)) 1) narrow
+    (λ k _ i. eqb (bit_at word (back k i)) 1)
+  where
+    back : (k : ℕ) → first + k - first ≡ k
+    back k = omega arith
 
 -- ---- a list of words
 words_counted : (words : List ℕ) (low : ℕ) (p : ℕ → Bool) → ((k : ℕ) → get_or words k 0 < 2 ^ 64)

@@ -3,6 +3,7 @@ pub mod Counting
 pub mod MarkLemmas
 pub mod Merging
 pub mod Normal
+pub mod Pages
 pub mod Places
 pub mod Rising
 pub mod Vectors

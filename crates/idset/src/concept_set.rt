@@ -1,5 +1,5 @@
 //! What every form of set gives.
-ghost use Rattle.std.specs.Prelude.{◌≡◌, ◌<◌, ◌^◌, ℕ, List, All, IfOk, length, OnErr, OnOk};
+ghost use Rattle.std.specs.Prelude.{◌≡◌, ◌<◌, ◌^◌, ℕ, List, All, drop, IfOk, length, OnErr, OnOk, take};
 ghost use Rattle.std.specs.List.{range_with_len};
 ghost use Rattle.idset.specs.Sets.{all_items, common_items, missing_numbers, other_items};
 ghost use Rattle.number_lists.specs.Members.{has};
@@ -81,6 +81,11 @@ pub trait ConceptSet: Drop {
     /// The items in rising order, as a list of their own.
     fn items(&self, alloc: Global) -> Result<Vec<u32>, AllocError>
         ensures { IfOk result (λ items. items.items ≡ items_of self.now) };
+
+    /// Of the items in rising order those behind the first `skipped`, and of these `most` at the most, as a list of
+    /// their own.
+    fn some_items(&self, alloc: Global, skipped: u64, most: u64) -> Result<Vec<u32>, AllocError>
+        ensures { IfOk result (λ items. items.items ≡ take most (drop skipped (items_of self.now))) };
 
     /// The same set, in the form in which it is asked soonest whether it has a number: for tests of many numbers.
     fn for_asking(self, alloc: Global) -> Result<Self, AllocError>

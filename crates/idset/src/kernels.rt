@@ -1,5 +1,5 @@
 //! The operations on words of bits, four words at a time.
-ghost use Rattle.std.specs.Prelude.{◌≡◌, ◌≤◌, ◌^◌, ◌/◌, ◌*◌, ℕ, List, IfOk, length, drop, take, sum_by, bit_and, bit_or, count_ones};
+ghost use Rattle.std.specs.Prelude.{◌≡◌, ◌≤◌, ◌^◌, ◌/◌, ◌*◌, ℕ, List, IfOk, length, drop, min, take, sum_by, bit_and, bit_or, count_ones};
 ghost use Rattle.std.specs.Simd.Lanes.{zip2};
 ghost use Rattle.idset.specs.Words.{bit_minus};
 
@@ -202,4 +202,20 @@ fn count_rest(words: &[u64], from: usize) -> u64
         count += u64::from(words[place].count_ones());
     }
     count
+}
+
+/// How many bits are set in all words, or `most` where there are more: the words behind those that have so many are not
+/// read.
+pub fn count_up_to(words: &[u64], most: u64) -> u64
+    requires { length words.now ≤ 2 ^ 26 }
+    ensures { result ≡ min most (sum_by count_ones words.now) }
+{
+    let mut count = 0;
+    for word in words {
+        if count >= most {
+            return most;
+        }
+        count += u64::from(word.count_ones());
+    }
+    count.min(most)
 }

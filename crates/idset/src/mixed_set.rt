@@ -123,6 +123,13 @@ impl ConceptSet for MixedSet {
         }
     }
 
+    fn some_items(&self, alloc: Global, skipped: u64, most: u64) -> Result<Vec<u32>, AllocError> {
+        match &self.form {
+            Form::Few(own) => own.some_items(alloc, skipped, most),
+            Form::Many(own) => own.some_items(alloc, skipped, most),
+        }
+    }
+
     fn for_asking(self, alloc: Global) -> Result<MixedSet, AllocError> {
         match self.form {
             Form::Few(own) => {

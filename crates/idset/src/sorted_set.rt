@@ -4,7 +4,7 @@ ghost use Rattle.number_lists.specs.Rising.{IsRisingBelow};
 
 use crate::concept_set::ConceptSet;
 use crate::lists::{
-    common_of, every_number, has_number, missing_from, others_of, sorted_of, union_of,
+    common_of, every_number, has_number, missing_from, others_of, part_of, sorted_of, union_of,
 };
 use crate::marks::numbers_of;
 use std::alloc::{AllocError, Global};
@@ -97,6 +97,10 @@ impl ConceptSet for SortedSet {
 
     fn items(&self, alloc: Global) -> Result<Vec<u32>, AllocError> {
         Vec::from_slice(alloc, &self.items)
+    }
+
+    fn some_items(&self, alloc: Global, skipped: u64, most: u64) -> Result<Vec<u32>, AllocError> {
+        Vec::from_slice(alloc, part_of(&self.items, skipped, most))
     }
 
     fn for_asking(self, _alloc: Global) -> Result<SortedSet, AllocError> {

@@ -7,7 +7,7 @@ ghost use Rattle.idset.specs.Words.{AreWordsBelow, is_set};
 use crate::concept_set::ConceptSet;
 use crate::kernels::{and_words, minus_words, or_words};
 use crate::marks::{
-    count_marks, every_mark, is_marked, mark_all, marks_of, numbers_of, unmark_all,
+    count_marks, every_mark, is_marked, mark_all, marks_of, numbers_of, some_numbers, unmark_all,
 };
 use std::alloc::{AllocError, Global};
 
@@ -83,6 +83,10 @@ impl ConceptSet for WordSet {
 
     fn items(&self, alloc: Global) -> Result<Vec<u32>, AllocError> {
         numbers_of(alloc, &self.words, self.bound)
+    }
+
+    fn some_items(&self, alloc: Global, skipped: u64, most: u64) -> Result<Vec<u32>, AllocError> {
+        some_numbers(alloc, &self.words, self.bound, skipped, most)
     }
 
     fn for_asking(self, _alloc: Global) -> Result<WordSet, AllocError> {

@@ -126,7 +126,7 @@ pub record IsReported {R W E : Type 0} (w : Output W) (contents : Contents) (bef
 
 -- the form of the answers that options ask for
 abbrev pub form_of : QueryOptions → AnswerForm
-form_of options = record { first = options.first; names = options.names }
+form_of options = record { offset = 0; first = options.first; names = options.names }
 
 -- what a mode asks for was done with a release
 abbrev pub IsServed : {R W E : Type 0} → Input R → Output W → Mode → Contents → Streams R W E → Streams R W E → Type 0

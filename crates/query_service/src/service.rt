@@ -256,6 +256,7 @@ fn form_of(options: QueryOptions) -> AnswerForm
     ensures { result ≡ form_of options }
 {
     AnswerForm {
+        offset: 0,
         first: options.first,
         names: options.names,
     }

@@ -95,6 +95,42 @@ fn ends_hold<S: ConceptSet>(alloc: Global) -> Result<bool, AllocError> {
     )
 }
 
+// Whether a set shows just these items behind the first `skipped`, of which there are `most` at the most.
+fn shows<S: ConceptSet>(
+    alloc: Global,
+    set: &S,
+    skipped: u64,
+    most: u64,
+    wanted: &[u32],
+) -> Result<bool, AllocError> {
+    let items = set.some_items(alloc, skipped, most)?;
+    Ok(items.as_slice() == wanted)
+}
+
+// Pages of the set 0 63 64 127 128 129.
+fn pages_of<S: ConceptSet>(alloc: Global, set: &S) -> Result<bool, AllocError> {
+    Ok(
+        shows(alloc, set, 0, 0, &[])?
+            && shows(alloc, set, 0, 1, &[0])?
+            && shows(alloc, set, 0, 7, &[0, 63, 64, 127, 128, 129])?
+            && shows(alloc, set, 1, 0, &[])?
+            && shows(alloc, set, 1, 1, &[63])?
+            && shows(alloc, set, 1, 6, &[63, 64, 127, 128, 129])?
+            && shows(alloc, set, 2, 3, &[64, 127, 128])?
+            && shows(alloc, set, 5, 1, &[129])?
+            && shows(alloc, set, 6, 1, &[])?
+            && shows(alloc, set, 7, u64::MAX, &[])?,
+    )
+}
+
+// Pages of a set that has many items for its bound, and of one that has few.
+fn pages_hold<S: ConceptSet>(alloc: Global) -> Result<bool, AllocError> {
+    let ends = [0, 63, 64, 127, 128, 129];
+    let many = S::from_items(alloc, &ends, 130)?;
+    let few = S::from_items(alloc, &ends, 10_000)?;
+    Ok(pages_of(alloc, &many)? && pages_of(alloc, &few)?)
+}
+
 fn row_holds<S: ConceptSet>(alloc: Global) -> Result<bool, AllocError> {
     let mut x = S::from_items(alloc, &[0, 2, 5], 10)?;
     let y = S::from_items(alloc, &[2, 5, 9], 10)?;
@@ -103,6 +139,7 @@ fn row_holds<S: ConceptSet>(alloc: Global) -> Result<bool, AllocError> {
             && operations_hold(alloc, &x, &y)?
             && made_alike::<S>(alloc)?
             && ends_hold::<S>(alloc)?
+            && pages_hold::<S>(alloc)?
             && grows(alloc, &mut x)?,
     )
 }

@@ -1,23 +1,22 @@
-use Rattle.std.proofs.Common.{◌∙◌, List, ℕ, subst, sym}
+use Rattle.std.proofs.Common.{◌∙◌, List, ℕ, subst}
 use Rattle.streams.specs.Waiting.{Puts}
 use Rattle.held_release.specs.Name.{name_of}
-use Rattle.answer_printer.proofs.AnswerLemmas.{are_concepts, lines_answer, shown_are_concepts}
+use Rattle.answer_printer.proofs.AnswerLemmas.{lines_answer, shown_are_concepts}
 use Rattle.answer_printer.proofs.answer.write_answer.Goals as goal
 
 pub put_answer-requires-clause-concepts : goal.put_answer-requires-clause-concepts
 put_answer-requires-clause-concepts g c =
-    shown_are_concepts _ c.args.form.first c.as_slice-2.result.now _ c.shown.ensures
-    (are_concepts _ _ (g.S.ConceptSet.items_of c.args.set.now) _ (g.met.S.ConceptSet.rising c.args.set.now)
-    c.requires.set (c.as_slice-2.ensures.value ∙ c.in-Ok.ensures))
+    let items = g.S.ConceptSet.items_of c.args.set.now in
+    shown_are_concepts _ _ c.args.form.offset c.args.form.first items c.as_slice-2.result.now
+    (c.as_slice-2.ensures.value ∙ c.in-Ok.ensures) (g.met.S.ConceptSet.rising c.args.set.now) c.requires.set
 
 pub returns-in-Ok-put_answer-clause-ok : goal.returns-in-Ok-put_answer-clause-ok
 returns-in-Ok-put_answer-clause-ok g c =
     let release = c.args.snapshot.now.release in
     let whole = lines_answer c.args.form (name_of release c.args.snapshot.now.language) release.concepts
-    (g.S.ConceptSet.items_of c.args.set.now) c.as_slice-2.result.now c.shown.result.now c.as_slice.result.now
-    c.len.result
-    (c.as_slice.ensures.value ∙ c.in-Ok-head_line.ensures)
-    (c.len.ensures ∙ sym c.as_slice-2.ensures.len) (c.as_slice-2.ensures.value ∙ c.in-Ok.ensures) c.shown.ensures in
+    (g.S.ConceptSet.items_of c.args.set.now) c.as_slice-2.result.now c.as_slice.result.now c.count.result
+    (c.as_slice.ensures.value ∙ c.in-Ok-head_line.ensures) c.count.ensures
+    (c.as_slice-2.ensures.value ∙ c.in-Ok.ensures) in
     subst (λ (text : List ℕ). Puts (g.W.AnswerOutput.written c.args.output.now)
     (g.W.AnswerOutput.written c.put_answer.new.output) c.args.piece.now text c.put_answer.new.piece)
     whole c.in-Ok-put_answer.ensures.ok
@@ -27,8 +26,7 @@ pub returns-clause-fault : goal.returns-clause-fault
 returns-clause-fault g c =
     let release = c.args.snapshot.now.release in
     let whole = lines_answer c.args.form (name_of release c.args.snapshot.now.language) release.concepts
-    (g.S.ConceptSet.items_of c.args.set.now) c.as_slice-2.result.now c.shown.result.now c.as_slice.result.now
-    c.len.result
-    (c.as_slice.ensures.value ∙ c.in-Ok-head_line.ensures)
-    (c.len.ensures ∙ sym c.as_slice-2.ensures.len) (c.as_slice-2.ensures.value ∙ c.in-Ok.ensures) c.shown.ensures in
+    (g.S.ConceptSet.items_of c.args.set.now) c.as_slice-2.result.now c.as_slice.result.now c.count.result
+    (c.as_slice.ensures.value ∙ c.in-Ok-head_line.ensures) c.count.ensures
+    (c.as_slice-2.ensures.value ∙ c.in-Ok.ensures) in
     (_, whole, c.in-Err-put_answer.ensures.err)
