@@ -12,4 +12,5 @@ pub use crate::laws::{
     walks_tell_chains, wrong_readings_differ,
 };
 pub use crate::operator::{Cardinality, Compare, Operator};
+pub use crate::print::print_decimal;
 pub use crate::tree::{Attribute, AttributeSet, Constraint, Refinement, Test};

@@ -186,7 +186,7 @@ impl Test {
             }
             Test::Number(compare, decimal) => {
                 output.extend_from_slice(compare_sign(*compare))?;
-                write_decimal(*decimal, output)
+                print_decimal(*decimal, output)
             }
         }
     }
@@ -336,7 +336,9 @@ fn write_number(number: u64, output: &mut Vec<u8>) -> Result<(), AllocError>
     output.extend_from_slice(digits.format(number).as_bytes())
 }
 
-fn write_decimal(value: Decimal, output: &mut Vec<u8>) -> Result<(), AllocError>
+/// Appends a number of 10^-18 as a constraint writes it: behind `#`, with its sign, without closing zeros (Expression
+/// Constraint Language 2.2, "5.1 Brief syntax", numericValue). `AllocError` is answered where memory is refused.
+pub fn print_decimal(value: Decimal, output: &mut Vec<u8>) -> Result<(), AllocError>
     ensures { OnOk result (output.new.items ≡ output.old.items ++ number_text value.0) }
 {
     if value.0 < 0 {

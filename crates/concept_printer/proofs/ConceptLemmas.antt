@@ -1,0 +1,66 @@
+-- Concepts in force, and their names.
+use Rattle.std.proofs.Common.{◌≡◌, ◌∙◌, ℕ, ◌<◌, ◌==◌, Bool, true, false, cond, List, [], ◌∷◌, ◌++◌, None, Some, decimal, length, get_or, append-nil, codes, sym, subst, ap}
+use Rattle.std.proofs.lemmas.Bool.{eqb-true}
+use Rattle.std.proofs.lemmas.List.Elements.{Contains-get_or}
+use Rattle.std.proofs.lemmas.List.Quantifiers.{position-Some}
+use Rattle.number_lists.specs.Members.{has}
+use Rattle.number_lists.proofs.MemberLemmas.{had_contained}
+use Rattle.held_release.specs.Contents.{Contents}
+use Rattle.held_release.specs.Line.{concept_line, name_text}
+use Rattle.held_release.specs.Name.{name_of}
+use Rattle.held_release.specs.Numbering.{concept_number}
+use Rattle.held_release.proofs.NumberedLemmas.{concept_none}
+use Rattle.concept_printer.specs.ConceptText.{concept_text, concept_words, identifier_line, name_in_force, told_of}
+
+-- a concept that has a number is in force
+pub number_told : (concepts : List ℕ) (id number : ℕ) → concept_number concepts id ≡ Some number
+    → (number < length concepts) × (get_or concepts number 0 ≡ id)
+number_told concepts id number is =
+    let found = position-Some (λ other. id == other) concepts number 0 is in
+    (found.0, sym (eqb-true id (get_or concepts number 0) found.1))
+
+pub in_force : (concepts : List ℕ) (number : ℕ) → number < length concepts → has concepts (get_or concepts number 0) ≡ true
+in_force concepts number below = had_contained concepts (get_or concepts number 0) (Contains-get_or concepts number 0 below)
+
+-- its name is that of the release
+pub name_by_number : (contents : Contents) (number : ℕ) → number < length contents.release.concepts
+    → name_in_force contents (get_or contents.release.concepts number 0)
+    ≡ name_of contents.release contents.language (get_or contents.release.concepts number 0)
+name_by_number contents number below =
+    λ i. cond (in_force contents.release.concepts number below i)
+    (name_of contents.release contents.language (get_or contents.release.concepts number 0)) None
+
+-- so its line is that of the release
+pub line_by_number : (contents : Contents) (number : ℕ) → number < length contents.release.concepts
+    → concept_line (name_in_force contents) (get_or contents.release.concepts number 0)
+    ≡ concept_line (name_of contents.release contents.language) (get_or contents.release.concepts number 0)
+line_by_number contents number below =
+    ap (λ name. (decimal (get_or contents.release.concepts number 0) ++ name_text name) ++ 10 ∷ [])
+    (name_by_number contents number below)
+
+-- one that has none is told by its identifier alone
+pub words_without : (contents : Contents) (id : ℕ) → concept_number contents.release.concepts id ≡ None
+    → concept_words (name_in_force contents) id ≡ decimal id
+words_without contents id none =
+    (λ i. decimal id ++ name_text (cond (concept_none contents.release.concepts id none i) (name_of contents.release contents.language id) None))
+    ∙ append-nil (decimal id)
+
+-- what is told of a concept in force, of an inactive one, and of one that is neither
+pub told_in_force : (contents : Contents) (id number : ℕ) → concept_number contents.release.concepts id ≡ Some number
+    → concept_text contents (get_or contents.release.concepts number 0) ≡ told_of contents id
+told_in_force contents id number is =
+    let told = number_told contents.release.concepts id number is in
+    let among : has contents.release.concepts id ≡ true =
+    subst (λ (id : ℕ). has contents.release.concepts id ≡ true) told.1
+    (in_force contents.release.concepts number told.0) in
+    ap (concept_text contents) told.1
+    ∙ sym (λ i. cond (among i) (concept_text contents id)
+    (cond (has contents.inactive id) (identifier_line (codes "INACTIVE") id) (identifier_line (codes "UNKNOWN") id)))
+
+pub told_otherwise : (contents : Contents) (id : ℕ) (inactive : Bool) → concept_number contents.release.concepts id ≡ None
+    → has contents.inactive id ≡ inactive
+    → cond inactive (identifier_line (codes "INACTIVE") id) (identifier_line (codes "UNKNOWN") id) ≡ told_of contents id
+told_otherwise contents id inactive none is =
+    sym ((λ i. cond (concept_none contents.release.concepts id none i) (concept_text contents id)
+    (cond (has contents.inactive id) (identifier_line (codes "INACTIVE") id) (identifier_line (codes "UNKNOWN") id)))
+    ∙ (λ i. cond (is i) (identifier_line (codes "INACTIVE") id) (identifier_line (codes "UNKNOWN") id)))

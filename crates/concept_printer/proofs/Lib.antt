@@ -1,0 +1,4 @@
+mod ConceptLemmas
+mod GroupLemmas
+mod LineLemmas
+mod ListLemmas

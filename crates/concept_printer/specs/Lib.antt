@@ -1,0 +1,3 @@
+pub mod ConceptText
+pub mod inside
+pub mod NamedConcept

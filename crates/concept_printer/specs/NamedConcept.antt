@@ -1,0 +1,65 @@
+-- The concept that a line of `describe` names: its identifier, with or without its term (Expression Constraint
+-- Language 2.2, 5.1 "Brief syntax", conceptReference; Release File Specification, "Component identifiers").
+use Rattle.std.specs.Prelude.{ℕ, ◌==◌, ◌||◌, Bool, false, not, if◌then◌else◌, List, [], ◌∷◌, codes, length, nat_lt, reverse, slice_index_or}
+use Rattle.std.specs.Prelude.{Option, None, Some, option_map}
+use Rattle.std.specs.Str.{is_utf8}
+use Rattle.sctid.specs.declared.IdFault.{IdFault}
+use Rattle.sctid.specs.declared.IdFault.TheVariants as fault
+use Rattle.sctid.specs.declared.Part.TheVariants.{Concept}
+use Rattle.text_parts.specs.Parts.{parts_at}
+use Rattle.numerals.specs.Numbers.{number_of}
+use Rattle.ecl_lexer.specs.Tokens.{most_bytes}
+use Rattle.rf2_rows.specs.Columns.{fault_for}
+use Rattle.concept_printer.specs.declared.named_concept.LineFault.{LineFault}
+use Rattle.concept_printer.specs.declared.named_concept.LineFault.TheVariants.{Long, Utf8, Id}
+
+-- a space, a tab or a carriage return
+abbrev pub is_blank : ℕ → Bool
+is_blank byte = (byte == 32) || (byte == 9) || (byte == 13)
+
+-- a text without the blanks at its front
+abbrev pub behind_blanks : List ℕ → List ℕ
+behind_blanks [] = []
+behind_blanks (byte ∷ bytes) = if is_blank byte then behind_blanks bytes else byte ∷ bytes
+
+-- a text without the blanks at its end
+abbrev pub before_blanks : List ℕ → List ℕ
+before_blanks text = reverse (behind_blanks (reverse text))
+
+-- the last byte is a bar
+abbrev pub ends_in_bar : List ℕ → Bool
+ends_in_bar text = slice_index_or (reverse text) 0 0 == 124
+
+-- what stands before the first bar
+abbrev pub before_bar : List ℕ → List ℕ
+before_bar text = slice_index_or (parts_at 124 text) 0 []
+
+-- a text without the term between bars at its end, if there is one
+abbrev pub without_term : List ℕ → List ℕ
+without_term text = if ends_in_bar text then before_blanks (before_bar text) else text
+
+-- the text of the identifier in a line
+abbrev pub identifier_in : List ℕ → List ℕ
+identifier_in line = without_term (before_blanks (behind_blanks line))
+
+-- why a line that is not too long names no concept: it is not UTF-8, or its identifier is not that of a concept; none
+-- where it names one
+abbrev pub short_fault : List ℕ → Option LineFault
+short_fault line =
+    if not (is_utf8 line) then Some Utf8 else option_map Id (fault_for Concept (identifier_in line))
+
+-- why a line names no concept: it is too long, or for that
+abbrev pub line_fault : List ℕ → Option LineFault
+line_fault line = if nat_lt most_bytes (length line) then Some Long else short_fault line
+
+-- the identifier of the concept that a line names
+abbrev pub named_concept : List ℕ → ℕ
+named_concept line = number_of (identifier_in line)
+
+-- the word for the cause for which an identifier is refused
+abbrev pub identifier_cause : IdFault → List ℕ
+identifier_cause fault.Length = codes "length"
+identifier_cause fault.Digit = codes "digit"
+identifier_cause fault.LeadingZero = codes "zero"
+identifier_cause fault.Partition = codes "part"
+identifier_cause fault.Check = codes "check"

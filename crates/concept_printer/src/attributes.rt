@@ -1,0 +1,137 @@
+//! The attribute rows of a concept, group by group.
+ghost use Rattle.std.specs.Prelude.{◌≡◌, ◌<◌, ◌%◌, ◌^◌, ◌++◌, All, codes, IfOk, length, map, OnOk};
+ghost use Rattle.std.specs.List.{flat_map};
+ghost use Rattle.number_lists.specs.Rising.{IsRisingBelow};
+ghost use Rattle.number_lists.specs.RisingOrder.{rising as rising_of};
+ghost use Rattle.held_release.specs.AttributesBySource.{IsNumberBelow, numbered_lent, value_by_identifier};
+ghost use Rattle.concept_printer.specs.ConceptText.{attribute_line, by_group, concept_words, headed, name_in_force};
+ghost use Rattle.concept_printer.specs.ConceptText.{value_words};
+ghost use Rattle.concept_printer.specs.inside.GroupKeys.{group_key, row_numbered, row_with_key};
+
+use crate::concept::{append_head, append_number, append_words};
+use constraint_tree::print_decimal;
+use held_release::{NumberedValue, Snapshot};
+use sctid::SctId;
+use std::alloc::{AllocError, Global};
+
+// The key of a row is its number behind that of its group, so that rows whose keys rise go by group.
+const KEYS_OF_GROUP: u64 = 1 << 32;
+
+/// Appends how many attribute rows there are, whose numbers rise, and a line for each: group by group, and those of
+/// one group in the order of their numbers.
+pub fn append_attributes(
+    alloc: Global,
+    snapshot: &Snapshot,
+    rows: &[u32],
+    text: &mut Vec<u8>,
+) -> Result<(), AllocError>
+    requires { IsRisingBelow (length snapshot.now.release.attributes) rows.now }
+    ensures { OnOk result (text.new.items ≡ text.old.items
+        ++ headed (codes "ATTRIBUTES") (attribute_line (name_in_force snapshot.now))
+        (by_group (map (row_numbered snapshot.now.release) rows.now))) }
+{
+    let keys = keys_by_group(alloc, snapshot, rows)?;
+    append_head(b"ATTRIBUTES", keys.len(), text)?;
+    append_rows(snapshot, keys.as_slice(), text)
+}
+
+// The keys of rows, whose numbers rise, group by group.
+fn keys_by_group(alloc: Global, snapshot: &Snapshot, rows: &[u32]) -> Result<Vec<u64>, AllocError>
+    requires { IsRisingBelow (length snapshot.now.release.attributes) rows.now }
+    ensures order { IfOk result (λ keys. map (row_with_key snapshot.now.release) keys.items
+        ≡ by_group (map (row_numbered snapshot.now.release) rows.now)) }
+    ensures found { IfOk result (λ keys.
+        All (λ key. key % 2 ^ 32 < length snapshot.now.release.attributes) keys.items) }
+{
+    // the numbers of the rows are of 31 bits
+    snapshot.attribute_count();
+    let keys = group_keys(alloc, snapshot, rows)?;
+    Ok(rising(keys))
+}
+
+// The keys of rows.
+fn group_keys(alloc: Global, snapshot: &Snapshot, rows: &[u32]) -> Result<Vec<u64>, AllocError>
+    requires { All (λ row. row < length snapshot.now.release.attributes) rows.now }
+    ensures { IfOk result (λ keys. keys.items ≡ map (group_key snapshot.now.release) rows.now) }
+{
+    let mut keys = Vec::with_capacity(alloc, rows.len())?;
+    for row in rows {
+        keys.push(key_of_row(snapshot, *row))?;
+    }
+    Ok(keys)
+}
+
+// The key of a row: its number behind that of its group.
+#[tactic(auto, using(crate::proofs::GroupLemmas::row_read))]
+fn key_of_row(snapshot: &Snapshot, row: u32) -> u64
+    requires { row < length snapshot.now.release.attributes }
+    ensures { result ≡ group_key snapshot.now.release row }
+{
+    let group = snapshot.attribute_numbers(row).group;
+    u64::from(group) * KEYS_OF_GROUP + u64::from(row)
+}
+
+// Keys in rising order, each once.
+fn rising(mut keys: Vec<u64>) -> Vec<u64>
+    ensures { result.items ≡ rising_of keys.items }
+{
+    keys.sort_unstable();
+    keys.dedup();
+    keys
+}
+
+// Appends the lines of the attribute rows with some keys.
+fn append_rows(snapshot: &Snapshot, keys: &[u64], text: &mut Vec<u8>) -> Result<(), AllocError>
+    requires { All (λ key. key % 2 ^ 32 < length snapshot.now.release.attributes) keys.now }
+    ensures { OnOk result (text.new.items ≡ text.old.items
+        ++ flat_map (attribute_line (name_in_force snapshot.now))
+        (map (row_with_key snapshot.now.release) keys.now)) }
+{
+    for key in keys {
+        append_attribute(snapshot, (*key % KEYS_OF_GROUP) as u32, text)?;
+    }
+    Ok(())
+}
+
+// Appends the line of an attribute row by its number.
+fn append_attribute(snapshot: &Snapshot, row: u32, text: &mut Vec<u8>) -> Result<(), AllocError>
+    requires { row < length snapshot.now.release.attributes }
+    ensures { OnOk result (text.new.items ≡ text.old.items
+        ++ attribute_line (name_in_force snapshot.now) (row_numbered snapshot.now.release row)) }
+{
+    let row = snapshot.attribute_numbers(row);
+    append_number(u64::from(row.group), text)?;
+    text.push(b' ')?;
+    append_type(snapshot, row.type_id, text)?;
+    text.push(b' ')?;
+    append_value(snapshot, row.value, text)?;
+    text.push(b'\n')?;
+    Ok(())
+}
+
+// Appends a type: with its name where it is a concept in force.
+fn append_type(snapshot: &Snapshot, type_id: SctId, text: &mut Vec<u8>) -> Result<(), AllocError>
+    ensures { OnOk result (text.new.items ≡ text.old.items ++ concept_words (name_in_force snapshot.now) type_id) }
+{
+    match snapshot.index_of(type_id.number()) {
+        Some(concept) => append_words(snapshot, concept, text),
+        None => append_number(type_id.number(), text),
+    }
+}
+
+// Appends a value.
+fn append_value(
+    snapshot: &Snapshot,
+    value: NumberedValue<'_>,
+    text: &mut Vec<u8>,
+) -> Result<(), AllocError>
+    requires { IsNumberBelow (length snapshot.now.release.concepts) (numbered_lent value) }
+    ensures { OnOk result (text.new.items ≡ text.old.items ++ value_words (name_in_force snapshot.now)
+        (value_by_identifier snapshot.now.release.concepts (numbered_lent value.entry))) }
+{
+    match value {
+        NumberedValue::Concept(concept) => append_words(snapshot, concept, text),
+        NumberedValue::Decimal(decimal) => print_decimal(decimal, text),
+        NumberedValue::Other(other) => text.extend_from_slice(other),
+    }
+}

@@ -1,0 +1,76 @@
+//! What a release says of the concept that a line names.
+ghost use Rattle.std.specs.Prelude.{◌≡◌, ◌++◌, codes, IfOk, OnOk};
+ghost use Rattle.postings.specs.Indexed.{IsIndexOf};
+ghost use Rattle.concept_printer.specs.ConceptText.{description_text, fault_line, identifier_line, told_of};
+
+use crate::concept::{append_concept, append_number};
+use crate::named_concept::{LineFault, cause_word, named_concept};
+use held_release::Snapshot;
+use postings::Indexes;
+use std::alloc::{AllocError, Global};
+
+/// What a release says of the concept that a line names: of one in force its parents and children, its attributes
+/// group by group, and the reference sets that it is in; of an inactive or an unknown one that it is so; or why the line
+/// names none. Every line ends in LF. The indexes are those of the release. `AllocError` is answered where memory is
+/// refused.
+pub fn description(
+    alloc: Global,
+    snapshot: &Snapshot,
+    indexes: &Indexes,
+    line: &[u8],
+) -> Result<Vec<u8>, AllocError>
+    requires { IsIndexOf indexes.now snapshot.now.release }
+    ensures { IfOk result (λ text. text.items ≡ description_text snapshot.now line.now) }
+{
+    let mut text = Vec::new(alloc);
+    match named_concept(line) {
+        Ok(id) => append_told(alloc, snapshot, indexes, id, &mut text)?,
+        Err(fault) => append_fault(fault, &mut text)?,
+    }
+    Ok(text)
+}
+
+// Appends what a release says of the concept with an identifier.
+fn append_told(
+    alloc: Global,
+    snapshot: &Snapshot,
+    indexes: &Indexes,
+    id: u64,
+    text: &mut Vec<u8>,
+) -> Result<(), AllocError>
+    requires { IsIndexOf indexes.now snapshot.now.release }
+    ensures { OnOk result (text.new.items ≡ text.old.items ++ told_of snapshot.now id) }
+{
+    match snapshot.index_of(id) {
+        Some(concept) => append_concept(alloc, snapshot, indexes, concept, text),
+        None if snapshot.is_inactive(id) => append_identifier(b"INACTIVE", id, text),
+        None => append_identifier(b"UNKNOWN", id, text),
+    }
+}
+
+// Appends a word and an identifier on a line.
+fn append_identifier(word: &[u8], id: u64, text: &mut Vec<u8>) -> Result<(), AllocError>
+    ensures { OnOk result (text.new.items ≡ text.old.items ++ identifier_line word.now id) }
+{
+    text.extend_from_slice(word)?;
+    text.push(b' ')?;
+    append_number(id, text)?;
+    text.push(b'\n')?;
+    Ok(())
+}
+
+// Appends the line that refuses a line.
+fn append_fault(fault: LineFault, text: &mut Vec<u8>) -> Result<(), AllocError>
+    ensures { OnOk result (text.new.items ≡ text.old.items ++ fault_line fault) }
+{
+    match fault {
+        LineFault::Long => text.extend_from_slice(b"ERR long\n"),
+        LineFault::Utf8 => text.extend_from_slice(b"ERR utf8\n"),
+        LineFault::Id(fault) => {
+            text.extend_from_slice(b"ERR id ")?;
+            text.extend_from_slice(cause_word(fault))?;
+            text.push(b'\n')?;
+            Ok(())
+        }
+    }
+}

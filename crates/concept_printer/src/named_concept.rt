@@ -1,0 +1,138 @@
+//! The concept that a line names.
+ghost use Rattle.std.specs.Prelude.{◌≡◌, None, Some, IfErr, IfOk, option_map};
+ghost use Rattle.std.specs.Str.{is_utf8};
+ghost use Rattle.sctid.specs.declared.Part.TheVariants.{Concept};
+ghost use Rattle.rf2_rows.specs.Columns.{fault_for};
+ghost use Rattle.concept_printer.specs.NamedConcept.{before_bar, before_blanks, behind_blanks, ends_in_bar};
+ghost use Rattle.concept_printer.specs.NamedConcept.{identifier_cause, identifier_in, is_blank, line_fault};
+ghost use Rattle.concept_printer.specs.NamedConcept.{named_concept as named_by, without_term};
+ghost use Rattle.numerals.specs.Numbers.{number_of};
+
+use sctid::{IdFault, Part, SctId};
+use std::str::from_utf8;
+use text_parts::cut;
+
+// No line that is read has more bytes.
+const MOST_BYTES: usize = 65_535;
+
+const BAR: u8 = b'|';
+
+/// Why a line names no concept: the first cause, in this order, that holds of it.
+#[derive(Clone, Copy, Debug, PartialEq, Eq)]
+pub enum LineFault {
+    /// It has more than 65,535 bytes.
+    Long,
+    /// It is not UTF-8.
+    Utf8,
+    /// Its identifier is none, or not that of a concept.
+    Id(IdFault),
+}
+
+/// The identifier of the concept that a line names, with or without its term, or why it names none.
+pub fn named_concept(line: &[u8]) -> Result<u64, LineFault>
+    ensures sound { IfOk result (λ id. line_fault line.now ≡ None) }
+    ensures named { IfOk result (λ id. id ≡ named_by line.now) }
+    ensures fault { IfErr result (λ fault. line_fault line.now ≡ Some fault) }
+{
+    if line.len() > MOST_BYTES {
+        return Err(LineFault::Long);
+    }
+    if !is_text(line) {
+        return Err(LineFault::Utf8);
+    }
+    match concept_id(identifier(line)) {
+        Ok(id) => Ok(id),
+        Err(fault) => Err(LineFault::Id(fault)),
+    }
+}
+
+// Whether bytes are UTF-8.
+#[tactic(auto, using(rf2_rows::proofs::Texts::utf8_tests))]
+fn is_text(bytes: &[u8]) -> bool
+    ensures { result ≡ is_utf8 bytes.now }
+{
+    from_utf8(bytes).is_ok()
+}
+
+// The identifier of a concept that a text is.
+fn concept_id(text: &[u8]) -> Result<u64, IdFault>
+    ensures sound { IfOk result (λ id. fault_for Concept text.now ≡ None) }
+    ensures id { IfOk result (λ id. id ≡ number_of text.now) }
+    ensures fault { IfErr result (λ fault. fault_for Concept text.now ≡ Some fault) }
+{
+    match SctId::parse(text) {
+        Ok(id) if id.part() == Part::Concept => Ok(id.number()),
+        Ok(_) => Err(IdFault::Partition),
+        Err(fault) => Err(fault),
+    }
+}
+
+// The text of the identifier in a line.
+fn identifier(line: &[u8]) -> &[u8]
+    ensures { result.now ≡ identifier_in line.now }
+{
+    let text = without_blanks_behind(without_blanks_before(line));
+    if !has_bar_at_end(text) {
+        return text;
+    }
+    let (id, _) = cut(text, BAR);
+    without_blanks_behind(id)
+}
+
+// Whether the last byte is a bar.
+fn has_bar_at_end(text: &[u8]) -> bool
+    ensures { result ≡ ends_in_bar text.now }
+{
+    match text {
+        [.., last] => *last == BAR,
+        _ => false,
+    }
+}
+
+// A text without the blanks at its front.
+fn without_blanks_before(text: &[u8]) -> &[u8]
+    ensures { result.now ≡ behind_blanks text.now }
+{
+    let mut left = text;
+    while let [first, rest @ ..] = left {
+        if !is_blank_byte(*first) {
+            return left;
+        }
+        left = rest;
+    }
+    left
+}
+
+// A text without the blanks at its end.
+fn without_blanks_behind(text: &[u8]) -> &[u8]
+    ensures { result.now ≡ before_blanks text.now }
+{
+    let mut left = text;
+    while let [rest @ .., last] = left {
+        if !is_blank_byte(*last) {
+            return left;
+        }
+        left = rest;
+    }
+    left
+}
+
+// Whether a byte is a space, a tab or a carriage return.
+fn is_blank_byte(byte: u8) -> bool
+    ensures { result ≡ is_blank byte }
+{
+    matches!(byte, b' ' | b'\t' | b'\r')
+}
+
+/// The word for the cause for which an identifier is refused.
+pub fn cause_word(fault: IdFault) -> &'static [u8]
+    ensures { result.now ≡ identifier_cause fault }
+{
+    match fault {
+        IdFault::Length => b"length",
+        IdFault::Digit => b"digit",
+        IdFault::LeadingZero => b"zero",
+        IdFault::Partition => b"part",
+        IdFault::Check => b"check",
+    }
+}

@@ -1,0 +1,6 @@
+//! The lines of `session`: what each asks for.
+#![tactic(auto)]
+
+mod request;
+
+pub use crate::request::{Page, SessionRequest, read_request};
