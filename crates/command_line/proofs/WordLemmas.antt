@@ -5,7 +5,7 @@ use Rattle.std.proofs.Common.{codes, refl, subst, sym}
 use Rattle.std.specs.Borrow.{Bor}
 use Rattle.std.specs.Prelude.{bytes_eq, string_bytes, unwrap_or}
 use Rattle.std.proofs.lemmas.Slice.Eq.{bytes_eq-Decides}
-use Rattle.clap.specs.Words.{AddsArg, App, IsAmong, Row, Rule, Text, app_of, fault_of, found_of, rows_of, rule_of}
+use Rattle.clap.specs.Words.{AddsArg, App, IsAmong, Row, Rule, Text, app_of, fault_of, first_of, found_of, rows_of, rule_of}
 use Rattle.clap.specs.Words.{subcommand_of}
 use Rattle.clap.specs.Words.{subcommand_rows, subcommand_rows_of, with_rule}
 use Rattle.clap.specs.declared.builder.arg.Arg.{Arg}
@@ -19,10 +19,11 @@ use Rattle.clap.specs.declared.error.kind.ErrorKind.TheVariants.{MissingSubcomma
 use Rattle.command_line.specs.CommandLine.{AreOneToNine, Asks, AsksFolders, AsksQuery, CommandAsks, HasOwnArguments}
 use Rattle.command_line.specs.CommandLine.{IsCall, IsFaultBy, IsFaultOfFolders, IsFaultOfQuery, IsNoRequest, IsQueryOf}
 use Rattle.command_line.specs.CommandLine.{IsRefusal, IsRequest, default_language, folders_in, folders_named}
+use Rattle.command_line.specs.CommandLine.{AsksInLanguage, HasFoldersOf, is_command}
 use Rattle.command_line.specs.CommandLine.{folders_of, program, query_rows}
 use Rattle.command_line.specs.QueryWords.{IsFaultOfNumber, IsFaultOfNumbers, IsNoCall, IsNoNumber, is_given, mode_of}
 use Rattle.command_line.specs.declared.words.Mode.{Mode}
-use Rattle.command_line.specs.declared.words.Mode.TheVariants.{Sample, Query, QueryWith, Explain, Check}
+use Rattle.command_line.specs.declared.words.Mode.TheVariants.{Sample, Query, QueryWith, Explain, Describe, Session, Check}
 use Rattle.command_line.specs.declared.words.Request.{Request}
 use Rattle.command_line.specs.declared.words.WordFault.{WordFault}
 use Rattle.command_line.specs.declared.words.WordFault.TheVariants.{Usage, Help, Memory}
@@ -62,6 +63,8 @@ words_ask Sample words request clean asked = absurd asked
 words_ask Query words request clean asked = (clean, asked)
 words_ask (QueryWith options) words request clean asked = (clean, asked)
 words_ask Explain words request clean asked = (clean, asked)
+words_ask Describe words request clean asked = (clean, asked)
+words_ask Session words request clean asked = (clean, asked)
 words_ask Check words request clean asked = (clean, asked)
 
 -- where the command is that of the words, so is the request
@@ -71,12 +74,11 @@ request_is words command (Ok request) named clean asked =
     words_ask request.mode words request clean (subst (λ (c : Option (Text × List Row)). CommandAsks request.mode c request) named asked)
 request_is words command (Err fault) named clean asked = tt
 
--- the folders that a command `query`, `explain` or `check` names are those of its rows
+-- the folders that a command names are those of its rows
 pub names_folders : (command : Option (Text × List Row)) (name : Text) (rows : List Row) → command ≡ Some (name, rows)
-    → (name ≡ codes "query") ⊎ ((name ≡ codes "explain") ⊎ (name ≡ codes "check")) → folders_named command ≡ folders_of rows
-names_folders command name rows is (inl query) = ap folders_named is ∙ ap (λ (n : Text). folders_named (Some (n, rows))) query
-names_folders command name rows is (inr (inl explain)) = ap folders_named is ∙ ap (λ (n : Text). folders_named (Some (n, rows))) explain
-names_folders command name rows is (inr (inr check)) = ap folders_named is ∙ ap (λ (n : Text). folders_named (Some (n, rows))) check
+    → is_command name ≡ true → folders_named command ≡ folders_of rows
+names_folders command name rows is named =
+    ap folders_named is ∙ (λ i. if named i then folders_of rows else [])
 
 -- the rows of a command `query` are those of its options
 pub rows_of_query : (command : Option (Text × List Row)) (rows : List Row) → command ≡ Some (codes "query", rows)
@@ -102,7 +104,7 @@ pub is_no_query : (command : Option (Text × List Row)) (rows : List Row) (fault
     → command ≡ Some (codes "query", rows) → IsFaultOfQuery rows fault → IsNoRequest command fault
 is_no_query command rows fault is (inl none) =
     inl (subst (λ (folders : List Text). IsFaultOfFolders folders fault)
-    (sym (names_folders command (codes "query") rows is (inl refl))) none)
+    (sym (names_folders command (codes "query") rows is refl)) none)
 is_no_query command rows fault is (inr none) =
     inr (subst (λ (own : List Row). IsFaultOfNumbers own fault) (sym (rows_of_query command rows is)) none)
 
@@ -116,13 +118,24 @@ unlike one other apart = by (bytes_eq one other) refl
 
 -- a command of another name names none
 pub names_no_folder : (command : Option (Text × List Row)) (name : Text) (rows : List Row) → command ≡ Some (name, rows)
-    → name ≢ codes "query" → name ≢ codes "explain" → name ≢ codes "check" → folders_named command ≡ []
-names_no_folder command name rows is no_query no_explain no_check =
+    → name ≢ codes "query" → name ≢ codes "explain" → name ≢ codes "describe" → name ≢ codes "session"
+    → name ≢ codes "check" → folders_named command ≡ []
+names_no_folder command name rows is no_query no_explain no_describe no_session no_check =
     let query_not = unlike name (codes "query") no_query in
     let explain_not = unlike name (codes "explain") no_explain in
+    let describe_not = unlike name (codes "describe") no_describe in
+    let session_not = unlike name (codes "session") no_session in
     let check_not = unlike name (codes "check") no_check in
     ap folders_named is
-    ∙ (λ i. if query_not i || explain_not i || check_not i then folders_of rows else [])
+    ∙ (λ i. if query_not i || (explain_not i || (describe_not i || (session_not i || check_not i)))
+    then folders_of rows else [])
+
+-- what a command with a language asks for, by what was read of it
+pub asks_in_language : (command : Option (Text × List Row)) (name : Text) (rows : List Row) (request : Request)
+    → command ≡ Some (name, rows) → HasFoldersOf rows request
+    → unwrap_or (first_of (codes "lang") rows) default_language ≡ string_bytes request.lang
+    → AsksInLanguage name command request
+asks_in_language command name rows request named folders lang = (rows, named, folders, lang)
 
 -- where a command names no folder, it is no request, and no call for help
 pub is_no_request : (command : Option (Text × List Row)) (fault : WordFault) → IsFaultBy MissingSubcommand fault

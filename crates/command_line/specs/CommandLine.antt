@@ -1,6 +1,6 @@
 -- What the words of a command line ask for. The words begin with the program's name. How words are read as
 -- arguments is clap's; here is what the program takes, and what a request is of it.
-use Rattle.std.specs.Prelude.{◌≡◌, ◌-◌, ◌^◌, ◌≢◌, ◌⊎◌, ◌<◌, ◌≤◌, ◌||◌, ℕ, ⊤, false, true, if◌then◌else◌, List, []}
+use Rattle.std.specs.Prelude.{◌≡◌, ◌-◌, ◌^◌, ◌≢◌, ◌⊎◌, ◌<◌, ◌≤◌, ◌||◌, Bool, ℕ, ⊤, false, true, if◌then◌else◌, List, []}
 use Rattle.std.specs.Prelude.{bytes_eq, length, map, codes, string_bytes, unwrap_or, Option, None, Some}
 use Rattle.clap.specs.Words.{App, IsAmong, Row, Rule, Text, all_of, fault_of, first_of, new_app, new_rule, subcommand_of, with_rule, with_subcommand}
 use Rattle.clap.specs.declared.builder.action.ArgAction.TheVariants.{Append, SetTrue}
@@ -10,7 +10,7 @@ use Rattle.clap.specs.declared.builder.command.Command.TheViews.{out-Command}
 use Rattle.clap.specs.declared.error.kind.ErrorKind.{ErrorKind}
 use Rattle.clap.specs.declared.error.kind.ErrorKind.TheVariants.{DisplayHelp, DisplayVersion, OutOfMemory}
 use Rattle.command_line.specs.declared.words.Mode.{Mode}
-use Rattle.command_line.specs.declared.words.Mode.TheVariants.{Sample, Query, QueryWith, Explain, Check}
+use Rattle.command_line.specs.declared.words.Mode.TheVariants.{Sample, Query, QueryWith, Explain, Describe, Session, Check}
 use Rattle.command_line.specs.declared.words.Request.{Request}
 use Rattle.command_line.specs.QueryWords.{IsFaultOfNumbers, IsQueryMode}
 use Rattle.command_line.specs.declared.words.WordFault.{WordFault}
@@ -45,6 +45,10 @@ explain_command = with_rule (new_app (codes "explain")) folder_rule
 abbrev pub check_command : App
 check_command = with_rule (new_app (codes "check")) folder_rule
 
+-- `describe` and `session`, with the folders and a language
+abbrev pub language_command : Text → App
+language_command name = with_rule (with_rule (new_app name) folder_rule) lang_rule
+
 -- none of its arguments is one of its commands too
 abbrev pub HasOwnArguments : Command → Type 0
 HasOwnArguments command = (out-Command command).has_globals ≡ false
@@ -64,7 +68,13 @@ bare_program = requiring_command (having_version (new_app (codes "hosecrag")))
 -- the program
 abbrev pub program : App
 program =
-    with_subcommand (with_subcommand (with_subcommand bare_program query_command.top) explain_command.top) check_command.top
+    with_subcommand
+    (with_subcommand
+    (with_subcommand
+    (with_subcommand (with_subcommand bare_program query_command.top) explain_command.top)
+    (language_command (codes "describe")).top)
+    (language_command (codes "session")).top)
+    check_command.top
 
 -- the language whose names come first where none is given
 abbrev pub default_language : List ℕ
@@ -119,12 +129,21 @@ AsksExplain command request = AsksFolders (codes "explain") command request
 abbrev pub AsksCheck : Option (Text × List Row) → Request → Type 0
 AsksCheck command request = AsksFolders (codes "check") command request
 
+-- `describe` and `session` ask for the release of their folders, and for their language first
+abbrev pub AsksInLanguage : Text → Option (Text × List Row) → Request → Type 0
+AsksInLanguage name command request =
+    (rows : List Row) × (command ≡ Some (name, rows))
+    × HasFoldersOf rows request
+    × (unwrap_or (first_of (codes "lang") rows) default_language ≡ string_bytes request.lang)
+
 -- what a command asks for in each mode: none asks for the built-in release
 abbrev pub CommandAsks : Mode → Option (Text × List Row) → Request → Type 0
 CommandAsks Sample command request = ⊥
 CommandAsks Query command request = AsksQuery command request
 CommandAsks (QueryWith options) command request = AsksQuery command request
 CommandAsks Explain command request = AsksExplain command request
+CommandAsks Describe command request = AsksInLanguage (codes "describe") command request
+CommandAsks Session command request = AsksInLanguage (codes "session") command request
 CommandAsks Check command request = AsksCheck command request
 
 -- what words ask for in each mode: a command is one in which clap finds no fault
@@ -133,19 +152,27 @@ Asks Sample words request = AsksSample words request
 Asks Query words request = (fault_of program words ≡ []) × AsksQuery (subcommand_of program words) request
 Asks (QueryWith options) words request = (fault_of program words ≡ []) × AsksQuery (subcommand_of program words) request
 Asks Explain words request = (fault_of program words ≡ []) × AsksExplain (subcommand_of program words) request
+Asks Describe words request =
+    (fault_of program words ≡ []) × AsksInLanguage (codes "describe") (subcommand_of program words) request
+Asks Session words request =
+    (fault_of program words ≡ []) × AsksInLanguage (codes "session") (subcommand_of program words) request
 Asks Check words request = (fault_of program words ≡ []) × AsksCheck (subcommand_of program words) request
 
 -- the request is that of the words
 abbrev pub IsRequest : List Text → Request → Type 0
 IsRequest words request = Asks request.mode words request
 
--- the folders that a command names, in the order of their words: those of `query`, of `explain` and of `check`
+-- a name is that of a command
+abbrev pub is_command : Text → Bool
+is_command name =
+    bytes_eq name (codes "query")
+    || (bytes_eq name (codes "explain")
+    || (bytes_eq name (codes "describe") || (bytes_eq name (codes "session") || bytes_eq name (codes "check"))))
+
+-- the folders that a command names, in the order of their words
 abbrev pub folders_named : Option (Text × List Row) → List Text
 folders_named None = []
-folders_named (Some command) =
-    if bytes_eq command.0 (codes "query") || bytes_eq command.0 (codes "explain") || bytes_eq command.0 (codes "check")
-    then folders_of command.1
-    else []
+folders_named (Some command) = if is_command command.0 then folders_of command.1 else []
 
 -- what is told of more folders than a release is read from
 abbrev pub too_many_text : Text
@@ -188,8 +215,7 @@ IsFaultBy kind (Help text) = IsCall kind
 IsFaultBy kind Memory = ⊤
 
 -- why words are refused: clap finds a fault in them that is no call for help or for the version; or it finds
--- none, and they name no folder for `query`, `explain` or `check`, or more than nine, or an option of `query` has no
--- number; or they are such a call; or memory was refused
+-- none, and they name no folder for a command, or more than nine, or an option of `query` has no number; or they are such a call; or memory was refused
 abbrev pub IsRefusal : List Text → WordFault → Type 0
 IsRefusal words (Usage text) =
     ((kind : ErrorKind) × IsAmong kind (fault_of program words) × (¬ IsCall kind))

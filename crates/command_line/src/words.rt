@@ -1,6 +1,6 @@
 //! The words of the command line.
 ghost use Rattle.std.specs.Prelude.{ℕ, ◌≡◌, ◌≤◌, codes, IfErr, IfOk, IsOkAnd, MatchOption, false, length, map};
-ghost use Rattle.std.specs.Prelude.{string_bytes};
+ghost use Rattle.std.specs.Prelude.{string_bytes, unwrap_or};
 ghost use Rattle.clap.specs.Words.{app_of, first_of, found_of, kind_of, new_app, rows_of, rule_of, subcommand_rows_of};
 ghost use Rattle.clap.specs.Words.{with_rule, with_subcommand};
 ghost use Rattle.clap.specs.declared.error.kind.ErrorKind.TheVariants.{MissingSubcommand};
@@ -9,6 +9,7 @@ ghost use Rattle.command_line.specs.CommandLine.{AreOneToNine, CommandAsks, HasO
 ghost use Rattle.command_line.specs.CommandLine.{IsFaultOfFolders, IsFaultOfQuery, IsNoRequest, IsQueryOf, IsRefusal};
 ghost use Rattle.command_line.specs.CommandLine.{IsRequest, TellsTooMany, bare_program, check_command, explain_command};
 ghost use Rattle.command_line.specs.CommandLine.{folder_rule, folders_in, folders_of, lang_rule, no_names_rule};
+ghost use Rattle.command_line.specs.CommandLine.{HasFoldersOf, default_language, language_command};
 ghost use Rattle.command_line.specs.CommandLine.{number_rule, program, query_command};
 ghost use Rattle.command_line.specs.QueryWords.{GivesNumber, IsFaultOfNumber, IsFaultOfNumbers, IsNoCall, IsNumberText};
 ghost use Rattle.command_line.specs.QueryWords.{IsQueryMode, is_given, mode_of};
@@ -29,6 +30,10 @@ pub enum Mode {
     QueryWith(QueryOptions),
     /// It tells how queries are executed over the release of folders, and how much each visits at most.
     Explain,
+    /// It tells what the release of folders has of concepts, by their identifiers.
+    Describe,
+    /// It answers requests of a program over the release of folders: pages of answers, plans, and what it has of concepts.
+    Session,
     /// It reports what the release of folders has.
     Check,
 }
@@ -133,11 +138,13 @@ const QUERY_USAGE: &str =
     "hosecrag query <FOLDER>... [--lang <CODE>] [--limit <VISITS>] [--first <N>] [--no-names]";
 
 // What help tells behind the commands.
-const USES: &str = "Five ways to start it:
+const USES: &str = "Seven ways to start it:
   printf '<100005\\n' | hosecrag
   printf '<<404684003\\n' | hosecrag query SnomedCT_Release/Snapshot --lang en
   printf '<<404684003\\n' | hosecrag query SnomedCT_Release/Snapshot SnomedCT_Extension/Snapshot
   printf '<<404684003\\n' | hosecrag explain SnomedCT_Release/Snapshot
+  printf '404684003\\n' | hosecrag describe SnomedCT_Release/Snapshot
+  printf 'list 0 20 - <<404684003\\n' | hosecrag session SnomedCT_Release/Snapshot
   hosecrag check SnomedCT_Release/Snapshot
 
 It ends with a status:
@@ -148,8 +155,8 @@ It ends with a status:
   4  memory was refused";
 
 /// Reads the words of a command line, of which the first is the program's name: no more words,
-/// `query FOLDER.. [--lang CODE] [--limit VISITS] [--first N] [--no-names]`, `explain FOLDER..`, or `check FOLDER..`,
-/// each with 1 to 9 folders. VISITS and N are decimal numbers of 64 bits without a sign. `--help` and `--version` are
+/// `query FOLDER.. [--lang CODE] [--limit VISITS] [--first N] [--no-names]`, `explain FOLDER..`,
+/// `describe FOLDER.. [--lang CODE]`, `session FOLDER.. [--lang CODE]`, or `check FOLDER..`, each with 1 to 9 folders. VISITS and N are decimal numbers of 64 bits without a sign. `--help` and `--version` are
 /// answered as `Help`.
 pub fn read_words<'a>(alloc: Global, words: &'a [&'a str]) -> Result<Request, WordFault>
     ensures asked { IfOk result (IsRequest (texts_of words.now)) }
@@ -197,7 +204,23 @@ fn command_line<'a>(alloc: Global) -> Result<Command<'a>, AllocError>
     let named = bare_program(alloc)?;
     let with_query = with(named, query_command(alloc))?;
     let with_explain = with(with_query, explain_command(alloc))?;
-    with(with_explain, check_command(alloc))
+    let with_describe = with(
+        with_explain,
+        language_command(
+            alloc,
+            "describe",
+            "tells of concepts, by an identifier a line, what the release of 1 to 9 folders has",
+        ),
+    )?;
+    let with_session = with(
+        with_describe,
+        language_command(
+            alloc,
+            "session",
+            "answers requests of a program on the release of 1 to 9 folders: list, ids, explain, describe",
+        ),
+    )?;
+    with(with_session, check_command(alloc))
 }
 
 // A program with one command more, if there was memory for it.
@@ -276,6 +299,33 @@ fn explain_command<'a>(alloc: Global) -> Result<Command<'a>, AllocError>
         .arg(folder_argument(alloc))
 }
 
+// A command with folders and a language.
+fn language_command<'a>(
+    alloc: Global,
+    name: &'a str,
+    about: &'a str,
+) -> Result<Command<'a>, AllocError>
+    ensures shape { IfOk result (λ command. app_of command ≡ language_command name.now) }
+    ensures own { IfOk result HasOwnArguments }
+{
+    let with_folder = folders_command(alloc, name, about)?;
+    with_folder.arg(lang_argument(alloc))
+}
+
+// A command with folders.
+fn folders_command<'a>(
+    alloc: Global,
+    name: &'a str,
+    about: &'a str,
+) -> Result<Command<'a>, AllocError>
+    ensures shape { IfOk result (λ command. app_of command ≡ with_rule (new_app name.now) folder_rule) }
+    ensures own { IfOk result HasOwnArguments }
+{
+    Command::new(alloc, name)
+        .about(about)
+        .arg(folder_argument(alloc))
+}
+
 fn check_command<'a>(alloc: Global) -> Result<Command<'a>, AllocError>
     ensures shape { IfOk result (λ command. app_of command ≡ check_command) }
     ensures own { IfOk result HasOwnArguments }
@@ -343,6 +393,12 @@ fn command_request(alloc: Global, matches: &ArgMatches<'_>) -> Result<Request, W
     if name == "query" {
         return query_request(alloc, arguments);
     }
+    if name == "describe" {
+        return language_request(alloc, Mode::Describe, arguments);
+    }
+    if name == "session" {
+        return language_request(alloc, Mode::Session, arguments);
+    }
     let folders = folders_of(arguments);
     if name == "explain" {
         return Request::of_folders(alloc, Mode::Explain, folders, DEFAULT_LANGUAGE);
@@ -351,6 +407,21 @@ fn command_request(alloc: Global, matches: &ArgMatches<'_>) -> Result<Request, W
         return Request::of_folders(alloc, Mode::Check, folders, DEFAULT_LANGUAGE);
     }
     Err(no_command(alloc))
+}
+
+// What is asked in a mode by the arguments of a command with folders and a language.
+fn language_request(
+    alloc: Global,
+    mode: Mode,
+    arguments: &ArgMatches<'_>,
+) -> Result<Request, WordFault>
+    ensures asked { IfOk result (λ request. (request.mode ≡ mode) × HasFoldersOf (rows_of (found_of arguments.now)) request
+        × (unwrap_or (first_of (codes "lang") (rows_of (found_of arguments.now))) default_language
+        ≡ string_bytes request.lang)) }
+    ensures refused { IfErr result (IsFaultOfFolders (folders_of (rows_of (found_of arguments.now)))) }
+{
+    let lang = arguments.get_str("lang").unwrap_or(DEFAULT_LANGUAGE);
+    Request::of_folders(alloc, mode, folders_of(arguments), lang)
 }
 
 // What is asked by the arguments of `query`.

@@ -25,7 +25,7 @@ use Rattle.query_service.specs.declared.service.Status.TheVariants.{Done, Device
 use Rattle.streams.specs.declared.output.AnswerOutput.{Ghosts as Output}
 use Rattle.streams.specs.declared.input.QueryInput.{Ghosts as Input}
 use Rattle.command_line.specs.declared.words.Mode.{Mode}
-use Rattle.command_line.specs.declared.words.Mode.TheVariants.{Sample, Query, QueryWith, Explain, Check}
+use Rattle.command_line.specs.declared.words.Mode.TheVariants.{Sample, Query, QueryWith, Explain, Describe, Session, Check}
 use Rattle.command_line.specs.declared.words.QueryOptions.{QueryOptions}
 
 -- a fault that came while a release was served, and was told by its line
@@ -76,19 +76,23 @@ asked_of_files Sample files loaded = absurd files
 asked_of_files Query files loaded = loaded
 asked_of_files (QueryWith options) files loaded = loaded
 asked_of_files Explain files loaded = loaded
+asked_of_files Describe files loaded = loaded
+asked_of_files Session files loaded = loaded
 asked_of_files Check files loaded = absurd files
 
--- and unless it explains them, or answers them under options, it is that of queries
-pub serves_files : {R W E : Type 0} (r : Input R) (w : Output W) (e : Output E) (mode : Mode) (contents : Contents) (status : Status)
-    (before after : Streams R W E) → AnswersFiles mode → ((options : QueryOptions) → mode ≢ QueryWith options)
-    → mode ≢ Explain
+-- and unless it has a run of its own, it is that of queries
+pub serves_files : {R W E : Type 0} (r : Input R) (w : Output W) (e : Output E) (mode : Mode) (contents : Contents)
+    (status : Status) (before after : Streams R W E) → AnswersFiles mode
+    → ((options : QueryOptions) → mode ≢ QueryWith options) → mode ≢ Explain → mode ≢ Describe → mode ≢ Session
     → ServesWith r w e Query contents status before after → ServesWith r w e mode contents status before after
-serves_files r w e Sample contents status before after files plain other served = absurd files
-serves_files r w e Query contents status before after files plain other served = served
-serves_files r w e (QueryWith options) contents status before after files plain other served =
+serves_files r w e Sample contents status before after files plain told said held served = absurd files
+serves_files r w e Query contents status before after files plain told said held served = served
+serves_files r w e (QueryWith options) contents status before after files plain told said held served =
     absurd (plain options refl)
-serves_files r w e Explain contents status before after files plain other served = absurd (other refl)
-serves_files r w e Check contents status before after files plain other served = absurd files
+serves_files r w e Explain contents status before after files plain told said held served = absurd (told refl)
+serves_files r w e Describe contents status before after files plain told said held served = absurd (said refl)
+serves_files r w e Session contents status before after files plain told said held served = absurd (held refl)
+serves_files r w e Check contents status before after files plain told said held served = absurd files
 
 -- what is loaded is one thing, and a fault of it that of what is loaded
 pub same_contents : (loaded : Result Contents LoadFault) (own contents : Contents) → loaded ≡ Ok own → loaded ≡ Ok contents → contents ≡ own

@@ -25,10 +25,11 @@ use Rattle.query_service.specs.declared.service.Status.TheVariants.{Done, Device
 use Rattle.streams.specs.declared.output.AnswerOutput.{Ghosts as Output}
 use Rattle.streams.specs.declared.input.QueryInput.{Ghosts as Input}
 use Rattle.command_line.specs.declared.words.Mode.{Mode}
-use Rattle.command_line.specs.declared.words.Mode.TheVariants.{Sample, Query, QueryWith, Explain, Check}
+use Rattle.command_line.specs.declared.words.Mode.TheVariants.{Sample, Query, QueryWith, Explain, Describe, Session, Check}
 use Rattle.command_line.specs.declared.words.QueryOptions.{QueryOptions}
 use Rattle.answer_printer.specs.declared.form.AnswerForm.{AnswerForm}
 use Rattle.query_service.specs.LimitedAnswer.{IsAnswerWithin}
+use Rattle.query_service.specs.SessionAnswer.{IsDescription, IsSessionAnswer}
 
 -- the number that the program ends with
 abbrev pub status_code : Status → ℕ
@@ -95,6 +96,8 @@ IsAskedFor told old new language Sample task = task.loaded ≡ Ok sample_content
 IsAskedFor told old new language Query task = IsLoadedFrom told old new language task
 IsAskedFor told old new language (QueryWith options) task = IsLoadedFrom told old new language task
 IsAskedFor told old new language Explain task = IsLoadedFrom told old new language task
+IsAskedFor told old new language Describe task = IsLoadedFrom told old new language task
+IsAskedFor told old new language Session task = IsLoadedFrom told old new language task
 IsAskedFor told old new language Check task = IsLoadedFrom told old new language task
 
 -- whether the lines of a mode are answered over the release of a source's files
@@ -103,6 +106,8 @@ AnswersFiles Sample = ⊥
 AnswersFiles Query = ⊤
 AnswersFiles (QueryWith options) = ⊤
 AnswersFiles Explain = ⊤
+AnswersFiles Describe = ⊤
+AnswersFiles Session = ⊤
 AnswersFiles Check = ⊥
 
 -- the task of a mode
@@ -135,6 +140,8 @@ IsServed r w Query contents before after = IsAnswered r w (IsAnswer contents) be
 IsServed r w (QueryWith options) contents before after =
     IsAnswered r w (IsAnswerWithin options.limit (form_of options) contents) before after
 IsServed r w Explain contents before after = IsAnswered r w (IsExplanation contents) before after
+IsServed r w Describe contents before after = IsAnswered r w (IsDescription contents) before after
+IsServed r w Session contents before after = IsAnswered r w (IsSessionAnswer contents) before after
 IsServed r w Check contents before after = IsReported w contents before after
 
 -- a front of the report was written, not all of it, and nothing was read
@@ -155,6 +162,12 @@ IsCut r w (QueryWith options) fault contents before after =
     (r.remaining after.input) (w.written before.output) (w.written after.output)
 IsCut r w Explain fault contents before after =
     EndsAt fault (IsExplanation contents) (r.remaining before.input) (r.remaining after.input) (w.written before.output) (w.written after.output)
+IsCut r w Describe fault contents before after =
+    EndsAt fault (IsDescription contents) (r.remaining before.input) (r.remaining after.input) (w.written before.output)
+    (w.written after.output)
+IsCut r w Session fault contents before after =
+    EndsAt fault (IsSessionAnswer contents) (r.remaining before.input) (r.remaining after.input) (w.written before.output)
+    (w.written after.output)
 IsCut r w Check fault contents before after = IsReportCut w fault contents before after
 
 -- status 0: all was done, no stream has failed, and nothing was told

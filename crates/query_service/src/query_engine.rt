@@ -13,6 +13,7 @@ ghost use Rattle.query_service.specs.Answer.{IsAnswer};
 ghost use Rattle.query_service.specs.Explanation.{IsExplanation};
 ghost use Rattle.query_service.specs.LimitedAnswer.{IsAnswerWithin};
 ghost use Rattle.query_service.specs.Report.{report_of};
+ghost use Rattle.query_service.specs.SessionAnswer.{IsDescription, IsSessionAnswer};
 
 use answer_printer::AnswerForm;
 use query_run::{AnswerLine, RunFault};
@@ -106,6 +107,46 @@ pub trait QueryEngine: AnswerLine + Drop {
         ensures sound { OnOk result ((R.has_failed input.new ≡ false) × (W.has_failed output.new ≡ false)) }
         ensures fault { IfErr result (λ fault. EndsAt fault (IsAnswerWithin limit form (contents self.now))
             (R.remaining input.old) (R.remaining input.new) (W.written output.old) (W.written output.new)) }
+        ensures failed { IfErr result (λ fault. HaveFailed fault (R.has_failed input.new) (W.has_failed output.new)) }
+        ensures turns { IfErr result (λ fault. CountsTurns fault (R.read_count input.old) (R.read_count input.new)) };
+
+    /// Tells of the concept that each line of an input names, in order, what the release has of it.
+    /// It reads, writes and ends as `run` of `query_run` does.
+    fn run_describe<R: QueryInput, W: AnswerOutput>(
+        &self,
+        alloc: Global,
+        input: &mut R,
+        output: &mut W,
+    ) -> Result<u64, RunFault>
+        requires input { R.has_failed input.old ≡ false }
+        requires output { W.has_failed output.old ≡ false }
+        ensures end { OnOk result (IsAtEnd (R.remaining input.new)) }
+        ensures answers { OnOk result (IfSome (R.remaining input.old) (λ bytes.
+            AreWritten (IsDescription (contents self.now)) (query_lines bytes) (W.written output.old)
+            (W.written output.new))) }
+        ensures sound { OnOk result ((R.has_failed input.new ≡ false) × (W.has_failed output.new ≡ false)) }
+        ensures fault { IfErr result (λ fault. EndsAt fault (IsDescription (contents self.now)) (R.remaining input.old)
+            (R.remaining input.new) (W.written output.old) (W.written output.new)) }
+        ensures failed { IfErr result (λ fault. HaveFailed fault (R.has_failed input.new) (W.has_failed output.new)) }
+        ensures turns { IfErr result (λ fault. CountsTurns fault (R.read_count input.old) (R.read_count input.new)) };
+
+    /// Answers the request in each line of an input, in order: a page of an answer, a plan, or what the release has of a concept.
+    /// It reads, writes and ends as `run` of `query_run` does.
+    fn run_session<R: QueryInput, W: AnswerOutput>(
+        &self,
+        alloc: Global,
+        input: &mut R,
+        output: &mut W,
+    ) -> Result<u64, RunFault>
+        requires input { R.has_failed input.old ≡ false }
+        requires output { W.has_failed output.old ≡ false }
+        ensures end { OnOk result (IsAtEnd (R.remaining input.new)) }
+        ensures answers { OnOk result (IfSome (R.remaining input.old) (λ bytes.
+            AreWritten (IsSessionAnswer (contents self.now)) (query_lines bytes) (W.written output.old)
+            (W.written output.new))) }
+        ensures sound { OnOk result ((R.has_failed input.new ≡ false) × (W.has_failed output.new ≡ false)) }
+        ensures fault { IfErr result (λ fault. EndsAt fault (IsSessionAnswer (contents self.now)) (R.remaining input.old)
+            (R.remaining input.new) (W.written output.old) (W.written output.new)) }
         ensures failed { IfErr result (λ fault. HaveFailed fault (R.has_failed input.new) (W.has_failed output.new)) }
         ensures turns { IfErr result (λ fault. CountsTurns fault (R.read_count input.old) (R.read_count input.new)) };
 

@@ -60,8 +60,9 @@ impl Status {
 }
 
 /// Does what is asked of a release, by an engine `Q`: of the one that is built in, or of that of the files of a source.
-/// Answers the query lines of an input, at `QueryWith` under its options; at `Explain` tells the plan of each; or, at
-/// `Check`, writes what the release has, and reads nothing. Nothing is written before the release is loaded. What is
+/// Answers the query lines of an input, at `QueryWith` under its options; at `Explain` tells the plan of each; at
+/// `Describe` tells what the release has of the concept that each names; at `Session` answers the request in each; or,
+/// at `Check`, writes what the release has, and reads nothing. Nothing is written before the release is loaded. What is
 /// refused, and a fault, is told by one line on `errors`, whose own failure changes nothing.
 pub fn serve<Q: QueryEngine, S: FileSource, R: QueryInput, W: AnswerOutput, E: AnswerOutput>(
     alloc: Global,
@@ -109,6 +110,24 @@ pub fn serve<Q: QueryEngine, S: FileSource, R: QueryInput, W: AnswerOutput, E: A
             output,
             errors,
         ),
+        Mode::Describe => answer_source::<Q, S, R, W, E>(
+            alloc,
+            Mode::Describe,
+            lang,
+            source,
+            input,
+            output,
+            errors,
+        ),
+        Mode::Session => answer_source::<Q, S, R, W, E>(
+            alloc,
+            Mode::Session,
+            lang,
+            source,
+            input,
+            output,
+            errors,
+        ),
         Mode::Check => report_source::<Q, S, R, W, E>(alloc, lang, source, input, output, errors),
     }
 }
@@ -140,7 +159,7 @@ fn sample_engine<Q: QueryEngine>(alloc: Global) -> Result<Q, LoadFault>
     Q::load(alloc, &sample_files(), "en", Limits::standard())
 }
 
-// Answers the query lines of an input over the release of a source's files, or tells their plans.
+// Answers the lines of an input over the release of a source's files.
 fn answer_source<Q: QueryEngine, S: FileSource, R: QueryInput, W: AnswerOutput, E: AnswerOutput>(
     alloc: Global,
     mode: Mode,
@@ -165,7 +184,7 @@ fn answer_source<Q: QueryEngine, S: FileSource, R: QueryInput, W: AnswerOutput, 
     }
 }
 
-// Answers the query lines of an input over a release, or tells their plans, and lets the release go.
+// Answers the lines of an input over a release, and lets the release go.
 fn answer_lines<Q: QueryEngine, R: QueryInput, W: AnswerOutput, E: AnswerOutput>(
     alloc: Global,
     mode: Mode,
@@ -186,7 +205,7 @@ fn answer_lines<Q: QueryEngine, R: QueryInput, W: AnswerOutput, E: AnswerOutput>
     status
 }
 
-// Answers the query lines of an input over a release, or tells their plans.
+// Answers the lines of an input over a release.
 fn serve_lines<Q: QueryEngine, R: QueryInput, W: AnswerOutput, E: AnswerOutput>(
     alloc: Global,
     mode: Mode,
@@ -205,6 +224,8 @@ fn serve_lines<Q: QueryEngine, R: QueryInput, W: AnswerOutput, E: AnswerOutput>(
     match mode {
         Mode::QueryWith(options) => answer_all_with(alloc, engine, options, input, output, errors),
         Mode::Explain => explain_all(alloc, engine, input, output, errors),
+        Mode::Describe => describe_all(alloc, engine, input, output, errors),
+        Mode::Session => answer_requests(alloc, engine, input, output, errors),
         _ => answer_all(alloc, engine, input, output, errors),
     }
 }
@@ -296,6 +317,46 @@ fn explain_all<Q: QueryEngine, R: QueryInput, W: AnswerOutput, E: AnswerOutput>(
         (streams input.old output.old errors.old) (streams input.new output.new errors.new) }
 {
     match engine.run_explain(alloc, input, output) {
+        Ok(_) => Status::Done,
+        Err(fault) => tell_fault(fault, errors),
+    }
+}
+
+// Tells what a release has of the concepts that the lines of an input name.
+fn describe_all<Q: QueryEngine, R: QueryInput, W: AnswerOutput, E: AnswerOutput>(
+    alloc: Global,
+    engine: &Q,
+    input: &mut R,
+    output: &mut W,
+    errors: &mut E,
+) -> Status
+    requires input { R.has_failed input.old ≡ false }
+    requires output { W.has_failed output.old ≡ false }
+    requires errors { E.AnswerOutput.has_failed errors.old ≡ false }
+    ensures { ServesWith R.QueryInput W.AnswerOutput E.AnswerOutput Mode.Describe (Q.contents engine.now) result
+        (streams input.old output.old errors.old) (streams input.new output.new errors.new) }
+{
+    match engine.run_describe(alloc, input, output) {
+        Ok(_) => Status::Done,
+        Err(fault) => tell_fault(fault, errors),
+    }
+}
+
+// Answers the requests in the lines of an input over a release.
+fn answer_requests<Q: QueryEngine, R: QueryInput, W: AnswerOutput, E: AnswerOutput>(
+    alloc: Global,
+    engine: &Q,
+    input: &mut R,
+    output: &mut W,
+    errors: &mut E,
+) -> Status
+    requires input { R.has_failed input.old ≡ false }
+    requires output { W.has_failed output.old ≡ false }
+    requires errors { E.AnswerOutput.has_failed errors.old ≡ false }
+    ensures { ServesWith R.QueryInput W.AnswerOutput E.AnswerOutput Mode.Session (Q.contents engine.now) result
+        (streams input.old output.old errors.old) (streams input.new output.new errors.new) }
+{
+    match engine.run_session(alloc, input, output) {
         Ok(_) => Status::Done,
         Err(fault) => tell_fault(fault, errors),
     }

@@ -5,6 +5,8 @@
 #![tactic(auto)]
 
 #[cfg(test)]
+mod describe_tests;
+#[cfg(test)]
 mod folder_tests;
 #[cfg(test)]
 mod limit_tests;

@@ -121,6 +121,18 @@ fn reads_words(rt: HostRuntime) {
             "en",
         ),
         (
+            &["hosecrag", "describe", "F", "--lang", "da"],
+            Mode::Describe,
+            &["F"],
+            "da",
+        ),
+        (
+            &["hosecrag", "session", "F", "G"],
+            Mode::Session,
+            &["F", "G"],
+            "en",
+        ),
+        (
             &["hosecrag", "check", "F", "G"],
             Mode::Check,
             &["F", "G"],
@@ -153,6 +165,8 @@ fn refuses_words(rt: HostRuntime) {
     let refused = [
         ["hosecrag", "query"].as_slice(),
         &["hosecrag", "explain"],
+        &["hosecrag", "describe"],
+        &["hosecrag", "session", "F", "--first", "1"],
         &["hosecrag", "explain", "F", "--lang", "da"],
         &["hosecrag", "query", "F", "--lang"],
         &["hosecrag", "query", "--lang", "da"],

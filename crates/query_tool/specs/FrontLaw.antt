@@ -1,6 +1,7 @@
--- Lines that begin alike are answered and explained alike: with this an engine answers the lines of a run, which keeps no more of a line.
-use Rattle.std.proofs.Common.{◌≡◌, ℕ, ◌<◌, List, length, inl, inr, sym, ap, ◌∙◌, subst, min, arith}
-use Rattle.std.proofs.lemmas.Bool.{cases_lt}
+-- Lines that begin alike have the same answers: with this an engine answers the lines of a run, which keeps no more of a
+-- line.
+use Rattle.std.proofs.Common.{◌≡◌, ℕ, ◌<◌, List, Some, codes, cond, length, inl, inr, sym, ap, ◌∙◌, subst, min, arith}
+use Rattle.std.proofs.lemmas.Bool.{cases_lt, lt-ltb}
 use Rattle.std.proofs.lemmas.List.{length-take, take_all}
 use Rattle.ecl_lexer.specs.Tokens.{most_bytes}
 use Rattle.ecl_lexer.specs.declared.fault.QueryFault.{QueryFault}
@@ -14,6 +15,10 @@ use Rattle.query_service.specs.Answer.{IsAnswer, IsForLine, constraint_answer}
 use Rattle.query_service.specs.Explanation.{Explains, IsExplanation}
 use Rattle.query_service.specs.LimitedAnswer.{AnswersWithin, IsAnswerWithin}
 use Rattle.answer_printer.specs.declared.form.AnswerForm.{AnswerForm}
+use Rattle.concept_printer.specs.ConceptText.{description_text, told_unless}
+use Rattle.concept_printer.specs.NamedConcept.{short_fault}
+use Rattle.concept_printer.specs.declared.named_concept.LineFault.TheVariants.{Long as TooLong}
+use Rattle.query_service.specs.SessionAnswer.{IsDescription, IsSessionAnswer}
 
 -- a line that is too long has no text but that
 long_text : (IsFor : Tree → List ℕ → Type 0) (line text : List ℕ) → most_bytes < length line → IsForLine IsFor line text → text ≡ refusal_text Long
@@ -30,18 +35,26 @@ long_text IsFor line text long (inr (fault, is, same)) = by fault is same
     by Syntax is same = absurd (omega (arith, long, is.0.0))
     by Memory is same = absurd is
 
--- lines with the same first bytes, one more than a line may have, are one line, or both are too long
-same_front_for : (IsFor : Tree → List ℕ → Type 0) (one other text : List ℕ) → kept_of one ≡ kept_of other → IsForLine IsFor one text
-    → IsForLine IsFor other text
-same_front_for IsFor one other text same answered =
+-- lines with the same first bytes, one more than a line may have, are one line, or both are too long: so they have the
+-- same answers where any two lines that are too long have
+same_front_of : (answers : List ℕ → List ℕ → Type 0)
+    → ((one other text : List ℕ) → most_bytes < length one → most_bytes < length other → answers one text → answers other text)
+    → (one other text : List ℕ) → kept_of one ≡ kept_of other → answers one text → answers other text
+same_front_of answers alike one other text same answered =
     let lengths : min 65536 (length one) ≡ min 65536 (length other) =
     sym (length-take 65536 one) ∙ ap length same ∙ length-take 65536 other in
     elim (cases_lt most_bytes (length one)) [
-      | inl long ↦ inr (Long, omega (arith, lengths), long_text IsFor one text long answered)
+      | inl long ↦ alike one other text long (omega (arith, lengths)) answered
       | inr short ↦
           let whole : one ≡ other = sym (take_all 65536 one (omega arith)) ∙ same ∙ take_all 65536 other (omega (arith, lengths)) in
-          subst (λ (line : List ℕ). IsForLine IsFor line text) whole answered
+          subst (λ (line : List ℕ). answers line text) whole answered
     ]
+
+same_front_for : (IsFor : Tree → List ℕ → Type 0) (one other text : List ℕ) → kept_of one ≡ kept_of other → IsForLine IsFor one text
+    → IsForLine IsFor other text
+same_front_for IsFor =
+    same_front_of (IsForLine IsFor)
+    (λ one other text long also answered. inr (Long, also, long_text IsFor one text long answered))
 
 -- they have the same answers
 pub same_front : (contents : Contents) (one other text : List ℕ) → kept_of one ≡ kept_of other → IsAnswer contents one text → IsAnswer contents other text
@@ -57,3 +70,25 @@ pub same_front_within : (limit : ℕ) (form : AnswerForm) (contents : Contents) 
     → kept_of one ≡ kept_of other → IsAnswerWithin limit form contents one text
     → IsAnswerWithin limit form contents other text
 same_front_within limit form contents = same_front_for (AnswersWithin limit form contents)
+
+-- what is told of the concepts that they name is the same
+long_described : (contents : Contents) (line : List ℕ) → most_bytes < length line
+    → description_text contents line ≡ codes "ERR long\n"
+long_described contents line long =
+    ap (told_unless contents line) (λ i. cond (lt-ltb most_bytes (length line) long i) (Some TooLong) (short_fault line))
+
+pub same_front_described : (contents : Contents) (one other text : List ℕ) → kept_of one ≡ kept_of other
+    → IsDescription contents one text → IsDescription contents other text
+same_front_described contents =
+    same_front_of (IsDescription contents)
+    (λ one other text long also told. told ∙ long_described contents one long ∙ sym (long_described contents other also))
+
+-- and so are the answers to the requests in them
+pub same_front_requested : (contents : Contents) (one other text : List ℕ) → kept_of one ≡ kept_of other
+    → IsSessionAnswer contents one text → IsSessionAnswer contents other text
+same_front_requested contents =
+    same_front_of (IsSessionAnswer contents)
+    (λ one other text long also answered. record {
+      long = λ _. answered.long long;
+      asked_is = λ short. absurd (omega (arith, also, short));
+    })

@@ -3,6 +3,9 @@
 -- For every accepted release and every list of query lines, whatever plans were chosen, what is written is, line by line, a
 -- count and then, in rising order and once each, exactly the active concepts that the constraint denotes over the release's
 -- active inferred rows, with their names; or, for a text outside the grammar, its one refusal line and no concept.
+--
+-- What is written for `describe` and `session`, over the same contents, `IsDescription` and `IsSessionAnswer` say
+-- (`SessionAnswer.antt` of query_service).
 use Rattle.std.specs.Prelude.{ℕ, ◌≡◌, ◌⊎◌, ◌↔◌, ◌++◌, IsPermutation, IsTrue, List, Contains, Some, Ok, bytes_eq, map}
 use Rattle.std.specs.Cmp.Lexicographic.{slice_cmp}
 use Rattle.std.specs.List.{IsDistinct}

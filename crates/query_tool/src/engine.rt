@@ -15,14 +15,19 @@ ghost use Rattle.release_files.specs.Source.{file_text};
 ghost use Rattle.query_service.specs.Answer.{IsAnswer};
 ghost use Rattle.query_service.specs.Explanation.{IsExplanation};
 ghost use Rattle.query_service.specs.LimitedAnswer.{IsAnswerCounted, IsAnswerWithin};
+ghost use Rattle.query_service.specs.SessionAnswer.{AnswersAsked, IsSessionAnswer, page_form, page_limit};
+ghost use Rattle.concept_printer.specs.ConceptText.{description_text};
+ghost use Rattle.session_line.specs.SessionRequest.{asked_in};
 ghost use Rattle.streams.specs.Waiting.{LeavesAnswer, Puts, is_write};
 ghost use Rattle.query_tool.specs.FrontLaw.{same_front};
 ghost use Rattle.query_tool.specs.Promise.{AnswersUnder};
 
 use crate::answering::{answer_over_with, explain_over, print_and_drop};
 use crate::finding::{LineFound, found_within};
+use crate::session::{MOST_BYTES, form_of, limit_of};
 use crate::writing::write_and_drop;
 use answer_printer::AnswerForm;
+use concept_printer::description;
 use executor::Visits;
 use idset::MixedSet;
 use planner::Choice;
@@ -30,6 +35,7 @@ use postings::Indexes;
 use query_run::AnswerLine;
 use release_files::{FileSource, NamedBytes};
 use rewrites::Step;
+use session_line::{Page, SessionRequest, read_request};
 use snapshot::{Limits, LoadFault, LoadSnapshot, Snapshot};
 use std::alloc::{AllocError, Global};
 use std::marker::Model;
@@ -230,6 +236,95 @@ impl Engine {
         ensures err { OnErr result (output.new.items ≡ output.old.items) }
     {
         explain_over(alloc, &self.snapshot, &self.indexes, line, output)
+    }
+
+    /// Appends what the release has of the concept that a line names by its identifier, with or without its term: of a
+    /// concept in force its parents and children, its attributes group by group, and the reference sets that it is in
+    /// (Release File Specification, "Concept file", "Relationship file" and "Simple reference set"); or that it is
+    /// inactive, or unknown; or why the line names none. Where memory is refused `output` is unchanged.
+    pub fn describe(
+        &self,
+        alloc: Global,
+        line: &[u8],
+        output: &mut Vec<u8>,
+    ) -> Result<(), AllocError>
+        ensures ok { OnOk result (output.new.items ≡ output.old.items ++ description_text self.now line.now) }
+        ensures err { OnErr result (output.new.items ≡ output.old.items) }
+    {
+        let text = self.description(alloc, line)?;
+        output.extend_from_slice(text.as_slice())
+    }
+
+    // The text that `describe` appends.
+    pub(crate) fn description(&self, alloc: Global, line: &[u8]) -> Result<Vec<u8>, AllocError>
+        ensures { IfOk result (λ text. text.items ≡ description_text self.now line.now) }
+    {
+        let text = description(alloc, &self.snapshot, &self.indexes, line)?;
+        Ok(text)
+    }
+
+    /// Appends the answer to a request: `list OFFSET COUNT LIMIT ECL` is answered by the count of the concepts and, of
+    /// their lines, those from OFFSET on, COUNT at most, as `answer_within` does under LIMIT; `ids` is the same without
+    /// names; `explain ECL` is answered as `explain` does, and `describe ID` as `describe` does. A line of more than
+    /// 65,535 bytes is answered by `ERR long`, any other by `ERR request`. Where memory is refused `output` is unchanged.
+    pub fn request(
+        &self,
+        alloc: Global,
+        line: &[u8],
+        output: &mut Vec<u8>,
+    ) -> Result<(), AllocError>
+        ensures ok { OnOk result ((text : List ℕ) × IsSessionAnswer self.now line.now text
+            × (output.new.items ≡ output.old.items ++ text)) }
+        ensures err { OnErr result (output.new.items ≡ output.old.items) }
+    {
+        if line.len() > MOST_BYTES {
+            return output.extend_from_slice(b"ERR long\n");
+        }
+        self.answer_asked(alloc, read_request(line), output)
+    }
+
+    // Appends the answer to a request that was read.
+    fn answer_asked(
+        &self,
+        alloc: Global,
+        request: SessionRequest<'_>,
+        output: &mut Vec<u8>,
+    ) -> Result<(), AllocError>
+        ensures ok { OnOk result ((text : List ℕ) × AnswersAsked self.now (asked_in request.entry) text
+            × (output.new.items ≡ output.old.items ++ text)) }
+        ensures err { OnErr result (output.new.items ≡ output.old.items) }
+    {
+        match request {
+            SessionRequest::Page(page, constraint) => {
+                self.answer_page(alloc, page, constraint, output)
+            }
+            SessionRequest::Plan(constraint) => self.explain(alloc, constraint, output),
+            SessionRequest::Concept(id) => self.describe(alloc, id, output),
+            SessionRequest::Nothing => output.extend_from_slice(b"ERR request\n"),
+        }
+    }
+
+    // Appends a page of the answer to a constraint's text.
+    fn answer_page(
+        &self,
+        alloc: Global,
+        page: Page,
+        constraint: &[u8],
+        output: &mut Vec<u8>,
+    ) -> Result<(), AllocError>
+        ensures ok { OnOk result ((text : List ℕ)
+            × IsAnswerWithin (page_limit page) (page_form page) self.now constraint.now text
+            × (output.new.items ≡ output.old.items ++ text)) }
+        ensures err { OnErr result (output.new.items ≡ output.old.items) }
+    {
+        self.answer_within(
+            alloc,
+            constraint,
+            limit_of(page),
+            form_of(page),
+            &mut Visits { count: 0 },
+            output,
+        )
     }
 }
 

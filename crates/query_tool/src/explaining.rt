@@ -1,9 +1,10 @@
 //! The run over the lines of an input that tells how each is answered.
-ghost use Rattle.std.specs.Prelude.{◌≡◌, ◌+◌, ◌^◌, ◌≤◌, false, IfErr, IfOk, IfSome, OnOk, length};
+ghost use Rattle.std.specs.Prelude.{◌≡◌, ◌+◌, ◌^◌, ◌≤◌, ℕ, false, IfErr, IfOk, IfSome, List, OnOk, length};
 ghost use Rattle.std.specs.Io.KnownBytes.{IsAtEnd};
 ghost use Rattle.query_run.specs.Fault.{CountsTurns, EndsAt, HaveFailed};
 ghost use Rattle.query_run.specs.Lines.{AreWritten, query_lines};
 ghost use Rattle.query_service.specs.Explanation.{IsExplanation};
+ghost use Rattle.streams.specs.Waiting.{LeavesAnswer, Puts, is_write};
 ghost use Rattle.query_tool.specs.FrontLaw.{same_front_explained};
 
 use crate::engine::Engine;
@@ -30,11 +31,30 @@ impl<'a> AnswerLine for Explainer<'a> {
         piece: &mut Piece,
         output: &mut W,
     ) -> Result<(), AnswerFault> {
-        let mut text = Vec::new(alloc);
-        match self.engine.explain(alloc, line, &mut text) {
-            Ok(()) => put_text(text.as_slice(), piece, output),
-            Err(AllocError) => Err(AnswerFault::Memory),
-        }
+        write_explanation(alloc, self.engine, line, piece, output)
+    }
+}
+
+/// Puts what explains a line into a piece of an output.
+pub fn write_explanation<W: AnswerOutput>(
+    alloc: Global,
+    engine: &Engine,
+    line: &[u8],
+    piece: &mut Piece,
+    output: &mut W,
+) -> Result<(), AnswerFault>
+    requires { W.has_failed output.old ≡ false }
+    ensures ok { OnOk result ((text : List ℕ) × IsExplanation engine.now line.now text
+        × Puts (W.written output.old) (W.written output.new) piece.old text piece.new) }
+    ensures fault { IfErr result (λ fault. LeavesAnswer (IsExplanation engine.now line.now) fault
+        (W.written output.old) (W.written output.new) piece.old piece.new) }
+    ensures sound { OnOk result (W.has_failed output.new ≡ false) }
+    ensures failed { IfErr result (λ fault. W.has_failed output.new ≡ is_write fault) }
+{
+    let mut text = Vec::new(alloc);
+    match engine.explain(alloc, line, &mut text) {
+        Ok(()) => put_text(text.as_slice(), piece, output),
+        Err(AllocError) => Err(AnswerFault::Memory),
     }
 }
 

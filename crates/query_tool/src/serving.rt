@@ -4,9 +4,11 @@ ghost use Rattle.query_service.specs.Report.{report_of};
 ghost use Rattle.query_service.specs.Serve.{EndsWith, IsTask, Task};
 ghost use Rattle.query_service.specs.Streams.{streams};
 
+use crate::describing::run_describe;
 use crate::engine::Engine;
 use crate::explaining::run_explain;
 use crate::limiting::run_within;
+use crate::session::run_session;
 use answer_printer::AnswerForm;
 use command_line::{Mode, Request};
 use query_run::RunFault;
@@ -62,6 +64,24 @@ impl QueryEngine for Engine {
         run_explain(alloc, self, input, output)
     }
 
+    fn run_describe<R: QueryInput, W: AnswerOutput>(
+        &self,
+        alloc: Global,
+        input: &mut R,
+        output: &mut W,
+    ) -> Result<u64, RunFault> {
+        run_describe(alloc, self, input, output)
+    }
+
+    fn run_session<R: QueryInput, W: AnswerOutput>(
+        &self,
+        alloc: Global,
+        input: &mut R,
+        output: &mut W,
+    ) -> Result<u64, RunFault> {
+        run_session(alloc, self, input, output)
+    }
+
     fn run_within<R: QueryInput, W: AnswerOutput>(
         &self,
         alloc: Global,
@@ -84,8 +104,9 @@ fn report_and_drop(snapshot: Snapshot) -> Report
 }
 
 /// Does what is asked of a release: of the one that is built in, or of that of the files of a source.
-/// Answers the query lines of an input, at `QueryWith` under its options; at `Explain` tells the plan of each; or, at
-/// `Check`, writes what the release has, and reads nothing. Nothing is written before the release is loaded. What is
+/// Answers the query lines of an input, at `QueryWith` under its options; at `Explain` tells the plan of each; at
+/// `Describe` tells what the release has of the concept that each names; at `Session` answers the request in each; or,
+/// at `Check`, writes what the release has, and reads nothing. Nothing is written before the release is loaded. What is
 /// refused, and a fault, is told by one line on `errors`, whose own failure changes nothing.
 pub fn serve<S: FileSource, R: QueryInput, W: AnswerOutput, E: AnswerOutput>(
     alloc: Global,

@@ -25,6 +25,16 @@ returns-in-Explain-clause-served g c =
     let (task, is, ends) = c.answer_source-in-Explain.ensures in
     (task, asked_as _ _ _ _ _ _ _ task c.in-Explain.is c.as_str-lang.ensures.value is, ends)
 
+pub returns-in-Describe-clause-served : goal.returns-in-Describe-clause-served
+returns-in-Describe-clause-served g c =
+    let (task, is, ends) = c.answer_source-in-Describe.ensures in
+    (task, asked_as _ _ _ _ _ _ _ task c.in-Describe.is c.as_str-lang.ensures.value is, ends)
+
+pub returns-in-Session-clause-served : goal.returns-in-Session-clause-served
+returns-in-Session-clause-served g c =
+    let (task, is, ends) = c.answer_source-in-Session.ensures in
+    (task, asked_as _ _ _ _ _ _ _ task c.in-Session.is c.as_str-lang.ensures.value is, ends)
+
 pub returns-in-Check-clause-served : goal.returns-in-Check-clause-served
 returns-in-Check-clause-served g c =
     let (task, is, ends) = c.report_source.ensures in

@@ -13,6 +13,22 @@ returns-in-Explain g c =
     (g.Q.QueryEngine.contents c.args.engine.now) c.explain_all.result before after)
     (sym c.in-Explain.is) c.explain_all.ensures
 
+pub returns-in-Describe : goal.returns-in-Describe
+returns-in-Describe g c =
+    let before = streams c.args.input.now c.args.output.now c.args.errors.now in
+    let after = streams c.describe_all.new.input c.describe_all.new.output c.describe_all.new.errors in
+    subst (λ (mode : Mode). ServesWith g.R.QueryInput g.W.AnswerOutput g.E.AnswerOutput mode
+    (g.Q.QueryEngine.contents c.args.engine.now) c.describe_all.result before after)
+    (sym c.in-Describe.is) c.describe_all.ensures
+
+pub returns-in-Session : goal.returns-in-Session
+returns-in-Session g c =
+    let before = streams c.args.input.now c.args.output.now c.args.errors.now in
+    let after = streams c.answer_requests.new.input c.answer_requests.new.output c.answer_requests.new.errors in
+    subst (λ (mode : Mode). ServesWith g.R.QueryInput g.W.AnswerOutput g.E.AnswerOutput mode
+    (g.Q.QueryEngine.contents c.args.engine.now) c.answer_requests.result before after)
+    (sym c.in-Session.is) c.answer_requests.ensures
+
 pub returns-in-QueryWith : goal.returns-in-QueryWith
 returns-in-QueryWith g c =
     let before = streams c.args.input.now c.args.output.now c.args.errors.now in
@@ -24,4 +40,5 @@ returns-in-QueryWith g c =
 pub returns-in_default : goal.returns-in_default
 returns-in_default g c =
     serves_files g.R.QueryInput g.W.AnswerOutput g.E.AnswerOutput c.args.mode (g.Q.QueryEngine.contents c.args.engine.now) c.answer_all.result _ _
-    c.requires.mode c.in_default.not-QueryWith c.in_default.not-Explain c.answer_all.ensures
+    c.requires.mode c.in_default.not-QueryWith c.in_default.not-Explain c.in_default.not-Describe
+    c.in_default.not-Session c.answer_all.ensures
