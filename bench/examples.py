@@ -188,7 +188,7 @@ def missing_folders(started):
     def named(*folders):
         return 1, "", "".join(f"hosecrag: cannot find the folder {it}\n" for it in folders) + "REFUSED device\n"
 
-    for command in ("check", "query", "explain"):
+    for command in ("check", "query", "explain", "describe", "session"):
         case(f"./hosecrag {command} names a folder that does not exist", told(command, "/nowhere"), named("'/nowhere'"))
     case("./hosecrag names each such folder", told("query", EDITION, "/no where", "nor/here"), named("'/no where'", "'nor/here'"))
     case("./hosecrag names it on one line", told("check", "/no\nwhere"), named("$'/no\\nwhere'"))
@@ -198,6 +198,33 @@ def missing_folders(started):
         case(f"./hosecrag finds the folder before {' '.join(words)}", told("query", "/nowhere", *words), named("'/nowhere'"))
     case("./hosecrag says nothing beside help", told("query", "/nowhere", "--help")[2], "")
     case("./hosecrag says nothing of a command that is none", "cannot find" in told("nowhere", "/nowhere")[2], False)
+
+
+def described():
+    """Of the edition with its extension: Gamma, which the extension retires, Delta, which has one parent then, and
+    Epsilon, which the extension brings; an inactive concept of the edition; an unknown one."""
+    def told(text, *words):
+        ended = subprocess.run([PROGRAM, *words], input=text.encode(), capture_output=True, timeout=60)
+        return ended.returncode, ended.stdout.decode(), ended.stderr.decode()
+
+    epsilon = (
+        "CONCEPT 21000999103 |Epsilon (finding)|\nPARENTS 1\n101009 |Beta (finding)|\nCHILDREN 0\nATTRIBUTES 2\n"
+        "1 104001 |Type T (attribute)| 106004 |Value X (value)|\n1 105000 |Type U (attribute)| 107008 |Value Y (value)|\n"
+        "MEMBER-OF 1\n108003\n"
+    )
+    delta = (
+        "CONCEPT 103007 |Delta (finding)|\nPARENTS 1\n101009 |Beta (finding)|\nCHILDREN 0\nATTRIBUTES 4\n"
+        "0 104001 |Type T (attribute)| 107008 |Value Y (value)|\n0 105000 |Type U (attribute)| 107008 |Value Y (value)|\n"
+        "1 105000 |Type U (attribute)| #3\n2 105000 |Type U (attribute)| 107008 |Value Y (value)|\nMEMBER-OF 1\n108003\n"
+    )
+    lines = "21000999103\n103007 |Delta (finding)|\n102002\n109006\n404684003\n21000999104\n"
+    text = f"{epsilon}{delta}INACTIVE 102002\nINACTIVE 109006\nUNKNOWN 404684003\nERR id check\n"
+    case("describe, an edition with its extension", told(lines, "describe", EDITION, EXTENSION), (0, text, ""))
+    danish = epsilon.replace("Epsilon (finding)", "Epsilon (fund)")
+    case("describe, in another language", told("21000999103\n", "describe", EDITION, EXTENSION, "--lang", "da"), (0, danish, ""))
+    lines = "ids 0 2 - ^108003\nlist 2 - 10 ^108003\ndescribe 102002\nexplain 102002\nlist 0 1 - 102002 XOR 1\nlist 0 1 -\n"
+    text = "OK 3\n101009\n103007\nOK 3\n21000999103 |Epsilon (finding)|\nINACTIVE 102002\nPLAN 0\none 102002 0\nERR token 7\nERR request\n"
+    case("session", told(lines, "session", EDITION, EXTENSION), (0, text, ""))
 
 
 def terminals(started):
@@ -238,6 +265,7 @@ refusal()
 scripts()
 rules()
 script()
+described()
 module()
 print(f"{passed} passed, {failed} failed")
 sys.exit(1 if failed else 0)

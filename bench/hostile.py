@@ -317,9 +317,9 @@ def words():
     status, out, err = run("--version")
     case("the version", (status, bool(re.fullmatch(rb"hosecrag \d+\.\d+\.\d+\n", out)), err), (0, True, b""))
     status, out, err = run("--help")
-    told = [it for it in (b"hosecrag [COMMAND]", b"hosecrag query", b"hosecrag explain", b"hosecrag check", b"| hosecrag\n", b"  4  ") if it not in out]
+    told = [it for it in (b"hosecrag [COMMAND]", b"hosecrag query", b"hosecrag explain", b"hosecrag describe", b"hosecrag session", b"hosecrag check", b"| hosecrag\n", b"  4  ") if it not in out]
     case("help", (status, told, b"query_tool" in out, err), (0, [], False, b""))
-    for given in (["qery"], ["query"], ["check"], ["check", "F", "--lang", "da"], ["--lang", "en"], ["explain"], ["explain", "F", "--lang", "da"]):
+    for given in (["qery"], ["query"], ["check"], ["check", "F", "--lang", "da"], ["--lang", "en"], ["explain"], ["explain", "F", "--lang", "da"], ["describe"], ["session", "F", "--no-names"]):
         status, out, err = run(*given)
         case(f"words that are no command: {given}", (status, out, b"query_tool" in err, b"hosecrag" in err), (2, b"", False, True))
     case("ten folders", run("check", *"ABCDEFGHIJ"), (2, b"", b"at most 9 folders\n"))
@@ -327,7 +327,7 @@ def words():
         for number in ([], ["-1"], ["1e6"], ["1" * 21], ["+5"], [""], ["5", option, "6"]):
             status, out, err = run("query", EDITION, option, *number)
             case(f"{option} with {number}", (status, out, option.encode() in err), (2, b"", True))
-        for command in ("explain", "check"):
+        for command in ("explain", "describe", "session", "check"):
             status, out, err = run(command, EDITION, option, "5")
             case(f"{command} with {option}", (status, out, option.encode() in err), (2, b"", True))
     status, out, err = run("query", EDITION, "--no-names", "--no-names")
