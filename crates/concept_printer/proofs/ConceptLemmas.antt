@@ -1,5 +1,6 @@
 -- Concepts in force, and their names.
-use Rattle.std.proofs.Common.{◌≡◌, ◌∙◌, ℕ, ◌<◌, ◌==◌, Bool, true, false, cond, List, [], ◌∷◌, ◌++◌, None, Some, decimal, length, get_or, append-nil, codes, sym, subst, ap}
+use Rattle.std.proofs.Common.{◌≡◌, ◌∙◌, ℕ, ◌<◌, ◌==◌, Bool, true, false, cond, List, [], ◌∷◌, ◌++◌, None, Some, decimal}
+use Rattle.std.proofs.Common.{length, get_or, append-nil, codes, sym, subst, ap}
 use Rattle.std.proofs.lemmas.Bool.{eqb-true}
 use Rattle.std.proofs.lemmas.List.Elements.{Contains-get_or}
 use Rattle.std.proofs.lemmas.List.Quantifiers.{position-Some}
@@ -19,8 +20,11 @@ number_told concepts id number is =
     let found = position-Some (λ other. id == other) concepts number 0 is in
     (found.0, sym (eqb-true id (get_or concepts number 0) found.1))
 
-pub in_force : (concepts : List ℕ) (number : ℕ) → number < length concepts → has concepts (get_or concepts number 0) ≡ true
-in_force concepts number below = had_contained concepts (get_or concepts number 0) (Contains-get_or concepts number 0 below)
+-- the concept with a number is one of those in force
+pub in_force : (concepts : List ℕ) (number : ℕ) → number < length concepts
+    → has concepts (get_or concepts number 0) ≡ true
+in_force concepts number below =
+    had_contained concepts (get_or concepts number 0) (Contains-get_or concepts number 0 below)
 
 -- its name is that of the release
 pub name_by_number : (contents : Contents) (number : ℕ) → number < length contents.release.concepts
@@ -30,7 +34,7 @@ name_by_number contents number below =
     λ i. cond (in_force contents.release.concepts number below i)
     (name_of contents.release contents.language (get_or contents.release.concepts number 0)) None
 
--- so its line is that of the release
+-- the line of a concept in force has the name that the release gives it
 pub line_by_number : (contents : Contents) (number : ℕ) → number < length contents.release.concepts
     → concept_line (name_in_force contents) (get_or contents.release.concepts number 0)
     ≡ concept_line (name_of contents.release contents.language) (get_or contents.release.concepts number 0)
@@ -42,7 +46,9 @@ line_by_number contents number below =
 pub words_without : (contents : Contents) (id : ℕ) → concept_number contents.release.concepts id ≡ None
     → concept_words (name_in_force contents) id ≡ decimal id
 words_without contents id none =
-    (λ i. decimal id ++ name_text (cond (concept_none contents.release.concepts id none i) (name_of contents.release contents.language id) None))
+    (λ i. decimal id
+    ++ name_text (cond (concept_none contents.release.concepts id none i)
+    (name_of contents.release contents.language id) None))
     ∙ append-nil (decimal id)
 
 -- what is told of a concept in force, of an inactive one, and of one that is neither
@@ -57,7 +63,8 @@ told_in_force contents id number is =
     ∙ sym (λ i. cond (among i) (concept_text contents id)
     (cond (has contents.inactive id) (identifier_line (codes "INACTIVE") id) (identifier_line (codes "UNKNOWN") id)))
 
-pub told_otherwise : (contents : Contents) (id : ℕ) (inactive : Bool) → concept_number contents.release.concepts id ≡ None
+pub told_otherwise : (contents : Contents) (id : ℕ) (inactive : Bool)
+    → concept_number contents.release.concepts id ≡ None
     → has contents.inactive id ≡ inactive
     → cond inactive (identifier_line (codes "INACTIVE") id) (identifier_line (codes "UNKNOWN") id) ≡ told_of contents id
 told_otherwise contents id inactive none is =

@@ -31,11 +31,13 @@ module _ (release : Release) (bound : ℕ) (small : bound ≤ 2 ^ 32) where
   key_number : (number : ℕ) → number < bound → group_key release number % 2 ^ 32 ≡ number
   key_number number below = omega (arith)
 
-  row_of_key : (number : ℕ) → number < bound → row_with_key release (group_key release number) ≡ row_numbered release number
+  row_of_key : (number : ℕ) → number < bound
+      → row_with_key release (group_key release number) ≡ row_numbered release number
   row_of_key number below = ap (row_numbered release) (key_number number below)
 
   -- a key more, put among keys
-  put_from : (lowest key : ℕ) (keys : List ℕ) → IsKeyFrom lowest key → AreKeysFrom lowest keys → AreKeysFrom lowest (put key keys)
+  put_from : (lowest key : ℕ) (keys : List ℕ) → IsKeyFrom lowest key → AreKeysFrom lowest keys
+      → AreKeysFrom lowest (put key keys)
   put_from lowest key [] own none = (own, tt)
   put_from lowest key (first ∷ others) own are = elim (cases_Bool (nat_lt key first)) [
     | inl less ↦ rw less (own, are)
@@ -63,7 +65,8 @@ module _ (release : Release) (bound : ℕ) (small : bound ≤ 2 ^ 32) where
   put_key number (first ∷ others) below are =
       let other = are.0.0 in
       let first_is : first ≡ group_key release other = are.0.3 in
-      let own : row_with_key release (group_key release number) ≡ row_numbered release number = row_of_key number below in
+      let own : row_with_key release (group_key release number) ≡ row_numbered release number =
+      row_of_key number below in
       let theirs : row_with_key release first ≡ row_numbered release other =
       ap (row_with_key release) first_is ∙ row_of_key other are.0.2 in
       let rest = map (row_with_key release) others in
@@ -71,7 +74,12 @@ module _ (release : Release) (bound : ℕ) (small : bound ≤ 2 ^ 32) where
         | inl before ↦
             let less : nat_lt (group_key release number) first ≡ true =
             lt-ltb (group_key release number) first
-            (omega (arith, first_is, are.0.1, leb-true (row_numbered release number).group (row_numbered release other).group before)) in
+            (omega (
+              arith,
+              first_is,
+              are.0.1,
+              leb-true (row_numbered release number).group (row_numbered release other).group before,
+            )) in
             let leads : nat_le (row_numbered release number).group (row_with_key release first).group ≡ true =
             (λ i. nat_le (row_numbered release number).group (theirs i).group) ∙ before in
             rw less
@@ -97,7 +105,8 @@ module _ (release : Release) (bound : ℕ) (small : bound ≤ 2 ^ 32) where
 
   -- rows whose keys rise go by group
   pub by_rising_keys : (lowest : ℕ) (numbers : List ℕ) → rises_within lowest bound numbers ≡ true
-      → map (row_with_key release) (rising (map (group_key release) numbers)) ≡ by_group (map (row_numbered release) numbers)
+      → map (row_with_key release) (rising (map (group_key release) numbers))
+      ≡ by_group (map (row_numbered release) numbers)
   by_rising_keys lowest [] rises = refl
   by_rising_keys lowest (number ∷ numbers) rises =
       let on = rises_on lowest bound number numbers rises in

@@ -1,5 +1,6 @@
 -- The lists of the indexes, by the identifiers of their concepts.
-use Rattle.std.proofs.Common.{◌≡◌, ◌∙◌, ℕ, ◌<◌, ◌==◌, ◌&&◌, not, refl, Bool, List, [], ◌∷◌, All, length, get_or, map, sym, ap, subst, arith}
+use Rattle.std.proofs.Common.{◌≡◌, ◌∙◌, ℕ, ◌<◌, ◌==◌, ◌&&◌, not, refl, Bool, List, [], ◌∷◌, All, length, get_or, map}
+use Rattle.std.proofs.Common.{sym, ap, subst, arith}
 use Rattle.std.specs.List.{filter, range_with_len}
 use Rattle.std.specs.List.Sorted.{IsStrictlyIncreasing}
 use Rattle.number_lists.specs.KeyedLists.{list_of}
@@ -25,7 +26,8 @@ use Rattle.concept_printer.specs.inside.GroupKeys.{no_row, row_numbered}
 
 -- the concepts that pass a test, by their numbers
 pub listed : (concepts : List ℕ) (test : ℕ → Bool)
-    → map (λ k. get_or concepts k 0) (numbers_where (length concepts) (λ k. test (get_or concepts k 0))) ≡ filter test concepts
+    → map (λ k. get_or concepts k 0) (numbers_where (length concepts) (λ k. test (get_or concepts k 0)))
+    ≡ filter test concepts
 listed concepts test =
     sym (filter-map test (λ k. get_or concepts k 0) (range_with_len 0 (length concepts)))
     ∙ ap (filter test) (sym (items_by_place concepts 0))
@@ -33,14 +35,16 @@ listed concepts test =
 -- the list of a concept has those that stand to it as a test says
 pub listed_of : (concepts : List ℕ) (test : ℕ → ℕ → Bool) (concept : ℕ) → concept < length concepts
     → map (λ k. get_or concepts k 0)
-    (list_of (lists_where (length concepts) (λ one other. test (get_or concepts one 0) (get_or concepts other 0))) concept)
+    (list_of (lists_where (length concepts) (λ one other. test (get_or concepts one 0) (get_or concepts other 0)))
+    concept)
     ≡ filter (test (get_or concepts concept 0)) concepts
 listed_of concepts test concept below =
     ap (map (λ k. get_or concepts k 0))
-    (list_of-where (length concepts) (λ one other. test (get_or concepts one 0) (get_or concepts other 0)) concept below)
+    (list_of-where (length concepts) (λ one other. test (get_or concepts one 0) (get_or concepts other 0)) concept
+    below)
     ∙ listed concepts (test (get_or concepts concept 0))
 
--- and no other numbers than those of concepts
+-- the list of a concept has numbers of concepts alone
 pub listed_below : (count : ℕ) (test : ℕ → ℕ → Bool) (concept : ℕ) → concept < count
     → All (λ other. other < count) (list_of (lists_where count test) concept)
 listed_below count test concept below =
@@ -51,13 +55,16 @@ listed_below count test concept below =
 pub listed_with : (concepts : List ℕ) (test : ℕ → ℕ → Bool) (concept : ℕ) → concept < length concepts
     → map (λ k. get_or concepts k 0)
     (numbers_where (length concepts)
-    (λ list. has (list_of (lists_where (length concepts) (λ one other. test (get_or concepts one 0) (get_or concepts other 0))) list) concept))
+    (λ list. has
+    (list_of (lists_where (length concepts) (λ one other. test (get_or concepts one 0) (get_or concepts other 0))) list)
+    concept))
     ≡ filter (λ one. test one (get_or concepts concept 0)) concepts
 listed_with concepts test concept below =
     let count = length concepts in
     let stands : ℕ → ℕ → Bool = λ one other. test (get_or concepts one 0) (get_or concepts other 0) in
     ap (map (λ k. get_or concepts k 0))
-    (numbers_where-agree count (λ list. has (list_of (lists_where count stands) list) concept) (λ list. stands list concept)
+    (numbers_where-agree count (λ list. has (list_of (lists_where count stands) list) concept)
+    (λ list. stands list concept)
     (λ list within.
     ap (λ (items : List ℕ). has items concept) (list_of-where count stands list within)
     ∙ has-numbers_where count (stands list) concept below))
@@ -94,24 +101,28 @@ module _ (indexed : Indexed) (release : Release) (is : IsIndexOf indexed release
 
   pub parents_below : All (λ other. other < length release.concepts) (list_of indexed.hierarchy.parents concept)
   parents_below =
-      subst (λ (hierarchy : Hierarchy). All (λ other. other < length release.concepts) (list_of hierarchy.parents concept))
+      subst
+      (λ (hierarchy : Hierarchy). All (λ other. other < length release.concepts) (list_of hierarchy.parents concept))
       (sym is.hierarchy) (listed_below (length release.concepts) is_parent concept below)
 
   pub children_below : All (λ other. other < length release.concepts) (list_of indexed.hierarchy.children concept)
   children_below =
-      subst (λ (hierarchy : Hierarchy). All (λ other. other < length release.concepts) (list_of hierarchy.children concept))
+      subst
+      (λ (hierarchy : Hierarchy). All (λ other. other < length release.concepts) (list_of hierarchy.children concept))
       (sym is.hierarchy) (listed_below (length release.concepts) is_below concept below)
 
   pub parents_are : map (λ k. get_or release.concepts k 0) (list_of indexed.hierarchy.parents concept)
       ≡ parents_of release (get_or release.concepts concept 0)
   parents_are =
-      ap (λ (hierarchy : Hierarchy). map (λ k. get_or release.concepts k 0) (list_of hierarchy.parents concept)) is.hierarchy
+      ap (λ (hierarchy : Hierarchy). map (λ k. get_or release.concepts k 0) (list_of hierarchy.parents concept))
+      is.hierarchy
       ∙ listed_of release.concepts (is_child release.isa) concept below
 
   pub children_are : map (λ k. get_or release.concepts k 0) (list_of indexed.hierarchy.children concept)
       ≡ children_of release (get_or release.concepts concept 0)
   children_are =
-      ap (λ (hierarchy : Hierarchy). map (λ k. get_or release.concepts k 0) (list_of hierarchy.children concept)) is.hierarchy
+      ap (λ (hierarchy : Hierarchy). map (λ k. get_or release.concepts k 0) (list_of hierarchy.children concept))
+      is.hierarchy
       ∙ listed_of release.concepts (λ one other. is_child release.isa other one) concept below
 
   -- the rows of the concept have rising numbers
@@ -123,7 +134,8 @@ module _ (indexed : Indexed) (release : Release) (is : IsIndexOf indexed release
       (places_where-rising (λ (row : Attribute). row.source == get_or indexed.concepts concept 0) indexed.rows)
 
   pub rows_are : IsStrictlyIncreasing release.concepts
-      → map (row_numbered release) (rows_by_source indexed concept) ≡ rows_of release (get_or release.concepts concept 0)
+      → map (row_numbered release) (rows_by_source indexed concept)
+      ≡ rows_of release (get_or release.concepts concept 0)
   rows_are rising =
       ap
       (λ (rows : List Attribute).

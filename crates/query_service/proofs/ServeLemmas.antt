@@ -80,7 +80,7 @@ asked_of_files Describe files loaded = loaded
 asked_of_files Session files loaded = loaded
 asked_of_files Check files loaded = absurd files
 
--- and unless it has a run of its own, it is that of queries
+-- a mode over files that has no run of its own is served as queries are
 pub serves_files : {R W E : Type 0} (r : Input R) (w : Output W) (e : Output E) (mode : Mode) (contents : Contents)
     (status : Status) (before after : Streams R W E) → AnswersFiles mode
     → ((options : QueryOptions) → mode ≢ QueryWith options) → mode ≢ Explain → mode ≢ Describe → mode ≢ Session

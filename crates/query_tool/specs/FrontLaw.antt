@@ -71,7 +71,7 @@ pub same_front_within : (limit : ℕ) (form : AnswerForm) (contents : Contents) 
     → IsAnswerWithin limit form contents other text
 same_front_within limit form contents = same_front_for (AnswersWithin limit form contents)
 
--- what is told of the concepts that they name is the same
+-- a line of `describe` that is too long has no text but that
 long_described : (contents : Contents) (line : List ℕ) → most_bytes < length line
     → description_text contents line ≡ codes "ERR long\n"
 long_described contents line long =
@@ -83,7 +83,7 @@ same_front_described contents =
     same_front_of (IsDescription contents)
     (λ one other text long also told. told ∙ long_described contents one long ∙ sym (long_described contents other also))
 
--- and so are the answers to the requests in them
+-- lines that begin alike have the same answers as requests of a session
 pub same_front_requested : (contents : Contents) (one other text : List ℕ) → kept_of one ≡ kept_of other
     → IsSessionAnswer contents one text → IsSessionAnswer contents other text
 same_front_requested contents =

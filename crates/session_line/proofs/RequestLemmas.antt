@@ -1,6 +1,6 @@
 -- Words before a space, and texts of digits.
-use Rattle.std.proofs.Common.{◌≡◌, ◌∙◌, ℕ, zero, suc, ◌+◌, ◌-◌, ◌<◌, ◌≤◌, ◌==◌, ◌&&◌, ◌^◌, Bool, true, false, cond, List, [], ◌∷◌, arith}
-use Rattle.std.proofs.Common.{Option, None, Some, option_map, Result, Ok, Err, length, get_or, take, drop, refl, ap, subst, sym}
+use Rattle.std.proofs.Common.{◌≡◌, ◌∙◌, ℕ, zero, suc, ◌+◌, ◌-◌, ◌<◌, ◌≤◌, ◌==◌, ◌&&◌, ◌^◌, true, false, cond, List, []}
+use Rattle.std.proofs.Common.{◌∷◌, None, Some, option_map, length, get_or, take, drop, refl, ap, subst, sym, arith}
 use Rattle.std.specs.Prelude.{nat_le, nat_lt, IsUtf8}
 use Rattle.std.specs.Char.{is_ascii_digit}
 use Rattle.std.specs.List.{list_all}
@@ -21,7 +21,8 @@ cut_there (byte ∷ bytes) zero within before is =
     λ i. cond (is i) (Some ([], bytes)) (option_map (λ (cut : List ℕ × List ℕ). (byte ∷ cut.0, cut.1)) (cut_of bytes))
 cut_there (byte ∷ bytes) (suc at) within before is =
     let other : (byte == 32) ≡ false = false_from_ne_true _ (before 0 (omega arith) (omega arith)) in
-    (λ i. cond (other i) (Some ([], bytes)) (option_map (λ (cut : List ℕ × List ℕ). (byte ∷ cut.0, cut.1)) (cut_of bytes)))
+    (λ i. cond (other i) (Some ([], bytes))
+    (option_map (λ (cut : List ℕ × List ℕ). (byte ∷ cut.0, cut.1)) (cut_of bytes)))
     ∙ ap (option_map (λ (cut : List ℕ × List ℕ). (byte ∷ cut.0, cut.1)))
     (cut_there bytes at (omega arith) (λ k least below. before (suc k) (omega arith) (omega arith)) is)
 
@@ -45,7 +46,8 @@ not_cut (byte ∷ bytes) none =
     let other : (byte == 32) ≡ false = false_from_ne_true _ (none 0 (omega arith) (omega arith)) in
     ap (option_map (λ (cut : List ℕ × List ℕ). (byte ∷ cut.0, cut.1)))
     (not_cut bytes (λ k least below. none (suc k) (omega arith) (omega arith)))
-    ∙ sym (λ i. cond (other i) (Some ([], bytes)) (option_map (λ (cut : List ℕ × List ℕ). (byte ∷ cut.0, cut.1)) (cut_of bytes)))
+    ∙ sym (λ i. cond (other i) (Some ([], bytes))
+    (option_map (λ (cut : List ℕ × List ℕ). (byte ∷ cut.0, cut.1)) (cut_of bytes)))
 
 pub ruleset cuts = (cut_at, not_cut)
 
@@ -76,7 +78,8 @@ digits_read text number digits read value =
 -- a text that is a number is one of digits, and short
 number_parts : (text : List ℕ) → is_number text ≡ true → (list_all is_ascii_digit text ≡ true) × IsShort text
 number_parts text are =
-    let some = and_parts (nat_lt 0 (length text)) (list_all is_ascii_digit text && nat_lt (digits_value 10 text) (2 ^ 64)) are in
+    let some = and_parts (nat_lt 0 (length text))
+    (list_all is_ascii_digit text && nat_lt (digits_value 10 text) (2 ^ 64)) are in
     let small = and_parts (list_all is_ascii_digit text) (nat_lt (digits_value 10 text) (2 ^ 64)) some.1 in (
       small.0,
       ((ltb-true 0 (length text) some.0, numerals.to text small.0), ltb-true (digits_value 10 text) (2 ^ 64) small.1),
