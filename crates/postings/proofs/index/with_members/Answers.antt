@@ -1,18 +1,20 @@
-use Rattle.std.proofs.Common.{Bool, true, false, ℕ, ◌≡◌, ◌==◌, ◌∙◌, ◌++◌, ◌∷◌, ◌+◌, List, [], ap, append-nil, cond, length, not, sym}
+use Rattle.std.proofs.Common.{Bool, true, false, ℕ, ◌≡◌, ◌==◌, ◌∙◌, ◌++◌, ◌∷◌, ◌+◌, List, [], ap, append-nil, cond}
+use Rattle.std.proofs.Common.{length, not, sym}
 use Rattle.number_lists.specs.KeyedLists.{list_of}
 use Rattle.number_lists.specs.Rising.{numbers_where}
 use Rattle.number_lists.proofs.WhereLemmas.{numbers_where-more}
 use Rattle.postings.specs.Indexed.{has_members}
 use Rattle.postings.proofs.index.with_members.Goals as goal
 
-module _ (members : List (List ℕ)) (concept : ℕ) (list : List ℕ) (empty : Bool) (is_list : list ≡ list_of members concept)
-    (told : empty ≡ (length list == 0)) where
+module _ (members : List (List ℕ)) (concept : ℕ) (list : List ℕ) (empty : Bool)
+    (is_list : list ≡ list_of members concept) (told : empty ≡ (length list == 0)) where
   -- a concept has members where its list is not told to be empty
   not_empty : has_members members concept ≡ not empty
   not_empty = ap not (sym (told ∙ ap (λ (list : List ℕ). length list == 0) is_list))
 
   -- one that has none is not among those that have
-  passed_by : empty ≡ true → numbers_where (concept + 1) (has_members members) ≡ numbers_where concept (has_members members)
+  passed_by : empty ≡ true
+      → numbers_where (concept + 1) (has_members members) ≡ numbers_where concept (has_members members)
   passed_by none =
       numbers_where-more concept (has_members members)
       ∙ (λ i. numbers_where concept (has_members members) ++ cond ((not_empty ∙ ap not none) i) (concept ∷ []) [])
