@@ -1,5 +1,5 @@
 #!/usr/bin/env python3
-"""Checks the documents: README.md, CONTRIBUTING.md, CHANGELOG.md, docs/*.md and examples/README.md.
+"""Checks the documents: README.md, CONTRIBUTING.md, CHANGELOG.md, docs/*.md, and the README.md of examples/ and python/.
 
     bench/documents.py [--words N] [--program PATH]
 
@@ -10,7 +10,7 @@
   build makes.
 - docs/DESIGN.md names each crate that is neither a program nor tests alone, in backticks or in a code block. A table whose
   first heading is `Crate` has in its first column no name in backticks that crates.txt does not have.
-- All but examples/README.md have at most N words together (20,000), as `wc -w` counts them.
+- All but those of examples/ and python/ have at most N words together (20,000), as `wc -w` counts them.
 - No absolute path stands in a document.
 
 PATH is a built program. With it the script runs, from the root, each command of `./hosecrag` or `./look` whose output a
@@ -35,6 +35,7 @@ from typing import Iterator, List, NamedTuple, Optional, Tuple
 
 ROOT = pathlib.Path(__file__).resolve().parent.parent
 COUNTED = ["README.md", "CONTRIBUTING.md", "CHANGELOG.md"]
+BESIDE = ["examples/README.md", "python/README.md"]
 DESIGN = "docs/DESIGN.md"
 MADE = "out"
 MODES = ["check", "query", "explain"]
@@ -342,7 +343,7 @@ def outputs(document: Document, program: str) -> Iterator[Fault]:
 
 
 def names() -> List[str]:
-    return COUNTED + sorted(it.relative_to(ROOT).as_posix() for it in (ROOT / "docs").glob("*.md")) + ["examples/README.md"]
+    return COUNTED + sorted(it.relative_to(ROOT).as_posix() for it in (ROOT / "docs").glob("*.md")) + BESIDE
 
 
 def faults(documents: List[Document], most: int, program: Optional[str]) -> Iterator[Fault]:
@@ -362,7 +363,7 @@ def main() -> None:
     program = os.path.abspath(asked.program) if asked.program else None
     if program and not os.access(program, os.X_OK):
         words.error(f"{asked.program} is no program")
-    found = [Fault(name, 1, "it is missing") for name in [*COUNTED, DESIGN, "examples/README.md"] if not (ROOT / name).is_file()]
+    found = [Fault(name, 1, "it is missing") for name in [*COUNTED, DESIGN, *BESIDE] if not (ROOT / name).is_file()]
     found += faults([read(name) for name in names() if (ROOT / name).is_file()], asked.words, program)
     for it in dict.fromkeys(found):
         print(f"{it.file}:{it.line}: {it.text}")

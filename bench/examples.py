@@ -1,11 +1,12 @@
 #!/usr/bin/env python3
-"""Runs what stands in examples/, and the script ./hosecrag, and compares what is answered.
+"""Runs what stands in examples/, the Python package and the script ./hosecrag, and compares what is answered.
 
     bench/examples.py [PROGRAM]
 
 PROGRAM is the built program, crates/hosecrag/out/hosecrag where it is left out. A line is printed for each case, and at
 the end `N passed, M failed`. A copy of ./hosecrag in a temporary folder runs PROGRAM, so that nothing is built.
 """
+import decimal
 import filecmp
 import os
 import pty
@@ -23,7 +24,7 @@ EXAMPLES = f"{ROOT}/examples"
 EDITION = f"{EXAMPLES}/SnomedCT_SampleEdition_20240101"
 EXTENSION = f"{EXAMPLES}/SnomedCT_SampleExtension_20240601"
 os.environ["HOSECRAG"] = PROGRAM
-sys.path.insert(0, EXAMPLES)
+sys.path.insert(0, f"{ROOT}/python")
 sys.dont_write_bytecode = True
 import hosecrag  # noqa: E402
 
@@ -240,24 +241,48 @@ def terminals(started):
     case("./hosecrag query in a pipe", (piped.returncode, piped.stdout, piped.stderr), (0, b"OK 1\n103007 |Delta (finding)|\n", b""))
 
 
-def module():
+def package():
+    beta, delta, epsilon = (101009, "Beta (finding)"), (103007, "Delta (finding)"), (21000999103, "Epsilon (finding)")
     with hosecrag.Hosecrag(EDITION, EXTENSION) as engine:
-        case("expand", engine.expand("^108003"), [(101009, "Beta (finding)"), (103007, "Delta (finding)"), (21000999103, "Epsilon (finding)")])
+        case("expand", engine.expand("^108003"), [beta, delta, epsilon])
+        page = engine.expand("^108003", offset=1, first=1, names=False)
+        case("expand, a page without names", (page.total, page), (3, [(103007, None)]))
         case("expand, a concept without a name", engine.expand("108003"), [(108003, None)])
         case("count, over two lines", engine.count("<<100005\nMINUS 102002"), 4)
         case("is_member", [engine.is_member(it, "<100005:{104001=<<106004,105000=*}") for it in (101009, 103007)], [True, False])
+        case("is_member, numbers that are no identifiers", [engine.is_member(it, "*") for it in (5, 101008, 404684003)], [False] * 3)
         error = refused(hosecrag.Refused, lambda: engine.count("100005 XOR 101009"))
         case("a refusal", (error.cause, error.offset, error.form), ("token", 7, None))
         error = refused(hosecrag.Refused, lambda: engine.expand("*{{C active=1}}"))
         case("a form that is not answered", (error.cause, error.offset, error.form), ("unsupported", 1, "filter"))
         case("brackets make no query of a text", refused(hosecrag.Refused, lambda: engine.is_member(100005, "*) OR (*")).cause, "syntax")
         case("it goes on behind a refusal", engine.count("*"), 10)
+        case("describe, a retired concept", engine.describe(102002).state, "inactive")
+    described_by_package()
     with hosecrag.Hosecrag(EDITION, lang="da") as engine:
         case("another language", engine.expand("103007"), [(103007, "Delta (fund)")])
-    with hosecrag.Hosecrag() as engine:
-        case("the release that is built in", engine.count("<100005"), 3)
+    case("no folders", str(refused(ValueError, lambda: hosecrag.Hosecrag())), "a release has a folder at least")
     case("no release", str(refused(hosecrag.ReleaseRefused, lambda: hosecrag.Hosecrag(f"{EDITION}/Snapshot/Refset"))), "REFUSED no-concept-file")
     case("no folder", refused(hosecrag.Fault, lambda: hosecrag.Hosecrag("/nowhere")).status, 1)
+    tests = subprocess.run([sys.executable, "-m", "unittest", "discover", "-s", f"{ROOT}/python/tests"], capture_output=True)
+    case("the tests of the package, over the program", (tests.returncode, tests.stderr.decode()[-4:]), (0, "\nOK\n"))
+
+
+def described_by_package():
+    type_t, type_u = (104001, "Type T (attribute)"), (105000, "Type U (attribute)")
+    with hosecrag.Hosecrag(EDITION) as engine:
+        beta = engine.describe("101009 |Beta|")
+        case("describe, the concept", (beta.state, beta.concept), ("active", (101009, "Beta (finding)")))
+        case("describe, parents and children", (beta.parents, beta.children), ([(100005, "Alpha (finding)")], [(103007, "Delta (finding)")]))
+        case("describe, attributes", beta.attributes, [(1, type_t, (106004, "Value X (value)")), (1, type_u, (107008, "Value Y (value)"))])
+        case("describe, reference sets", beta.reference_sets, [(108003, None)])
+        case("describe, a number", engine.describe(102002).attributes[-1].value, decimal.Decimal("2.5"))
+        case("describe, a mistyped identifier", refused(hosecrag.NoIdentifier, lambda: engine.describe(101008)).cause, "check")
+        plan = engine.explain("<100005:104001=106004")
+        nodes = [(0, "and", 10), (1, "descendants", 4), (2, "one 100005", 0), (1, "pairs out 1..* within by value", 3)]
+        case("explain", (plan.bound, plan.nodes), (17, [*nodes, (2, "one 104001", 0), (2, "one 106004", 0)]))
+        error = refused(hosecrag.TooCostly, lambda: engine.count("<100005:104001=106004", limit=16))
+        case("a limit", (error.bound, engine.count("<100005:104001=106004", limit=17)), (17, 2))
 
 
 queries()
@@ -266,6 +291,6 @@ scripts()
 rules()
 script()
 described()
-module()
+package()
 print(f"{passed} passed, {failed} failed")
 sys.exit(1 if failed else 0)

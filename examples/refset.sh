@@ -6,27 +6,31 @@
 # Each row has a new identifier and no effective time, as a row that is not published yet. An identifier is a random
 # UUID (version 4) that Python's `uuid` makes, so each run writes other identifiers.
 set -euo pipefail
-program=${HOSECRAG:-$(dirname "${BASH_SOURCE[0]}")/../hosecrag}
-query=$1 refset=$2 module=$3
-shift 3
+top=$(dirname "${BASH_SOURCE[0]}")/..
 
-answer=$(printf '%s\n' "$query" | "$program" query "$@")
-if [ "${answer%% *}" != OK ]; then
-    echo "refset.sh: the query was refused: $answer" >&2
-    exit 1
-fi
+# the package starts a built program alone, so ./hosecrag builds it here, where its messages are seen
+if [ -z "${HOSECRAG:-}" ]; then "$top/hosecrag" --version >/dev/null; fi
 # -I: a file uuid.py in the current folder is not imported
-python3 -I -c '
+python3 -IB -c '
 import os, signal, sys, uuid
+
+sys.path.insert(0, sys.argv[1])
+from hosecrag import Fault, Hosecrag, Refused, ReleaseRefused
 
 # a closed pipe ends the script without a word, as it ends other tools
 signal.signal(signal.SIGPIPE, signal.SIG_DFL)
-refset, module = map(os.fsencode, sys.argv[1:])
+query, refset, module, *folders = sys.argv[2:]
+try:
+    with Hosecrag(*folders) as engine:
+        concepts = engine.expand(query, names=False)
+except Refused as error:
+    sys.exit(f"refset.sh: the query was refused: {error}")
+except (Fault, ReleaseRefused, ValueError) as error:
+    sys.exit(f"refset.sh: {error}")
 rows = sys.stdout.buffer
 rows.write(b"id\teffectiveTime\tactive\tmoduleId\trefsetId\treferencedComponentId\r\n")
-next(sys.stdin.buffer)
-for line in sys.stdin.buffer:
-    concept = line.split(maxsplit=1)[0]
-    rows.write(b"%b\t\t1\t%b\t%b\t%b\r\n" % (str(uuid.uuid4()).encode(), module, refset, concept))
+for concept in concepts:
+    uid = str(uuid.uuid4()).encode()
+    rows.write(b"%b\t\t1\t%b\t%b\t%d\r\n" % (uid, os.fsencode(module), os.fsencode(refset), concept.identifier))
 rows.flush()
-' "$refset" "$module" <<<"$answer"
+' "$top/python" "$@"
