@@ -292,8 +292,5 @@ fn put_number_line<W: AnswerOutput>(
     ensures failure { W.has_failed output.new ≡ is_err result }
 {
     let mut digits = itoa::Buffer::new();
-    match piece.put(digits.format(number).as_bytes(), output) {
-        Ok(()) => piece.put(b"\n", output),
-        Err(fault) => Err(fault),
-    }
+    piece.put_line(digits.format(number).as_bytes(), output)
 }

@@ -1,2 +1,7 @@
+pub mod DifferLemmas
+pub mod FoundLemmas
+pub mod LevelLemmas
+pub mod NamesOnceLemmas
+pub mod SlashLemmas
 pub mod WaitingLemmas
 pub mod WalkLemmas

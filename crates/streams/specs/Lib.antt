@@ -1,4 +1,5 @@
 pub mod Folders
 pub mod inside
+pub mod NamesOnce
 pub mod Waiting
 pub mod Walk

@@ -1,5 +1,5 @@
 //! The piece in which what is written waits, so that an output is written to in few long writes.
-ghost use Rattle.std.specs.Prelude.{◌≡◌, ◌+◌, ◌≤◌, ◌++◌, [], false, IfOk, OnErr, OnOk, is_err, length, vec_capacity, vec_len};
+ghost use Rattle.std.specs.Prelude.{◌≡◌, ◌+◌, ◌≤◌, ◌++◌, ◌∷◌, [], false, IfOk, OnErr, OnOk, is_err, length, vec_capacity, vec_len};
 ghost use Rattle.std.specs.Io.KnownBytes.{Appends};
 ghost use Rattle.streams.specs.Waiting.{Puts, WritesFront};
 
@@ -52,7 +52,25 @@ impl Piece {
         Ok(())
     }
 
-    // The same where there is no room for the bytes.
+    /// Puts a line behind what waits: bytes, and then LF, as `put` does.
+    pub fn put_line<W: AnswerOutput>(&mut self, bytes: &[u8], output: &mut W) -> Result<(), IoFault>
+        requires { W.has_failed output.old ≡ false }
+        ensures ok { OnOk result (Puts (W.written output.old) (W.written output.new) self.old (bytes.now ++ 10 ∷ []) self.new) }
+        ensures err { OnErr result (WritesFront (W.written output.old) (W.written output.new) (self.old ++ (bytes.now ++ 10 ∷ []))) }
+        ensures failure { W.has_failed output.new ≡ is_err result }
+        ensures empty { OnErr result (self.new ≡ []) }
+    {
+        if bytes.len() < self.bytes.capacity() - self.bytes.len() {
+            append_line(&mut self.bytes, bytes);
+            return Ok(());
+        }
+        match self.put(bytes, output) {
+            Ok(()) => self.put(b"\n", output),
+            Err(fault) => Err(fault),
+        }
+    }
+
+    // Puts bytes for which there is no room: what waits is written first.
     fn put_behind_written<W: AnswerOutput>(
         &mut self,
         bytes: &[u8],
@@ -93,9 +111,20 @@ impl Piece {
 // Appends bytes for which there is room, so that no memory is taken.
 fn append(waiting: &mut Vec<u8>, bytes: &[u8])
     requires { vec_len waiting.old + length bytes.now ≤ vec_capacity waiting.old }
-    ensures { waiting.new.items ≡ waiting.old.items ++ bytes.now }
+    ensures items { waiting.new.items ≡ waiting.old.items ++ bytes.now }
+    ensures len { vec_len waiting.new ≡ vec_len waiting.old + length bytes.now }
+    ensures capacity { vec_capacity waiting.old ≤ vec_capacity waiting.new }
 {
     let Ok(()) = waiting.extend_from_slice(bytes) else {
         unreachable!()
     };
+}
+
+// Appends a line for which there is room, so that no memory is taken.
+fn append_line(waiting: &mut Vec<u8>, bytes: &[u8])
+    requires { vec_len waiting.old + length bytes.now + 1 ≤ vec_capacity waiting.old }
+    ensures { waiting.new.items ≡ waiting.old.items ++ (bytes.now ++ 10 ∷ []) }
+{
+    append(waiting, bytes);
+    append(waiting, b"\n");
 }

@@ -1,0 +1,5 @@
+use Rattle.streams.proofs.NamesOnceLemmas.{no_name_twice}
+use Rattle.streams.proofs.laws.no_name_is_listed_twice.Goals as goal
+
+pub returns : goal.returns
+returns c = λ tree folders names once. no_name_twice tree once folders names
