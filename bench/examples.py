@@ -276,7 +276,7 @@ def described_by_package():
         case("describe, parents and children", (beta.parents, beta.children), ([(100005, "Alpha (finding)")], [(103007, "Delta (finding)")]))
         case("describe, attributes", beta.attributes, [(1, type_t, (106004, "Value X (value)")), (1, type_u, (107008, "Value Y (value)"))])
         case("describe, reference sets", beta.reference_sets, [(108003, None)])
-        case("describe, a number", engine.describe(102002).attributes[-1].value, decimal.Decimal("2.5"))
+        case("describe, a number", engine.describe(102002).attributes[0].value, decimal.Decimal("2.5"))
         case("describe, a mistyped identifier", refused(hosecrag.NoIdentifier, lambda: engine.describe(101008)).cause, "check")
         plan = engine.explain("<100005:104001=106004")
         nodes = [(0, "and", 10), (1, "descendants", 4), (2, "one 100005", 0), (1, "pairs out 1..* within by value", 3)]

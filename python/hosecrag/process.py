@@ -3,6 +3,7 @@ from __future__ import annotations
 
 import os
 import select
+import signal
 import subprocess
 import tempfile
 import time
@@ -17,6 +18,9 @@ _READ = 1 << 16
 # How many seconds a process may take to end once its output has ended.
 _ENDING = 5.0
 
+# After how many seconds it is looked at again whether a process has ended.
+_LOOK = 0.01
+
 # What refuses an empty line, so what marks the end of whatever was asked before it.
 NO_REQUEST = "ERR request"
 
@@ -28,6 +32,57 @@ class Late(Exception):
     """A time limit was over. Only this package raises it, so no other code's `TimeoutError` is taken for it."""
 
 
+class Child:
+    """A process that was started. `subprocess` starts it, and no more: an exception that interrupts its `poll` can
+    leave a lock of its own locked for ever."""
+
+    def __init__(self, words: list[str], told: IO[bytes]) -> None:
+        # of its own session, so that Ctrl-C at a terminal reaches the caller alone
+        started = subprocess.Popen(
+            words,
+            stdin=subprocess.PIPE,
+            stdout=subprocess.PIPE,
+            stderr=told,
+            bufsize=0,
+            start_new_session=True,
+        )
+        assert started.stdin is not None and started.stdout is not None
+        self.pid, self.stdin, self.stdout = started.pid, started.stdin, started.stdout
+        self._owner = os.getpid()
+        # how it ended, as `subprocess` has it
+        self.status: Optional[int] = None
+        # `subprocess` shall not wait for it, nor warn that it runs on
+        started.returncode = 0
+
+    def has_ended(self, flags: int = os.WNOHANG) -> bool:
+        """Whether the process has ended. Without WNOHANG it waits until it has."""
+        if self.status is None:
+            try:
+                pid, status = os.waitpid(self.pid, flags)
+            except ChildProcessError:
+                # an exception kept an earlier call from noting how it ended
+                self.status = 0
+            else:
+                if pid:
+                    self.status = os.waitstatus_to_exitcode(status)
+        return self.status is not None
+
+    def kill(self) -> None:
+        """Ends the process, unless a fork made this a copy of its owner's object. A number of a process that has ended
+        may be another's, so it is looked at before."""
+        if self._owner == os.getpid() and not self.has_ended():
+            try:
+                os.kill(self.pid, signal.SIGKILL)
+            except ProcessLookupError:
+                pass  # another thread has noticed its end
+
+    def end(self) -> None:
+        """Ends the process, and waits for its end."""
+        self.kill()
+        if self._owner == os.getpid():
+            self.has_ended(0)
+
+
 class Process:
     """A process of `session`. Requests and answers take turns: whoever sends a request reads its answer to the
     end, or ends the process."""
@@ -35,19 +90,10 @@ class Process:
     def __init__(self, words: list[str]) -> None:
         self._told: IO[bytes] = tempfile.TemporaryFile()
         try:
-            # of its own session, so that Ctrl-C at a terminal reaches the caller alone
-            self._child = subprocess.Popen(
-                words,
-                stdin=subprocess.PIPE,
-                stdout=subprocess.PIPE,
-                stderr=self._told,
-                bufsize=0,
-                start_new_session=True,
-            )
+            self._child = Child(words, self._told)
         except BaseException:
             self._told.close()
             raise
-        assert self._child.stdin is not None and self._child.stdout is not None
         self._streams: list[IO[bytes]] = [self._child.stdin, self._child.stdout, self._told]
         self._input, self._output = self._child.stdin.fileno(), self._child.stdout.fileno()
         # a write then never waits beyond its time limit; the process's own end of the pipe still blocks
@@ -58,8 +104,7 @@ class Process:
         self._kept = b""
         # whether the release is loaded
         self.is_ready = False
-        self._owner = os.getpid()
-        self._finalizer = weakref.finalize(self, _end, self._child, self._streams, self._owner)
+        self._finalizer = weakref.finalize(self, _end, self._child, self._streams)
         _processes.add(self)
         # its answer shows that the release is loaded; a process that has ended already is noticed there
         try:
@@ -72,7 +117,7 @@ class Process:
         return self._child.pid
 
     def is_alive(self) -> bool:
-        return self._child.poll() is None
+        return not self._child.has_ended()
 
     def await_ready(self, deadline: Optional[float]) -> None:
         """Waits until the release is loaded. Nothing is lost if the time is over before."""
@@ -116,20 +161,17 @@ class Process:
     def kill(self) -> None:
         """Ends the process, and leaves its streams to whoever reads them: a number of a stream that is closed
         under a reader could be another stream's by the time it reads on."""
-        if os.getpid() == self._owner:
-            self._child.kill()
+        self._child.kill()
 
     def end(self) -> None:
         """Ends the process and closes its streams. Where this was interrupted, it can be called again."""
-        _end(self._child, self._streams, self._owner)
+        _end(self._child, self._streams)
         self._finalizer.detach()
 
     def forget(self) -> None:
         """Closes the streams, and lets the process be: another process owns it."""
         self._finalizer.detach()
         _close(self._streams)
-        # so that `subprocess` does not warn of a process that runs on
-        self._child.returncode = 0
 
     def _read(self, chunks: list[bytes], deadline: Optional[float]) -> bytes:
         if deadline is not None:
@@ -145,10 +187,12 @@ class Process:
 
     def _fault(self) -> Exception:
         """Returns the error that tells why the process has ended."""
-        try:
-            status = self._child.wait(_ENDING)
-        except subprocess.TimeoutExpired:
-            return Fault("the program has closed its streams, and does not end")
+        late = time.monotonic() + _ENDING
+        while not self._child.has_ended():
+            if time.monotonic() > late:
+                return Fault("the program has closed its streams, and does not end")
+            time.sleep(_LOOK)
+        status = self._child.status
         self._told.seek(0)
         told = self._told.read().decode(errors="replace").strip()
         if status == _RELEASE_REFUSED:
@@ -176,10 +220,8 @@ def _close(streams: list[IO[bytes]]) -> None:
         stream.close()
 
 
-def _end(child: subprocess.Popen[bytes], streams: list[IO[bytes]], owner: int) -> None:
-    if os.getpid() == owner:
-        child.kill()
-        child.wait()
+def _end(child: Child, streams: list[IO[bytes]]) -> None:
+    child.end()
     _close(streams)
 
 

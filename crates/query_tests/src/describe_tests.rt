@@ -1,14 +1,10 @@
 //! What `describe` tells of concepts, and what `session` answers to requests.
 use crate::test_release::sample;
-use crate::test_streams::{PieceInput, PieceOutput, ROOM};
-use query_tool::{Engine, Mode, Request, Status, serve};
-use release_files::MemoryFiles;
+use crate::test_serve::is_answered;
+use query_tool::{Engine, Mode};
 use snapshot::Limits;
 use std::alloc::{AllocError, Global};
 use std::test::Fail;
-
-// How many bytes a source reads at once.
-const PIECE: usize = 4_096;
 
 // The three findings with attributes, and what the files of the sample say of them.
 const FINDINGS: &[u8] = b"101009\n102002 |Gamma (finding)|\n103007\n";
@@ -117,29 +113,6 @@ fn answers_requests(rt: HostRuntime) -> Result<(), Fail> {
     assert!(rt; is_answered(alloc, Mode::Session, REQUESTS, ANSWERS)?);
     assert!(rt; is_answered(alloc, Mode::Session, NO_REQUESTS, REFUSALS)?);
     Ok(())
-}
-
-// Whether lines are answered so in a mode, over the files of the sample.
-fn is_answered(alloc: Global, mode: Mode, lines: &[u8], wanted: &[u8]) -> Result<bool, AllocError> {
-    let request = Request {
-        mode,
-        folders: Vec::new(alloc),
-        lang: String::from_str(alloc, "en")?,
-    };
-    let files = sample();
-    let mut source = MemoryFiles::new(alloc, &files, PIECE, 0);
-    let mut input = PieceInput::new(lines, ROOM, usize::MAX);
-    let mut output = PieceOutput::new(alloc, ROOM, ROOM);
-    let mut errors = PieceOutput::new(alloc, ROOM, ROOM);
-    let status = serve(
-        alloc,
-        &request,
-        &mut source,
-        &mut input,
-        &mut output,
-        &mut errors,
-    );
-    Ok(status == Status::Done && output.bytes.as_slice() == wanted && errors.bytes.is_empty())
 }
 
 // A line of 65,536 bytes is too long for both, and one of 65,535 is not.

@@ -27,6 +27,8 @@ mod test_folders;
 #[cfg(test)]
 mod test_release;
 #[cfg(test)]
+mod test_serve;
+#[cfg(test)]
 mod test_streams;
 #[cfg(test)]
 mod tests;

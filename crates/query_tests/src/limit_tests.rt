@@ -1,14 +1,10 @@
 //! What `query` answers with its options: a limit on what a plan visits, the first lines alone, identifiers alone.
 use crate::test_release::sample;
-use crate::test_streams::{PieceInput, PieceOutput, ROOM};
-use query_tool::{AnswerForm, Engine, Mode, QueryOptions, Request, Status, Visits, serve};
-use release_files::MemoryFiles;
+use crate::test_serve::is_answered;
+use query_tool::{AnswerForm, Engine, Mode, QueryOptions, Visits};
 use snapshot::Limits;
 use std::alloc::{AllocError, Global};
 use std::test::Fail;
-
-// How many bytes a source reads at once.
-const PIECE: usize = 4_096;
 
 // The concepts below Alpha, whose plan visits 4 items at most: Alpha, and the three of its list. Then a refinement of
 // them, by 17, as the worked plan has it; all concepts, by none; and a text that is no constraint.
@@ -54,7 +50,7 @@ fn answers_with_options(rt: HostRuntime) -> Result<(), Fail> {
         (options(16, Some(1), false), ALL_THREE),
     ];
     for (options, wanted) in cases {
-        assert!(rt; is_answered(alloc, options, wanted)?);
+        assert!(rt; is_answered(alloc, Mode::QueryWith(options), LINES, wanted)?);
     }
     Ok(())
 }
@@ -65,29 +61,6 @@ fn options(limit: u64, first: Option<u64>, names: bool) -> QueryOptions {
         first,
         names,
     }
-}
-
-// Whether the lines are answered so with options, over the files of the sample.
-fn is_answered(alloc: Global, options: QueryOptions, wanted: &[u8]) -> Result<bool, AllocError> {
-    let request = Request {
-        mode: Mode::QueryWith(options),
-        folders: Vec::new(alloc),
-        lang: String::from_str(alloc, "en")?,
-    };
-    let files = sample();
-    let mut source = MemoryFiles::new(alloc, &files, PIECE, 0);
-    let mut input = PieceInput::new(LINES, ROOM, usize::MAX);
-    let mut output = PieceOutput::new(alloc, ROOM, ROOM);
-    let mut errors = PieceOutput::new(alloc, ROOM, ROOM);
-    let status = serve(
-        alloc,
-        &request,
-        &mut source,
-        &mut input,
-        &mut output,
-        &mut errors,
-    );
-    Ok(status == Status::Done && output.bytes.as_slice() == wanted && errors.bytes.is_empty())
 }
 
 // What is visited is counted: nothing where the bound is above the limit, and for `<100005` the four items of its floor
