@@ -1,5 +1,6 @@
 #!/usr/bin/env python3
-"""Checks the documents: README.md, CONTRIBUTING.md, CHANGELOG.md, docs/*.md, and the README.md of examples/ and python/.
+"""Checks the documents: README.md, CONTRIBUTING.md, CHANGELOG.md, docs/*.md, and the README.md of examples/, python/ and
+service/.
 
     bench/documents.py [--words N] [--program PATH]
 
@@ -10,7 +11,7 @@
   build makes.
 - docs/DESIGN.md names each crate that is neither a program nor tests alone, in backticks or in a code block. A table whose
   first heading is `Crate` has in its first column no name in backticks that crates.txt does not have.
-- All but those of examples/ and python/ have at most N words together (20,000), as `wc -w` counts them.
+- All but those of examples/, python/ and service/ have at most N words together (20,000), as `wc -w` counts them.
 - No absolute path stands in a document.
 
 PATH is a built program. With it the script runs, from the root, each command of `./hosecrag` or `./look` whose output a
@@ -35,7 +36,7 @@ from typing import Iterator, List, NamedTuple, Optional, Tuple
 
 ROOT = pathlib.Path(__file__).resolve().parent.parent
 COUNTED = ["README.md", "CONTRIBUTING.md", "CHANGELOG.md"]
-BESIDE = ["examples/README.md", "python/README.md"]
+BESIDE = ["examples/README.md", "python/README.md", "service/README.md"]
 DESIGN = "docs/DESIGN.md"
 MADE = "out"
 MODES = ["check", "query", "explain"]

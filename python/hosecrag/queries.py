@@ -17,8 +17,8 @@ Self = TypeVar("Self", bound="Queries")
 # What reads the answer of a request to its end.
 Reader = Callable[[Process, Optional[float]], Answer]
 
-# How many constraints are kept that were judged by themselves.
-_JUDGED = 1000
+# How many constraints are kept that were checked by themselves.
+_CHECKED = 1000
 
 # The greatest number of a request.
 _MOST = (1 << 64) - 1
@@ -37,8 +37,8 @@ class Queries(abc.ABC):
     `Refused`."""
 
     def __init__(self) -> None:
-        self._judged: OrderedDict[str, None] = OrderedDict()
-        self._judging = threading.Lock()
+        self._checked: OrderedDict[str, None] = OrderedDict()
+        self._checking = threading.Lock()
 
     @abc.abstractmethod
     def close(self) -> None:
@@ -80,10 +80,15 @@ class Queries(abc.ABC):
         """Returns whether a concept is among those of a constraint. A number that is no concept's identifier is
         not. The limit is one of the constraint `ID AND (CONSTRAINT)`, which is what is asked."""
         deadline = deadline_in(timeout)
-        self._judge(constraint, deadline)
+        self._check(constraint, deadline)
         if not _LEAST_IDENTIFIER <= concept <= _MOST_IDENTIFIER:
             return False
         return self._page(f"{concept} AND ({constraint})", 0, 0, False, limit, deadline)[0] == 1
+
+    def check(self, constraint: str, *, timeout: Optional[float] = None) -> None:
+        """Raises `Refused` for a text that is no constraint by itself. Nothing is visited. Whoever puts a text into
+        brackets checks it before: `*) OR (*` is none, and `(*) OR (*)` is one."""
+        self._check(constraint, deadline_in(timeout))
 
     def explain(self, constraint: str, *, timeout: Optional[float] = None) -> Plan:
         """Returns the plan of a constraint. Nothing is visited."""
@@ -152,22 +157,20 @@ class Queries(abc.ABC):
             raise Refused(head)
         return int(head.removeprefix("OK ")), data
 
-    def _judge(self, constraint: str, deadline: Optional[float]) -> None:
-        """Raises `Refused` for a text that is no constraint by itself. Brackets round it could make one of it:
-        `*) OR (*` has none of its own, and `(*) OR (*)` is one."""
-        with self._judging:
-            if constraint in self._judged:
-                self._judged.move_to_end(constraint)
+    def _check(self, constraint: str, deadline: Optional[float]) -> None:
+        with self._checking:
+            if constraint in self._checked:
+                self._checked.move_to_end(constraint)
                 return
         try:
             # no plan that visits anything is executed under this limit
             self._page(constraint, 0, 0, False, 0, deadline)
         except TooCostly:
             pass
-        with self._judging:
-            self._judged[constraint] = None
-            while len(self._judged) > _JUDGED:
-                self._judged.popitem(last=False)
+        with self._checking:
+            self._checked[constraint] = None
+            while len(self._checked) > _CHECKED:
+                self._checked.popitem(last=False)
 
     def _names_of_types(self, types: list[int], deadline: Optional[float]) -> dict[int, Optional[str]]:
         """Returns the names of those types that are active concepts and have one."""

@@ -18,14 +18,14 @@ _PLACES = [[0, 1, 2, 3, 4, 5, 6, 7, 8, 9], [1, 5, 7, 6, 2, 8, 3, 0, 9, 4]]
 while len(_PLACES) < 8:
     _PLACES.append([_PLACES[-1][it] for it in _PLACES[1]])
 
-_HEADER = {
+HEADER = {
     "Concept": "id\teffectiveTime\tactive\tmoduleId\tdefinitionStatusId",
     "Relationship": "id\teffectiveTime\tactive\tmoduleId\tsourceId\tdestinationId\trelationshipGroup\ttypeId\t"
     "characteristicTypeId\tmodifierId",
     "Description": "id\teffectiveTime\tactive\tmoduleId\tconceptId\tlanguageCode\ttypeId\tterm\tcaseSignificanceId",
 }
-_MODULE, _PRIMITIVE, _IS_A = 900000000000207008, 900000000000074008, 116680003
-_INFERRED, _MODIFIER, _FULL_NAME, _CASE = (
+MODULE, PRIMITIVE, IS_A = 900000000000207008, 900000000000074008, 116680003
+INFERRED, MODIFIER, FULL_NAME, CASE = (
     900000000000011006,
     900000000000451002,
     900000000000003001,
@@ -70,19 +70,17 @@ def descendants(place: int) -> list[int]:
 
 def write(folder: str) -> None:
     """Writes the files of the release."""
-    rows: dict[str, list[str]] = {kind: [] for kind in _HEADER}
+    rows: dict[str, list[str]] = {kind: [] for kind in HEADER}
     for place, identifier in enumerate(IDENTIFIERS):
-        front = f"20240101\t1\t{_MODULE}"
-        rows["Concept"].append(f"{identifier}\t{front}\t{_PRIMITIVE}")
+        front = f"20240101\t1\t{MODULE}"
+        rows["Concept"].append(f"{identifier}\t{front}\t{PRIMITIVE}")
         row = with_check_digit(f"{1000 + place}01")
-        rows["Description"].append(f"{row}\t{front}\t{identifier}\ten\t{_FULL_NAME}\t{name(place)}\t{_CASE}")
+        rows["Description"].append(f"{row}\t{front}\t{identifier}\ten\t{FULL_NAME}\t{name(place)}\t{CASE}")
         if place:
             row, parent = with_check_digit(f"{1000 + place}02"), IDENTIFIERS[(place - 1) // 3]
-            rows["Relationship"].append(
-                f"{row}\t{front}\t{identifier}\t{parent}\t0\t{_IS_A}\t{_INFERRED}\t{_MODIFIER}"
-            )
+            rows["Relationship"].append(f"{row}\t{front}\t{identifier}\t{parent}\t0\t{IS_A}\t{INFERRED}\t{MODIFIER}")
     for kind, lines in rows.items():
         middle = "Description_Snapshot-en" if kind == "Description" else f"{kind}_Snapshot"
         path = os.path.join(folder, f"sct2_{middle}_INT_20240101.txt")
         with open(path, "w", encoding="utf-8", newline="") as file:
-            file.write("".join(f"{line}\r\n" for line in [_HEADER[kind], *lines]))
+            file.write("".join(f"{line}\r\n" for line in [HEADER[kind], *lines]))

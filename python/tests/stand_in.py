@@ -101,4 +101,5 @@ def refused(text: str, status: int) -> int:
     return status
 
 
-main()
+if __name__ == "__main__":
+    main()

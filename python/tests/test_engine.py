@@ -55,7 +55,12 @@ class Calls(unittest.TestCase):
             self.engine.is_member(5, "100005 XOR 101009")
 
     def test_refusals(self) -> None:
-        calls: list[Callable[[str], object]] = [self.engine.expand, self.engine.count, self.engine.explain]
+        calls: list[Callable[[str], object]] = [
+            self.engine.expand,
+            self.engine.count,
+            self.engine.explain,
+            self.engine.check,
+        ]
         calls.append(lambda it: self.engine.is_member(ROOT, it))
         for call in calls:
             for text, wanted in (
