@@ -4,6 +4,7 @@ from __future__ import annotations
 import re
 from dataclasses import dataclass
 from decimal import Decimal
+from itertools import repeat
 from typing import List, Mapping, NamedTuple, Optional, Union
 
 
@@ -120,12 +121,14 @@ def concepts_of(data: bytes) -> list[Concept]:
     """Returns the concepts of lines that each end in LF. A name may have other line breaks in it."""
     lines = data.decode().split("\n")
     lines.pop()
-    return [concept_of(line) for line in lines]
+    parts = map(str.partition, lines, repeat(" "))
+    # `Concept(..)` would call a function of Python for each of up to half a million concepts
+    return [tuple.__new__(Concept, (int(digits), name[1:-1] if name else None)) for digits, _, name in parts]
 
 
 def identifiers_of(data: bytes) -> list[Concept]:
     """Returns the concepts of lines that have identifiers alone."""
-    return [Concept(int(line)) for line in data.split()]
+    return [tuple.__new__(Concept, (identifier, None)) for identifier in map(int, data.split())]
 
 
 def plan_of(lines: list[str]) -> Plan:
