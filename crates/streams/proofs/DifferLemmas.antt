@@ -20,7 +20,8 @@ pub differ_one : {X : Type 0} (only : X) → Differ (only ∷ [])
 differ_one only i j default before within = absurd (omega arith)
 
 -- the first item of a list differs from the others
-pub differ_first : {X : Type 0} (first : X) (rest : List X) → Differ (first ∷ rest) → All (λ other. first ≢ other) rest
+pub differ_first : {X : Type 0} (first : X) (rest : List X) → Differ (first ∷ rest)
+    → All (λ other. first ≢ other) rest
 differ_first first rest differ k default within = differ 0 (suc k) default (omega arith) (omega arith)
 
 -- the others differ from one another

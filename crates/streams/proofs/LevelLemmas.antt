@@ -1,7 +1,7 @@
 -- The paths of the files that a walk finds differ. In those of one level equally many `/` stand, one more than in
 -- those of the level above, and what stands before the last `/` tells the folder.
-use Rattle.std.proofs.Common.{◌≡◌, ◌≢◌, ◌∙◌, ℕ, ◌+◌, ◌<◌, ◌++◌, List, [], ◌∷◌, Bool}
-use Rattle.std.proofs.Common.{ap, arith, map, refl, subst, sym}
+use Rattle.std.proofs.Common.{◌≡◌, ◌≢◌, ◌∙◌, ℕ, ◌+◌, ◌<◌, ◌++◌, List, [], ◌∷◌}
+use Rattle.std.proofs.Common.{Bool, ap, arith, map, refl, subst, sym}
 use Rattle.std.proofs.lemmas.Cmp.{nat_list_eq_equiv}
 use Rattle.std.proofs.lemmas.List.{append_cancel_left, append_cancel_right}
 use Rattle.std.proofs.lemmas.List.Elements.{All-append, All-contains, All-cons, All-filter, All-head, All-map, All-nil}
@@ -65,7 +65,7 @@ record IsLevel (depth : ℕ) (level : List (List ℕ)) : Type 0 where
   differ : Differ level
   below : All (IsBelow depth) level
 
--- so many `/` stand in the path of what stands in a folder of a level
+-- the path of what stands in a folder of a level has as many `/` as the path of that folder
 stands_deep : (depth : ℕ) (level : List (List ℕ)) (path : List ℕ) → IsLevel depth level → StandsIn level path
     → slashes path ≡ depth
 stands_deep depth level path is (below, has, (name, plain, same)) =
@@ -101,8 +101,8 @@ paths_differ below keeps names new = record {
 }
 
 -- what stands in one folder differs from what stands in another of its level
-under_apart : (depth : ℕ) (below other path later : List ℕ) → IsBelow depth below → IsBelow depth other → below ≢ other
-    → StandsUnder below path → StandsUnder other later → path ≢ later
+under_apart : (depth : ℕ) (below other path later : List ℕ) → IsBelow depth below → IsBelow depth other
+    → below ≢ other → StandsUnder below path → StandsUnder other later → path ≢ later
 under_apart depth below other path later one two apart under elsewhere same =
     apart (same_below 47 below other under.0 elsewhere.0 one.ends two.ends under.1 elsewhere.1
     (sym under.2 ∙ same ∙ elsewhere.2))
@@ -176,7 +176,8 @@ module _ (tree : FolderTree) (once : ListsNamesOnce tree) (folder : List ℕ) wh
       }
 
   -- the folders that were found are a level, one deeper
-  next_level : (depth : ℕ) (level folders : List (List ℕ)) → IsLevel depth level → AreNew (StandsIn level) folders
+  next_level : (depth : ℕ) (level folders : List (List ℕ)) → IsLevel depth level
+      → AreNew (StandsIn level) folders
       → IsLevel (depth + 1) (map with_slash folders)
   next_level depth level folders is new = record {
     differ = differ_map with_slash (λ one other. append_cancel_right one other (47 ∷ [])) folders new.differ;
@@ -192,7 +193,8 @@ module _ (tree : FolderTree) (once : ListsNamesOnce tree) (folder : List ℕ) wh
   }
 
   -- the files that were found differ from those of the levels above
-  next_files : (depth : ℕ) (level files more : List (List ℕ)) → IsLevel depth level → AreNew (IsAbove depth) files
+  next_files : (depth : ℕ) (level files more : List (List ℕ)) → IsLevel depth level
+      → AreNew (IsAbove depth) files
       → AreNew (StandsIn level) more → AreNew (IsAbove (depth + 1)) (files ++ more)
   next_files depth level files more is old new = record {
     differ =

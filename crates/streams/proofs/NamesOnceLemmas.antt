@@ -1,6 +1,6 @@
 -- The names of the files of folders differ: those of one folder by their paths, those of two by the folders' numbers.
-use Rattle.std.proofs.Common.{◌≡◌, ◌≢◌, ◌∙◌, ℕ, ◌+◌, ◌<◌, ◌≤◌, ◌^◌, ◌++◌, List, [], ◌∷◌, Global, String}
-use Rattle.std.proofs.Common.{arith, length, map, refl, string_bytes, subst, sym}
+use Rattle.std.proofs.Common.{◌≡◌, ◌≢◌, ◌∙◌, ℕ, ◌+◌, ◌<◌, ◌≤◌, ◌^◌, ◌++◌, List, [], ◌∷◌}
+use Rattle.std.proofs.Common.{Global, String, arith, length, map, refl, string_bytes, subst, sym}
 use Rattle.std.proofs.lemmas.List.{append_cancel_left}
 use Rattle.std.proofs.lemmas.List.Elements.{All-append, All-map, All-nil, All-weaker}
 use Rattle.std.proofs.lemmas.Map.Made.{IsDistinct-from_AllPairs}
@@ -15,7 +15,8 @@ use Rattle.streams.proofs.LevelLemmas.{below_differ}
 use Rattle.streams.proofs.SlashLemmas.{same_number}
 
 -- one number stands before two paths alike only where they are one
-same_path : (number : ℕ) (one other : List ℕ) → numbered_name number one ≡ numbered_name number other → one ≡ other
+same_path : (number : ℕ) (one other : List ℕ)
+    → numbered_name number one ≡ numbered_name number other → one ≡ other
 same_path number one other same =
     let behind = append_cancel_left (decimal number) (47 ∷ one) (47 ∷ other) same in cc
 
@@ -74,7 +75,8 @@ numbered_more number own others small differ behind = record {
 
 module _ (tree : FolderTree) (once : ListsNamesOnce tree) where
   numbered_differ : (number : ℕ) (folders : List (String Global)) (names : List (List ℕ))
-      → number + length folders ≤ 2 ^ 64 → AreFilesOfAll tree number folders names → AreNumberedFrom number names
+      → number + length folders ≤ 2 ^ 64 → AreFilesOfAll tree number folders names
+      → AreNumberedFrom number names
   numbered_differ number [] names small none = subst (AreNumberedFrom number) (sym none) (numbered_none number)
   numbered_differ number (folder ∷ folders) names small (own, others, below, all, is) =
       let differ = below_differ tree once (string_bytes folder) own below in

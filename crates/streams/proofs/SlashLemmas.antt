@@ -59,7 +59,8 @@ not_front byte text behind name ends none is =
 
 -- two texts that are empty or end with a `/` are one, where each with a name behind it is the same text
 pub same_below : (before : ℕ) (one other first second : List ℕ)
-    → last_behind before one ≡ 47 → last_behind before other ≡ 47 → slashes first ≡ 0 → slashes second ≡ 0
+    → last_behind before one ≡ 47 → last_behind before other ≡ 47
+    → slashes first ≡ 0 → slashes second ≡ 0
     → one ++ first ≡ other ++ second → one ≡ other
 same_below before [] [] first second ends_one ends_other none_one none_other same = refl
 same_below before [] (byte ∷ other) first second ends_one ends_other none_one none_other same =

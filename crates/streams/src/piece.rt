@@ -55,8 +55,10 @@ impl Piece {
     /// Puts a line behind what waits: bytes, and then LF, as `put` does.
     pub fn put_line<W: AnswerOutput>(&mut self, bytes: &[u8], output: &mut W) -> Result<(), IoFault>
         requires { W.has_failed output.old ≡ false }
-        ensures ok { OnOk result (Puts (W.written output.old) (W.written output.new) self.old (bytes.now ++ 10 ∷ []) self.new) }
-        ensures err { OnErr result (WritesFront (W.written output.old) (W.written output.new) (self.old ++ (bytes.now ++ 10 ∷ []))) }
+        ensures ok { OnOk result (Puts (W.written output.old) (W.written output.new) self.old
+            (bytes.now ++ 10 ∷ []) self.new) }
+        ensures err { OnErr result (WritesFront (W.written output.old) (W.written output.new)
+            (self.old ++ (bytes.now ++ 10 ∷ []))) }
         ensures failure { W.has_failed output.new ≡ is_err result }
         ensures empty { OnErr result (self.new ≡ []) }
     {
