@@ -7,34 +7,29 @@ ghost use Rattle.plan_bounds.specs.Counts.{leaf_of};
 ghost use Rattle.plan_bounds.specs.Floors.{leaf_floor};
 ghost use Rattle.plan_bounds.specs.Sizes.{size, test_size};
 
-use constraint_tree::Cardinality;
-use plan_bounds::{Choice, NodeLimits, leaf_limits};
-use postings::Indexes;
-use set_algebra::{ConceptPlan, ValueTest};
+use plan_bounds::{LeafParts, NodeLimits, leaf_limits};
+use postings::Lengths;
 
 /// A leaf among so many concepts or groups: between which numbers its visits lie, where so many types and so many
 /// concepts for its test were found.
 pub fn leaf_limits_within(
-    indexes: &Indexes,
+    lengths: Lengths<'_>,
     all: u64,
     back: bool,
-    count: Cardinality,
-    types: &ConceptPlan,
-    test: &ValueTest,
-    choice: Choice,
+    leaf: LeafParts<'_>,
     found: (u32, u32),
 ) -> NodeLimits
-    requires types { found.0 ≤ size indexes.now (physical_of types.now) }
-    requires test { found.1 ≤ test_size indexes.now (physical_test_of test.now) }
-    ensures within { result.bound
-        ≤ leaf_bound_at indexes.now all back count (physical_of types.now) (physical_test_of test.now) choice }
-    ensures floor { result.floor ≡ leaf_floor indexes.now back (physical_of types.now) (physical_test_of test.now)
-        choice }
+    requires types { found.0 ≤ size lengths.indexes.now (physical_of leaf.types.now) }
+    requires test { found.1 ≤ test_size lengths.indexes.now (physical_test_of leaf.test.now) }
+    ensures within { result.bound ≤ leaf_bound_at lengths.entry.indexes.now all back leaf.entry.count
+        (physical_of leaf.entry.types.now) (physical_test_of leaf.entry.test.now) leaf.entry.choice }
+    ensures floor { result.floor ≡ leaf_floor lengths.entry.indexes.now back (physical_of leaf.entry.types.now)
+        (physical_test_of leaf.entry.test.now) leaf.entry.choice }
     ensures ordered { result.floor ≤ result.bound }
-    ensures bound { result.bound ≡ capped
-        (leaf_bound (leaf_of indexes.now all back count (physical_of types.now) (physical_test_of test.now) found.0
-        found.1) choice) }
+    ensures bound { result.bound ≡ capped (leaf_bound (leaf_of lengths.entry.indexes.now all back leaf.entry.count
+        (physical_of leaf.entry.types.now) (physical_test_of leaf.entry.test.now) found.0 found.1)
+        leaf.entry.choice) }
 {
     let sizes = (found.0 as u64, found.1 as u64);
-    leaf_limits(indexes, all, back, count, types, test, sizes, choice)
+    leaf_limits(lengths, all, back, leaf, sizes)
 }

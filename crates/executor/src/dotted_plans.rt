@@ -95,7 +95,7 @@ fn named_by<S: ConceptSet>(
 {
     if let Some((before, set)) = known {
         if *before == *name {
-            visits.add(plan_floor(name, reader.indexes));
+            visits.add(plan_floor(name, reader.lengths()));
             return Ok(set);
         }
     }

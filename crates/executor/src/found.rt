@@ -16,21 +16,20 @@ ghost use Rattle.candidates.specs.Tallies.{Adds};
 ghost use Rattle.candidates.specs.Within.{AreConcepts, may_be};
 
 use candidates::{Candidates, RowTally, restricted};
-use constraint_tree::{Cardinality, Operator};
+use constraint_tree::Cardinality;
 use idset::ConceptSet;
 use pair_sets::with_groups;
-use plan_bounds::{members_limits, walk_limits};
+use plan_bounds::{WalkParts, members_limits, walk_limits};
 use reading::{Answer, Counter, Reader};
 use set_algebra::ConceptPlan;
 use std::alloc::AllocError;
 use walks::{members_within, walk_within};
 
-/// The candidates among the concepts that an operator leads to from a set, which an operand has found. The rows are
+/// The candidates among the concepts that a walk leads to from a set, which its operand has found. The rows are
 /// added of what is found from one concept, if the tally asks for them.
 pub fn walk_found<S: ConceptSet>(
     reader: Reader<'_>,
-    operator: Operator,
-    operand: &ConceptPlan,
+    walk: WalkParts<'_>,
     from: &Answer<S>,
     candidates: &Candidates<'_, S>,
     visits: &mut Counter,
@@ -39,21 +38,27 @@ pub fn walk_found<S: ConceptSet>(
     requires candidates { AreConcepts S.ConceptSet reader.snapshot.now.release reader.indexes.now candidates.now }
     requires bound { S.bound_of from.now ≡ length reader.snapshot.now.release.concepts }
     requires from { S.items_of from.now ≡ numbers_in reader.snapshot.now.release
-        (means reader.snapshot.now.release (logical (physical_of operand.now))) }
-    requires size { length (S.items_of from.now) ≤ size_of reader.indexes.now (physical_of operand.now) }
+        (means reader.snapshot.now.release (logical (physical_of walk.operand.now))) }
+    requires size { length (S.items_of from.now) ≤ size_of reader.indexes.now (physical_of walk.operand.now) }
     ensures counted { CountsWithin (own_bound reader.entry.indexes.now
-        (physical_walk operator (physical_of operand.now))) visits.old visits.new }
+        (physical_walk walk.entry.operator (physical_of walk.entry.operand.now))) visits.old visits.new }
     ensures found { IfOk result (IsFound S.ConceptSet (length reader.entry.snapshot.now.release.concepts)
         (filter (may_be S.items_of candidates.now) (led_to reader.entry.indexes.now.hierarchy (S.bound_of from.now)
-        operator (S.items_of from.now)))
-        (own_floor reader.entry.indexes.now (physical_walk operator (physical_of operand.now))) visits.old visits.new) }
+        walk.entry.operator (S.items_of from.now)))
+        (own_floor reader.entry.indexes.now (physical_walk walk.entry.operator (physical_of walk.entry.operand.now)))
+        visits.old visits.new) }
     ensures adds { IfOk result (λ found. Adds (S.items_of found) tally.old tally.new) }
 {
     // the concepts rise
     reader.concept_count();
     let since = visits.count();
-    let limits = walk_limits(reader.indexes, operator, operand, u64::from(from.count()));
-    let found = walk_within(reader, operator, from, candidates, visits, tally)?;
+    let limits = walk_limits(
+        reader.lengths(),
+        walk.operator,
+        walk.operand,
+        u64::from(from.count()),
+    );
+    let found = walk_within(reader, walk.operator, from, candidates, visits, tally)?;
     visits.fill(since, limits.floor);
     Ok(found)
 }
@@ -81,7 +86,7 @@ pub fn members_found<S: ConceptSet>(
     // the concepts rise
     reader.concept_count();
     let since = visits.count();
-    let limits = members_limits(reader.indexes, operand, u64::from(from.count()));
+    let limits = members_limits(reader.lengths(), operand, u64::from(from.count()));
     let found = members_within(reader, from, candidates, visits)?;
     visits.fill(since, limits.floor);
     Ok(found)

@@ -6,8 +6,10 @@ ghost use Rattle.std.specs.Prelude.{◌≡◌, IsSome};
 ghost use Rattle.set_algebra.specs.Physical.{physical_of};
 ghost use Rattle.plan_bounds.specs.Counts.{one_of};
 
-use constraint_tree::{Cardinality, Operator};
-use postings::Indexes;
+use constraint_tree::{Cardinality, Compare, Operator};
+use plan_bounds::{list_length, member_count, value_row_count};
+use postings::Lengths;
+use rf2_rows::Decimal;
 use set_algebra::{ConceptPlan, UnitPlan, ValueTest};
 
 // How deep below a part its own parts are looked at. What lies deeper is taken for much, so that each node of a plan is
@@ -17,12 +19,22 @@ const DEPTH: u32 = 3;
 // How many rows a value may have that is not looked up.
 const ROWS_OF_VALUE: u64 = 16;
 
+// How many rows a concept has as their source, or more.
+const ROWS_OF_SOURCE: u64 = 8;
+
+// How many parents, children and ancestors a concept has, or more.
+const PARENTS: u64 = 2;
+
+const CHILDREN: u64 = 4;
+
+const ANCESTORS: u64 = 16;
+
 /// The place of that part of which the least is guessed.
-pub fn lead_of(parts: &[ConceptPlan], indexes: &Indexes) -> usize {
+pub fn lead_of(parts: &[ConceptPlan], lengths: Lengths<'_>) -> usize {
     let mut lead = 0;
     let mut least = u64::MAX;
     for place in 0..parts.len() {
-        let size = guess(&parts[place], indexes, DEPTH);
+        let size = guess(&parts[place], lengths, DEPTH);
         if size < least {
             least = size;
             lead = place;
@@ -32,11 +44,11 @@ pub fn lead_of(parts: &[ConceptPlan], indexes: &Indexes) -> usize {
 }
 
 /// The place of the plan of groups with the smallest estimate: the one to execute first.
-pub fn group_lead_of(parts: &[UnitPlan], indexes: &Indexes) -> usize {
+pub fn group_lead_of(parts: &[UnitPlan], lengths: Lengths<'_>) -> usize {
     let mut lead = 0;
     let mut least = u64::MAX;
     for place in 0..parts.len() {
-        let size = group_guess(&parts[place], indexes, DEPTH);
+        let size = group_guess(&parts[place], lengths, DEPTH);
         if size < least {
             least = size;
             lead = place;
@@ -46,14 +58,14 @@ pub fn group_lead_of(parts: &[UnitPlan], indexes: &Indexes) -> usize {
 }
 
 /// How many groups a plan means.
-pub fn guess_of_groups(plan: &UnitPlan, indexes: &Indexes) -> u64 {
-    group_guess(plan, indexes, DEPTH)
+pub fn guess_of_groups(plan: &UnitPlan, lengths: Lengths<'_>) -> u64 {
+    group_guess(plan, lengths, DEPTH)
 }
 
 // How many concepts a plan means.
 #[cycle(guess)]
-fn guess(plan: &ConceptPlan, indexes: &Indexes, depth: u32) -> u64 {
-    let all = u64::from(indexes.concept_count());
+fn guess(plan: &ConceptPlan, lengths: Lengths<'_>, depth: u32) -> u64 {
+    let all = u64::from(lengths.concept_count());
     if depth == 0 {
         return all;
     }
@@ -62,23 +74,29 @@ fn guess(plan: &ConceptPlan, indexes: &Indexes, depth: u32) -> u64 {
         ConceptPlan::All => all,
         ConceptPlan::One(_) => 1,
         ConceptPlan::Walk(operator, operand) => {
-            let from = guess(operand, indexes, depth - 1);
-            guess_of_walk(*operator, operand, from, indexes)
+            let from = guess(operand, lengths, depth - 1);
+            guess_of_walk(*operator, operand, from, lengths)
         }
-        ConceptPlan::Members(operand) => guess_of_members(operand, indexes),
-        ConceptPlan::And(parts) => least_of(parts, indexes, depth - 1),
-        ConceptPlan::Or(parts) => sum_of(parts, indexes, depth - 1),
-        ConceptPlan::Minus(first, _) => guess(first, indexes, depth - 1),
-        ConceptPlan::Values(..) => all / 2,
+        ConceptPlan::Members(operand) => {
+            let from = guess(operand, lengths, depth - 1);
+            guess_of_members(operand, from, lengths)
+        }
+        ConceptPlan::And(parts) => least_of(parts, lengths, depth - 1),
+        ConceptPlan::Or(parts) => sum_of(parts, lengths, depth - 1),
+        ConceptPlan::Minus(first, _) => guess(first, lengths, depth - 1),
+        ConceptPlan::Values(start, names) => guess_of_values(start, names, lengths, depth - 1),
         ConceptPlan::Pairs {
             back,
             count,
             types,
             test,
             ..
-        } => unless_none_is_asked(*count, all, guess_of_rows(*back, types, test, indexes)),
+        } => {
+            let rows = guess_of_rows(*back, types, test, lengths, depth - 1);
+            unless_none_is_asked(*count, all, rows)
+        }
         ConceptPlan::Units { count, units } => {
-            let groups = group_guess(units, indexes, depth - 1);
+            let groups = group_guess(units, lengths, depth - 1);
             unless_none_is_asked(*count, all, groups)
         }
     }
@@ -86,10 +104,10 @@ fn guess(plan: &ConceptPlan, indexes: &Indexes, depth: u32) -> u64 {
 
 // The least that is guessed of some plans.
 #[cycle(guess)]
-fn least_of(parts: &[ConceptPlan], indexes: &Indexes, depth: u32) -> u64 {
-    let mut least = u64::from(indexes.concept_count());
+fn least_of(parts: &[ConceptPlan], lengths: Lengths<'_>, depth: u32) -> u64 {
+    let mut least = u64::from(lengths.concept_count());
     for part in parts {
-        let size = guess(part, indexes, depth);
+        let size = guess(part, lengths, depth);
         least = least.min(size);
     }
     least
@@ -97,54 +115,126 @@ fn least_of(parts: &[ConceptPlan], indexes: &Indexes, depth: u32) -> u64 {
 
 // All that is guessed of some plans.
 #[cycle(guess)]
-fn sum_of(parts: &[ConceptPlan], indexes: &Indexes, depth: u32) -> u64 {
+fn sum_of(parts: &[ConceptPlan], lengths: Lengths<'_>, depth: u32) -> u64 {
     let mut sum = 0u64;
     for part in parts {
-        let size = guess(part, indexes, depth);
+        let size = guess(part, lengths, depth);
         sum = sum.saturating_add(size);
     }
     sum
 }
 
+// How many concepts dotted attributes lead to.
+#[cycle(guess)]
+fn guess_of_values(
+    start: &ConceptPlan,
+    names: &[ConceptPlan],
+    lengths: Lengths<'_>,
+    depth: u32,
+) -> u64 {
+    let mut found = guess(start, lengths, depth);
+    for name in names {
+        let rows = rows_with_types(name, lengths, depth);
+        found = rows.min(found.saturating_mul(ROWS_OF_SOURCE));
+    }
+    found.min(u64::from(lengths.concept_count()))
+}
+
+// How many rows have one of the types that a plan means, or more.
+#[cycle(guess)]
+fn rows_with_types(types: &ConceptPlan, lengths: Lengths<'_>, depth: u32) -> u64 {
+    match types {
+        ConceptPlan::One(id) => lengths.type_row_count(*id),
+        _ if guess(types, lengths, depth) == 0 => 0,
+        _ => u64::from(lengths.row_count()),
+    }
+}
+
+// How many rows have one of the types and a value that may pass, or read backwards a source that may.
+#[cycle(guess)]
+fn guess_of_rows(
+    back: bool,
+    types: &ConceptPlan,
+    test: &ValueTest,
+    lengths: Lengths<'_>,
+    depth: u32,
+) -> u64 {
+    let by_type = rows_with_types(types, lengths, depth);
+    match test {
+        ValueTest::Within(operand) => {
+            by_type.min(rows_with_values(back, operand, lengths, depth))
+        }
+        // the source of a row is no number
+        ValueTest::Number(_, _) if back => 0,
+        ValueTest::Number(compare, number) if !may_meet(lengths, *compare, *number) => 0,
+        ValueTest::Number(_, _) | ValueTest::Outside(_) => by_type,
+    }
+}
+
+// How many rows have a concept that a plan means as their value, or as their source.
+#[cycle(guess)]
+fn rows_with_values(
+    as_source: bool,
+    values: &ConceptPlan,
+    lengths: Lengths<'_>,
+    depth: u32,
+) -> u64 {
+    match values {
+        ConceptPlan::One(id) => value_row_count(lengths, as_source, *id),
+        ConceptPlan::Walk(operator, from) => match &**from {
+            ConceptPlan::One(id) => {
+                let others = list_length(lengths, *operator, *id);
+                let own = value_row_count(lengths, as_source, *id);
+                own.saturating_add(others.saturating_mul(ROWS_OF_VALUE))
+            }
+            _ => rows_unless_none(guess(values, lengths, depth), lengths),
+        },
+        _ => rows_unless_none(guess(values, lengths, depth), lengths),
+    }
+}
+
 // How many groups a plan means.
-#[cycle(group_guess)]
-fn group_guess(plan: &UnitPlan, indexes: &Indexes, depth: u32) -> u64 {
-    let all = u64::from(indexes.group_count());
+#[cycle(guess)]
+fn group_guess(plan: &UnitPlan, lengths: Lengths<'_>, depth: u32) -> u64 {
+    let all = u64::from(lengths.group_count());
     if depth == 0 {
         return all;
     }
     match plan {
         UnitPlan::Nothing => 0,
         UnitPlan::Every => all,
-        UnitPlan::And(parts) => least_group_guess(parts, indexes, depth - 1),
-        UnitPlan::Or(parts) => sum_of_group_guesses(parts, indexes, depth - 1),
-        UnitPlan::Minus(first, _) => group_guess(first, indexes, depth - 1),
+        UnitPlan::And(parts) => least_group_guess(parts, lengths, depth - 1),
+        UnitPlan::Or(parts) => sum_of_group_guesses(parts, lengths, depth - 1),
+        UnitPlan::Minus(first, _) => group_guess(first, lengths, depth - 1),
         UnitPlan::Pairs {
             count,
             types,
             test,
             ..
-        } => { unless_none_is_asked(*count, all, guess_of_rows(false, types, test, indexes)) }
+        } => {
+            let rows = guess_of_rows(false, types, test, lengths, depth - 1);
+            unless_none_is_asked(*count, all, rows)
+        }
     }
 }
 
 // The least that is guessed of some plans of groups.
-#[cycle(group_guess)]
-fn least_group_guess(parts: &[UnitPlan], indexes: &Indexes, depth: u32) -> u64 {
-    let mut least = u64::from(indexes.group_count());
+#[cycle(guess)]
+fn least_group_guess(parts: &[UnitPlan], lengths: Lengths<'_>, depth: u32) -> u64 {
+    let mut least = u64::from(lengths.group_count());
     for part in parts {
-        let size = group_guess(part, indexes, depth);
+        let size = group_guess(part, lengths, depth);
         least = least.min(size);
     }
     least
 }
 
 // All that is guessed of some plans of groups.
-#[cycle(group_guess)]
-fn sum_of_group_guesses(parts: &[UnitPlan], indexes: &Indexes, depth: u32) -> u64 {
+#[cycle(guess)]
+fn sum_of_group_guesses(parts: &[UnitPlan], lengths: Lengths<'_>, depth: u32) -> u64 {
     let mut sum = 0u64;
     for part in parts {
-        let size = group_guess(part, indexes, depth);
+        let size = group_guess(part, lengths, depth);
         sum = sum.saturating_add(size);
     }
     sum
@@ -155,57 +245,88 @@ fn unless_none_is_asked(count: Cardinality, all: u64, some: u64) -> u64 {
     if count.min == 0 { all } else { some }
 }
 
-// How many concepts an operator leads to, from so many.
-fn guess_of_walk(operator: Operator, operand: &ConceptPlan, from: u64, indexes: &Indexes) -> u64 {
-    match (operator, operand) {
-        (Operator::Top | Operator::Bottom, _) => from,
-        (_, ConceptPlan::One(id)) => from.saturating_add(length_of_list(operator, *id, indexes)),
-        _ => u64::from(indexes.concept_count()),
+// All rows, unless so many values are none.
+fn rows_unless_none(values: u64, lengths: Lengths<'_>) -> u64 {
+    if values == 0 {
+        0
+    } else {
+        u64::from(lengths.row_count())
     }
 }
 
-// How long the list is of a concept to which an operator leads.
-fn length_of_list(operator: Operator, id: u64, indexes: &Indexes) -> u64 {
-    // each concept has its lists
-    indexes.stats();
-    let Some(concept) = indexes.index_of(id) else {
+// How many concepts an operator leads to, from so many.
+fn guess_of_walk(
+    operator: Operator,
+    operand: &ConceptPlan,
+    from: u64,
+    lengths: Lengths<'_>,
+) -> u64 {
+    if from == 0 {
         return 0;
-    };
-    let hierarchy = indexes.hierarchy();
-    let list = match operator {
-        Operator::Ancestors | Operator::AncestorsOrSelf | Operator::Top => {
-            hierarchy.ancestors(concept)
-        }
-        Operator::Descendants | Operator::DescendantsOrSelf | Operator::Bottom => {
-            hierarchy.descendants(concept)
-        }
-        Operator::Parents | Operator::ParentsOrSelf => hierarchy.parents(concept),
-        Operator::Children | Operator::ChildrenOrSelf => hierarchy.children(concept),
-    };
-    list.len() as u64
+    }
+    if let ConceptPlan::One(id) = operand {
+        return guess_from_one(operator, *id, lengths);
+    }
+    let all = u64::from(lengths.concept_count());
+    match operator {
+        Operator::Top | Operator::Bottom => from,
+        Operator::Parents | Operator::ParentsOrSelf => all.min(from.saturating_mul(PARENTS)),
+        Operator::Children | Operator::ChildrenOrSelf => all.min(from.saturating_mul(CHILDREN)),
+        Operator::Ancestors | Operator::AncestorsOrSelf => all.min(from.saturating_mul(ANCESTORS)),
+        Operator::Descendants | Operator::DescendantsOrSelf => all,
+    }
 }
 
-// How many components the reference sets have that a plan means.
-fn guess_of_members(operand: &ConceptPlan, indexes: &Indexes) -> u64 {
+// How many concepts an operator leads to from one, and the concept itself, which is read too; none where it leads to
+// none.
+fn guess_from_one(operator: Operator, id: u64, lengths: Lengths<'_>) -> u64 {
+    let list = list_length(lengths, operator, id);
+    match operator {
+        Operator::Top | Operator::Bottom => 1,
+        Operator::DescendantsOrSelf
+        | Operator::ChildrenOrSelf
+        | Operator::AncestorsOrSelf
+        | Operator::ParentsOrSelf => list.saturating_add(1),
+        Operator::Descendants | Operator::Children | Operator::Ancestors | Operator::Parents => {
+            if list == 0 { 0 } else { list.saturating_add(1) }
+        }
+    }
+}
+
+// How many components the reference sets have that a plan means, of so many concepts.
+fn guess_of_members(operand: &ConceptPlan, from: u64, lengths: Lengths<'_>) -> u64 {
     match operand {
-        ConceptPlan::One(id) => match indexes.index_of(*id) {
-            Some(concept) => indexes.members(concept).len() as u64,
-            None => 0,
-        },
-        _ => u64::from(indexes.concept_count()),
+        ConceptPlan::One(id) => member_count(lengths, *id),
+        _ if from == 0 => 0,
+        _ => u64::from(lengths.concept_count()),
+    }
+}
+
+// Whether one of the decimals of all rows may compare so with a number, by the least and the greatest of them.
+fn may_meet(lengths: Lengths<'_>, compare: Compare, number: Decimal) -> bool {
+    let count = lengths.decimal_count();
+    if count == 0 {
+        return false;
+    }
+    let least = lengths.compare_decimal(0, number);
+    let greatest = lengths.compare_decimal(count - 1, number);
+    match compare {
+        Compare::Equal => least.is_le() && greatest.is_ge(),
+        Compare::NotEqual => true,
+        Compare::Less => least.is_lt(),
+        Compare::LessOrEqual => least.is_le(),
+        Compare::Greater => greatest.is_gt(),
+        Compare::GreaterOrEqual => greatest.is_ge(),
     }
 }
 
 /// How many rows have one of the types that a plan means, or more.
-pub fn rows_of_types(types: &ConceptPlan, indexes: &Indexes) -> u64 {
-    match types {
-        ConceptPlan::One(id) => indexes.by_type(*id).len() as u64,
-        _ => u64::from(indexes.row_count()),
-    }
+pub fn rows_of_types(types: &ConceptPlan, lengths: Lengths<'_>) -> u64 {
+    rows_with_types(types, lengths, DEPTH)
 }
 
 /// How many rows a plan reads where it reads none of candidates; none where it never does.
-pub fn rows_without(plan: &ConceptPlan, indexes: &Indexes) -> u64
+pub fn rows_without(plan: &ConceptPlan, lengths: Lengths<'_>) -> u64
     ensures { IsSome (one_of (physical_of plan.now)) → result ≡ 0 }
 {
     match plan {
@@ -219,25 +340,30 @@ pub fn rows_without(plan: &ConceptPlan, indexes: &Indexes) -> u64
             types,
             test,
             ..
-        } => guess_of_rows(*back, types, test, indexes),
-        _ => u64::from(indexes.row_count()),
+        } => guess_of_rows(*back, types, test, lengths, DEPTH),
+        _ => u64::from(lengths.row_count()),
     }
 }
 
 /// How many rows that part reads which is executed next, from a place on, where another was executed first; none where
 /// no part is left.
-pub fn rows_behind(parts: &[ConceptPlan], place: usize, first: usize, indexes: &Indexes) -> u64 {
+pub fn rows_behind(parts: &[ConceptPlan], place: usize, first: usize, lengths: Lengths<'_>) -> u64 {
     match parts.get(place_behind(place, first)) {
-        Some(part) => rows_without(part, indexes),
+        Some(part) => rows_without(part, lengths),
         None => 0,
     }
 }
 
 /// How many rows that part of groups reads which is executed next, from a place on, where another was executed first;
 /// none where no part is left.
-pub fn unit_rows_behind(parts: &[UnitPlan], place: usize, first: usize, indexes: &Indexes) -> u64 {
+pub fn unit_rows_behind(
+    parts: &[UnitPlan],
+    place: usize,
+    first: usize,
+    lengths: Lengths<'_>,
+) -> u64 {
     match parts.get(place_behind(place, first)) {
-        Some(part) => unit_rows_without(part, indexes),
+        Some(part) => unit_rows_without(part, lengths),
         None => 0,
     }
 }
@@ -252,39 +378,10 @@ fn place_behind(place: usize, first: usize) -> usize {
 }
 
 /// How many rows a plan of groups reads where it reads none of candidates; none where it never does.
-pub fn unit_rows_without(plan: &UnitPlan, indexes: &Indexes) -> u64 {
+pub fn unit_rows_without(plan: &UnitPlan, lengths: Lengths<'_>) -> u64 {
     match plan {
         UnitPlan::Nothing | UnitPlan::Every => 0,
-        UnitPlan::Pairs { types, test, .. } => guess_of_rows(false, types, test, indexes),
-        _ => u64::from(indexes.row_count()),
-    }
-}
-
-// How many rows have one of the types and a value that may pass, or read backwards a source that may.
-fn guess_of_rows(back: bool, types: &ConceptPlan, test: &ValueTest, indexes: &Indexes) -> u64 {
-    let by_type = rows_of_types(types, indexes);
-    match test {
-        ValueTest::Within(operand) => match &**operand {
-            ConceptPlan::One(id) => by_type.min(rows_of_concept(back, *id, indexes)),
-            ConceptPlan::Walk(operator, from) => match &**from {
-                ConceptPlan::One(id) => {
-                    let others = length_of_list(*operator, *id, indexes);
-                    let own = rows_of_concept(back, *id, indexes);
-                    by_type.min(own.saturating_add(others.saturating_mul(ROWS_OF_VALUE)))
-                }
-                _ => by_type,
-            },
-            _ => by_type,
-        },
-        _ => by_type,
-    }
-}
-
-// How many rows have a concept as their value, or as their source.
-fn rows_of_concept(as_source: bool, id: u64, indexes: &Indexes) -> u64 {
-    match indexes.index_of(id) {
-        Some(concept) if as_source => indexes.rows_of(concept).len() as u64,
-        Some(concept) => indexes.by_value(concept).len() as u64,
-        None => 0,
+        UnitPlan::Pairs { types, test, .. } => guess_of_rows(false, types, test, lengths, DEPTH),
+        _ => u64::from(lengths.row_count()),
     }
 }

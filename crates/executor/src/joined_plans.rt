@@ -34,16 +34,17 @@ pub fn in_all<S: ConceptSet>(
         let every = every_candidate(reader, candidates)?;
         return Ok(every);
     }
-    let lead = lead_of(parts, reader.indexes).min(parts.len() - 1);
+    let lengths = reader.lengths();
+    let lead = lead_of(parts, lengths).min(parts.len() - 1);
     let mut found: Answer<S> = execute_within(reader, &parts[lead], candidates, visits)?;
-    let rows = rows_behind(parts, 0, lead, reader.indexes);
+    let rows = rows_behind(parts, 0, lead, lengths);
     let mut extent = extent_of(reader, &found, rows, visits)?;
     for place in 0..parts.len() {
         let part = &parts[place];
         if place != lead {
             let still = Candidates::Within(&found, extent);
             let next: Answer<S> = execute_within(reader, part, &still, visits)?;
-            let rows = rows_behind(parts, place + 1, lead, reader.indexes);
+            let rows = rows_behind(parts, place + 1, lead, lengths);
             extent = extent_of(reader, &next, rows, visits)?;
             found = next;
         }

@@ -28,8 +28,8 @@ use candidates::{Candidates, RowTally, group_extent_of, none_left};
 use constraint_tree::Cardinality;
 use held_release::Snapshot;
 use idset::ConceptSet;
-use pair_sets::{Tested, count_of_test, groups_of, with_pairs_within};
-use plan_bounds::{Choice, PhysicalPlan, plan_floor, unit_size};
+use pair_sets::{LeafRequest, Tested, count_of_test, groups_of, with_pairs_within};
+use plan_bounds::{LeafParts, PhysicalPlan, WalkParts, plan_floor, unit_size};
 use postings::Indexes;
 use reading::{Answer, Counter, Reader, Visits};
 use set_algebra::{ConceptPlan, UnitPlan, ValueTest};
@@ -105,7 +105,7 @@ pub fn execute_tallied<S: ConceptSet>(
     reader.concept_count();
     reader.attribute_count();
     if none_left(candidates) {
-        visits.add(plan_floor(plan, reader.indexes));
+        visits.add(plan_floor(plan, reader.lengths()));
         let found = no_concept(reader)?;
         return Ok(found);
     }
@@ -135,9 +135,13 @@ fn execute_node<S: ConceptSet>(
         ConceptPlan::Empty => no_concept(reader),
         ConceptPlan::All => every_candidate(reader, candidates),
         ConceptPlan::One(id) => one_candidate(reader, *id, candidates),
-        ConceptPlan::Walk(operator, operand) => walk_from(
-            reader, *operator, operand, candidates, visits, tally,
-        ),
+        ConceptPlan::Walk(operator, operand) => {
+            let walk = WalkParts {
+                operator: *operator,
+                operand,
+            };
+            walk_from(reader, walk, candidates, visits, tally)
+        }
         ConceptPlan::Members(operand) => { members_of(reader, operand, candidates, visits) }
         ConceptPlan::And(parts) => { in_all(reader, parts, candidates, visits) }
         ConceptPlan::Or(parts) => in_some(reader, parts, candidates, visits, tally),
@@ -151,9 +155,15 @@ fn execute_node<S: ConceptSet>(
             types,
             test,
             choice,
-        } => pairs_within(
-            reader, *back, *count, types, test, *choice, candidates, visits,
-        ),
+        } => {
+            let leaf = LeafParts {
+                count: *count,
+                types,
+                test,
+                choice: *choice,
+            };
+            pairs_within(reader, *back, leaf, candidates, visits)
+        }
         ConceptPlan::Units { count, units } => units_within(
             reader, *count, units, candidates, visits,
         ),
@@ -209,43 +219,35 @@ fn in_first_alone<S: ConceptSet>(
 fn pairs_within<S: ConceptSet>(
     reader: Reader<'_>,
     back: bool,
-    count: Cardinality,
-    types: &ConceptPlan,
-    test: &ValueTest,
-    choice: Choice,
+    leaf: LeafParts<'_>,
     candidates: &Candidates<'_, S>,
     visits: &mut Counter,
 ) -> Result<Answer<S>, AllocError>
     requires candidates { AreConcepts S.ConceptSet reader.snapshot.now.release reader.indexes.now candidates.now }
-    ensures counted { CountsPlan reader.entry.indexes.now (physical_pairs back count (physical_of types.now)
-        (physical_test_of test.now) choice) visits.old visits.new }
+    ensures counted { CountsPlan reader.entry.indexes.now (physical_pairs back leaf.entry.count
+        (physical_of leaf.entry.types.now) (physical_test_of leaf.entry.test.now) leaf.entry.choice) visits.old
+        visits.new }
     ensures found { IfOk result (AnswersPlan S.ConceptSet reader.entry.snapshot.now.release reader.entry.indexes.now
-        candidates.now (physical_pairs back count (physical_of types.now) (physical_test_of test.now) choice) visits.old
-        visits.new) }
+        candidates.now (physical_pairs back leaf.entry.count (physical_of leaf.entry.types.now)
+        (physical_test_of leaf.entry.test.now) leaf.entry.choice) visits.old visits.new) }
 {
     // the concepts rise
     reader.concept_count();
     let all = Candidates::All;
-    let typed: Answer<S> = execute_within(reader, types, &all, visits)?;
-    let others = rows_of_types(types, reader.indexes);
-    let mut tally = RowTally::of(reader, choice, back, others, candidates);
-    let tested: Tested<S> = tested_of(reader, test, visits, &mut tally)?;
+    let typed: Answer<S> = execute_within(reader, leaf.types, &all, visits)?;
+    let lengths = reader.lengths();
+    let others = rows_of_types(leaf.types, lengths);
+    let mut tally = RowTally::of(reader, leaf.choice, back, others, candidates);
+    let tested: Tested<S> = tested_of(reader, leaf.test, visits, &mut tally)?;
     let concepts = reader.concept_count() as u64;
     let found = (typed.count(), count_of_test(&tested));
-    let limits = leaf_limits_within(
-        reader.indexes,
-        concepts,
-        back,
-        count,
-        types,
-        test,
-        choice,
-        found,
-    );
-    let rows = tally.rows();
-    let found = with_pairs_within(
-        reader, choice, limits, back, count, &typed, tested, rows, candidates, visits,
-    )?;
+    let request = LeafRequest {
+        count: leaf.count,
+        choice: leaf.choice,
+        limits: leaf_limits_within(lengths, concepts, back, leaf, found),
+        value_rows: tally.rows(),
+    };
+    let found = with_pairs_within(reader, back, request, &typed, tested, candidates, visits)?;
     Ok(found)
 }
 
@@ -285,8 +287,9 @@ fn units_within<S: ConceptSet>(
     // the concepts rise, so that each has its groups once
     reader.concept_count();
     if let Candidates::Within(wanted, extent) = candidates {
-        let most = unit_size(units, reader.indexes);
-        if extent.has_few_groups(guess_of_groups(units, reader.indexes), most) {
+        let lengths = reader.lengths();
+        let most = unit_size(units, lengths);
+        if extent.has_few_groups(guess_of_groups(units, lengths), most) {
             let own: Answer<S> = groups_of(reader, *wanted, visits)?;
             let theirs_extent = group_extent_of(reader, &own, u64::MAX, visits)?;
             let theirs = Candidates::Within(&own, theirs_extent);

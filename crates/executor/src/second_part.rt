@@ -35,10 +35,8 @@ pub fn second_part<S: ConceptSet>(
         (own_bound reader.entry.indexes.now (physical_minus (physical_of first.now) (physical_of second.now)))
         visits.old visits.new }
 {
-    let sizes = (
-        plan_size(first, reader.indexes),
-        plan_size(second, reader.indexes),
-    );
+    let lengths = reader.lengths();
+    let sizes = (plan_size(first, lengths), plan_size(second, lengths));
     let extent = extent_to_take(reader, candidates, left, sizes, visits)?;
     Ok(extent)
 }
@@ -61,10 +59,8 @@ pub fn second_unit_part<S: ConceptSet>(
         (group_size reader.entry.indexes.now (physical_units_of second.now)) (group_own_bound reader.entry.indexes.now
         (physical_units_minus (physical_units_of first.now) (physical_units_of second.now))) visits.old visits.new }
 {
-    let sizes = (
-        unit_size(first, reader.indexes),
-        unit_size(second, reader.indexes),
-    );
+    let lengths = reader.lengths();
+    let sizes = (unit_size(first, lengths), unit_size(second, lengths));
     let extent = group_extent_to_take(reader, candidates, left, sizes, visits)?;
     Ok(extent)
 }

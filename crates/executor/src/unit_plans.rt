@@ -17,12 +17,11 @@ use crate::nodes::{every_candidate_group, no_group};
 use crate::plans::{execute_within, tested_of};
 use crate::second_part::second_unit_part;
 use candidates::{Candidates, RowTally, group_extent_of, none_left};
-use constraint_tree::Cardinality;
 use idset::ConceptSet;
-use pair_sets::{Tested, count_of_test, groups_with_pairs_within};
-use plan_bounds::{Choice, unit_floor};
+use pair_sets::{LeafRequest, Tested, count_of_test, groups_with_pairs_within};
+use plan_bounds::{LeafParts, unit_floor};
 use reading::{Answer, Counter, Reader};
-use set_algebra::{ConceptPlan, UnitPlan, ValueTest};
+use set_algebra::UnitPlan;
 use std::alloc::AllocError;
 
 /// The candidates among the groups that a plan means, as a set of their numbers whose bound is the number of groups;
@@ -45,7 +44,7 @@ pub fn execute_groups<S: ConceptSet>(
     reader.concept_count();
     reader.attribute_count();
     if none_left(candidates) {
-        visits.add(unit_floor(plan, reader.indexes));
+        visits.add(unit_floor(plan, reader.lengths()));
         let found = no_group(reader)?;
         return Ok(found);
     }
@@ -80,7 +79,15 @@ fn execute_group_node<S: ConceptSet>(
             types,
             test,
             choice,
-        } => groups_with_pairs(reader, *count, types, test, *choice, candidates, visits),
+        } => {
+            let leaf = LeafParts {
+                count: *count,
+                types,
+                test,
+                choice: *choice,
+            };
+            groups_with_pairs(reader, leaf, candidates, visits)
+        }
     }
 }
 
@@ -113,43 +120,35 @@ fn groups_in_first_alone<S: ConceptSet>(
 #[cycle(execute)]
 fn groups_with_pairs<S: ConceptSet>(
     reader: Reader<'_>,
-    count: Cardinality,
-    types: &ConceptPlan,
-    test: &ValueTest,
-    choice: Choice,
+    leaf: LeafParts<'_>,
     candidates: &Candidates<'_, S>,
     visits: &mut Counter,
 ) -> Result<Answer<S>, AllocError>
     requires candidates { AreGroups S.ConceptSet reader.snapshot.now.release reader.indexes.now candidates.now }
-    ensures counted { CountsUnits reader.entry.indexes.now (physical_units_pairs count (physical_of types.now)
-        (physical_test_of test.now) choice) visits.old visits.new }
+    ensures counted { CountsUnits reader.entry.indexes.now (physical_units_pairs leaf.entry.count
+        (physical_of leaf.entry.types.now) (physical_test_of leaf.entry.test.now) leaf.entry.choice) visits.old
+        visits.new }
     ensures found { IfOk result (AnswersUnits S.ConceptSet reader.entry.snapshot.now.release reader.entry.indexes.now
-        candidates.now (physical_units_pairs count (physical_of types.now) (physical_test_of test.now) choice)
-        visits.old visits.new) }
+        candidates.now (physical_units_pairs leaf.entry.count (physical_of leaf.entry.types.now)
+        (physical_test_of leaf.entry.test.now) leaf.entry.choice) visits.old visits.new) }
 {
     // the concepts rise
     reader.concept_count();
     let all = Candidates::All;
-    let typed: Answer<S> = execute_within(reader, types, &all, visits)?;
-    let others = rows_of_types(types, reader.indexes);
-    let mut tally = RowTally::of(reader, choice, false, others, candidates);
-    let tested: Tested<S> = tested_of(reader, test, visits, &mut tally)?;
+    let typed: Answer<S> = execute_within(reader, leaf.types, &all, visits)?;
+    let lengths = reader.lengths();
+    let others = rows_of_types(leaf.types, lengths);
+    let mut tally = RowTally::of(reader, leaf.choice, false, others, candidates);
+    let tested: Tested<S> = tested_of(reader, leaf.test, visits, &mut tally)?;
     let groups = reader.group_count() as u64;
     let found = (typed.count(), count_of_test(&tested));
-    let limits = leaf_limits_within(
-        reader.indexes,
-        groups,
-        false,
-        count,
-        types,
-        test,
-        choice,
-        found,
-    );
-    let rows = tally.rows();
-    let found = groups_with_pairs_within(
-        reader, choice, limits, count, &typed, tested, rows, candidates, visits,
-    )?;
+    let request = LeafRequest {
+        count: leaf.count,
+        choice: leaf.choice,
+        limits: leaf_limits_within(lengths, groups, false, leaf, found),
+        value_rows: tally.rows(),
+    };
+    let found = groups_with_pairs_within(reader, request, &typed, tested, candidates, visits)?;
     Ok(found)
 }
 
@@ -171,16 +170,17 @@ fn groups_in_all<S: ConceptSet>(
         let every = every_candidate_group(reader, candidates)?;
         return Ok(every);
     }
-    let lead = group_lead_of(parts, reader.indexes).min(parts.len() - 1);
+    let lengths = reader.lengths();
+    let lead = group_lead_of(parts, lengths).min(parts.len() - 1);
     let mut groups: Answer<S> = execute_groups(reader, &parts[lead], candidates, visits)?;
-    let rows = unit_rows_behind(parts, 0, lead, reader.indexes);
+    let rows = unit_rows_behind(parts, 0, lead, lengths);
     let mut extent = group_extent_of(reader, &groups, rows, visits)?;
     for place in 0..parts.len() {
         let part = &parts[place];
         if place != lead {
             let still = Candidates::Within(&groups, extent);
             let next: Answer<S> = execute_groups(reader, part, &still, visits)?;
-            let rows = unit_rows_behind(parts, place + 1, lead, reader.indexes);
+            let rows = unit_rows_behind(parts, place + 1, lead, lengths);
             extent = group_extent_of(reader, &next, rows, visits)?;
             groups = next;
         }

@@ -16,44 +16,42 @@ use crate::found::walk_found;
 use crate::guesses::rows_without;
 use crate::plans::execute_within;
 use candidates::{Candidates, RowTally, extent_of};
-use constraint_tree::Operator;
 use idset::ConceptSet;
+use plan_bounds::WalkParts;
 use reading::{Answer, Counter, Reader};
-use set_algebra::ConceptPlan;
 use std::alloc::AllocError;
 use walks::{are_enough, enough_for, led_among};
 
-/// The candidates among the concepts that an operator leads to from those that a plan means. Where few candidates are
+/// The candidates among the concepts that a walk leads to from those that its operand means. Where few candidates are
 /// asked, it is executed for what is in the lists by which they are asked alone. The rows are added of what is found
 /// from one concept, if the tally asks for them.
 #[cycle(execute)]
 pub fn walk_from<S: ConceptSet>(
     reader: Reader<'_>,
-    operator: Operator,
-    operand: &ConceptPlan,
+    walk: WalkParts<'_>,
     candidates: &Candidates<'_, S>,
     visits: &mut Counter,
     tally: &mut RowTally<'_>,
 ) -> Result<Answer<S>, AllocError>
     requires candidates { AreConcepts S.ConceptSet reader.snapshot.now.release reader.indexes.now candidates.now }
-    ensures counted { CountsPlan reader.entry.indexes.now (physical_walk operator (physical_of operand.now)) visits.old
-        visits.new }
+    ensures counted { CountsPlan reader.entry.indexes.now (physical_walk walk.entry.operator
+        (physical_of walk.entry.operand.now)) visits.old visits.new }
     ensures found { IfOk result (AnswersPlan S.ConceptSet reader.entry.snapshot.now.release reader.entry.indexes.now
-        candidates.now (physical_walk operator (physical_of operand.now)) visits.old visits.new) }
+        candidates.now (physical_walk walk.entry.operator (physical_of walk.entry.operand.now)) visits.old visits.new) }
     ensures adds { IfOk result (λ found. Adds (S.items_of found) tally.old tally.new) }
 {
     let count = reader.concept_count();
     if let Candidates::Within(wanted, _) = candidates {
-        let rows = rows_without(operand, reader.indexes);
-        if are_enough(reader, operator, count, rows, candidates) {
+        let rows = rows_without(walk.operand, reader.lengths());
+        if are_enough(reader, walk.operator, count, rows, candidates) {
             tally.forget();
-            let found = walk_to_few(reader, operator, operand, *wanted, rows, visits)?;
+            let found = walk_to_few(reader, walk, *wanted, rows, visits)?;
             return Ok(found);
         }
     }
     let all = Candidates::All;
-    let from: Answer<S> = execute_within(reader, operand, &all, visits)?;
-    let found = walk_found(reader, operator, operand, &from, candidates, visits, tally)?;
+    let from: Answer<S> = execute_within(reader, walk.operand, &all, visits)?;
+    let found = walk_found(reader, walk, &from, candidates, visits, tally)?;
     Ok(found)
 }
 
@@ -62,28 +60,27 @@ pub fn walk_from<S: ConceptSet>(
 #[cycle(execute)]
 fn walk_to_few<S: ConceptSet>(
     reader: Reader<'_>,
-    operator: Operator,
-    operand: &ConceptPlan,
+    walk: WalkParts<'_>,
     wanted: &Answer<S>,
     rows: u64,
     visits: &mut Counter,
 ) -> Result<Answer<S>, AllocError>
     requires bound { S.bound_of wanted.now ≡ length reader.snapshot.now.release.concepts }
-    requires several { one_of (physical_of operand.now) ≡ None }
-    requires room { full (asked_items reader.indexes.now.hierarchy operator (S.items_of wanted.now))
-        ≤ lists_length reader.indexes.now operator / 3 }
-    ensures counted { CountsPlan reader.entry.indexes.now (physical_walk operator (physical_of operand.now)) visits.old
-        visits.new }
+    requires several { one_of (physical_of walk.operand.now) ≡ None }
+    requires room { full (asked_items reader.indexes.now.hierarchy walk.operator (S.items_of wanted.now))
+        ≤ lists_length reader.indexes.now walk.operator / 3 }
+    ensures counted { CountsPlan reader.entry.indexes.now (physical_walk walk.entry.operator
+        (physical_of walk.entry.operand.now)) visits.old visits.new }
     ensures found { IfOk result (IsFound S.ConceptSet (length reader.entry.snapshot.now.release.concepts)
         (numbers_within reader.entry.snapshot.now.release (has (S.items_of wanted.now))
-        (means reader.entry.snapshot.now.release (logical (physical_walk operator (physical_of operand.now)))))
-        (node_sum (floor_number reader.entry.indexes.now) (physical_walk operator (physical_of operand.now))) visits.old
-        visits.new) }
+        (means reader.entry.snapshot.now.release (logical (physical_walk walk.entry.operator
+        (physical_of walk.entry.operand.now))))) (node_sum (floor_number reader.entry.indexes.now)
+        (physical_walk walk.entry.operator (physical_of walk.entry.operand.now))) visits.old visits.new) }
 {
-    let enough: Answer<S> = enough_for(reader, operator, wanted, visits)?;
+    let enough: Answer<S> = enough_for(reader, walk.operator, wanted, visits)?;
     let extent = extent_of(reader, &enough, rows, visits)?;
     let theirs = Candidates::Within(&enough, extent);
-    let from: Answer<S> = execute_within(reader, operand, &theirs, visits)?;
-    let found = led_among(reader, operator, &from, wanted, visits)?;
+    let from: Answer<S> = execute_within(reader, walk.operand, &theirs, visits)?;
+    let found = led_among(reader, walk.operator, &from, wanted, visits)?;
     Ok(found)
 }

@@ -10,4 +10,5 @@ pub mod RoomLemmas
 pub mod TimesLemmas
 pub mod TypeLemmas
 pub mod UnitLemmas
+pub mod VainLemmas
 pub mod ValueStepLemmas

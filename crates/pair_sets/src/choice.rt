@@ -15,7 +15,7 @@ ghost use Rattle.pair_sets.specs.inside.Ways.{AreAllThatPass, AreLookedUp, IsVal
 ghost use Rattle.pair_sets.specs.inside.Ways.{items_by_value, looked_up, rest_beside, rest_items, values_rest};
 
 use crate::tested::{Tested, count_of_test};
-use crate::types::{types_in, types_to_read};
+use crate::types::{is_typed, types_in, types_to_read};
 use crate::ways::{LeafReads, PassingValues, Way, values_are_read_before};
 use candidates::{Candidates, Extent, are_read_before, extent_for, look_ups, rows_of_value};
 use idset::ConceptSet;
@@ -300,7 +300,7 @@ pub fn values_way<S: ConceptSet>(
 {
     let count = u64::from(sources.count());
     let typed = types_to_read(reader, types);
-    if count <= typed {
+    if count <= typed || have_few_rows(reader, count, types) {
         let (own, _) = with_rows(reader, sources, visits)?;
         return Ok(ValuesWay::BySource(own));
     }
@@ -315,6 +315,25 @@ pub fn values_way<S: ConceptSet>(
     } else {
         Ok(ValuesWay::ByType(ids))
     }
+}
+
+// Whether so many sources have fewer rows than types do, if each has as many as the concepts have in the mean. Where
+// there are no more types of rows than sources, each is asked whether it is in the set.
+fn have_few_rows<S: ConceptSet>(reader: Reader<'_>, sources: u64, types: &Answer<S>) -> bool
+    requires { S.bound_of types.now ≡ length reader.indexes.now.concepts }
+{
+    let type_count = reader.type_count();
+    if u64::from(type_count) > sources {
+        return false;
+    }
+    let mut rows = 0u64;
+    for place in 0..type_count {
+        if is_typed(reader, types, place) {
+            rows = rows.saturating_add(reader.type_row_count(reader.type_at(place).number()));
+        }
+    }
+    let own = u64::from(reader.row_count()) / u64::from(reader.concept_count()).max(1);
+    look_ups(sources.saturating_mul(own + 2)) < rows
 }
 
 // The concepts of a set, which are counted, and how many items these and their rows are.

@@ -22,8 +22,8 @@ ghost use Rattle.reading.specs.Counted.{CountsWithin};
 ghost use Rattle.pair_sets.specs.Tested.{IsTestBelow, passes_of};
 
 use crate::choice::rows_of_types;
-use crate::passing::passes;
-use crate::tested::Tested;
+use crate::passing::{none_passes, passes};
+use crate::tested::{Tested, asks_for_number};
 use crate::types::is_typed;
 use idset::ConceptSet;
 use postings::{FlaggedNumber, RowCells};
@@ -111,7 +111,11 @@ fn owners_by_type<S: ConceptSet>(
 {
     // the concepts rise, so no owner has two numbers
     reader.concept_count();
-    let mut hits = Vec::with_capacity(reader.alloc, rows_of_types(reader, ids) as usize)?;
+    let rows = rows_of_types(reader, ids);
+    if none_passes(reader, tested, rows) {
+        return Ok(Vec::new(reader.alloc));
+    }
+    let mut hits = Vec::with_capacity(reader.alloc, rows as usize)?;
     for id in ids {
         let columns = reader.type_columns(*id, visits);
         let owners = owners_in(owner, columns.sources, columns.groups);
@@ -184,6 +188,10 @@ fn values_by_type<S: ConceptSet>(
         (entries_with_types reader.entry.indexes.now.rows ids.now) hits.items) }
 {
     reader.concept_count();
+    // the source of a row is a concept
+    if asks_for_number(tested) {
+        return Ok(Vec::new(reader.alloc));
+    }
     let mut hits = Vec::with_capacity(reader.alloc, rows_of_types(reader, ids) as usize)?;
     for id in ids {
         let columns = reader.type_columns(*id, visits);

@@ -21,54 +21,50 @@ use crate::by_rows::{
 };
 use crate::choice::{ValuesWay, leaf_way, values_way};
 use crate::tested::Tested;
-use crate::ways::{LeafReads, Way};
+use crate::ways::{LeafReads, LeafRequest, Way};
 use candidates::{Candidates, restricted};
 use constraint_tree::Cardinality;
 use idset::ConceptSet;
 use reading::{Answer, Counter, Reader};
-use set_algebra::{Choice, NodeLimits};
 use std::alloc::AllocError;
 
 /// The candidates so many of whose distinct pairs, their own or those read backwards, have a type in a set and a value
 /// that passes (Expression Constraint Language, "Refinements", "Cardinality" and "Reverse attributes"). What is read is
 /// counted, within the bound of the node, which has room for its choice, and where that is less than its floor, so
-/// much. If it is known how many rows the values have at most that pass, that is told.
+/// much.
 pub fn with_pairs_within<S: ConceptSet>(
     reader: Reader<'_>,
-    choice: Choice,
-    limits: NodeLimits,
     back: bool,
-    count: Cardinality,
+    leaf: LeafRequest,
     types: &Answer<S>,
     tested: Tested<S>,
-    value_rows: Option<u64>,
     candidates: &Candidates<'_, S>,
     visits: &mut Counter,
 ) -> Result<Answer<S>, AllocError>
     requires bound { S.bound_of types.now ≡ length reader.indexes.now.concepts }
-    requires limits { limits.floor ≤ limits.bound }
-    requires room { full (leaf_items S.items_of reader.indexes.now back choice (S.items_of types.now) tested)
-        ≤ limits.bound }
+    requires limits { leaf.limits.floor ≤ leaf.limits.bound }
+    requires room { full (leaf_items S.items_of reader.indexes.now back leaf.choice (S.items_of types.now) tested)
+        ≤ leaf.limits.bound }
     requires tested { IsTestBelow S.bound_of (length reader.indexes.now.concepts) tested }
-    requires told { AreTold S.items_of reader.indexes.now back tested value_rows }
+    requires told { AreTold S.items_of reader.indexes.now back tested leaf.value_rows }
     requires candidates { AreConcepts S.ConceptSet reader.snapshot.now.release reader.indexes.now candidates.now }
-    ensures counted { CountsWithin limits.bound visits.old visits.new }
+    ensures counted { CountsWithin leaf.limits.bound visits.old visits.new }
     ensures found { IfOk result (IsFound S.ConceptSet (length reader.entry.snapshot.now.release.concepts)
         (numbers_within reader.entry.snapshot.now.release (may_be S.items_of candidates.now)
-        (λ concept. has_pairs count (is_one_of reader.entry.indexes.now.concepts (S.items_of types.now))
+        (λ concept. has_pairs leaf.count (is_one_of reader.entry.indexes.now.concepts (S.items_of types.now))
         (passes_of S.items_of reader.entry.indexes.now.concepts tested) (pairs_of reader.entry.snapshot.now.release back
-        concept))) limits.floor visits.old visits.new) }
+        concept))) leaf.limits.floor visits.old visits.new) }
 {
     let reads = LeafReads {
-        choice,
+        choice: leaf.choice,
         back,
-        bound: limits.bound,
-        value_rows,
+        bound: leaf.limits.bound,
+        value_rows: leaf.value_rows,
     };
     let since = visits.count();
     let way = leaf_way(reader, reads, types, tested, candidates, visits)?;
-    let found = with_pairs_by(reader, &way, back, count, types, candidates, visits)?;
-    visits.fill(since, limits.floor);
+    let found = with_pairs_by(reader, &way, back, leaf.count, types, candidates, visits)?;
+    visits.fill(since, leaf.limits.floor);
     Ok(found)
 }
 
@@ -77,39 +73,36 @@ pub fn with_pairs_within<S: ConceptSet>(
 /// the node, which has room for its choice, and where that is less than its floor, so much.
 pub fn groups_with_pairs_within<S: ConceptSet>(
     reader: Reader<'_>,
-    choice: Choice,
-    limits: NodeLimits,
-    count: Cardinality,
+    leaf: LeafRequest,
     types: &Answer<S>,
     tested: Tested<S>,
-    value_rows: Option<u64>,
     candidates: &Candidates<'_, S>,
     visits: &mut Counter,
 ) -> Result<Answer<S>, AllocError>
     requires bound { S.bound_of types.now ≡ length reader.indexes.now.concepts }
-    requires limits { limits.floor ≤ limits.bound }
-    requires room { full (leaf_items S.items_of reader.indexes.now false choice (S.items_of types.now) tested)
-        ≤ limits.bound }
+    requires limits { leaf.limits.floor ≤ leaf.limits.bound }
+    requires room { full (leaf_items S.items_of reader.indexes.now false leaf.choice (S.items_of types.now) tested)
+        ≤ leaf.limits.bound }
     requires tested { IsTestBelow S.bound_of (length reader.indexes.now.concepts) tested }
-    requires told { AreTold S.items_of reader.indexes.now false tested value_rows }
+    requires told { AreTold S.items_of reader.indexes.now false tested leaf.value_rows }
     requires candidates { AreGroups S.ConceptSet reader.snapshot.now.release reader.indexes.now candidates.now }
-    ensures counted { CountsWithin limits.bound visits.old visits.new }
+    ensures counted { CountsWithin leaf.limits.bound visits.old visits.new }
     ensures found { IfOk result (IsFound S.ConceptSet (length (all_groups reader.entry.snapshot.now.release))
         (groups_within reader.entry.snapshot.now.release (may_be S.items_of candidates.now)
-        (has_pairs count (is_one_of reader.entry.indexes.now.concepts (S.items_of types.now))
+        (has_pairs leaf.count (is_one_of reader.entry.indexes.now.concepts (S.items_of types.now))
         (passes_of S.items_of reader.entry.indexes.now.concepts tested)))
-        limits.floor visits.old visits.new) }
+        leaf.limits.floor visits.old visits.new) }
 {
     let reads = LeafReads {
-        choice,
+        choice: leaf.choice,
         back: false,
-        bound: limits.bound,
-        value_rows,
+        bound: leaf.limits.bound,
+        value_rows: leaf.value_rows,
     };
     let since = visits.count();
     let way = leaf_way(reader, reads, types, tested, candidates, visits)?;
-    let found = groups_with_pairs_by(reader, &way, count, types, candidates, visits)?;
-    visits.fill(since, limits.floor);
+    let found = groups_with_pairs_by(reader, &way, leaf.count, types, candidates, visits)?;
+    visits.fill(since, leaf.limits.floor);
     Ok(found)
 }
 

@@ -20,3 +20,4 @@ mod ways;
 pub use crate::leaves::{groups_with_pairs_within, values_along, with_pairs_within};
 pub use crate::tested::{Tested, count_of_test};
 pub use crate::units::{groups_of, with_groups};
+pub use crate::ways::LeafRequest;

@@ -1,5 +1,7 @@
 //! Whether a value passes a test, by its number.
-ghost use Rattle.std.specs.Prelude.{◌≡◌, length};
+ghost use Rattle.std.specs.Prelude.{◌≡◌, All, false, length, true};
+ghost use Rattle.std.specs.Ordering.{int_cmp};
+ghost use Rattle.rf2_rows.specs.Release.{Attribute};
 ghost use Rattle.constraint_tree.specs.Passing.{is_number_that};
 ghost use Rattle.pair_sets.specs.inside.Hits.{value_of};
 ghost use Rattle.pair_sets.specs.Tested.{IsTestBelow, meets as meets_of, passes_of};
@@ -25,6 +27,33 @@ pub fn passes<S: ConceptSet>(reader: Reader<'_>, tested: &Tested<S>, value: u32)
         Tested::Outside(set) => value < concepts && !set.has(value),
         Tested::Number(compare, number) => is_number(reader, *compare, *number, value),
     }
+}
+
+/// Whether it is known that the value of no row passes a test: one with a number that none of the decimals of all rows
+/// meets. They are gone through where they are no more than so many rows.
+pub fn none_passes<S: ConceptSet>(reader: Reader<'_>, tested: &Tested<S>, rows: u64) -> bool
+    ensures { result ≡ true → All (λ (row : Attribute). passes_of S.items_of reader.entry.indexes.now.concepts
+        tested.now row.value ≡ false) reader.entry.indexes.now.rows }
+{
+    match tested {
+        Tested::Number(compare, number) => {
+            u64::from(reader.decimal_count()) <= rows && none_meets(reader, *compare, *number)
+        }
+        Tested::Within(_) | Tested::Outside(_) => false,
+    }
+}
+
+// Whether none of the decimals of all rows compares so with a number.
+fn none_meets(reader: Reader<'_>, compare: Compare, number: Decimal) -> bool
+    ensures { result ≡ true → All (λ decimal. meets_of compare (int_cmp decimal number.0) ≡ false)
+        reader.entry.indexes.now.decimals }
+{
+    for place in 0..reader.decimal_count() {
+        if meets(compare, reader.compare_decimal(place, number)) {
+            return false;
+        }
+    }
+    true
 }
 
 // Whether a value is a number that compares so with another.

@@ -1,6 +1,7 @@
 //! What a leaf asks of the values of its pairs.
-ghost use Rattle.std.specs.Prelude.{◌≡◌};
-ghost use Rattle.pair_sets.specs.Tested.{found_for};
+ghost use Rattle.std.specs.Prelude.{ℕ, ◌≡◌, List, false, true};
+ghost use Rattle.rf2_rows.specs.Release.{concept_value};
+ghost use Rattle.pair_sets.specs.Tested.{found_for, passes_of};
 
 use constraint_tree::Compare;
 use idset::ConceptSet;
@@ -16,6 +17,17 @@ pub enum Tested<S> {
     Outside(Answer<S>),
     /// The numbers that compare so with a number.
     Number(Compare, Decimal),
+}
+
+/// Whether a test asks for numbers: then no concept passes.
+pub fn asks_for_number<S: ConceptSet>(tested: &Tested<S>) -> bool
+    ensures { result ≡ true → (concepts : List ℕ) (concept : ℕ)
+        → passes_of S.items_of concepts tested.now (concept_value concept) ≡ false }
+{
+    match tested {
+        Tested::Number(_, _) => true,
+        Tested::Within(_) | Tested::Outside(_) => false,
+    }
 }
 
 /// How many concepts were found for a test.

@@ -8,7 +8,8 @@ ghost use Rattle.reading.specs.Counted.{full};
 
 use crate::tested::Tested;
 use candidates::look_ups;
-use set_algebra::Choice;
+use constraint_tree::Cardinality;
+use set_algebra::{Choice, NodeLimits};
 
 /// Which rows a leaf reads, and what says which values pass.
 #[derive(Drop)]
@@ -22,6 +23,19 @@ pub enum Way<S> {
     ByType(Vec<u64>, Tested<S>),
     /// All, concept by concept or group by group.
     Scan(Tested<S>),
+}
+
+/// What is asked of the pairs of each concept, or of each group, and how that is to be read.
+#[derive(Clone, Copy, Debug)]
+pub struct LeafRequest {
+    /// How many distinct pairs are to pass (Expression Constraint Language, "Cardinality").
+    pub count: Cardinality,
+    /// By which rows this is to be answered.
+    pub choice: Choice,
+    /// How many items are counted at least, and how many may be read.
+    pub limits: NodeLimits,
+    /// How many rows the values have at most that pass, where that is known. No answer depends on it.
+    pub value_rows: Option<u64>,
 }
 
 /// How a leaf is to be read, and what is known of it before it is. No answer depends on what is known.

@@ -14,7 +14,7 @@ use crate::counts::{
 };
 use crate::tally::Tally;
 use constraint_tree::Cardinality;
-use postings::Indexes;
+use postings::Lengths;
 use set_algebra::{Choice, ConceptPlan, UnitPlan, ValueTest};
 
 /// How much a plan finds and how many items it visits at most, under the choices of its leaves.
@@ -36,49 +36,49 @@ struct PartsCost {
 /// The cost of a plan of concepts. It takes no memory.
 #[cycle(cost)]
 #[tactic(auto, using(crate::proofs::Rules::costing))]
-pub fn cost(plan: &ConceptPlan, indexes: &Indexes) -> PlanCost
-    ensures size { result.size ≡ size_of indexes.now (physical_of plan.now) }
-    ensures bound { result.bound ≡ capped (bound_of indexes.now (physical_of plan.now)) }
+pub fn cost(plan: &ConceptPlan, lengths: Lengths<'_>) -> PlanCost
+    ensures size { result.size ≡ size_of lengths.entry.indexes.now (physical_of plan.now) }
+    ensures bound { result.bound ≡ capped (bound_of lengths.entry.indexes.now (physical_of plan.now)) }
 {
-    let all = concepts(indexes);
+    let all = concepts(lengths);
     match plan {
         ConceptPlan::Empty => without_parts(0),
         ConceptPlan::All => without_parts(all),
         ConceptPlan::One(_) => without_parts(1),
         ConceptPlan::Walk(operator, operand) => {
-            let inner = cost(operand, indexes);
-            let own = cost_of_walk(indexes, *operator, operand, inner.size);
+            let inner = cost(operand, lengths);
+            let own = cost_of_walk(lengths, *operator, operand, inner.size);
             with_parts(own, inner.bound)
         }
         ConceptPlan::Members(operand) => {
-            let inner = cost(operand, indexes);
-            let own = cost_of_members(indexes, operand, inner.size);
+            let inner = cost(operand, lengths);
+            let own = cost_of_members(lengths, operand, inner.size);
             with_parts(own, inner.bound)
         }
         ConceptPlan::And(parts) => {
-            let inner = parts_cost(parts, all, indexes);
+            let inner = parts_cost(parts, all, lengths);
             with_parts(cost_of_all(&inner.tally), inner.bound)
         }
         ConceptPlan::Or(parts) => {
-            let inner = parts_cost(parts, all, indexes);
+            let inner = parts_cost(parts, all, lengths);
             let own = cost_of_some(all, &inner.tally, parts.len() as u64);
             with_parts(own, inner.bound)
         }
         ConceptPlan::Minus(first, second) => {
-            let left = cost(first, indexes);
-            let right = cost(second, indexes);
+            let left = cost(first, lengths);
+            let right = cost(second, lengths);
             with_two(cost_of_first(left.size, right.size), left, right)
         }
-        ConceptPlan::Values(start, names) => values_cost(start, names, indexes),
+        ConceptPlan::Values(start, names) => values_cost(start, names, lengths),
         ConceptPlan::Pairs {
             back,
             count,
             types,
             test,
             choice,
-        } => pairs_cost(all, *back, *count, types, test, *choice, indexes),
+        } => pairs_cost(all, *back, *count, types, test, *choice, lengths),
         ConceptPlan::Units { count, units } => {
-            let inner = unit_cost(units, indexes);
+            let inner = unit_cost(units, lengths);
             let own = cost_of_units(*count, all, inner.size);
             with_parts(own, inner.bound)
         }
@@ -87,15 +87,15 @@ pub fn cost(plan: &ConceptPlan, indexes: &Indexes) -> PlanCost
 
 // The cost of the values along some types.
 #[cycle(cost)]
-fn values_cost(start: &ConceptPlan, names: &[ConceptPlan], indexes: &Indexes) -> PlanCost
-    ensures size { result.size ≡ size_of indexes.now (physical_values (physical_of start.now)
+fn values_cost(start: &ConceptPlan, names: &[ConceptPlan], lengths: Lengths<'_>) -> PlanCost
+    ensures size { result.size ≡ size_of lengths.entry.indexes.now (physical_values (physical_of start.now)
         (physicals_of names.now)) }
     ensures bound { result.bound ≡ capped
-        (bound_of indexes.now (physical_values (physical_of start.now) (physicals_of names.now))) }
+        (bound_of lengths.entry.indexes.now (physical_values (physical_of start.now) (physicals_of names.now))) }
 {
-    let from = cost(start, indexes);
-    let types = parts_cost(names, 0, indexes);
-    let own = cost_of_values(indexes, names.len() as u64, from.size);
+    let from = cost(start, lengths);
+    let types = parts_cost(names, 0, lengths);
+    let own = cost_of_values(lengths, names.len() as u64, from.size);
     with_parts(own, from.bound.saturating_add(types.bound))
 }
 
@@ -108,44 +108,45 @@ fn pairs_cost(
     types: &ConceptPlan,
     test: &ValueTest,
     choice: Choice,
-    indexes: &Indexes,
+    lengths: Lengths<'_>,
 ) -> PlanCost
-    ensures size { result.size
-        ≡ leaf_size (leaf_at indexes.now all back count (physical_of types.now) (physical_test_of test.now)) choice }
-    ensures bound { result.bound ≡ capped (leaf_bound_at indexes.now all back count (physical_of types.now)
-        (physical_test_of test.now) choice + (bound_of indexes.now (physical_of types.now)
-        + test_sum (own_number indexes.now) (physical_test_of test.now))) }
+    ensures size { result.size ≡ leaf_size (leaf_at lengths.entry.indexes.now all back count (physical_of types.now)
+        (physical_test_of test.now)) choice }
+    ensures bound { result.bound ≡ capped (leaf_bound_at lengths.entry.indexes.now all back count
+        (physical_of types.now) (physical_test_of test.now) choice + (bound_of lengths.entry.indexes.now
+        (physical_of types.now) + test_sum (own_number lengths.entry.indexes.now) (physical_test_of test.now))) }
 {
-    let of_types = cost(types, indexes);
-    let of_test = test_cost(test, indexes);
+    let of_types = cost(types, lengths);
+    let of_test = test_cost(test, lengths);
     let sizes = (of_types.size, of_test.size);
-    let leaf = counts_of_leaf(indexes, all, back, count, types, test, sizes);
+    let leaf = counts_of_leaf(lengths, all, back, count, types, test, sizes);
     with_two(leaf.cost(choice), of_types, of_test)
 }
 
 /// The cost of a plan of groups. It takes no memory.
 #[cycle(cost)]
 #[tactic(auto, using(crate::proofs::Rules::costing))]
-pub fn unit_cost(plan: &UnitPlan, indexes: &Indexes) -> PlanCost
-    ensures size { result.size ≡ group_size indexes.now (physical_units_of plan.now) }
-    ensures bound { result.bound ≡ capped (group_sum (own_number indexes.now) (physical_units_of plan.now)) }
+pub fn unit_cost(plan: &UnitPlan, lengths: Lengths<'_>) -> PlanCost
+    ensures size { result.size ≡ group_size lengths.entry.indexes.now (physical_units_of plan.now) }
+    ensures bound { result.bound ≡ capped (group_sum (own_number lengths.entry.indexes.now)
+        (physical_units_of plan.now)) }
 {
-    let all = groups(indexes);
+    let all = groups(lengths);
     match plan {
         UnitPlan::Nothing => without_parts(0),
         UnitPlan::Every => without_parts(all),
         UnitPlan::And(parts) => {
-            let inner = unit_parts_cost(parts, all, indexes);
+            let inner = unit_parts_cost(parts, all, lengths);
             with_parts(cost_of_all(&inner.tally), inner.bound)
         }
         UnitPlan::Or(parts) => {
-            let inner = unit_parts_cost(parts, all, indexes);
+            let inner = unit_parts_cost(parts, all, lengths);
             let own = cost_of_some(all, &inner.tally, parts.len() as u64);
             with_parts(own, inner.bound)
         }
         UnitPlan::Minus(first, second) => {
-            let left = unit_cost(first, indexes);
-            let right = unit_cost(second, indexes);
+            let left = unit_cost(first, lengths);
+            let right = unit_cost(second, lengths);
             with_two(cost_of_first(left.size, right.size), left, right)
         }
         UnitPlan::Pairs {
@@ -153,32 +154,33 @@ pub fn unit_cost(plan: &UnitPlan, indexes: &Indexes) -> PlanCost
             types,
             test,
             choice,
-        } => pairs_cost(all, false, *count, types, test, *choice, indexes),
+        } => pairs_cost(all, false, *count, types, test, *choice, lengths),
     }
 }
 
 // The cost of the plan of a test, if it has one.
 #[cycle(cost)]
-fn test_cost(test: &ValueTest, indexes: &Indexes) -> PlanCost
-    ensures size { result.size ≡ test_size indexes.now (physical_test_of test.now) }
-    ensures bound { result.bound ≡ capped (test_sum (own_number indexes.now) (physical_test_of test.now)) }
+fn test_cost(test: &ValueTest, lengths: Lengths<'_>) -> PlanCost
+    ensures size { result.size ≡ test_size lengths.entry.indexes.now (physical_test_of test.now) }
+    ensures bound { result.bound ≡ capped (test_sum (own_number lengths.entry.indexes.now)
+        (physical_test_of test.now)) }
 {
     match test {
-        ValueTest::Within(operand) | ValueTest::Outside(operand) => cost(operand, indexes),
+        ValueTest::Within(operand) | ValueTest::Outside(operand) => cost(operand, lengths),
         ValueTest::Number(_, _) => without_parts(0),
     }
 }
 
 // The costs of sibling plans of concepts.
 #[cycle(cost)]
-fn parts_cost(parts: &[ConceptPlan], all: u64, indexes: &Indexes) -> PartsCost
-    ensures tally { IsTallyOf all (sizes indexes.now (physicals_of parts.now)) result.tally }
-    ensures bound { result.bound ≡ capped (plans_sum (own_number indexes.now) (physicals_of parts.now)) }
+fn parts_cost(parts: &[ConceptPlan], all: u64, lengths: Lengths<'_>) -> PartsCost
+    ensures tally { IsTallyOf all (sizes lengths.entry.indexes.now (physicals_of parts.now)) result.tally }
+    ensures bound { result.bound ≡ capped (plans_sum (own_number lengths.entry.indexes.now) (physicals_of parts.now)) }
 {
     let mut tally = Tally::none(all);
     let mut bound = 0u64;
     for place in 0..parts.len() {
-        let part = cost(&parts[place], indexes);
+        let part = cost(&parts[place], lengths);
         tally = tally.with(place as u64, part.size);
         bound = bound.saturating_add(part.bound);
     }
@@ -187,14 +189,16 @@ fn parts_cost(parts: &[ConceptPlan], all: u64, indexes: &Indexes) -> PartsCost
 
 // The costs of sibling plans of groups.
 #[cycle(cost)]
-fn unit_parts_cost(parts: &[UnitPlan], all: u64, indexes: &Indexes) -> PartsCost
-    ensures tally { IsTallyOf all (group_sizes indexes.now (physical_units_list_of parts.now)) result.tally }
-    ensures bound { result.bound ≡ capped (groups_sum (own_number indexes.now) (physical_units_list_of parts.now)) }
+fn unit_parts_cost(parts: &[UnitPlan], all: u64, lengths: Lengths<'_>) -> PartsCost
+    ensures tally { IsTallyOf all (group_sizes lengths.entry.indexes.now (physical_units_list_of parts.now))
+        result.tally }
+    ensures bound { result.bound ≡ capped (groups_sum (own_number lengths.entry.indexes.now)
+        (physical_units_list_of parts.now)) }
 {
     let mut tally = Tally::none(all);
     let mut bound = 0u64;
     for place in 0..parts.len() {
-        let part = unit_cost(&parts[place], indexes);
+        let part = unit_cost(&parts[place], lengths);
         tally = tally.with(place as u64, part.size);
         bound = bound.saturating_add(part.bound);
     }

@@ -16,9 +16,8 @@ ghost use Rattle.plan_bounds.specs.Sizes.{members_size, values_size, walk_size};
 
 use crate::leaf::Leaf;
 use crate::tally::Tally;
-use ancestor_index::AncestorIndex;
 use constraint_tree::{Cardinality, Operator};
-use postings::Indexes;
+use postings::Lengths;
 use set_algebra::{ConceptPlan, ValueTest};
 
 /// How much a node finds, and how many items it visits beside its sub-plans, at most.
@@ -31,40 +30,41 @@ pub struct NodeCost {
 }
 
 /// How many concepts are in force.
-pub fn concepts(indexes: &Indexes) -> u64
-    ensures { result ≡ length indexes.now.concepts }
+pub fn concepts(lengths: Lengths<'_>) -> u64
+    ensures { result ≡ length lengths.entry.indexes.now.concepts }
 {
-    indexes.concept_count() as u64
+    lengths.concept_count() as u64
 }
 
 /// How many groups all concepts have.
-pub fn groups(indexes: &Indexes) -> u64
-    ensures { result ≡ length (groups_in indexes.now) }
+pub fn groups(lengths: Lengths<'_>) -> u64
+    ensures { result ≡ length (groups_in lengths.entry.indexes.now) }
 {
-    indexes.group_count() as u64
+    lengths.group_count() as u64
 }
 
 /// Of a walk from a set of so many concepts.
 pub fn cost_of_walk(
-    indexes: &Indexes,
+    lengths: Lengths<'_>,
     operator: Operator,
     operand: &ConceptPlan,
     size: u64,
 ) -> NodeCost
-    ensures size { result.size ≡ walk_size indexes.now operator (one_of (physical_of operand.now)) size }
-    ensures bound { result.bound ≡ capped (walk_bound indexes.now operator (one_of (physical_of operand.now)) size) }
+    ensures size { result.size ≡ walk_size lengths.entry.indexes.now operator (one_of (physical_of operand.now)) size }
+    ensures bound { result.bound ≡ capped (walk_bound lengths.entry.indexes.now operator
+        (one_of (physical_of operand.now)) size) }
 {
     match one(operand) {
         Some(id) => {
-            let length = list_length(indexes, operator, id);
+            let length = list_length(lengths, operator, id);
             NodeCost {
                 size: found_from_one(operator, length),
                 bound: length + 1,
             }
         }
         None => NodeCost {
-            size: found_from(indexes, operator, size),
-            bound: size.saturating_add(lists_length(indexes, operator)),
+            size: found_from(lengths, operator, size),
+            bound: size.saturating_add(lists_length(lengths, operator)),
         },
     }
 }
@@ -84,13 +84,13 @@ fn found_from_one(operator: Operator, length: u64) -> u64
 }
 
 // How many concepts an operator finds from so many.
-fn found_from(indexes: &Indexes, operator: Operator, size: u64) -> u64
-    ensures { result ≡ (if is_extreme_of operator then size else length indexes.now.concepts) }
+fn found_from(lengths: Lengths<'_>, operator: Operator, size: u64) -> u64
+    ensures { result ≡ (if is_extreme_of operator then size else length lengths.entry.indexes.now.concepts) }
 {
     if is_extreme(operator) {
         size
     } else {
-        concepts(indexes)
+        concepts(lengths)
     }
 }
 
@@ -130,38 +130,37 @@ fn leads_to_self(operator: Operator) -> bool
 }
 
 /// How long the list of a concept is that an operator goes along.
-pub fn list_length(indexes: &Indexes, operator: Operator, id: u64) -> u64
-    ensures length { result ≡ list_length_of indexes.now operator id }
+pub fn list_length(lengths: Lengths<'_>, operator: Operator, id: u64) -> u64
+    ensures length { result ≡ list_length_of lengths.entry.indexes.now operator id }
     ensures small { result < 2 ^ 63 }
 {
-    // which says that each concept has its lists
-    indexes.stats();
-    match indexes.index_of(id) {
-        Some(number) => list(indexes.hierarchy(), operator, number).len() as u64,
+    match lengths.index_of(id) {
+        Some(number) => length_along(lengths, operator, number),
         None => 0,
     }
 }
 
-// The list of a concept that an operator goes along.
-fn list(hierarchy: &AncestorIndex, operator: Operator, number: u32) -> &[u32]
-    requires { number < length (lists_along hierarchy.now operator) }
-    ensures { result.now ≡ list_of (lists_along hierarchy.now operator) number }
+// How long the list of a concept is that an operator goes along, by the number of the concept.
+fn length_along(lengths: Lengths<'_>, operator: Operator, number: u32) -> u64
+    requires { number < length lengths.indexes.now.concepts }
+    ensures length { result ≡ length (list_of (lists_along lengths.entry.indexes.now.hierarchy operator) number) }
+    ensures small { result < 2 ^ 63 }
 {
     match operator {
         Operator::Descendants | Operator::DescendantsOrSelf | Operator::Bottom => {
-            hierarchy.descendants(number)
+            lengths.descendant_count_of(number)
         }
-        Operator::Children | Operator::ChildrenOrSelf => hierarchy.children(number),
+        Operator::Children | Operator::ChildrenOrSelf => lengths.child_count_of(number),
         Operator::Ancestors | Operator::AncestorsOrSelf | Operator::Top => {
-            hierarchy.ancestors(number)
+            lengths.ancestor_count_of(number)
         }
-        Operator::Parents | Operator::ParentsOrSelf => hierarchy.parents(number),
+        Operator::Parents | Operator::ParentsOrSelf => lengths.parent_count_of(number),
     }
 }
 
 // How long all lists together are that an operator goes along.
-fn lists_length(indexes: &Indexes, operator: Operator) -> u64
-    ensures { result ≡ lists_length_of indexes.now operator }
+fn lists_length(lengths: Lengths<'_>, operator: Operator) -> u64
+    ensures { result ≡ lists_length_of lengths.entry.indexes.now operator }
 {
     match operator {
         Operator::Descendants
@@ -169,31 +168,32 @@ fn lists_length(indexes: &Indexes, operator: Operator) -> u64
         | Operator::Ancestors
         | Operator::AncestorsOrSelf
         | Operator::Top
-        | Operator::Bottom => indexes.stats().r,
+        | Operator::Bottom => lengths.stats().r,
         Operator::Children
         | Operator::ChildrenOrSelf
         | Operator::Parents
-        | Operator::ParentsOrSelf => indexes.stats().l,
+        | Operator::ParentsOrSelf => lengths.stats().l,
     }
 }
 
 /// Of the components of the reference sets in a set of so many concepts.
-pub fn cost_of_members(indexes: &Indexes, operand: &ConceptPlan, size: u64) -> NodeCost
-    ensures size { result.size ≡ members_size indexes.now (one_of (physical_of operand.now)) }
-    ensures bound { result.bound ≡ capped (members_bound indexes.now (one_of (physical_of operand.now)) size) }
+pub fn cost_of_members(lengths: Lengths<'_>, operand: &ConceptPlan, size: u64) -> NodeCost
+    ensures size { result.size ≡ members_size lengths.entry.indexes.now (one_of (physical_of operand.now)) }
+    ensures bound { result.bound ≡ capped (members_bound lengths.entry.indexes.now (one_of (physical_of operand.now))
+        size) }
 {
     match one(operand) {
         Some(id) => {
-            let components = member_count(indexes, id);
+            let components = member_count(lengths, id);
             NodeCost {
-                size: concepts(indexes).min(components),
+                size: concepts(lengths).min(components),
                 bound: components + 1,
             }
         }
         None => {
-            let components = indexes.stats().m;
+            let components = lengths.stats().m;
             NodeCost {
-                size: concepts(indexes).min(components),
+                size: concepts(lengths).min(components),
                 bound: size.saturating_add(components),
             }
         }
@@ -201,26 +201,26 @@ pub fn cost_of_members(indexes: &Indexes, operand: &ConceptPlan, size: u64) -> N
 }
 
 /// How many components a reference set has.
-pub fn member_count(indexes: &Indexes, id: u64) -> u64
-    ensures count { result ≡ member_count_of indexes.now id }
+pub fn member_count(lengths: Lengths<'_>, id: u64) -> u64
+    ensures count { result ≡ member_count_of lengths.entry.indexes.now id }
     ensures small { result < 2 ^ 63 }
 {
-    match indexes.index_of(id) {
-        Some(number) => indexes.members(number).len() as u64,
+    match lengths.index_of(id) {
+        Some(number) => lengths.member_count(number),
         None => 0,
     }
 }
 
 /// Of the values along so many types, from a set of so many concepts.
-pub fn cost_of_values(indexes: &Indexes, types: u64, size: u64) -> NodeCost
-    ensures size { result.size ≡ values_size indexes.now types size }
-    ensures bound { result.bound ≡ capped (values_bound indexes.now types size) }
+pub fn cost_of_values(lengths: Lengths<'_>, types: u64, size: u64) -> NodeCost
+    ensures size { result.size ≡ values_size lengths.entry.indexes.now types size }
+    ensures bound { result.bound ≡ capped (values_bound lengths.entry.indexes.now types size) }
 {
     if types == 0 {
         return NodeCost { size, bound: 0 };
     }
-    let rows = indexes.row_count() as u64;
-    let found = concepts(indexes).min(rows);
+    let rows = lengths.row_count() as u64;
+    let found = concepts(lengths).min(rows);
     let later = (types - 1).saturating_mul(found + rows);
     NodeCost {
         size: found,
@@ -281,7 +281,7 @@ pub fn cost_of_first(first: u64, second: u64) -> NodeCost
 
 /// A leaf, by how many concepts or groups there are, and by the sizes of its types and of the plan of its test.
 pub fn counts_of_leaf(
-    indexes: &Indexes,
+    lengths: Lengths<'_>,
     all: u64,
     back: bool,
     count: Cardinality,
@@ -289,8 +289,8 @@ pub fn counts_of_leaf(
     test: &ValueTest,
     sizes: (u64, u64),
 ) -> Leaf
-    ensures { result ≡ leaf_of indexes.now all back count (physical_of types.now) (physical_test_of test.now) sizes.0
-        sizes.1 }
+    ensures { result ≡ leaf_of lengths.entry.indexes.now all back count (physical_of types.now)
+        (physical_test_of test.now) sizes.0 sizes.1 }
 {
     let is_within = match test {
         ValueTest::Within(_) => true,
@@ -299,9 +299,9 @@ pub fn counts_of_leaf(
     Leaf {
         all,
         none_pass: count.min == 0,
-        rows: indexes.row_count() as u64,
-        value_rows: value_rows(indexes, back, test),
-        type_rows: type_rows(indexes, types),
+        rows: lengths.row_count() as u64,
+        value_rows: value_rows(lengths, back, test),
+        type_rows: type_rows(lengths, types),
         value_size: sizes.1,
         type_size: sizes.0,
         is_within,
@@ -309,23 +309,23 @@ pub fn counts_of_leaf(
 }
 
 // How many rows a test leaves, at most.
-fn value_rows(indexes: &Indexes, back: bool, test: &ValueTest) -> u64
-    ensures { result ≡ value_rows_of indexes.now back (physical_test_of test.now) }
+fn value_rows(lengths: Lengths<'_>, back: bool, test: &ValueTest) -> u64
+    ensures { result ≡ value_rows_of lengths.entry.indexes.now back (physical_test_of test.now) }
 {
     match test {
-        ValueTest::Within(values) => rows_of_values(indexes, back, values),
-        ValueTest::Outside(_) | ValueTest::Number(_, _) => indexes.row_count() as u64,
+        ValueTest::Within(values) => rows_of_values(lengths, back, values),
+        ValueTest::Outside(_) | ValueTest::Number(_, _) => lengths.row_count() as u64,
     }
 }
 
 // How many rows have values in a set, or, read backwards, sources, at most.
-fn rows_of_values(indexes: &Indexes, back: bool, values: &ConceptPlan) -> u64
-    ensures { result ≡ rows_left (value_row_count_of indexes.now back) (length indexes.now.rows)
-        (physical_of values.now) }
+fn rows_of_values(lengths: Lengths<'_>, back: bool, values: &ConceptPlan) -> u64
+    ensures { result ≡ rows_left (value_row_count_of lengths.entry.indexes.now back)
+        (length lengths.entry.indexes.now.rows) (physical_of values.now) }
 {
     match values {
         ConceptPlan::Empty => 0,
-        ConceptPlan::One(id) => value_row_count(indexes, back, *id),
+        ConceptPlan::One(id) => value_row_count(lengths, back, *id),
         ConceptPlan::All
         | ConceptPlan::Walk(_, _)
         | ConceptPlan::Members(_)
@@ -334,20 +334,20 @@ fn rows_of_values(indexes: &Indexes, back: bool, values: &ConceptPlan) -> u64
         | ConceptPlan::Minus(_, _)
         | ConceptPlan::Values(_, _)
         | ConceptPlan::Pairs { .. }
-        | ConceptPlan::Units { .. } => indexes.row_count() as u64,
+        | ConceptPlan::Units { .. } => lengths.row_count() as u64,
     }
 }
 
 /// How many rows have a value, or, read backwards, a source.
-pub fn value_row_count(indexes: &Indexes, back: bool, id: u64) -> u64
-    ensures { result ≡ value_row_count_of indexes.now back id }
+pub fn value_row_count(lengths: Lengths<'_>, back: bool, id: u64) -> u64
+    ensures { result ≡ value_row_count_of lengths.entry.indexes.now back id }
 {
-    match indexes.index_of(id) {
+    match lengths.index_of(id) {
         Some(number) => {
             if back {
-                indexes.rows_of(number).len() as u64
+                lengths.source_row_count(number)
             } else {
-                indexes.by_value(number).len() as u64
+                lengths.value_row_count(number)
             }
         }
         None => 0,
@@ -355,12 +355,12 @@ pub fn value_row_count(indexes: &Indexes, back: bool, id: u64) -> u64
 }
 
 // How many rows have a type in a set, at most.
-fn type_rows(indexes: &Indexes, types: &ConceptPlan) -> u64
-    ensures { result ≡ type_rows_of indexes.now (physical_of types.now) }
+fn type_rows(lengths: Lengths<'_>, types: &ConceptPlan) -> u64
+    ensures { result ≡ type_rows_of lengths.entry.indexes.now (physical_of types.now) }
 {
     match types {
         ConceptPlan::Empty => 0,
-        ConceptPlan::One(id) => indexes.by_type(*id).len() as u64,
+        ConceptPlan::One(id) => lengths.type_row_count(*id),
         ConceptPlan::All
         | ConceptPlan::Walk(_, _)
         | ConceptPlan::Members(_)
@@ -369,7 +369,7 @@ fn type_rows(indexes: &Indexes, types: &ConceptPlan) -> u64
         | ConceptPlan::Minus(_, _)
         | ConceptPlan::Values(_, _)
         | ConceptPlan::Pairs { .. }
-        | ConceptPlan::Units { .. } => indexes.row_count() as u64,
+        | ConceptPlan::Units { .. } => lengths.row_count() as u64,
     }
 }
 

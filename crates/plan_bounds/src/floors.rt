@@ -12,32 +12,32 @@ ghost use Rattle.plan_bounds.specs.Nodes.{group_sum, groups_sum, plans_sum, test
 
 use crate::counts::{is_extreme, list_length, member_count, one, value_row_count};
 use constraint_tree::Operator;
-use postings::Indexes;
+use postings::Lengths;
 use set_algebra::{Choice, ConceptPlan, UnitPlan, ValueTest};
 
 /// How many items a plan of concepts visits at least: the sum over its nodes, or `u64::MAX` where it is larger. It
 /// takes no memory.
 #[cycle(floor)]
 #[tactic(auto, using(crate::proofs::Rules::costing))]
-pub fn plan_floor(plan: &ConceptPlan, indexes: &Indexes) -> u64
-    ensures { result ≡ capped (floor_of indexes.now (physical_of plan.now)) }
+pub fn plan_floor(plan: &ConceptPlan, lengths: Lengths<'_>) -> u64
+    ensures { result ≡ capped (floor_of lengths.entry.indexes.now (physical_of plan.now)) }
 {
     match plan {
         ConceptPlan::Empty | ConceptPlan::All | ConceptPlan::One(_) => 0,
         ConceptPlan::Walk(operator, operand) => {
-            let own = walk_floor(indexes, *operator, operand);
-            together(own, plan_floor(operand, indexes))
+            let own = walk_floor(lengths, *operator, operand);
+            together(own, plan_floor(operand, lengths))
         }
         ConceptPlan::Members(operand) => {
-            let own = members_floor(indexes, operand);
-            together(own, plan_floor(operand, indexes))
+            let own = members_floor(lengths, operand);
+            together(own, plan_floor(operand, lengths))
         }
-        ConceptPlan::And(parts) | ConceptPlan::Or(parts) => parts_floor(parts, indexes),
+        ConceptPlan::And(parts) | ConceptPlan::Or(parts) => parts_floor(parts, lengths),
         ConceptPlan::Minus(first, second) => {
-            together(plan_floor(first, indexes), plan_floor(second, indexes))
+            together(plan_floor(first, lengths), plan_floor(second, lengths))
         }
         ConceptPlan::Values(start, names) => {
-            together(plan_floor(start, indexes), parts_floor(names, indexes))
+            together(plan_floor(start, lengths), parts_floor(names, lengths))
         }
         ConceptPlan::Pairs {
             back,
@@ -45,8 +45,8 @@ pub fn plan_floor(plan: &ConceptPlan, indexes: &Indexes) -> u64
             test,
             choice,
             ..
-        } => pairs_floor(*back, types, test, *choice, indexes),
-        ConceptPlan::Units { units, .. } => unit_floor(units, indexes),
+        } => pairs_floor(*back, types, test, *choice, lengths),
+        ConceptPlan::Units { units, .. } => unit_floor(units, lengths),
     }
 }
 
@@ -54,21 +54,21 @@ pub fn plan_floor(plan: &ConceptPlan, indexes: &Indexes) -> u64
 /// no memory.
 #[cycle(floor)]
 #[tactic(auto, using(crate::proofs::Rules::costing))]
-pub fn unit_floor(plan: &UnitPlan, indexes: &Indexes) -> u64
-    ensures { result ≡ capped (group_sum (floor_number indexes.now) (physical_units_of plan.now)) }
+pub fn unit_floor(plan: &UnitPlan, lengths: Lengths<'_>) -> u64
+    ensures { result ≡ capped (group_sum (floor_number lengths.entry.indexes.now) (physical_units_of plan.now)) }
 {
     match plan {
         UnitPlan::Nothing | UnitPlan::Every => 0,
-        UnitPlan::And(parts) | UnitPlan::Or(parts) => unit_parts_floor(parts, indexes),
+        UnitPlan::And(parts) | UnitPlan::Or(parts) => unit_parts_floor(parts, lengths),
         UnitPlan::Minus(first, second) => {
-            together(unit_floor(first, indexes), unit_floor(second, indexes))
+            together(unit_floor(first, lengths), unit_floor(second, lengths))
         }
         UnitPlan::Pairs {
             types,
             test,
             choice,
             ..
-        } => pairs_floor(false, types, test, *choice, indexes),
+        } => pairs_floor(false, types, test, *choice, lengths),
     }
 }
 
@@ -79,47 +79,47 @@ fn pairs_floor(
     types: &ConceptPlan,
     test: &ValueTest,
     choice: Choice,
-    indexes: &Indexes,
+    lengths: Lengths<'_>,
 ) -> u64
-    ensures { result ≡ capped (leaf_floor_of indexes.now back (physical_of types.now) (physical_test_of test.now) choice
-        + (floor_of indexes.now (physical_of types.now) + test_sum (floor_number indexes.now)
-        (physical_test_of test.now))) }
+    ensures { result ≡ capped (leaf_floor_of lengths.entry.indexes.now back (physical_of types.now)
+        (physical_test_of test.now) choice + (floor_of lengths.entry.indexes.now (physical_of types.now) + test_sum
+        (floor_number lengths.entry.indexes.now) (physical_test_of test.now))) }
 {
-    let inner = together(plan_floor(types, indexes), test_floor(test, indexes));
-    together(leaf_floor(indexes, back, types, test, choice), inner)
+    let inner = together(plan_floor(types, lengths), test_floor(test, lengths));
+    together(leaf_floor(lengths, back, types, test, choice), inner)
 }
 
 // The floor of the plan of a test, if it has one.
 #[cycle(floor)]
-fn test_floor(test: &ValueTest, indexes: &Indexes) -> u64
-    ensures { result ≡ capped (test_sum (floor_number indexes.now) (physical_test_of test.now)) }
+fn test_floor(test: &ValueTest, lengths: Lengths<'_>) -> u64
+    ensures { result ≡ capped (test_sum (floor_number lengths.entry.indexes.now) (physical_test_of test.now)) }
 {
     match test {
-        ValueTest::Within(operand) | ValueTest::Outside(operand) => plan_floor(operand, indexes),
+        ValueTest::Within(operand) | ValueTest::Outside(operand) => plan_floor(operand, lengths),
         ValueTest::Number(_, _) => 0,
     }
 }
 
 // The floors of sibling plans of concepts together.
 #[cycle(floor)]
-fn parts_floor(parts: &[ConceptPlan], indexes: &Indexes) -> u64
-    ensures { result ≡ capped (plans_sum (floor_number indexes.now) (physicals_of parts.now)) }
+fn parts_floor(parts: &[ConceptPlan], lengths: Lengths<'_>) -> u64
+    ensures { result ≡ capped (plans_sum (floor_number lengths.entry.indexes.now) (physicals_of parts.now)) }
 {
     let mut floor = 0u64;
     for part in parts {
-        floor = floor.saturating_add(plan_floor(part, indexes));
+        floor = floor.saturating_add(plan_floor(part, lengths));
     }
     floor
 }
 
 // The floors of sibling plans of groups together.
 #[cycle(floor)]
-fn unit_parts_floor(parts: &[UnitPlan], indexes: &Indexes) -> u64
-    ensures { result ≡ capped (groups_sum (floor_number indexes.now) (physical_units_list_of parts.now)) }
+fn unit_parts_floor(parts: &[UnitPlan], lengths: Lengths<'_>) -> u64
+    ensures { result ≡ capped (groups_sum (floor_number lengths.entry.indexes.now) (physical_units_list_of parts.now)) }
 {
     let mut floor = 0u64;
     for part in parts {
-        floor = floor.saturating_add(unit_floor(part, indexes));
+        floor = floor.saturating_add(unit_floor(part, lengths));
     }
     floor
 }
@@ -132,25 +132,26 @@ fn together(one: u64, other: u64) -> u64
 }
 
 /// The floor of a walk: the list of the concept that it is from, if that is one in force.
-pub fn walk_floor(indexes: &Indexes, operator: Operator, operand: &ConceptPlan) -> u64
-    ensures { result ≡ (if is_extreme_of operator then 0 else of_one indexes.now (one_of (physical_of operand.now))
-        (list_length_of indexes.now operator)) }
+pub fn walk_floor(lengths: Lengths<'_>, operator: Operator, operand: &ConceptPlan) -> u64
+    ensures { result ≡ (if is_extreme_of operator then 0 else of_one lengths.entry.indexes.now
+        (one_of (physical_of operand.now)) (list_length_of lengths.entry.indexes.now operator)) }
 {
     if is_extreme(operator) {
         return 0;
     }
     match one(operand) {
-        Some(id) => in_force(indexes, id, list_length(indexes, operator, id)),
+        Some(id) => in_force(lengths, id, list_length(lengths, operator, id)),
         None => 0,
     }
 }
 
 /// The floor of the components of reference sets: those of the one, if it is in force.
-pub fn members_floor(indexes: &Indexes, operand: &ConceptPlan) -> u64
-    ensures { result ≡ of_one indexes.now (one_of (physical_of operand.now)) (member_count_of indexes.now) }
+pub fn members_floor(lengths: Lengths<'_>, operand: &ConceptPlan) -> u64
+    ensures { result ≡ of_one lengths.entry.indexes.now (one_of (physical_of operand.now))
+        (member_count_of lengths.entry.indexes.now) }
 {
     match one(operand) {
-        Some(id) => in_force(indexes, id, member_count(indexes, id)),
+        Some(id) => in_force(lengths, id, member_count(lengths, id)),
         None => 0,
     }
 }
@@ -158,31 +159,32 @@ pub fn members_floor(indexes: &Indexes, operand: &ConceptPlan) -> u64
 /// The floor of a leaf: all rows where it is scanned, else those of the one concept in force that its test or its types
 /// are.
 pub fn leaf_floor(
-    indexes: &Indexes,
+    lengths: Lengths<'_>,
     back: bool,
     types: &ConceptPlan,
     test: &ValueTest,
     choice: Choice,
 ) -> u64
-    ensures { result ≡ leaf_floor_of indexes.now back (physical_of types.now) (physical_test_of test.now) choice }
+    ensures { result ≡ leaf_floor_of lengths.entry.indexes.now back (physical_of types.now) (physical_test_of test.now)
+        choice }
 {
     match choice {
-        Choice::ByValue => value_floor(indexes, back, test),
+        Choice::ByValue => value_floor(lengths, back, test),
         Choice::ByType => match one(types) {
-            Some(id) => in_force(indexes, id, indexes.by_type(id).len() as u64),
+            Some(id) => in_force(lengths, id, lengths.type_row_count(id)),
             None => 0,
         },
-        Choice::Scan => indexes.row_count() as u64,
+        Choice::Scan => lengths.row_count() as u64,
     }
 }
 
 // The rows with the one value, or, read backwards, the one source that a test is within.
-fn value_floor(indexes: &Indexes, back: bool, test: &ValueTest) -> u64
-    ensures { result ≡ within_floor indexes.now back (physical_test_of test.now) }
+fn value_floor(lengths: Lengths<'_>, back: bool, test: &ValueTest) -> u64
+    ensures { result ≡ within_floor lengths.entry.indexes.now back (physical_test_of test.now) }
 {
     match test {
         ValueTest::Within(values) => match one(values) {
-            Some(id) => in_force(indexes, id, value_row_count(indexes, back, id)),
+            Some(id) => in_force(lengths, id, value_row_count(lengths, back, id)),
             None => 0,
         },
         ValueTest::Outside(_) | ValueTest::Number(_, _) => 0,
@@ -190,10 +192,10 @@ fn value_floor(indexes: &Indexes, back: bool, test: &ValueTest) -> u64
 }
 
 // What is counted of a concept, where it is in force.
-fn in_force(indexes: &Indexes, id: u64, count: u64) -> u64
-    ensures { result ≡ if_in_force (concept_number indexes.now.concepts id) count }
+fn in_force(lengths: Lengths<'_>, id: u64, count: u64) -> u64
+    ensures { result ≡ if_in_force (concept_number lengths.entry.indexes.now.concepts id) count }
 {
-    match indexes.index_of(id) {
+    match lengths.index_of(id) {
         Some(_) => count,
         None => 0,
     }

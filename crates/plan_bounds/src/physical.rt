@@ -75,7 +75,7 @@ impl PhysicalPlan {
 pub fn bound(physical: &PhysicalPlan, indexes: &Indexes) -> u64
     ensures { result ≡ capped (bound_of indexes.now (physical_of physical.now.plan)) }
 {
-    cost(physical.plan(), indexes).bound
+    cost(physical.plan(), indexes.lengths()).bound
 }
 
 /// How many items a plan visits at least, where none of its nodes is skipped: the sum of the floors of its nodes, or
@@ -83,5 +83,5 @@ pub fn bound(physical: &PhysicalPlan, indexes: &Indexes) -> u64
 pub fn floor(physical: &PhysicalPlan, indexes: &Indexes) -> u64
     ensures { result ≡ capped (floor_of indexes.now (physical_of physical.now.plan)) }
 {
-    plan_floor(physical.plan(), indexes)
+    plan_floor(physical.plan(), indexes.lengths())
 }

@@ -18,19 +18,23 @@ use plan_bounds::{
     NodeCost, Tally, concepts, cost_of_all, cost_of_first, cost_of_members, cost_of_some,
     cost_of_units, cost_of_values, cost_of_walk, counts_of_leaf, groups,
 };
-use postings::Indexes;
+use postings::Lengths;
 use set_algebra::{Choice, ConceptPlan, UnitPlan, ValueTest};
 use std::alloc::AllocError;
 
 /// Adds the own bounds of a plan of concepts. Answers how many concepts it finds at most. The error is want of memory.
 #[cycle(list)]
-pub fn list(plan: &ConceptPlan, indexes: &Indexes, bounds: &mut Vec<u64>) -> Result<u64, AllocError>
-    ensures bounds { OnOk result (bounds.new.items ≡ bounds.old.items ++ own_bounds indexes.now
+pub fn list(
+    plan: &ConceptPlan,
+    lengths: Lengths<'_>,
+    bounds: &mut Vec<u64>,
+) -> Result<u64, AllocError>
+    ensures bounds { OnOk result (bounds.new.items ≡ bounds.old.items ++ own_bounds lengths.entry.indexes.now
         (physical_of plan.now)) }
-    ensures size { IfOk result (λ size. size ≡ size_of indexes.now (physical_of plan.now)) }
+    ensures size { IfOk result (λ size. size ≡ size_of lengths.entry.indexes.now (physical_of plan.now)) }
 {
     let at = open(bounds)?;
-    let node = list_behind(plan, indexes, bounds)?;
+    let node = list_behind(plan, lengths, bounds)?;
     Ok(closed(bounds, at, node))
 }
 
@@ -39,21 +43,22 @@ pub fn list(plan: &ConceptPlan, indexes: &Indexes, bounds: &mut Vec<u64>) -> Res
 #[tactic(auto, using(crate::proofs::Rules::listing))]
 fn list_behind(
     plan: &ConceptPlan,
-    indexes: &Indexes,
+    lengths: Lengths<'_>,
     bounds: &mut Vec<u64>,
 ) -> Result<NodeCost, AllocError>
-    ensures { IfOk result (λ node. IsNode indexes.now (physical_of plan.now) bounds.old.items bounds.new.items node) }
+    ensures { IfOk result (λ node. IsNode lengths.entry.indexes.now (physical_of plan.now) bounds.old.items
+        bounds.new.items node) }
 {
     match plan {
         ConceptPlan::Empty => Ok(without_parts(0)),
-        ConceptPlan::All => Ok(without_parts(concepts(indexes))),
+        ConceptPlan::All => Ok(without_parts(concepts(lengths))),
         ConceptPlan::One(_) => Ok(without_parts(1)),
-        ConceptPlan::Walk(operator, operand) => { list_walk(*operator, operand, indexes, bounds) }
-        ConceptPlan::Members(operand) => list_members(operand, indexes, bounds),
-        ConceptPlan::And(parts) => list_and(parts, indexes, bounds),
-        ConceptPlan::Or(parts) => list_or(parts, indexes, bounds),
-        ConceptPlan::Minus(first, second) => list_minus(first, second, indexes, bounds),
-        ConceptPlan::Values(start, names) => list_values(start, names, indexes, bounds),
+        ConceptPlan::Walk(operator, operand) => { list_walk(*operator, operand, lengths, bounds) }
+        ConceptPlan::Members(operand) => list_members(operand, lengths, bounds),
+        ConceptPlan::And(parts) => list_and(parts, lengths, bounds),
+        ConceptPlan::Or(parts) => list_or(parts, lengths, bounds),
+        ConceptPlan::Minus(first, second) => list_minus(first, second, lengths, bounds),
+        ConceptPlan::Values(start, names) => list_values(start, names, lengths, bounds),
         ConceptPlan::Pairs {
             back,
             count,
@@ -61,10 +66,10 @@ fn list_behind(
             test,
             choice,
         } => {
-            let all = concepts(indexes);
-            list_pairs(all, *back, *count, types, test, *choice, indexes, bounds)
+            let all = concepts(lengths);
+            list_pairs(all, *back, *count, types, test, *choice, lengths, bounds)
         }
-        ConceptPlan::Units { count, units } => { list_of_units(*count, units, indexes, bounds) }
+        ConceptPlan::Units { count, units } => { list_of_units(*count, units, lengths, bounds) }
     }
 }
 
@@ -73,14 +78,14 @@ fn list_behind(
 fn list_walk(
     operator: Operator,
     operand: &ConceptPlan,
-    indexes: &Indexes,
+    lengths: Lengths<'_>,
     bounds: &mut Vec<u64>,
 ) -> Result<NodeCost, AllocError>
-    ensures { IfOk result (λ node. IsNode indexes.now (physical_walk operator (physical_of operand.now))
+    ensures { IfOk result (λ node. IsNode lengths.entry.indexes.now (physical_walk operator (physical_of operand.now))
         bounds.old.items bounds.new.items node) }
 {
-    let inner = list(operand, indexes, bounds)?;
-    let own = cost_of_walk(indexes, operator, operand, inner);
+    let inner = list(operand, lengths, bounds)?;
+    let own = cost_of_walk(lengths, operator, operand, inner);
     Ok(own)
 }
 
@@ -88,14 +93,14 @@ fn list_walk(
 #[cycle(list)]
 fn list_members(
     operand: &ConceptPlan,
-    indexes: &Indexes,
+    lengths: Lengths<'_>,
     bounds: &mut Vec<u64>,
 ) -> Result<NodeCost, AllocError>
-    ensures { IfOk result (λ node. IsNode indexes.now (physical_members (physical_of operand.now)) bounds.old.items
-        bounds.new.items node) }
+    ensures { IfOk result (λ node. IsNode lengths.entry.indexes.now (physical_members (physical_of operand.now))
+        bounds.old.items bounds.new.items node) }
 {
-    let inner = list(operand, indexes, bounds)?;
-    let own = cost_of_members(indexes, operand, inner);
+    let inner = list(operand, lengths, bounds)?;
+    let own = cost_of_members(lengths, operand, inner);
     Ok(own)
 }
 
@@ -103,13 +108,13 @@ fn list_members(
 #[cycle(list)]
 fn list_and(
     parts: &[ConceptPlan],
-    indexes: &Indexes,
+    lengths: Lengths<'_>,
     bounds: &mut Vec<u64>,
 ) -> Result<NodeCost, AllocError>
-    ensures { IfOk result (λ node. IsNode indexes.now (physical_and (physicals_of parts.now)) bounds.old.items
-        bounds.new.items node) }
+    ensures { IfOk result (λ node. IsNode lengths.entry.indexes.now (physical_and (physicals_of parts.now))
+        bounds.old.items bounds.new.items node) }
 {
-    let inner = list_parts(parts, concepts(indexes), indexes, bounds)?;
+    let inner = list_parts(parts, concepts(lengths), lengths, bounds)?;
     Ok(cost_of_all(&inner))
 }
 
@@ -117,14 +122,14 @@ fn list_and(
 #[cycle(list)]
 fn list_or(
     parts: &[ConceptPlan],
-    indexes: &Indexes,
+    lengths: Lengths<'_>,
     bounds: &mut Vec<u64>,
 ) -> Result<NodeCost, AllocError>
-    ensures { IfOk result (λ node. IsNode indexes.now (physical_or (physicals_of parts.now)) bounds.old.items
-        bounds.new.items node) }
+    ensures { IfOk result (λ node. IsNode lengths.entry.indexes.now (physical_or (physicals_of parts.now))
+        bounds.old.items bounds.new.items node) }
 {
-    let all = concepts(indexes);
-    let inner = list_parts(parts, all, indexes, bounds)?;
+    let all = concepts(lengths);
+    let inner = list_parts(parts, all, lengths, bounds)?;
     let own = cost_of_some(all, &inner, parts.len() as u64);
     Ok(own)
 }
@@ -134,14 +139,14 @@ fn list_or(
 fn list_minus(
     first: &ConceptPlan,
     second: &ConceptPlan,
-    indexes: &Indexes,
+    lengths: Lengths<'_>,
     bounds: &mut Vec<u64>,
 ) -> Result<NodeCost, AllocError>
-    ensures { IfOk result (λ node. IsNode indexes.now (physical_minus (physical_of first.now) (physical_of second.now))
-        bounds.old.items bounds.new.items node) }
+    ensures { IfOk result (λ node. IsNode lengths.entry.indexes.now (physical_minus (physical_of first.now)
+        (physical_of second.now)) bounds.old.items bounds.new.items node) }
 {
-    let left = list(first, indexes, bounds)?;
-    let right = list(second, indexes, bounds)?;
+    let left = list(first, lengths, bounds)?;
+    let right = list(second, lengths, bounds)?;
     Ok(cost_of_first(left, right))
 }
 
@@ -150,15 +155,15 @@ fn list_minus(
 fn list_values(
     start: &ConceptPlan,
     names: &[ConceptPlan],
-    indexes: &Indexes,
+    lengths: Lengths<'_>,
     bounds: &mut Vec<u64>,
 ) -> Result<NodeCost, AllocError>
-    ensures { IfOk result (λ node. IsNode indexes.now (physical_values (physical_of start.now) (physicals_of names.now))
-        bounds.old.items bounds.new.items node) }
+    ensures { IfOk result (λ node. IsNode lengths.entry.indexes.now (physical_values (physical_of start.now)
+        (physicals_of names.now)) bounds.old.items bounds.new.items node) }
 {
-    let from = list(start, indexes, bounds)?;
-    let types = list_parts(names, 0, indexes, bounds)?;
-    let own = cost_of_values(indexes, names.len() as u64, from);
+    let from = list(start, lengths, bounds)?;
+    let types = list_parts(names, 0, lengths, bounds)?;
+    let own = cost_of_values(lengths, names.len() as u64, from);
     Ok(own)
 }
 
@@ -171,16 +176,16 @@ fn list_pairs(
     types: &ConceptPlan,
     test: &ValueTest,
     choice: Choice,
-    indexes: &Indexes,
+    lengths: Lengths<'_>,
     bounds: &mut Vec<u64>,
 ) -> Result<NodeCost, AllocError>
-    ensures { IfOk result (λ node. IsLeafNode indexes.now all back count (physical_of types.now)
+    ensures { IfOk result (λ node. IsLeafNode lengths.entry.indexes.now all back count (physical_of types.now)
         (physical_test_of test.now) choice bounds.old.items bounds.new.items node) }
 {
-    let of_types = list(types, indexes, bounds)?;
-    let of_test = list_test(test, indexes, bounds)?;
+    let of_types = list(types, lengths, bounds)?;
+    let of_test = list_test(test, lengths, bounds)?;
     let sizes = (of_types, of_test);
-    let leaf = counts_of_leaf(indexes, all, back, count, types, test, sizes);
+    let leaf = counts_of_leaf(lengths, all, back, count, types, test, sizes);
     Ok(leaf.cost(choice))
 }
 
@@ -189,26 +194,30 @@ fn list_pairs(
 fn list_of_units(
     count: Cardinality,
     units: &UnitPlan,
-    indexes: &Indexes,
+    lengths: Lengths<'_>,
     bounds: &mut Vec<u64>,
 ) -> Result<NodeCost, AllocError>
-    ensures { IfOk result (λ node. IsNode indexes.now (physical_units count (physical_units_of units.now))
+    ensures { IfOk result (λ node. IsNode lengths.entry.indexes.now (physical_units count (physical_units_of units.now))
         bounds.old.items bounds.new.items node) }
 {
-    let inner = list_units(units, indexes, bounds)?;
-    let own = cost_of_units(count, concepts(indexes), inner);
+    let inner = list_units(units, lengths, bounds)?;
+    let own = cost_of_units(count, concepts(lengths), inner);
     Ok(own)
 }
 
 // Adds those of a plan of groups.
 #[cycle(list)]
-fn list_units(plan: &UnitPlan, indexes: &Indexes, bounds: &mut Vec<u64>) -> Result<u64, AllocError>
-    ensures bounds { OnOk result (bounds.new.items ≡ bounds.old.items ++ group_list (own_list indexes.now)
+fn list_units(
+    plan: &UnitPlan,
+    lengths: Lengths<'_>,
+    bounds: &mut Vec<u64>,
+) -> Result<u64, AllocError>
+    ensures bounds { OnOk result (bounds.new.items ≡ bounds.old.items ++ group_list (own_list lengths.entry.indexes.now)
         (physical_units_of plan.now)) }
-    ensures size { IfOk result (λ size. size ≡ group_size indexes.now (physical_units_of plan.now)) }
+    ensures size { IfOk result (λ size. size ≡ group_size lengths.entry.indexes.now (physical_units_of plan.now)) }
 {
     let at = open(bounds)?;
-    let node = list_units_behind(plan, indexes, bounds)?;
+    let node = list_units_behind(plan, lengths, bounds)?;
     Ok(closed(bounds, at, node))
 }
 
@@ -217,26 +226,26 @@ fn list_units(plan: &UnitPlan, indexes: &Indexes, bounds: &mut Vec<u64>) -> Resu
 #[tactic(auto, using(crate::proofs::Rules::listing))]
 fn list_units_behind(
     plan: &UnitPlan,
-    indexes: &Indexes,
+    lengths: Lengths<'_>,
     bounds: &mut Vec<u64>,
 ) -> Result<NodeCost, AllocError>
-    ensures { IfOk result (λ node. IsGroupNode indexes.now (physical_units_of plan.now) bounds.old.items
+    ensures { IfOk result (λ node. IsGroupNode lengths.entry.indexes.now (physical_units_of plan.now) bounds.old.items
         bounds.new.items node) }
 {
     match plan {
         UnitPlan::Nothing => Ok(without_parts(0)),
-        UnitPlan::Every => Ok(without_parts(groups(indexes))),
-        UnitPlan::And(parts) => list_units_and(parts, indexes, bounds),
-        UnitPlan::Or(parts) => list_units_or(parts, indexes, bounds),
-        UnitPlan::Minus(first, second) => { list_units_minus(first, second, indexes, bounds) }
+        UnitPlan::Every => Ok(without_parts(groups(lengths))),
+        UnitPlan::And(parts) => list_units_and(parts, lengths, bounds),
+        UnitPlan::Or(parts) => list_units_or(parts, lengths, bounds),
+        UnitPlan::Minus(first, second) => { list_units_minus(first, second, lengths, bounds) }
         UnitPlan::Pairs {
             count,
             types,
             test,
             choice,
         } => {
-            let all = groups(indexes);
-            list_pairs(all, false, *count, types, test, *choice, indexes, bounds)
+            let all = groups(lengths);
+            list_pairs(all, false, *count, types, test, *choice, lengths, bounds)
         }
     }
 }
@@ -245,13 +254,13 @@ fn list_units_behind(
 #[cycle(list)]
 fn list_units_and(
     parts: &[UnitPlan],
-    indexes: &Indexes,
+    lengths: Lengths<'_>,
     bounds: &mut Vec<u64>,
 ) -> Result<NodeCost, AllocError>
-    ensures { IfOk result (λ node. IsGroupNode indexes.now (physical_units_and (physical_units_list_of parts.now))
-        bounds.old.items bounds.new.items node) }
+    ensures { IfOk result (λ node. IsGroupNode lengths.entry.indexes.now (physical_units_and
+        (physical_units_list_of parts.now)) bounds.old.items bounds.new.items node) }
 {
-    let inner = list_unit_parts(parts, groups(indexes), indexes, bounds)?;
+    let inner = list_unit_parts(parts, groups(lengths), lengths, bounds)?;
     Ok(cost_of_all(&inner))
 }
 
@@ -259,14 +268,14 @@ fn list_units_and(
 #[cycle(list)]
 fn list_units_or(
     parts: &[UnitPlan],
-    indexes: &Indexes,
+    lengths: Lengths<'_>,
     bounds: &mut Vec<u64>,
 ) -> Result<NodeCost, AllocError>
-    ensures { IfOk result (λ node. IsGroupNode indexes.now (physical_units_or (physical_units_list_of parts.now))
-        bounds.old.items bounds.new.items node) }
+    ensures { IfOk result (λ node. IsGroupNode lengths.entry.indexes.now (physical_units_or
+        (physical_units_list_of parts.now)) bounds.old.items bounds.new.items node) }
 {
-    let all = groups(indexes);
-    let inner = list_unit_parts(parts, all, indexes, bounds)?;
+    let all = groups(lengths);
+    let inner = list_unit_parts(parts, all, lengths, bounds)?;
     let own = cost_of_some(all, &inner, parts.len() as u64);
     Ok(own)
 }
@@ -276,27 +285,31 @@ fn list_units_or(
 fn list_units_minus(
     first: &UnitPlan,
     second: &UnitPlan,
-    indexes: &Indexes,
+    lengths: Lengths<'_>,
     bounds: &mut Vec<u64>,
 ) -> Result<NodeCost, AllocError>
-    ensures { IfOk result (λ node. IsGroupNode indexes.now (physical_units_minus (physical_units_of first.now)
-        (physical_units_of second.now)) bounds.old.items bounds.new.items node) }
+    ensures { IfOk result (λ node. IsGroupNode lengths.entry.indexes.now (physical_units_minus
+        (physical_units_of first.now) (physical_units_of second.now)) bounds.old.items bounds.new.items node) }
 {
-    let left = list_units(first, indexes, bounds)?;
-    let right = list_units(second, indexes, bounds)?;
+    let left = list_units(first, lengths, bounds)?;
+    let right = list_units(second, lengths, bounds)?;
     Ok(cost_of_first(left, right))
 }
 
 // Adds those of the plan of a test, if it has one.
 #[cycle(list)]
-fn list_test(test: &ValueTest, indexes: &Indexes, bounds: &mut Vec<u64>) -> Result<u64, AllocError>
-    ensures bounds { OnOk result (bounds.new.items ≡ bounds.old.items ++ test_list (own_list indexes.now)
+fn list_test(
+    test: &ValueTest,
+    lengths: Lengths<'_>,
+    bounds: &mut Vec<u64>,
+) -> Result<u64, AllocError>
+    ensures bounds { OnOk result (bounds.new.items ≡ bounds.old.items ++ test_list (own_list lengths.entry.indexes.now)
         (physical_test_of test.now)) }
-    ensures size { IfOk result (λ size. size ≡ test_size indexes.now (physical_test_of test.now)) }
+    ensures size { IfOk result (λ size. size ≡ test_size lengths.entry.indexes.now (physical_test_of test.now)) }
 {
     match test {
         ValueTest::Within(operand) | ValueTest::Outside(operand) => {
-            list(operand, indexes, bounds)
+            list(operand, lengths, bounds)
         }
         ValueTest::Number(_, _) => Ok(0),
     }
@@ -307,16 +320,17 @@ fn list_test(test: &ValueTest, indexes: &Indexes, bounds: &mut Vec<u64>) -> Resu
 fn list_parts(
     parts: &[ConceptPlan],
     all: u64,
-    indexes: &Indexes,
+    lengths: Lengths<'_>,
     bounds: &mut Vec<u64>,
 ) -> Result<Tally, AllocError>
-    ensures bounds { OnOk result (bounds.new.items ≡ bounds.old.items ++ plans_list (own_list indexes.now)
+    ensures bounds { OnOk result (bounds.new.items ≡ bounds.old.items ++ plans_list (own_list lengths.entry.indexes.now)
         (physicals_of parts.now)) }
-    ensures tally { IfOk result (λ tally. IsTallyOf all (sizes indexes.now (physicals_of parts.now)) tally) }
+    ensures tally { IfOk result (λ tally. IsTallyOf all (sizes lengths.entry.indexes.now (physicals_of parts.now))
+        tally) }
 {
     let mut tally = Tally::none(all);
     for place in 0..parts.len() {
-        let part = list(&parts[place], indexes, bounds)?;
+        let part = list(&parts[place], lengths, bounds)?;
         tally = tally.with(place as u64, part);
     }
     Ok(tally)
@@ -327,17 +341,17 @@ fn list_parts(
 fn list_unit_parts(
     parts: &[UnitPlan],
     all: u64,
-    indexes: &Indexes,
+    lengths: Lengths<'_>,
     bounds: &mut Vec<u64>,
 ) -> Result<Tally, AllocError>
-    ensures bounds { OnOk result (bounds.new.items ≡ bounds.old.items ++ groups_list (own_list indexes.now)
-        (physical_units_list_of parts.now)) }
-    ensures tally { IfOk result (λ tally. IsTallyOf all (group_sizes indexes.now (physical_units_list_of parts.now))
-        tally) }
+    ensures bounds { OnOk result (bounds.new.items ≡ bounds.old.items ++ groups_list
+        (own_list lengths.entry.indexes.now) (physical_units_list_of parts.now)) }
+    ensures tally { IfOk result (λ tally. IsTallyOf all (group_sizes lengths.entry.indexes.now
+        (physical_units_list_of parts.now)) tally) }
 {
     let mut tally = Tally::none(all);
     for place in 0..parts.len() {
-        let part = list_units(&parts[place], indexes, bounds)?;
+        let part = list_units(&parts[place], lengths, bounds)?;
         tally = tally.with(place as u64, part);
     }
     Ok(tally)

@@ -29,7 +29,7 @@ pub fn choose(
     ensures least { IfOk result (λ physical. AreLeast indexes.now (physical_of physical.plan)) }
 {
     let mut chosen = plan;
-    assign_choices(&mut chosen, indexes);
+    assign_choices(&mut chosen, indexes.lengths());
     let physical = PhysicalPlan::new(alloc, chosen)?;
     Ok(physical)
 }
@@ -47,7 +47,7 @@ pub fn choose_with(
     ensures choices { IfOk result (λ physical. physical.choices ≡ choices_with indexes.now asked.now (plan_of plan)) }
 {
     let mut chosen = plan;
-    assign_choices(&mut chosen, indexes);
+    assign_choices(&mut chosen, indexes.lengths());
     put_asked(&mut chosen, asked);
     let physical = PhysicalPlan::new(alloc, chosen)?;
     Ok(physical)
@@ -63,6 +63,6 @@ pub fn own_bounds(
     ensures { IfOk result (λ bounds. bounds.items ≡ own_bounds_of indexes.now (physical_of physical.now.plan)) }
 {
     let mut bounds = Vec::new(alloc);
-    list(physical.plan(), indexes, &mut bounds)?;
+    list(physical.plan(), indexes.lengths(), &mut bounds)?;
     Ok(bounds)
 }

@@ -15,6 +15,7 @@ ghost use Rattle.postings.specs.RowColumns.{AreRowCells, AreTypeColumns, AreValu
 ghost use Rattle.postings.specs.Stats.{stats_in, stats_of};
 
 use crate::columns::{TypeColumns, ValueColumns};
+use crate::lengths::Lengths;
 use crate::row_indexes::{RowIndexes, row_indexes};
 use crate::stats::Stats;
 use ancestor_index::{AncestorIndex, linked_lists};
@@ -94,6 +95,15 @@ impl Indexes {
         ensures { result.now ≡ self.now.hierarchy }
     {
         &self.hierarchy
+    }
+
+    /// The indexes, of which only numbers are asked.
+    pub fn lengths(&self) -> Lengths<'_>
+        ensures { result.indexes.now ≡ self.now }
+    {
+        // each concept has its lists, and its components
+        let _ = &self.hierarchy;
+        Lengths { indexes: self }
     }
 
     /// How much there is in the release. It costs no more than reading six numbers.

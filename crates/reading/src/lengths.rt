@@ -14,27 +14,19 @@ ghost use Rattle.postings.specs.Indexed.{concept_of_type, rows_by_source, rows_b
 ghost use Rattle.postings.specs.RowColumns.{AreRowCells};
 
 use crate::reader::Reader;
-use held_release::Snapshot;
 use idset::has_number;
-use postings::{Indexes, RowCells};
+use postings::{Lengths, RowCells};
 use rf2_rows::Decimal;
 use sctid::SctId;
 use std::cmp::Ordering;
 use std::ops::Range;
 
 impl<'a> Reader<'a> {
-    /// The release.
-    pub fn snapshot(self) -> &'a Snapshot
-        ensures { result.now ≡ self.entry.snapshot.now }
+    /// The indexes, of which only numbers are asked.
+    pub fn lengths(self) -> Lengths<'a>
+        ensures { result.indexes.now ≡ self.entry.indexes.now }
     {
-        self.snapshot
-    }
-
-    /// The indexes.
-    pub fn indexes(self) -> &'a Indexes
-        ensures { result.now ≡ self.entry.indexes.now }
-    {
-        self.indexes
+        self.indexes.lengths()
     }
 
     /// How many concepts are in force: the number of each is below.
@@ -85,7 +77,7 @@ impl<'a> Reader<'a> {
         ensures count { result ≡ length self.entry.indexes.now.rows }
         ensures few { length self.entry.indexes.now.rows < 2 ^ 31 }
     {
-        self.indexes.row_count()
+        self.lengths().row_count()
     }
 
     /// How many attribute rows are in force, as many as by source.
@@ -130,7 +122,7 @@ impl<'a> Reader<'a> {
     pub fn decimal_count(self) -> u32
         ensures { result ≡ length self.entry.indexes.now.decimals }
     {
-        self.indexes.decimals().len() as u32
+        self.lengths().decimal_count()
     }
 
     /// How a decimal, by its place among the decimals of all values, which rise, stands to a number.
@@ -138,7 +130,7 @@ impl<'a> Reader<'a> {
         requires { place < length self.indexes.now.decimals }
         ensures { result ≡ int_cmp (slice_index_or self.entry.indexes.now.decimals place (pos 0)) number.0 }
     {
-        self.indexes.decimals()[place as usize].cmp(&number.0)
+        self.lengths().compare_decimal(place, number)
     }
 
     /// The place of a type among the types of all rows, or `None` where no row has it. Any number may be asked for.
@@ -162,7 +154,7 @@ impl<'a> Reader<'a> {
         ensures count { result ≡ length (groups_in self.entry.indexes.now) }
         ensures few { length (groups_in self.entry.indexes.now) < 2 ^ 31 }
     {
-        self.indexes.group_count()
+        self.lengths().group_count()
     }
 
     /// The numbers of the groups of a concept.
@@ -189,7 +181,7 @@ impl<'a> Reader<'a> {
         requires { concept < length self.indexes.now.concepts }
         ensures { result ≡ length (rows_by_source self.entry.indexes.now concept) }
     {
-        self.indexes.rows_of(concept).len() as u64
+        self.lengths().source_row_count(concept)
     }
 
     /// How many rows have a concept as their value.
@@ -197,14 +189,14 @@ impl<'a> Reader<'a> {
         requires { concept < length self.indexes.now.concepts }
         ensures { result ≡ length (rows_by_value self.entry.indexes.now concept) }
     {
-        self.indexes.by_value(concept).len() as u64
+        self.lengths().value_row_count(concept)
     }
 
     /// How many rows have a type. Any number may be asked for.
     pub fn type_row_count(self, id: u64) -> u64
         ensures { result ≡ length (rows_by_type self.entry.indexes.now id) }
     {
-        self.indexes.by_type(id).len() as u64
+        self.lengths().type_row_count(id)
     }
 
     /// How many rows a group has.
@@ -226,12 +218,32 @@ impl<'a> Reader<'a> {
         has_number(self.indexes.members(refset), concept)
     }
 
+    /// Whether a concept is among the ancestors of another: a test, which counts nothing.
+    pub fn is_ancestor(self, ancestor: u32, concept: u32) -> bool
+        requires { concept < length self.indexes.now.hierarchy.ancestors }
+        ensures { result ≡ has (list_of self.entry.indexes.now.hierarchy.ancestors concept) ancestor }
+    {
+        // 32 bits hold the number of each concept
+        self.concept_count();
+        has_number(self.indexes.hierarchy().ancestors(concept), ancestor)
+    }
+
+    /// Whether a concept is among the descendants of another: a test, which counts nothing.
+    pub fn is_descendant(self, descendant: u32, concept: u32) -> bool
+        requires { concept < length self.indexes.now.hierarchy.descendants }
+        ensures { result ≡ has (list_of self.entry.indexes.now.hierarchy.descendants concept) descendant }
+    {
+        // 32 bits hold the number of each concept
+        self.concept_count();
+        has_number(self.indexes.hierarchy().descendants(concept), descendant)
+    }
+
     /// How many components a reference set has.
     pub fn member_count(self, concept: u32) -> u64
         requires { concept < length self.indexes.now.concepts }
         ensures { result ≡ length (list_of self.entry.indexes.now.members concept) }
     {
-        self.indexes.members(concept).len() as u64
+        self.lengths().member_count(concept)
     }
 
     /// How many ancestors a concept has.
@@ -239,7 +251,7 @@ impl<'a> Reader<'a> {
         requires { concept < length self.indexes.now.concepts }
         ensures { result ≡ length (list_of self.entry.indexes.now.hierarchy.ancestors concept) }
     {
-        self.indexes.hierarchy().ancestors(concept).len() as u64
+        self.lengths().ancestor_count_of(concept)
     }
 
     /// How many descendants a concept has.
@@ -247,7 +259,7 @@ impl<'a> Reader<'a> {
         requires { concept < length self.indexes.now.concepts }
         ensures { result ≡ length (list_of self.entry.indexes.now.hierarchy.descendants concept) }
     {
-        self.indexes.hierarchy().descendants(concept).len() as u64
+        self.lengths().descendant_count_of(concept)
     }
 
     /// How many parents a concept has.
@@ -255,7 +267,7 @@ impl<'a> Reader<'a> {
         requires { concept < length self.indexes.now.concepts }
         ensures { result ≡ length (list_of self.entry.indexes.now.hierarchy.parents concept) }
     {
-        self.indexes.hierarchy().parents(concept).len() as u64
+        self.lengths().parent_count_of(concept)
     }
 
     /// How many children a concept has.
@@ -263,6 +275,6 @@ impl<'a> Reader<'a> {
         requires { concept < length self.indexes.now.concepts }
         ensures { result ≡ length (list_of self.entry.indexes.now.hierarchy.children concept) }
     {
-        self.indexes.hierarchy().children(concept).len() as u64
+        self.lengths().child_count_of(concept)
     }
 }

@@ -10,15 +10,15 @@ use held_release::Snapshot;
 use postings::Indexes;
 use std::alloc::Global;
 
-/// A release with its indexes, and where memory is taken. What executes a plan takes lists from the calls of a reader
-/// alone, which count them; `bench/uncounted.py` shows that it does.
+/// A release with its indexes, and where memory is taken. It lends neither of the two: what executes a plan takes lists
+/// from the calls of a reader, which count them. `bench/uncounted.py` shows that one reader is opened, and nothing read
+/// past it.
 #[derive(Clone, Copy)]
 pub struct Reader<'a> {
     /// Where memory is taken.
     pub alloc: Global,
     pub(crate) snapshot: &'a Snapshot,
-    /// The indexes, for sizes and estimates, which ask for numbers and lengths alone.
-    pub indexes: &'a Indexes,
+    pub(crate) indexes: &'a Indexes,
     // the indexes are those of the release, whose concepts rise
     pub ghost index: { IsIndexOf indexes.now snapshot.now.release } by { Prim.hlevel props },
     pub ghost rising: { IsStrictlyIncreasing snapshot.now.release.concepts } by { Prim.hlevel props },

@@ -15,6 +15,7 @@ use Rattle.number_lists.specs.Rising.{IsRisingBelow, listed_numbers, numbers_whe
 use Rattle.idset.specs.Sets.{all_items}
 use Rattle.number_lists.specs.Members.{has}
 use Rattle.number_lists.proofs.WhereLemmas.{filter-numbers_where, has-numbers_where, numbers_where-agree}
+use Rattle.number_lists.proofs.WhereLemmas.{numbers_where-all}
 use Rattle.number_lists.proofs.RisingLemmas.{numbers_where-rising, rising_is_numbers_where, all_below}
 use Rattle.number_lists.specs.KeyedLists.{list_of}
 use Rattle.ancestor_index.specs.HierarchyLists.{Hierarchy}
@@ -95,22 +96,13 @@ module _ (count : ℕ) (hierarchy : Hierarchy) (over : IsOver count hierarchy) w
   operator_rises Top items rises = led_rises count hierarchy over items rises hierarchy.ancestors Apart
   operator_rises Bottom items rises = led_rises count hierarchy over items rises hierarchy.descendants Apart
 
-  -- as many numbers below the count as it says are all of them, so that of these an operator leads to all that it leads to
-  pub led_from_all : (operator : Operator) (items : List ℕ) → IsRisingBelow count items → length items ≡ count
-      → filter (has items) (led_to hierarchy count operator items) ≡ led_to hierarchy count operator items
-  led_from_all operator items rises full =
-      ap (filter (has items)) (rising_is_numbers_where count led (operator_rises operator items rises))
-      ∙ filter-numbers_where count (has led) (has items)
-      ∙ numbers_where-agree count _ _ (λ n inside. with_all (has led n) (has items n) (each n inside))
-      ∙ sym (rising_is_numbers_where count led (operator_rises operator items rises))
+  -- as many numbers below the count as it says are all of them
+  each_there : (items : List ℕ) → IsRisingBelow count items → length items ≡ count → (n : ℕ) → n < count
+      → has items n ≡ true
+  each_there items rises full n inside =
+      told (has items n)
+      (sym (has-numbers_where count (λ m. not (has items m)) n inside) ∙ ap (λ (xs : List ℕ). has xs n) no_others)
     where
-      led : List ℕ
-      led = led_to hierarchy count operator items
-
-      with_all : (b other : Bool) → other ≡ true → (b && other) ≡ b
-      with_all true other there = there
-      with_all false other there = refl
-
       others : List ℕ
       others = numbers_where count (λ n. not (has items n))
 
@@ -124,14 +116,34 @@ module _ (count : ℕ) (hierarchy : Hierarchy) (over : IsOver count hierarchy) w
             length-range_with_len 0 count,
           ))
 
-      each : (n : ℕ) → n < count → has items n ≡ true
-      each n inside =
-          told (has items n)
-          (sym (has-numbers_where count (λ m. not (has items m)) n inside) ∙ ap (λ (xs : List ℕ). has xs n) no_others)
-        where
-          told : (b : Bool) → not b ≡ false → b ≡ true
-          told true none = refl
-          told false none = sym none
+      told : (b : Bool) → not b ≡ false → b ≡ true
+      told true none = refl
+      told false none = sym none
+
+  -- so that from these an operator that leads to the concepts themselves too leads to all
+  pub all_with_own : (items others : List ℕ) → IsRisingBelow count items → length items ≡ count
+      → all_items count items others ≡ range_with_len 0 count
+  all_with_own items others rises full =
+      numbers_where-agree count (λ n. has items n || has others n) (λ _. true)
+      (λ n inside. (λ i. each_there items rises full n inside i || has others n))
+      ∙ numbers_where-all count
+
+  -- and of these an operator leads to all that it leads to
+  pub led_from_all : (operator : Operator) (items : List ℕ) → IsRisingBelow count items → length items ≡ count
+      → filter (has items) (led_to hierarchy count operator items) ≡ led_to hierarchy count operator items
+  led_from_all operator items rises full =
+      ap (filter (has items)) (rising_is_numbers_where count led (operator_rises operator items rises))
+      ∙ filter-numbers_where count (has led) (has items)
+      ∙ numbers_where-agree count _ _ (λ n inside. with_all (has led n) (has items n)
+      (each_there items rises full n inside))
+      ∙ sym (rising_is_numbers_where count led (operator_rises operator items rises))
+    where
+      led : List ℕ
+      led = led_to hierarchy count operator items
+
+      with_all : (b other : Bool) → other ≡ true → (b && other) ≡ b
+      with_all true other there = there
+      with_all false other there = refl
 
   -- a part of a set that has, of some numbers, what the set has
   module _ (set part : List ℕ) (set_rises : IsRisingBelow count set) (part_rises : IsRisingBelow count part) (enough : ℕ → Bool)

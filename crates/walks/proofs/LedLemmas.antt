@@ -1,7 +1,8 @@
 -- Where an operator leads, asked of one concept by its own lists.
-use Rattle.std.proofs.Common.{ℕ, Bool, ◌≡◌, ◌<◌, ◌∙◌, true, false, not, ◌&&◌, ◌||◌, List, refl, sym, ap, subst}
-use Rattle.std.specs.Prelude.{filter}
+use Rattle.std.proofs.Common.{arith, ℕ, Bool, ◌≡◌, ◌<◌, ◌∙◌, true, false, not, [], ◌∷◌, ◌&&◌, ◌||◌, List, refl, sym, ap, subst}
+use Rattle.std.specs.Prelude.{◌==◌, filter, if◌then◌else◌}
 use Rattle.std.specs.List.{list_any}
+use Rattle.std.proofs.lemmas.Bool.Decides.{nat_tests}
 use Rattle.rf2_rows.specs.Release.{Release}
 use Rattle.number_lists.specs.KeyedLists.{list_of}
 use Rattle.number_lists.proofs.ListLemmas.{passing_item, some_item_passes, both_ways}
@@ -22,6 +23,26 @@ use Rattle.walks.specs.declared.family.Reach.{Reach}
 use Rattle.walks.specs.declared.family.Reach.TheVariants.{Listed, ListedOrSelf, Apart}
 use Rattle.candidates.proofs.WithinLemmas.{has_kept, restricted_to}
 use Rattle.walks.proofs.JoinedLemmas.{listed_stands, over_near, stands, stands_listed}
+
+same_either_way : (one other : ℕ) → ((one == other) || false) ≡ (other == one)
+same_either_way one other = grind (arith, nat_tests)
+
+-- a list has the only one of some concepts where that is in it
+any_of_one : (concept : ℕ) (list : List ℕ) → list_any (has (concept ∷ [])) list ≡ has list concept
+any_of_one concept [] = refl
+any_of_one concept (first ∷ rest) =
+    (λ i. same_either_way concept first i || any_of_one concept rest i)
+
+-- one concept is left where it is not in its own list
+pub one_left : (lists : List (List ℕ)) (concept : ℕ) → has (list_of lists concept) concept ≡ false
+    → apart lists (concept ∷ []) ≡ concept ∷ []
+one_left lists concept absent =
+    ap (λ (there : Bool). if not there then concept ∷ [] else []) (any_of_one concept (list_of lists concept) ∙ absent)
+
+pub none_left : (lists : List (List ℕ)) (concept : ℕ) → has (list_of lists concept) concept ≡ true
+    → apart lists (concept ∷ []) ≡ []
+none_left lists concept there =
+    ap (λ (listed : Bool). if not listed then concept ∷ [] else []) (any_of_one concept (list_of lists concept) ∙ there)
 
 -- one concept stands to another as the other stands back to it
 stands_back : (release : Release) (f : Family) (a b : ℕ) → stands release f a b ≡ stands release (back_of f) b a

@@ -1,5 +1,5 @@
 //! The four families of lists of a hierarchy.
-ghost use Rattle.std.specs.Prelude.{◌≡◌, ◌↔◌, ◌<◌, IfSome, IsSome, MatchOption, length};
+ghost use Rattle.std.specs.Prelude.{◌≡◌, ◌↔◌, ◌<◌, IfSome, IsSome, MatchOption, length, true};
 ghost use Rattle.std.specs.List.{concat};
 ghost use Rattle.number_lists.specs.Members.{has};
 ghost use Rattle.idset.specs.Words.{MarkedBelow};
@@ -99,6 +99,19 @@ impl Family {
         }
     }
 
+    /// Whether the whole list of a concept has the concept itself. This is tested, and nothing is counted.
+    pub fn has_itself(self, reader: Reader<'_>, concept: u32) -> bool
+        requires below { concept < length (lists_of reader.indexes.now.hierarchy self) }
+        requires whole { is_whole_of self ≡ true }
+        ensures { result ≡ has (list_of (lists_of reader.entry.indexes.now.hierarchy self) concept) concept }
+    {
+        match self {
+            Family::Ancestors => reader.is_ancestor(concept, concept),
+            Family::Descendants => reader.is_descendant(concept, concept),
+            Family::Parents | Family::Children => false,
+        }
+    }
+
     /// How many items the list of a concept has. None is read.
     pub fn length(self, reader: Reader<'_>, concept: u32) -> u64
         requires { concept < length (lists_of reader.indexes.now.hierarchy self) }
@@ -193,6 +206,16 @@ impl Step {
         match self.reach {
             Reach::Listed | Reach::ListedOrSelf => self.family.back(),
             Reach::Apart => self.family,
+        }
+    }
+
+    /// Whether it leads to the concepts themselves, and others.
+    pub fn is_or_self(self) -> bool
+        ensures { result ≡ true → self.reach ≡ Reach.ListedOrSelf }
+    {
+        match self.reach {
+            Reach::ListedOrSelf => true,
+            Reach::Listed | Reach::Apart => false,
         }
     }
 

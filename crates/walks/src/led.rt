@@ -1,6 +1,6 @@
 //! The concepts that an operator leads to from a set, of some candidates. What is read is counted.
 ghost use Rattle.std.specs.Prelude.{◌≡◌, ◌≤◌, ◌<◌, ◌+◌, ◌∷◌, All, IfOk, filter, length};
-ghost use Rattle.std.specs.List.{flat_map};
+ghost use Rattle.std.specs.List.{flat_map, range_with_len};
 ghost use Rattle.number_lists.specs.KeyedLists.{list_of};
 ghost use Rattle.idset.specs.Sets.{all_items};
 ghost use Rattle.number_lists.specs.Members.{has};
@@ -60,7 +60,8 @@ pub fn walk_within<S: ConceptSet>(
     walk_listed(reader, operator, from, candidates, visits, tally)
 }
 
-// From all concepts: each is asked by its own lists, which together have no more items than all lists of the operator.
+// From all concepts: where the operator leads to these too, to all; else each is asked by its own lists, which together
+// have no more items than all lists of the operator.
 fn walk_from_all<S: ConceptSet>(
     reader: Reader<'_>,
     operator: Operator,
@@ -79,9 +80,27 @@ fn walk_from_all<S: ConceptSet>(
         (led_to reader.entry.indexes.now.hierarchy (S.bound_of from.now) operator (S.items_of from.now))) }
     ensures bound { IfOk result (λ found. S.bound_of found ≡ S.bound_of from.now) }
 {
+    if Step::of(operator).is_or_self() {
+        return all_below(reader, from.bound(), candidates);
+    }
     let led = led_among(reader, operator, from, from, visits)?;
     let left = restricted(reader, led, candidates)?;
     Ok(left)
+}
+
+// The candidates among all numbers below a bound.
+fn all_below<S: ConceptSet>(
+    reader: Reader<'_>,
+    bound: u32,
+    candidates: &Candidates<'_, S>,
+) -> Result<Answer<S>, AllocError>
+    requires { AreBelow S.bound_of bound candidates.now }
+    ensures items { IfOk result (λ found. S.items_of found
+        ≡ filter (may_be S.items_of candidates.now) (range_with_len 0 bound)) }
+    ensures bound { IfOk result (λ found. S.bound_of found ≡ bound) }
+{
+    let all = Answer::every(reader.alloc, bound)?;
+    restricted(reader, all, candidates)
 }
 
 // From the concepts of a set, which are gone through.

@@ -406,8 +406,32 @@ fn apart<S: ConceptSet>(
         ≡ apart_of (lists_of reader.entry.indexes.now.hierarchy family) (S.items_of operand.now)) }
     ensures bound { IfOk result (λ found. S.bound_of found ≡ S.bound_of operand.now) }
 {
+    if let [concept] = concepts {
+        return one_apart(reader, family, *concept, operand.bound());
+    }
     let kept = kept_apart(reader, family, concepts, operand, near_first, visits)?;
     Answer::from_items(reader.alloc, kept.as_slice(), operand.bound())
+}
+
+// One concept, unless it is in its own list. No item is read.
+fn one_apart<S: ConceptSet>(
+    reader: Reader<'_>,
+    family: Family,
+    concept: u32,
+    count: u32,
+) -> Result<Answer<S>, AllocError>
+    requires over { IsOver count reader.indexes.now.hierarchy }
+    requires below { concept < count }
+    requires whole { is_whole_of family ≡ true }
+    ensures items { IfOk result (λ found. S.items_of found
+        ≡ apart_of (lists_of reader.entry.indexes.now.hierarchy family) (concept ∷ [])) }
+    ensures bound { IfOk result (λ found. S.bound_of found ≡ count) }
+{
+    if family.has_itself(reader, concept) {
+        Answer::from_items(reader.alloc, &[], count)
+    } else {
+        Answer::from_items(reader.alloc, &[concept], count)
+    }
 }
 
 // Those of the concepts of a set whose list has none of it. Where that is asked for, the concepts one is-a row away are

@@ -140,7 +140,7 @@ decreases-plans::in_first_alone g l = 6 * (max (concept_plan.the_size l.first.no
     + 3
 
 abbrev pub decreases-plans::pairs_within : goal.decreases-plans::pairs_within
-decreases-plans::pairs_within g l = 6 * (max (concept_plan.the_size l.types.now) (value_test.the_size l.test.now)) + 3
+decreases-plans::pairs_within g l = 6 * (max (concept_plan.the_size l.leaf.types.now) (value_test.the_size l.leaf.test.now)) + 3
 
 abbrev pub decreases-plans::units_within : goal.decreases-plans::units_within
 decreases-plans::units_within g l = 6 * (unit_plan.the_size l.units.now) + 2
@@ -155,10 +155,10 @@ abbrev pub decreases-joined_plans::in_some : goal.decreases-joined_plans::in_som
 decreases-joined_plans::in_some g l = 6 * (deepest l.parts.now) + 2
 
 abbrev pub decreases-walk_plans::walk_from : goal.decreases-walk_plans::walk_from
-decreases-walk_plans::walk_from g l = 6 * (concept_plan.the_size l.operand.now) + 4
+decreases-walk_plans::walk_from g l = 6 * (concept_plan.the_size l.walk.operand.now) + 4
 
 abbrev pub decreases-walk_plans::walk_to_few : goal.decreases-walk_plans::walk_to_few
-decreases-walk_plans::walk_to_few g l = 6 * (concept_plan.the_size l.operand.now) + 3
+decreases-walk_plans::walk_to_few g l = 6 * (concept_plan.the_size l.walk.operand.now) + 3
 
 abbrev pub decreases-dotted_plans::led_from : goal.decreases-dotted_plans::led_from
 decreases-dotted_plans::led_from g l = 6 * (max (concept_plan.the_size l.start.now) (deepest l.names.now)) + 5
@@ -181,7 +181,7 @@ decreases-unit_plans::groups_in_first_alone g l = 6
 
 abbrev pub decreases-unit_plans::groups_with_pairs : goal.decreases-unit_plans::groups_with_pairs
 decreases-unit_plans::groups_with_pairs g l = 6
-    * (max (concept_plan.the_size l.types.now) (value_test.the_size l.test.now)) + 3
+    * (max (concept_plan.the_size l.leaf.types.now) (value_test.the_size l.leaf.test.now)) + 3
 
 abbrev pub decreases-unit_plans::groups_in_all : goal.decreases-unit_plans::groups_in_all
 decreases-unit_plans::groups_in_all g l = 6 * (deepest_units l.parts.now) + 3

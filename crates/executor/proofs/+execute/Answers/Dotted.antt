@@ -152,7 +152,7 @@ named_by-returns-then-eq-clause-found g t c =
     record {
       items = named.items_are;
       bound = named.bound_is;
-      floor = omega (arith, c.plan_floor.ensures, c.add.ensures.count);
+      floor = omega (arith, (rw c.lengths.ensures at c.plan_floor.ensures), c.add.ensures.count);
     }
 
 pub named_by-returns-then-eq-clause-counted : goal.dotted_plans::named_by-returns-then-eq-clause-counted
@@ -160,7 +160,7 @@ named_by-returns-then-eq-clause-counted g t c = record {
   grows = c.add.ensures.grows;
   within = omega (
     arith,
-    c.plan_floor.ensures,
+    (rw c.lengths.ensures at c.plan_floor.ensures),
     c.add.ensures.count,
     floor-le-bound c.args.reader.indexes.now (physical_of c.args.name.now),
   );

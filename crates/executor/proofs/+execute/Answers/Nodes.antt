@@ -46,7 +46,7 @@ execute_tallied-returns-then-none_left-clause-found g t c =
           (g.S.ConceptSet.items_of c.in_ok-found.found)
           (c.none_left.ensures c.if-none_left.true) c.in_ok-found.ensures.items;
       bound = c.in_ok-found.ensures.bound;
-      floor = omega (arith, c.plan_floor.ensures, c.add.ensures.count);
+      floor = omega (arith, (rw c.lengths.ensures at c.plan_floor.ensures), c.add.ensures.count);
     }
 
 pub execute_tallied-returns-then-none_left-clause-counted :
@@ -55,7 +55,7 @@ execute_tallied-returns-then-none_left-clause-counted g t c = record {
   grows = c.add.ensures.grows;
   within = omega (
     arith,
-    c.plan_floor.ensures,
+    (rw c.lengths.ensures at c.plan_floor.ensures),
     c.add.ensures.count,
     floor-le-bound c.args.reader.indexes.now (physical_of c.args.plan.now),
   );
@@ -67,7 +67,7 @@ execute_tallied-returns-in_err-found-clause-counted g t c = record {
   grows = c.add.ensures.grows;
   within = omega (
     arith,
-    c.plan_floor.ensures,
+    (rw c.lengths.ensures at c.plan_floor.ensures),
     c.add.ensures.count,
     floor-le-bound c.args.reader.indexes.now (physical_of c.args.plan.now),
   );
@@ -100,7 +100,7 @@ execute_groups-returns-then-none_left-clause-found g t c =
           (slice_get (all_groups release) n)) (g.S.ConceptSet.items_of c.in_ok-found.found)
           (c.none_left.ensures c.if-none_left.true) c.in_ok-found.ensures.items;
       bound = c.in_ok-found.ensures.bound;
-      floor = omega (arith, c.unit_floor.ensures, c.add.ensures.count);
+      floor = omega (arith, (rw c.lengths.ensures at c.unit_floor.ensures), c.add.ensures.count);
     }
 
 pub execute_groups-returns-then-none_left-clause-counted :
@@ -109,7 +109,7 @@ execute_groups-returns-then-none_left-clause-counted g t c = record {
   grows = c.add.ensures.grows;
   within = omega (
     arith,
-    c.unit_floor.ensures,
+    (rw c.lengths.ensures at c.unit_floor.ensures),
     c.add.ensures.count,
     group_floor-le-bound c.args.reader.indexes.now (physical_units_of c.args.plan.now),
   );
@@ -121,7 +121,7 @@ execute_groups-returns-in_err-found-clause-counted g t c = record {
   grows = c.add.ensures.grows;
   within = omega (
     arith,
-    c.unit_floor.ensures,
+    (rw c.lengths.ensures at c.unit_floor.ensures),
     c.add.ensures.count,
     group_floor-le-bound c.args.reader.indexes.now (physical_units_of c.args.plan.now),
   );

@@ -50,126 +50,132 @@ pub pairs_within-returns-clause-found : goal.plans::pairs_within-returns-clause-
 pairs_within-returns-clause-found g t c =
     let release = c.args.reader.snapshot.now.release in
     let may : ℕ → Bool = may_be g.S.ConceptSet.items_of c.args.candidates.now in
-    let passes = value_passes release (logical_test_of c.args.test.now) in
+    let passes = value_passes release (logical_test_of c.args.leaf.test.now) in
     let one : ℕ → Bool = is_one_of c.args.reader.indexes.now.concepts (g.S.ConceptSet.items_of c.in_ok-typed.typed) in
-    let some : ℕ → Bool = λ concept. has_pairs c.args.count one passes (pairs_of release c.args.back concept) in
-    let plan : Plan = pairs_plan c.args.back c.args.count (logical_of c.args.types.now)
-    (logical_test_of c.args.test.now) in
+    let some : ℕ → Bool = λ concept. has_pairs c.args.leaf.count one passes (pairs_of release c.args.back concept) in
+    let plan : Plan = pairs_plan c.args.back c.args.leaf.count (logical_of c.args.leaf.types.now)
+    (logical_test_of c.args.leaf.test.now) in
     record {
       items = c.in_ok-found.ensures.found.items
           ∙ (λ i. numbers_within release may
-          (λ concept. has_pairs c.args.count one (λ value. c.in_ok-tested.ensures.tested.passes value i)
+          (λ concept. has_pairs c.args.leaf.count one (λ value. c.in_ok-tested.ensures.tested.passes value i)
           (pairs_of release c.args.back concept)))
           ∙ within_same release may some (means release plan) (pairs_node release plan (numbers_in release some)
-          c.args.back c.args.count (logical_of c.args.types.now) (logical_test_of c.args.test.now)
+          c.args.back c.args.leaf.count (logical_of c.args.leaf.types.now) (logical_test_of c.args.leaf.test.now)
           c.args.reader.indexes.now.concepts (g.S.ConceptSet.items_of c.in_ok-typed.typed) refl
           c.args.reader.index.concepts c.in_ok-typed.ensures.found.items refl);
       bound = c.in_ok-found.ensures.found.bound;
-      floor = leaf_floor c.args.reader.indexes.now (physical_of c.args.types.now) (physical_test_of c.args.test.now)
-          c.args.visits.now.count
+      floor = leaf_floor c.args.reader.indexes.now (physical_of c.args.leaf.types.now)
+          (physical_test_of c.args.leaf.test.now) c.args.visits.now.count
           c.in_ok-typed.ensures.found.floor c.in_ok-tested.ensures.tested.floor
-          c.leaf_limits_within-limits.ensures.floor c.in_ok-found.ensures.found.floor;
+          (rw c.lengths-lengths.ensures at c.leaf_limits_within.ensures.floor) c.in_ok-found.ensures.found.floor;
     }
 
 pub pairs_within-returns-clause-counted : goal.plans::pairs_within-returns-clause-counted
 pairs_within-returns-clause-counted g t c =
-    leaf_reads c.args.reader.indexes.now (physical_of c.args.types.now) (physical_test_of c.args.test.now)
+    leaf_reads c.args.reader.indexes.now (physical_of c.args.leaf.types.now) (physical_test_of c.args.leaf.test.now)
     c.execute_within.ensures.counted c.tested_of.ensures.counted
-    (subst (λ (all : ℕ). c.leaf_limits_within-limits.result.bound
-    ≤ leaf_bound_at c.args.reader.indexes.now all c.args.back c.args.count (physical_of c.args.types.now)
-    (physical_test_of c.args.test.now) c.args.choice)
-    c.concept_count-concepts-2.ensures.numbers c.leaf_limits_within-limits.ensures.within)
+    (subst (λ (all : ℕ). c.leaf_limits_within.result.bound
+    ≤ leaf_bound_at c.args.reader.indexes.now all c.args.back c.args.leaf.count (physical_of c.args.leaf.types.now)
+    (physical_test_of c.args.leaf.test.now) c.args.leaf.choice)
+    c.concept_count-concepts-2.ensures.numbers
+    (rw c.lengths-lengths.ensures at c.leaf_limits_within.ensures.within))
     c.with_pairs_within.ensures.counted
 
 pub pairs_within-returns-in_err-found-clause-counted :
     goal.plans::pairs_within-returns-in_err-found-clause-counted
 pairs_within-returns-in_err-found-clause-counted g t c =
-    leaf_reads c.args.reader.indexes.now (physical_of c.args.types.now) (physical_test_of c.args.test.now)
+    leaf_reads c.args.reader.indexes.now (physical_of c.args.leaf.types.now) (physical_test_of c.args.leaf.test.now)
     c.execute_within.ensures.counted c.tested_of.ensures.counted
-    (subst (λ (all : ℕ). c.leaf_limits_within-limits.result.bound
-    ≤ leaf_bound_at c.args.reader.indexes.now all c.args.back c.args.count (physical_of c.args.types.now)
-    (physical_test_of c.args.test.now) c.args.choice)
-    c.concept_count-concepts-2.ensures.numbers c.leaf_limits_within-limits.ensures.within)
+    (subst (λ (all : ℕ). c.leaf_limits_within.result.bound
+    ≤ leaf_bound_at c.args.reader.indexes.now all c.args.back c.args.leaf.count (physical_of c.args.leaf.types.now)
+    (physical_test_of c.args.leaf.test.now) c.args.leaf.choice)
+    c.concept_count-concepts-2.ensures.numbers
+    (rw c.lengths-lengths.ensures at c.leaf_limits_within.ensures.within))
     c.with_pairs_within.ensures.counted
 
 pub groups_with_pairs-returns-clause-found : goal.unit_plans::groups_with_pairs-returns-clause-found
 groups_with_pairs-returns-clause-found g t c =
     let release = c.args.reader.snapshot.now.release in
     let may : ℕ → Bool = may_be g.S.ConceptSet.items_of c.args.candidates.now in
-    let passes = value_passes release (logical_test_of c.args.test.now) in
+    let passes = value_passes release (logical_test_of c.args.leaf.test.now) in
     let one : ℕ → Bool = is_one_of c.args.reader.indexes.now.concepts (g.S.ConceptSet.items_of c.in_ok-typed.typed) in
-    let some : List Pair → Bool = has_pairs c.args.count one passes in
-    let plan : PlanOfUnits = pairs_units c.args.count (logical_of c.args.types.now) (logical_test_of c.args.test.now) in
+    let some : List Pair → Bool = has_pairs c.args.leaf.count one passes in
+    let plan : PlanOfUnits = pairs_units c.args.leaf.count (logical_of c.args.leaf.types.now)
+    (logical_test_of c.args.leaf.test.now) in
     record {
       items = c.in_ok-found.ensures.found.items
           ∙ (λ i. groups_within release may
-          (has_pairs c.args.count one (λ value. c.in_ok-tested.ensures.tested.passes value i)))
+          (has_pairs c.args.leaf.count one (λ value. c.in_ok-tested.ensures.tested.passes value i)))
           ∙ groups_same release may some (unit_means release plan)
           (groups.pairs_node release plan (groups_where release some)
-          c.args.count (logical_of c.args.types.now) (logical_test_of c.args.test.now)
+          c.args.leaf.count (logical_of c.args.leaf.types.now) (logical_test_of c.args.leaf.test.now)
           c.args.reader.indexes.now.concepts (g.S.ConceptSet.items_of c.in_ok-typed.typed) refl
           c.args.reader.index.concepts c.in_ok-typed.ensures.found.items refl);
       bound = c.in_ok-found.ensures.found.bound;
-      floor = leaf_floor c.args.reader.indexes.now (physical_of c.args.types.now) (physical_test_of c.args.test.now)
-          c.args.visits.now.count
+      floor = leaf_floor c.args.reader.indexes.now (physical_of c.args.leaf.types.now)
+          (physical_test_of c.args.leaf.test.now) c.args.visits.now.count
           c.in_ok-typed.ensures.found.floor c.in_ok-tested.ensures.tested.floor
-          c.leaf_limits_within-limits.ensures.floor c.in_ok-found.ensures.found.floor;
+          (rw c.lengths-lengths.ensures at c.leaf_limits_within.ensures.floor) c.in_ok-found.ensures.found.floor;
     }
 
 pub groups_with_pairs-returns-clause-counted : goal.unit_plans::groups_with_pairs-returns-clause-counted
 groups_with_pairs-returns-clause-counted g t c =
-    leaf_reads c.args.reader.indexes.now (physical_of c.args.types.now) (physical_test_of c.args.test.now)
+    leaf_reads c.args.reader.indexes.now (physical_of c.args.leaf.types.now) (physical_test_of c.args.leaf.test.now)
     c.execute_within.ensures.counted c.tested_of.ensures.counted
-    (subst (λ (all : ℕ). c.leaf_limits_within-limits.result.bound
-    ≤ leaf_bound_at c.args.reader.indexes.now all false c.args.count (physical_of c.args.types.now)
-    (physical_test_of c.args.test.now) c.args.choice)
-    c.group_count-groups.ensures.count c.leaf_limits_within-limits.ensures.within)
+    (subst (λ (all : ℕ). c.leaf_limits_within.result.bound
+    ≤ leaf_bound_at c.args.reader.indexes.now all false c.args.leaf.count (physical_of c.args.leaf.types.now)
+    (physical_test_of c.args.leaf.test.now) c.args.leaf.choice)
+    c.group_count-groups.ensures.count
+    (rw c.lengths-lengths.ensures at c.leaf_limits_within.ensures.within))
     c.groups_with_pairs_within.ensures.counted
 
 pub groups_with_pairs-returns-in_err-found-clause-counted :
     goal.unit_plans::groups_with_pairs-returns-in_err-found-clause-counted
 groups_with_pairs-returns-in_err-found-clause-counted g t c =
-    leaf_reads c.args.reader.indexes.now (physical_of c.args.types.now) (physical_test_of c.args.test.now)
+    leaf_reads c.args.reader.indexes.now (physical_of c.args.leaf.types.now) (physical_test_of c.args.leaf.test.now)
     c.execute_within.ensures.counted c.tested_of.ensures.counted
-    (subst (λ (all : ℕ). c.leaf_limits_within-limits.result.bound
-    ≤ leaf_bound_at c.args.reader.indexes.now all false c.args.count (physical_of c.args.types.now)
-    (physical_test_of c.args.test.now) c.args.choice)
-    c.group_count-groups.ensures.count c.leaf_limits_within-limits.ensures.within)
+    (subst (λ (all : ℕ). c.leaf_limits_within.result.bound
+    ≤ leaf_bound_at c.args.reader.indexes.now all false c.args.leaf.count (physical_of c.args.leaf.types.now)
+    (physical_test_of c.args.leaf.test.now) c.args.leaf.choice)
+    c.group_count-groups.ensures.count
+    (rw c.lengths-lengths.ensures at c.leaf_limits_within.ensures.within))
     c.groups_with_pairs_within.ensures.counted
 
 pub pairs_within-with_pairs_within-requires-clause-room :
     goal.plans::pairs_within-with_pairs_within-requires-clause-room
 pairs_within-with_pairs_within-requires-clause-room g t c =
     let indexed = c.args.reader.indexes.now in
-    let types = physical_of c.args.types.now in
-    let test = physical_test_of c.args.test.now in
+    let types = physical_of c.args.leaf.types.now in
+    let test = physical_test_of c.args.leaf.test.now in
     let all = c.concept_count-concepts-2.result in
     omega (
       arith,
-      c.leaf_limits_within-limits.ensures.bound,
+      (rw c.lengths-lengths.ensures at c.leaf_limits_within.ensures.bound),
       leaf_room c.args.reader.snapshot.now.release indexed c.args.reader.index c.concept_count-concepts.ensures.rising
           g.S.ConceptSet.items_of all
-          c.args.back c.args.count types test (g.S.ConceptSet.items_of c.in_ok-typed.typed)
+          c.args.back c.args.leaf.count types test (g.S.ConceptSet.items_of c.in_ok-typed.typed)
           c.in_ok-typed.ensures.found.items
           c.in_ok-tested.tested c.in_ok-tested.ensures.tested.read c.count.result c.count_of_test.result c.count.ensures
           c.count_of_test.ensures
-          c.args.choice,
+          c.args.leaf.choice,
     )
 
 pub groups_with_pairs-groups_with_pairs_within-requires-clause-room :
     goal.unit_plans::groups_with_pairs-groups_with_pairs_within-requires-clause-room
 groups_with_pairs-groups_with_pairs_within-requires-clause-room g t c =
     let indexed = c.args.reader.indexes.now in
-    let types = physical_of c.args.types.now in
-    let test = physical_test_of c.args.test.now in
+    let types = physical_of c.args.leaf.types.now in
+    let test = physical_test_of c.args.leaf.test.now in
     let all = c.group_count-groups.result in
     omega (
       arith,
-      c.leaf_limits_within-limits.ensures.bound,
+      (rw c.lengths-lengths.ensures at c.leaf_limits_within.ensures.bound),
       leaf_room c.args.reader.snapshot.now.release indexed c.args.reader.index c.concept_count-groups.ensures.rising
           g.S.ConceptSet.items_of all
-          false c.args.count types test (g.S.ConceptSet.items_of c.in_ok-typed.typed) c.in_ok-typed.ensures.found.items
+          false c.args.leaf.count types test (g.S.ConceptSet.items_of c.in_ok-typed.typed)
+          c.in_ok-typed.ensures.found.items
           c.in_ok-tested.tested c.in_ok-tested.ensures.tested.read c.count.result c.count_of_test.result c.count.ensures
           c.count_of_test.ensures
-          c.args.choice,
+          c.args.leaf.choice,
     )

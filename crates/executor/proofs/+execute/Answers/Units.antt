@@ -76,7 +76,7 @@ units_within-returns-then-has_few_groups-clause-counted g t c =
       c.in_ok-own.ensures.few,
       extent.groups,
       c.in_ok-groups.ensures.size,
-      c.unit_size-most.ensures,
+      (rw c.lengths-lengths.ensures at c.unit_size-most.ensures),
       c.unit_size-most.type_inv,
     )) in
     record {
@@ -89,7 +89,7 @@ units_within-returns-then-has_few_groups-clause-counted g t c =
       );
       within = omega (
         arith,
-        c.unit_size-most.ensures,
+        (rw c.lengths-lengths.ensures at c.unit_size-most.ensures),
         extent.items,
         extent.groups,
         c.in_ok-own.ensures.few,
@@ -120,7 +120,7 @@ units_within-returns-in_err-found-clause-counted g t c =
       c.in_ok-own.ensures.few,
       extent.groups,
       c.in_ok-groups.ensures.size,
-      c.unit_size-most.ensures,
+      (rw c.lengths-lengths.ensures at c.unit_size-most.ensures),
       c.unit_size-most.type_inv,
     )) in
     record {
@@ -133,7 +133,7 @@ units_within-returns-in_err-found-clause-counted g t c =
       );
       within = omega (
         arith,
-        c.unit_size-most.ensures,
+        (rw c.lengths-lengths.ensures at c.unit_size-most.ensures),
         extent.items,
         extent.groups,
         c.in_ok-own.ensures.few,

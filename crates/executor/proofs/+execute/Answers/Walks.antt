@@ -31,7 +31,7 @@ walk_to_few-returns-clause-found g t c =
     let items = g.S.ConceptSet.items_of from in
     let bound = g.S.ConceptSet.bound_of from in
     record {
-      items = walk_of_part c.args.reader.snapshot.now.release (logical_of c.args.operand.now) c.args.operator
+      items = walk_of_part c.args.reader.snapshot.now.release (logical_of c.args.walk.operand.now) c.args.walk.operator
           indexed.hierarchy bound
           may enough items (g.S.ConceptSet.items_of c.in_ok-found.found)
           c.args.reader.index.hierarchy c.in_ok-from.ensures.found.bound
@@ -45,7 +45,7 @@ walk_to_few-returns-clause-found g t c =
         c.extent_of.ensures.counted.grows,
         c.in_ok-from.ensures.found.floor,
         c.led_among.ensures.counted.grows,
-        several_floor indexed c.args.operator (one_of (physical_of c.args.operand.now)) c.requires.several,
+        several_floor indexed c.args.walk.operator (one_of (physical_of c.args.walk.operand.now)) c.requires.several,
       );
     }
 
@@ -55,7 +55,7 @@ pub walk_to_few-returns-clause-counted :
     goal.walk_plans::walk_to_few-returns-clause-counted
 walk_to_few-returns-clause-counted g t c =
     let indexed = c.args.reader.indexes.now in
-    let plan = physical_of c.args.operand.now in
+    let plan = physical_of c.args.walk.operand.now in
     counted_full
     (counted_then (counted_then (counted_then c.enough_for.ensures.counted c.extent_of.ensures.counted)
     c.execute_within.ensures.counted) c.led_among.ensures.counted)
@@ -63,14 +63,14 @@ walk_to_few-returns-clause-counted g t c =
       arith,
       c.requires.room,
       c.in_ok-enough.ensures.few,
-      several_bound indexed c.args.operator (one_of plan) (size indexed plan) c.requires.several,
+      several_bound indexed c.args.walk.operator (one_of plan) (size indexed plan) c.requires.several,
     ))
 
 pub walk_to_few-returns-in_err-found-clause-counted :
     goal.walk_plans::walk_to_few-returns-in_err-found-clause-counted
 walk_to_few-returns-in_err-found-clause-counted g t c =
     let indexed = c.args.reader.indexes.now in
-    let plan = physical_of c.args.operand.now in
+    let plan = physical_of c.args.walk.operand.now in
     counted_full
     (counted_then (counted_then (counted_then c.enough_for.ensures.counted c.extent_of.ensures.counted)
     c.execute_within.ensures.counted) c.led_among.ensures.counted)
@@ -78,14 +78,14 @@ walk_to_few-returns-in_err-found-clause-counted g t c =
       arith,
       c.requires.room,
       c.in_ok-enough.ensures.few,
-      several_bound indexed c.args.operator (one_of plan) (size indexed plan) c.requires.several,
+      several_bound indexed c.args.walk.operator (one_of plan) (size indexed plan) c.requires.several,
     ))
 
 pub walk_to_few-returns-in_err-from-clause-counted :
     goal.walk_plans::walk_to_few-returns-in_err-from-clause-counted
 walk_to_few-returns-in_err-from-clause-counted g t c =
     let indexed = c.args.reader.indexes.now in
-    let plan = physical_of c.args.operand.now in
+    let plan = physical_of c.args.walk.operand.now in
     counted_full
     (counted_then (counted_then c.enough_for.ensures.counted c.extent_of.ensures.counted)
     c.execute_within.ensures.counted)
@@ -93,56 +93,58 @@ walk_to_few-returns-in_err-from-clause-counted g t c =
       arith,
       c.requires.room,
       c.in_ok-enough.ensures.few,
-      several_bound indexed c.args.operator (one_of plan) (size indexed plan) c.requires.several,
+      several_bound indexed c.args.walk.operator (one_of plan) (size indexed plan) c.requires.several,
     ))
 
 pub walk_to_few-returns-in_err-extent-clause-counted :
     goal.walk_plans::walk_to_few-returns-in_err-extent-clause-counted
 walk_to_few-returns-in_err-extent-clause-counted g t c =
     let indexed = c.args.reader.indexes.now in
-    let plan = physical_of c.args.operand.now in
+    let plan = physical_of c.args.walk.operand.now in
     counted_full
     (counted_then c.enough_for.ensures.counted c.extent_of.ensures.counted)
     (omega (
       arith,
       c.requires.room,
       c.in_ok-enough.ensures.few,
-      several_bound indexed c.args.operator (one_of plan) (size indexed plan) c.requires.several,
+      several_bound indexed c.args.walk.operator (one_of plan) (size indexed plan) c.requires.several,
     ))
 
 pub walk_from-walk_to_few-requires : goal.walk_plans::walk_from-walk_to_few-requires
 walk_from-walk_to_few-requires g t c =
     let indexed = c.args.reader.indexes.now in
+    let operator = c.args.walk.operator in
+    let wanted = g.S.ConceptSet.items_of c.in-Within.wanted.now in
     let some : 0 < c.rows_without-rows.result =
-    subst (λ (enough : Bool). OnTrue enough (0 < c.rows_without-rows.result)) c.if-are_enough.true c.are_enough.ensures.some in
-    let several = not_one (one_of (physical_of c.args.operand.now)) c.rows_without-rows.result
+    subst (λ (enough : Bool). OnTrue enough (0 < c.rows_without-rows.result)) c.if-are_enough.true
+    c.are_enough.ensures.some in
+    let several = not_one (one_of (physical_of c.args.walk.operand.now)) c.rows_without-rows.result
     c.rows_without-rows.ensures some in
-    let third = all_items_of indexed.hierarchy (family_of c.args.operator) / 3 in
-    let asked : AreAsked g.S.ConceptSet.items_of indexed.hierarchy c.args.operator c.args.candidates.now third =
+    let third = all_items_of indexed.hierarchy (family_of operator) / 3 in
+    let asked : AreAsked g.S.ConceptSet.items_of indexed.hierarchy operator c.args.candidates.now third =
     subst (λ (enough : Bool). OnTrue enough
-    (AreAsked g.S.ConceptSet.items_of indexed.hierarchy c.args.operator c.args.candidates.now third))
+    (AreAsked g.S.ConceptSet.items_of indexed.hierarchy operator c.args.candidates.now third))
     c.if-are_enough.true c.are_enough.ensures.room in
-    let read : full (asked_items indexed.hierarchy c.args.operator (g.S.ConceptSet.items_of c.in-Within.wanted.now)) ≤ third =
-    subst (λ (candidates : Candidates _). AreAsked g.S.ConceptSet.items_of indexed.hierarchy c.args.operator candidates third)
+    let read : full (asked_items indexed.hierarchy operator wanted) ≤ third =
+    subst (λ (candidates : Candidates _). AreAsked g.S.ConceptSet.items_of indexed.hierarchy operator candidates third)
     c.in-Within.is asked in
-    let room : full (asked_items indexed.hierarchy c.args.operator (g.S.ConceptSet.items_of c.in-Within.wanted.now))
-    ≤ lists_length indexed c.args.operator / 3 =
-    omega (arith, read, all_along indexed c.args.operator) in
+    let room : full (asked_items indexed.hierarchy operator wanted) ≤ lists_length indexed operator / 3 =
+    omega (arith, read, all_along indexed operator) in
     search rules
 
 pub walk_from-returns-clause-found : goal.walk_plans::walk_from-returns-clause-found
 walk_from-returns-clause-found g t c =
     let release = c.args.reader.snapshot.now.release in
     let hierarchy = c.args.reader.indexes.now.hierarchy in
-    let operand = logical_of c.args.operand.now in
-    let plan : Plan = walk_plan c.args.operator operand in
+    let operand = logical_of c.args.walk.operand.now in
+    let plan : Plan = walk_plan c.args.walk.operator operand in
     let from = c.in_ok-from.from in
     let items = g.S.ConceptSet.items_of from in
-    let led : List ℕ = led_to hierarchy (g.S.ConceptSet.bound_of from) c.args.operator items in
+    let led : List ℕ = led_to hierarchy (g.S.ConceptSet.bound_of from) c.args.walk.operator items in
     record {
       items = kept_node release (may_be g.S.ConceptSet.items_of c.args.candidates.now) plan led
           (g.S.ConceptSet.items_of c.in_ok-found-2.found)
-          (walk_node release plan led operand c.args.operator hierarchy (g.S.ConceptSet.bound_of from) items refl
+          (walk_node release plan led operand c.args.walk.operator hierarchy (g.S.ConceptSet.bound_of from) items refl
           c.args.reader.index.hierarchy
           c.in_ok-from.ensures.found.bound c.in_ok-from.ensures.found.items refl)
           c.in_ok-found-2.ensures.found.items;

@@ -6,13 +6,13 @@ use Rattle.executor.proofs.counting.leaf_limits_within.Goals as goal
 
 pub returns-clause-within : goal.returns-clause-within
 returns-clause-within c =
-    let indexed = c.args.indexes.now in
-    let types = physical_of c.args.types.now in
-    let test = physical_test_of c.args.test.now in
+    let indexed = c.args.lengths.indexes.now in
+    let types = physical_of c.args.leaf.types.now in
+    let test = physical_test_of c.args.leaf.test.now in
     omega (
       arith,
       c.leaf_limits.ensures.bound,
-      leaf_more indexed c.args.all c.args.back c.args.count types test c.args.found.0 (size indexed types)
+      leaf_more indexed c.args.all c.args.back c.args.leaf.count types test c.args.found.0 (size indexed types)
           c.args.found.1
-          (test_size indexed test) c.args.choice c.requires.types c.requires.test,
+          (test_size indexed test) c.args.leaf.choice c.requires.types c.requires.test,
     )

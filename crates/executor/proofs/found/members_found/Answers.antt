@@ -34,4 +34,5 @@ returns-clause-counted g c =
     let more =
     members_more indexed (one_of plan) c.from.result most
     (subst (λ (count : ℕ). count ≤ most) (sym (c.from.ensures ∙ c.count.ensures)) c.requires.size) in
-    record { grows = omega arith; within = omega (arith, read, more) }
+    let bound = rw c.lengths.ensures at c.members_limits-limits.ensures.bound in
+    record { grows = omega arith; within = omega (arith, read, more, bound) }

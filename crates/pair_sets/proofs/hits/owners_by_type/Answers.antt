@@ -8,6 +8,7 @@ use Rattle.pair_sets.specs.inside.Hits.{AreHits, value_of, counts_for_owner, ent
 use Rattle.pair_sets.specs.Tested.{passes_of}
 use Rattle.pair_sets.proofs.HitLemmas.{marks_below, pushed_below, hits_pushed, no_hits, owned_hits, owners_below, owners_long}
 use Rattle.pair_sets.proofs.HitLemmas.{values_long, values_told}
+use Rattle.pair_sets.proofs.VainLemmas.{none_kept}
 use Rattle.pair_sets.proofs.hits.owners_by_type.Goals as goal
 
 pub loop-id-init : goal.loop-id-init
@@ -22,6 +23,17 @@ loop-id-init g c = record {
       (no_hits (owner_count c.args.owner indexed) (counts_for_owner c.args.owner indexed (λ row. passes row.value)));
   counted = counted_none;
 }
+
+-- no row is read where none has a value that passes
+pub returns-then-none_passes-clause-hits : goal.returns-then-none_passes-clause-hits
+returns-then-none_passes-clause-hits g c =
+    let indexed = c.args.reader.indexes.now in
+    let passes : Value → Bool = passes_of g.S.ConceptSet.items_of indexed.concepts c.args.tested.now in
+    let counts = counts_for_owner c.args.owner indexed (λ row. passes row.value) in
+    subst (AreHits (owner_count c.args.owner indexed) counts (entries_with_types indexed.rows c.args.ids.now))
+    (sym c.new.ensures.items)
+    (none_kept c.args.owner indexed (λ row. passes row.value) c.args.ids.now (owner_count c.args.owner indexed)
+    (c.none_passes.ensures c.if-none_passes.true))
 
 pub push_passing-requires-clause-long : goal.push_passing-requires-clause-long
 push_passing-requires-clause-long g c =

@@ -9,6 +9,7 @@ use Rattle.pair_sets.specs.inside.Hits.{AreHits, counts_for_value, entries_with_
 use Rattle.pair_sets.specs.Tested.{passes_of}
 use Rattle.pair_sets.proofs.HitLemmas.{cells_below, pushed_below, backward_hits, hits_pushed, no_hits}
 use Rattle.pair_sets.proofs.HitLemmas.{sources_long, values_long}
+use Rattle.pair_sets.proofs.VainLemmas.{none_kept_back}
 use Rattle.pair_sets.proofs.hits.values_by_type.Goals as goal
 
 pub loop-id-init : goal.loop-id-init
@@ -21,6 +22,17 @@ loop-id-init g c = record {
       (no_hits (length c.args.reader.indexes.now.concepts) (counts_for_value c.args.reader.indexes.now.concepts (λ row. passes (concept_value row.source))));
   counted = counted_none;
 }
+
+-- no source is a number
+pub returns-then-asks_for_number-clause-hits : goal.returns-then-asks_for_number-clause-hits
+returns-then-asks_for_number-clause-hits g c =
+    let indexed = c.args.reader.indexes.now in
+    let passes : Value → Bool = passes_of g.S.ConceptSet.items_of indexed.concepts c.args.tested.now in
+    let counts = counts_for_value indexed.concepts (λ row. passes (concept_value row.source)) in
+    subst (AreHits (length indexed.concepts) counts (entries_with_types indexed.rows c.args.ids.now))
+    (sym c.new.ensures.items)
+    (none_kept_back indexed (λ row. passes (concept_value row.source)) c.args.ids.now (length indexed.concepts)
+    (λ row. c.asks_for_number.ensures c.if-asks_for_number.true indexed.concepts row.source))
 
 pub push_cells-requires-clause-long : goal.push_cells-requires-clause-long
 push_cells-requires-clause-long g c =

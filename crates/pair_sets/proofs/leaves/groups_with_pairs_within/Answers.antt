@@ -13,7 +13,7 @@ returns-clause-found g c =
       items =
           c.in_ok-found.ensures.items
           ∙ (λ i. groups_within release (may_be g.S.ConceptSet.items_of c.args.candidates.now)
-          (has_pairs c.args.count one (λ value. c.in_ok-way.ensures.way.passes value i)));
+          (has_pairs c.args.leaf.count one (λ value. c.in_ok-way.ensures.way.passes value i)));
       bound = c.in_ok-found.ensures.bound;
       floor = omega arith;
     }

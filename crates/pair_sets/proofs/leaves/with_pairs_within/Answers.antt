@@ -13,7 +13,7 @@ returns-clause-found g c =
       items =
           c.in_ok-found.ensures.items
           ∙ (λ i. numbers_within release (may_be g.S.ConceptSet.items_of c.args.candidates.now)
-          (λ concept. has_pairs c.args.count one (λ value. c.in_ok-way.ensures.way.passes value i)
+          (λ concept. has_pairs c.args.leaf.count one (λ value. c.in_ok-way.ensures.way.passes value i)
           (pairs_of release c.args.back concept)));
       bound = c.in_ok-found.ensures.bound;
       floor = omega arith;

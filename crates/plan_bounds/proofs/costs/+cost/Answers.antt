@@ -44,7 +44,7 @@ unit_parts_cost-returns t c = record {
 
 pub cost-returns-in-And : goal.cost-returns-in-And
 cost-returns-in-And t c =
-    let indexed = c.args.indexes.now in
+    let indexed = c.args.lengths.indexes.now in
     let parts = physicals_of c.deref-in-And.result.now in
     let inner = c.parts_cost-inner.ensures in
     let is = and_are c.in-And.parts c.in-And.is c.deref-in-And.ensures.value in
@@ -61,7 +61,7 @@ cost-returns-in-And t c =
 
 pub cost-returns-in-Or : goal.cost-returns-in-Or
 cost-returns-in-Or t c =
-    let indexed = c.args.indexes.now in
+    let indexed = c.args.lengths.indexes.now in
     let parts = physicals_of c.deref-in-Or.result.now in
     let inner = c.parts_cost-inner-in-Or.ensures in
     let count : c.len.result ≡ plan_count parts = omega (arith, plan_count-parts c.deref-in-Or.result.now) in
@@ -84,11 +84,11 @@ cost-returns-in-Minus-clause-bound t c =
     let is = minus_are c.in-Minus.first c.in-Minus.second c.in-Minus.is c.deref-in-Minus.ensures c.deref-in-Minus-2.ensures in
     capped_three _ _ _ c.with_two.ensures.bound (c.cost_of_first.ensures.bound ∙ (λ i. capped (left.size i + right.size i)))
     left.bound right.bound
-    ∙ sym (ap (λ (plan : Physical). capped (bound c.args.indexes.now plan)) is)
+    ∙ sym (ap (λ (plan : Physical). capped (bound c.args.lengths.indexes.now plan)) is)
 
 pub cost-returns-in-Values : goal.cost-returns-in-Values
 cost-returns-in-Values t c =
-    let indexed = c.args.indexes.now in
+    let indexed = c.args.lengths.indexes.now in
     let is = values_are c.in-Values.start c.in-Values.names c.in-Values.is c.deref-in-Values.ensures c.deref-in-Values-2.ensures.value in
     record {
       size = c.values_cost.ensures.size ∙ sym (ap (size indexed) is);
@@ -97,7 +97,7 @@ cost-returns-in-Values t c =
 
 pub cost-returns-in-Pairs-clause-bound : goal.cost-returns-in-Pairs-clause-bound
 cost-returns-in-Pairs-clause-bound t c =
-    let indexed = c.args.indexes.now in
+    let indexed = c.args.lengths.indexes.now in
     let types = physical_of c.deref-in-Pairs.result.now in
     let test = physical_test_of c.in-Pairs.test in
     c.pairs_cost.ensures.bound
@@ -111,11 +111,12 @@ cost-returns-in-Units-clause-bound t c =
     capped_two _ _ c.with_parts-in-Units.ensures.bound
     (c.cost_of_units-own.ensures.bound
     ∙ (λ i. capped (inner.size i + passed_over (c.in-Units.count.min == 0) (c.concepts-all.ensures i)))) inner.bound
-    ∙ sym (ap (λ (plan : Physical). capped (bound c.args.indexes.now plan)) (units_are c.in-Units.units c.in-Units.is c.deref-in-Units.ensures))
+    ∙ sym (ap (λ (plan : Physical). capped (bound c.args.lengths.indexes.now plan))
+    (units_are c.in-Units.units c.in-Units.is c.deref-in-Units.ensures))
 
 pub values_cost-returns : goal.values_cost-returns
 values_cost-returns t c =
-    let indexed = c.args.indexes.now in
+    let indexed = c.args.lengths.indexes.now in
     let from = c.cost-from.ensures in
     let count = sym (plan_count-parts c.args.names.now) in
     record {
@@ -131,7 +132,7 @@ pairs_cost-returns t c =
     let test = physical_test_of c.args.test.now in
     let types = physical_of c.args.types.now in
     let leaf = c.counts_of_leaf-leaf.ensures
-    ∙ (λ i. leaf_of c.args.indexes.now c.args.all c.args.back c.args.count types test
+    ∙ (λ i. leaf_of c.args.lengths.indexes.now c.args.all c.args.back c.args.count types test
     (c.cost-of_types.ensures.size i) (c.test_cost-of_test.ensures.size i)) in
     record {
       size = c.with_two.ensures.size ∙ c.cost.ensures.size ∙ (λ i. leaf_size (leaf i) c.args.choice);
@@ -142,7 +143,7 @@ pairs_cost-returns t c =
 
 pub unit_cost-returns-in-And : goal.unit_cost-returns-in-And
 unit_cost-returns-in-And t c =
-    let indexed = c.args.indexes.now in
+    let indexed = c.args.lengths.indexes.now in
     let parts = physical_units_list_of c.deref.result.now in
     let inner = c.unit_parts_cost-inner.ensures in
     let is = and_units_are c.in-And.parts c.in-And.is c.deref.ensures.value in
@@ -160,7 +161,7 @@ unit_cost-returns-in-And t c =
 
 pub unit_cost-returns-in-Or : goal.unit_cost-returns-in-Or
 unit_cost-returns-in-Or t c =
-    let indexed = c.args.indexes.now in
+    let indexed = c.args.lengths.indexes.now in
     let parts = physical_units_list_of c.deref-in-Or.result.now in
     let inner = c.unit_parts_cost-inner-in-Or.ensures in
     let count : c.len.result ≡ group_count parts = omega (arith, group_count-parts c.deref-in-Or.result.now) in
@@ -183,11 +184,11 @@ unit_cost-returns-in-Minus-clause-bound t c =
     let is = minus_units_are c.in-Minus.first c.in-Minus.second c.in-Minus.is c.deref-in-Minus.ensures c.deref-in-Minus-2.ensures in
     capped_three _ _ _ c.with_two.ensures.bound (c.cost_of_first.ensures.bound ∙ (λ i. capped (left.size i + right.size i)))
     left.bound right.bound
-    ∙ sym (ap (λ (plan : PhysicalUnits). capped (group_sum (own_number c.args.indexes.now) plan)) is)
+    ∙ sym (ap (λ (plan : PhysicalUnits). capped (group_sum (own_number c.args.lengths.indexes.now) plan)) is)
 
 pub unit_cost-returns-in-Pairs-clause-bound : goal.unit_cost-returns-in-Pairs-clause-bound
 unit_cost-returns-in-Pairs-clause-bound t c =
-    let indexed = c.args.indexes.now in
+    let indexed = c.args.lengths.indexes.now in
     let types = physical_of c.deref-in-Pairs.result.now in
     let test = physical_test_of c.in-Pairs.test in
     let is = pairs_units_are c.in-Pairs.types c.in-Pairs.is c.deref-in-Pairs.ensures in

@@ -9,14 +9,14 @@ use Rattle.plan_bounds.proofs.costs.+cost.Given as goal
 
 abbrev pub invariant-parts_cost-loop-place : goal.invariant-parts_cost-loop-place
 invariant-parts_cost-loop-place l = record {
-  sizes : SizesLeft (concept_sizes l.indexes) l.all l.parts l.place l.tally;
-  sum : SumLeft (concept_sum (own_number l.indexes)) l.parts l.place l.bound;
+  sizes : SizesLeft (concept_sizes l.lengths.indexes.now) l.all l.parts l.place l.tally;
+  sum : SumLeft (concept_sum (own_number l.lengths.indexes.now)) l.parts l.place l.bound;
 }
 
 abbrev pub invariant-unit_parts_cost-loop-place : goal.invariant-unit_parts_cost-loop-place
 invariant-unit_parts_cost-loop-place l = record {
-  sizes : SizesLeft (unit_sizes l.indexes) l.all l.parts l.place l.tally;
-  sum : SumLeft (unit_sum (own_number l.indexes)) l.parts l.place l.bound;
+  sizes : SizesLeft (unit_sizes l.lengths.indexes.now) l.all l.parts l.place l.tally;
+  sum : SumLeft (unit_sum (own_number l.lengths.indexes.now)) l.parts l.place l.bound;
 }
 
 -- the functions go down a plan; what is called for the same plan comes after its caller

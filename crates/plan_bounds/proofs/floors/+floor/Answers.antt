@@ -23,32 +23,35 @@ unit_parts_floor-returns t c = sum_end c.loop-part.invariant c.loop-part-test.fa
 -- ---- the floor of a node is the sum of those of its parts and of its own
 pub plan_floor-returns-in-And : goal.plan_floor-returns-in-And
 plan_floor-returns-in-And t c =
+    let indexed = c.args.lengths.indexes.now in
     elim c.in-And.is [
-      | inl is ↦ omega (arith, ap (floor c.args.indexes.now) (and_are c.in-And.parts is c.deref-in-And.ensures.value))
-      | inr is ↦ omega (arith, ap (floor c.args.indexes.now) (or_are c.in-And.parts is c.deref-in-And.ensures.value))
+      | inl is ↦ omega (arith, ap (floor indexed) (and_are c.in-And.parts is c.deref-in-And.ensures.value))
+      | inr is ↦ omega (arith, ap (floor indexed) (or_are c.in-And.parts is c.deref-in-And.ensures.value))
     ]
 
 pub plan_floor-returns-in-Minus : goal.plan_floor-returns-in-Minus
 plan_floor-returns-in-Minus t c =
     let is = minus_are c.in-Minus.first c.in-Minus.second c.in-Minus.is c.deref-in-Minus.ensures c.deref-in-Minus-2.ensures in
-    omega (arith, ap (floor c.args.indexes.now) is)
+    omega (arith, ap (floor c.args.lengths.indexes.now) is)
 
 pub plan_floor-returns-in-Values : goal.plan_floor-returns-in-Values
 plan_floor-returns-in-Values t c =
     let is = values_are c.in-Values.start c.in-Values.names c.in-Values.is c.deref-in-Values.ensures c.deref-in-Values-2.ensures.value in
-    omega (arith, ap (floor c.args.indexes.now) is)
+    omega (arith, ap (floor c.args.lengths.indexes.now) is)
 
 pub plan_floor-returns-in-Pairs : goal.plan_floor-returns-in-Pairs
 plan_floor-returns-in-Pairs t c =
-    omega (arith, ap (floor c.args.indexes.now) (pairs_are c.in-Pairs.types c.in-Pairs.is c.deref-in-Pairs.ensures))
+    let is = pairs_are c.in-Pairs.types c.in-Pairs.is c.deref-in-Pairs.ensures in
+    omega (arith, ap (floor c.args.lengths.indexes.now) is)
 
 pub plan_floor-returns-in-Units : goal.plan_floor-returns-in-Units
 plan_floor-returns-in-Units t c =
-    omega (arith, ap (floor c.args.indexes.now) (units_are c.in-Units.units c.in-Units.is c.deref-in-Units.ensures))
+    let is = units_are c.in-Units.units c.in-Units.is c.deref-in-Units.ensures in
+    omega (arith, ap (floor c.args.lengths.indexes.now) is)
 
 pub unit_floor-returns-in-And : goal.unit_floor-returns-in-And
 unit_floor-returns-in-And t c =
-    let number = floor_number c.args.indexes.now in
+    let number = floor_number c.args.lengths.indexes.now in
     elim c.in-And.is [
       | inl is ↦ omega (arith, ap (group_sum number) (and_units_are c.in-And.parts is c.deref-in-And.ensures.value))
       | inr is ↦ omega (arith, ap (group_sum number) (or_units_are c.in-And.parts is c.deref-in-And.ensures.value))
@@ -57,9 +60,9 @@ unit_floor-returns-in-And t c =
 pub unit_floor-returns-in-Minus : goal.unit_floor-returns-in-Minus
 unit_floor-returns-in-Minus t c =
     let is = minus_units_are c.in-Minus.first c.in-Minus.second c.in-Minus.is c.deref.ensures c.deref-in-Minus.ensures in
-    omega (arith, ap (group_sum (floor_number c.args.indexes.now)) is)
+    omega (arith, ap (group_sum (floor_number c.args.lengths.indexes.now)) is)
 
 pub unit_floor-returns-in-Pairs : goal.unit_floor-returns-in-Pairs
 unit_floor-returns-in-Pairs t c =
     let is = pairs_units_are c.in-Pairs.types c.in-Pairs.is c.deref-in-Pairs.ensures in
-    omega (arith, ap (group_sum (floor_number c.args.indexes.now)) is)
+    omega (arith, ap (group_sum (floor_number c.args.lengths.indexes.now)) is)

@@ -7,10 +7,12 @@ use Rattle.plan_bounds.proofs.LoopLemmas.{SumLeft, concept_sum, unit_sum}
 use Rattle.plan_bounds.proofs.floors.+floor.Given as goal
 
 abbrev pub invariant-parts_floor-loop-part : goal.invariant-parts_floor-loop-part
-invariant-parts_floor-loop-part l = SumLeft (concept_sum (floor_number l.indexes)) l.parts l.part-index l.floor
+invariant-parts_floor-loop-part l =
+    SumLeft (concept_sum (floor_number l.lengths.indexes.now)) l.parts l.part-index l.floor
 
 abbrev pub invariant-unit_parts_floor-loop-part : goal.invariant-unit_parts_floor-loop-part
-invariant-unit_parts_floor-loop-part l = SumLeft (unit_sum (floor_number l.indexes)) l.parts l.part-index l.floor
+invariant-unit_parts_floor-loop-part l =
+    SumLeft (unit_sum (floor_number l.lengths.indexes.now)) l.parts l.part-index l.floor
 
 -- the functions go down a plan; what is called for the same plan comes after its caller
 abbrev pub decreases-plan_floor : goal.decreases-plan_floor

@@ -11,7 +11,8 @@ returns-clause-ordered c =
     omega (
       arith,
       c.leaf_floor.ensures,
-      c.cost.ensures.bound ∙ ap (λ (leaf : Leaf). capped (leaf_bound leaf c.args.choice)) c.counts_of_leaf-leaf.ensures,
-      leaf-le c.args.indexes.now c.args.all c.args.back c.args.count (physical_of c.args.types.now) (physical_test_of c.args.test.now) c.args.sizes.0
-          c.args.sizes.1 c.args.choice,
+      c.cost.ensures.bound
+          ∙ ap (λ (leaf : Leaf). capped (leaf_bound leaf c.args.leaf.choice)) c.counts_of_leaf-counts.ensures,
+      leaf-le c.args.lengths.indexes.now c.args.all c.args.back c.args.leaf.count (physical_of c.args.leaf.types.now)
+          (physical_test_of c.args.leaf.test.now) c.args.sizes.0 c.args.sizes.1 c.args.leaf.choice,
     )

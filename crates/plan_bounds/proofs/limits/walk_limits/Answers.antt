@@ -10,5 +10,5 @@ returns-clause-ordered c =
       arith,
       c.walk_floor.ensures,
       c.cost_of_walk.ensures.bound,
-      walk-le c.args.indexes.now c.args.operator (one_of (physical_of c.args.operand.now)) c.args.size,
+      walk-le c.args.lengths.indexes.now c.args.operator (one_of (physical_of c.args.operand.now)) c.args.size,
     )

@@ -73,11 +73,12 @@ list_behind-returns-in-Values t c =
     let given = c.args.bounds.now.items in
     let all = c.list_values.new.bounds.items in
     let is = values_are c.in-Values.start c.in-Values.names c.in-Values.is c.deref-in-Values.ensures c.deref-in-Values-2.ensures.value in
-    subst (λ plan. IfOk c.list_values.result (λ node. IsNode c.args.indexes.now plan given all node)) (sym is) c.list_values.ensures
+    subst (λ plan. IfOk c.list_values.result (λ node. IsNode c.args.lengths.indexes.now plan given all node))
+    (sym is) c.list_values.ensures
 
 pub list_or-returns : goal.list_or-returns
 list_or-returns t c =
-    let all = total (sizes c.args.indexes.now (physicals_of c.args.parts.now)) in
+    let all = total (sizes c.args.lengths.indexes.now (physicals_of c.args.parts.now)) in
     let inner = c.in_ok-inner.ensures in
     let count = sym (plan_count-parts c.args.parts.now) in
     listed inner.bounds
@@ -88,7 +89,7 @@ list_or-returns t c =
 
 pub list_units_or-returns : goal.list_units_or-returns
 list_units_or-returns t c =
-    let all = total (group_sizes c.args.indexes.now (physical_units_list_of c.args.parts.now)) in
+    let all = total (group_sizes c.args.lengths.indexes.now (physical_units_list_of c.args.parts.now)) in
     let inner = c.in_ok-inner.ensures in
     let count = sym (group_count-parts c.args.parts.now) in
     listed inner.bounds
@@ -115,7 +116,7 @@ list_units_minus-returns t c =
 
 pub list_values-returns : goal.list_values-returns
 list_values-returns t c =
-    let indexed = c.args.indexes.now in
+    let indexed = c.args.lengths.indexes.now in
     let from = c.in_ok-from.ensures in
     let count = sym (plan_count-parts c.args.names.now) in
     listed (two_behind _ _ _ c.in_ok-types.ensures.bounds from.bounds)
@@ -129,7 +130,8 @@ list_pairs-returns t c =
     let of_types = c.in_ok-of_types.ensures in
     let of_test = c.in_ok-of_test.ensures in
     let leaf = c.counts_of_leaf-leaf.ensures
-    ∙ (λ i. leaf_of c.args.indexes.now c.args.all c.args.back c.args.count types test (of_types.size i) (of_test.size i)) in
+    ∙ (λ i. leaf_of c.args.lengths.indexes.now c.args.all c.args.back c.args.count types test
+    (of_types.size i) (of_test.size i)) in
     listed (two_behind _ _ _ of_test.bounds of_types.bounds)
     (c.cost.ensures.bound ∙ (λ i. capped (leaf_bound (leaf i) c.args.choice)))
     (c.cost.ensures.size ∙ (λ i. leaf_size (leaf i) c.args.choice))

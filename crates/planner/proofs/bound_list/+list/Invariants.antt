@@ -10,14 +10,14 @@ use Rattle.planner.proofs.bound_list.+list.Given as goal
 
 abbrev pub invariant-list_parts-loop-place : goal.invariant-list_parts-loop-place
 invariant-list_parts-loop-place l = record {
-  sizes : SizesLeft (concept_sizes l.indexes) l.all l.parts l.place l.tally;
-  bounds : ListLeft (concept_list (own_list l.indexes)) l.fn.bounds.items l.parts l.place l.bounds.items;
+  sizes : SizesLeft (concept_sizes l.lengths.indexes.now) l.all l.parts l.place l.tally;
+  bounds : ListLeft (concept_list (own_list l.lengths.indexes.now)) l.fn.bounds.items l.parts l.place l.bounds.items;
 }
 
 abbrev pub invariant-list_unit_parts-loop-place : goal.invariant-list_unit_parts-loop-place
 invariant-list_unit_parts-loop-place l = record {
-  sizes : SizesLeft (unit_sizes l.indexes) l.all l.parts l.place l.tally;
-  bounds : ListLeft (unit_list (own_list l.indexes)) l.fn.bounds.items l.parts l.place l.bounds.items;
+  sizes : SizesLeft (unit_sizes l.lengths.indexes.now) l.all l.parts l.place l.tally;
+  bounds : ListLeft (unit_list (own_list l.lengths.indexes.now)) l.fn.bounds.items l.parts l.place l.bounds.items;
 }
 
 -- the functions go down a plan; what is called for the same plan comes after its caller

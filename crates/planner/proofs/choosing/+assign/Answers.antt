@@ -23,7 +23,8 @@ assign_parts-loop-place-preserved t c =
     λ d. c.index_mut.ensures.value ∙ get_or_default items place old d inside ∙ left.unvisited.1 place d (omega arith) in
     record {
       unvisited = search rules;
-      each = each_more (choosing_concepts c.args.indexes.now) tt items before place old c.assign_choices-size.new.plan left.each inside was
+      each = each_more (choosing_concepts c.args.lengths.indexes.now) tt items before place old
+          c.assign_choices-size.new.plan left.each inside was
           c.assign_choices-size.ensures.plan;
       sizes = sizes_turn left.sizes (omega (arith, inside, left.unvisited.0)) (was old) c.assign_choices-size.ensures.size c.with-tally.ensures;
     }
@@ -33,7 +34,8 @@ assign_parts-returns t c =
     let left = c.loop-place.invariant in
     let before : List ConceptPlan = c.args.parts.now.items in
     record {
-      parts = each_all (choosing_concepts c.args.indexes.now) tt c.loop-place.parts.items before left.unvisited.0
+      parts = each_all (choosing_concepts c.args.lengths.indexes.now) tt c.loop-place.parts.items before
+          left.unvisited.0
           (λ k d below. left.each k d (omega (arith, below, c.loop-place-test.false, c.len-place-end.ensures)));
       tally = sizes_end left.sizes (omega (arith, c.loop-place-test.false, c.len-place-end.ensures));
     }
@@ -50,7 +52,8 @@ assign_unit_parts-loop-place-preserved t c =
     λ d. c.index_mut.ensures.value ∙ get_or_default items place old d inside ∙ left.unvisited.1 place d (omega arith) in
     record {
       unvisited = search rules;
-      each = each_more (choosing_groups c.args.indexes.now) tt items before place old c.assign_units-size.new.plan left.each inside was
+      each = each_more (choosing_groups c.args.lengths.indexes.now) tt items before place old
+          c.assign_units-size.new.plan left.each inside was
           c.assign_units-size.ensures.plan;
       sizes = sizes_turn left.sizes (omega (arith, inside, left.unvisited.0)) (was old) c.assign_units-size.ensures.size c.with-tally.ensures;
     }
@@ -60,14 +63,14 @@ assign_unit_parts-returns t c =
     let left = c.loop-place.invariant in
     let before : List UnitPlan = c.args.parts.now.items in
     record {
-      parts = each_all (choosing_groups c.args.indexes.now) tt c.loop-place.parts.items before left.unvisited.0
+      parts = each_all (choosing_groups c.args.lengths.indexes.now) tt c.loop-place.parts.items before left.unvisited.0
           (λ k d below. left.each k d (omega (arith, below, c.loop-place-test.false, c.len-place-end.ensures)));
       tally = sizes_end left.sizes (omega (arith, c.loop-place-test.false, c.len-place-end.ensures));
     }
 
 pub assign_values-returns-clause-size : goal.assign_values-returns-clause-size
 assign_values-returns-clause-size t c =
-    let indexed = c.args.indexes.now in
+    let indexed = c.args.lengths.indexes.now in
     let count : c.len.result ≡ plan_count (all_chosen indexed (plans_of c.args.names.now.items)) =
     omega (arith, plan_count-parts c.assign_parts.new.parts.items, ap plan_count c.assign_parts.ensures.parts) in
     c.cost_of_values.ensures.size ∙ (λ i. values_size indexed (count i) (c.assign_choices-from.ensures.size i))

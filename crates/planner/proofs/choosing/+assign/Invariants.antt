@@ -10,15 +10,15 @@ use Rattle.planner.proofs.choosing.+assign.Given as goal
 abbrev pub invariant-assign_parts-loop-place : goal.invariant-assign_parts-loop-place
 invariant-assign_parts-loop-place l = record {
   unvisited : goal.unvisited-assign_parts-loop-place l;
-  each : Each (choosing_concepts l.indexes) tt l.parts.items l.initial.parts.items l.place;
-  sizes : SizesLeft (chosen_sizes l.indexes) l.all l.initial.parts.items l.place l.tally;
+  each : Each (choosing_concepts l.lengths.indexes.now) tt l.parts.items l.initial.parts.items l.place;
+  sizes : SizesLeft (chosen_sizes l.lengths.indexes.now) l.all l.initial.parts.items l.place l.tally;
 }
 
 abbrev pub invariant-assign_unit_parts-loop-place : goal.invariant-assign_unit_parts-loop-place
 invariant-assign_unit_parts-loop-place l = record {
   unvisited : goal.unvisited-assign_unit_parts-loop-place l;
-  each : Each (choosing_groups l.indexes) tt l.parts.items l.initial.parts.items l.place;
-  sizes : SizesLeft (group_chosen_sizes l.indexes) l.all l.initial.parts.items l.place l.tally;
+  each : Each (choosing_groups l.lengths.indexes.now) tt l.parts.items l.initial.parts.items l.place;
+  sizes : SizesLeft (group_chosen_sizes l.lengths.indexes.now) l.all l.initial.parts.items l.place l.tally;
 }
 
 -- the functions go down a plan; what is called for the same plan comes after its caller

@@ -9,20 +9,27 @@ use Rattle.planner.proofs.physical.choose.Goals as goal
 
 pub new-requires : goal.new-requires
 new-requires c =
-    record { offered = subst AreOffered (sym c.assign_choices.ensures.plan) (chosen_are_offered c.args.indexes.now (plan_of c.args.plan)) }
+    let given = rw c.lengths.ensures at c.assign_choices.ensures.plan in
+    record { offered = subst AreOffered (sym given) (chosen_are_offered c.args.indexes.now (plan_of c.args.plan)) }
 
 pub returns-clause-plan : goal.returns-clause-plan
 returns-clause-plan c =
+    let given = rw c.lengths.ensures at c.assign_choices.ensures.plan in
     ap plan_of c.in_ok-physical.ensures.plan
-    ∙ plan_kept c.args.indexes.now (plan_of c.args.plan) c.assign_choices.new.plan c.assign_choices.ensures.plan
+    ∙ plan_kept c.args.indexes.now (plan_of c.args.plan) c.assign_choices.new.plan given
 
 pub returns-clause-chosen : goal.returns-clause-chosen
-returns-clause-chosen c = ap physical_of c.in_ok-physical.ensures.plan ∙ c.assign_choices.ensures.plan
+returns-clause-chosen c =
+    let given = rw c.lengths.ensures at c.assign_choices.ensures.plan in
+    ap physical_of c.in_ok-physical.ensures.plan ∙ given
 
 pub returns-clause-choices : goal.returns-clause-choices
-returns-clause-choices c = c.in_ok-physical.ensures.choices ∙ ap choices_in c.assign_choices.ensures.plan
+returns-clause-choices c =
+    let given = rw c.lengths.ensures at c.assign_choices.ensures.plan in
+    c.in_ok-physical.ensures.choices ∙ ap choices_in given
 
 pub returns-clause-least : goal.returns-clause-least
 returns-clause-least c =
-    subst (AreLeast c.args.indexes.now) (sym (ap physical_of c.in_ok-physical.ensures.plan ∙ c.assign_choices.ensures.plan))
+    let given = rw c.lengths.ensures at c.assign_choices.ensures.plan in
+    subst (AreLeast c.args.indexes.now) (sym (ap physical_of c.in_ok-physical.ensures.plan ∙ given))
     (chosen_are_least c.args.indexes.now (plan_of c.args.plan))

@@ -13,19 +13,22 @@ pub new-requires : goal.new-requires
 new-requires c =
     let asked = c.args.asked.now in
     let least = chosen c.args.indexes.now (plan_of c.args.plan) in
-    let given = c.put_asked.ensures.plan ∙ ap (λ (plan : Physical). (with_asked asked plan).plan) c.assign_choices.ensures.plan in
+    let assigned = rw c.lengths.ensures at c.assign_choices.ensures.plan in
+    let given = c.put_asked.ensures.plan ∙ ap (λ (plan : Physical). (with_asked asked plan).plan) assigned in
     let offered = chosen_are_offered c.args.indexes.now (plan_of c.args.plan) in
     record { offered = subst AreOffered (sym given) (asked_are_offered asked least offered) }
 
 pub returns-clause-plan : goal.returns-clause-plan
 returns-clause-plan c =
+    let assigned = rw c.lengths.ensures at c.assign_choices.ensures.plan in
     ap plan_of c.in_ok-physical.ensures.plan
     ∙ asked_plan_kept c.args.indexes.now c.args.asked.now (plan_of c.args.plan) c.assign_choices.new.plan c.put_asked.new.plan
-    c.assign_choices.ensures.plan c.put_asked.ensures.plan
+    assigned c.put_asked.ensures.plan
 
 pub returns-clause-choices : goal.returns-clause-choices
 returns-clause-choices c =
     let asked = c.args.asked.now in
     let least = chosen c.args.indexes.now (plan_of c.args.plan) in
-    let given = c.put_asked.ensures.plan ∙ ap (λ (plan : Physical). (with_asked asked plan).plan) c.assign_choices.ensures.plan in
+    let assigned = rw c.lengths.ensures at c.assign_choices.ensures.plan in
+    let given = c.put_asked.ensures.plan ∙ ap (λ (plan : Physical). (with_asked asked plan).plan) assigned in
     c.in_ok-physical.ensures.choices ∙ ap choices_in given ∙ choices-asked asked least

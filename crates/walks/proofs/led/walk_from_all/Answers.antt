@@ -1,10 +1,35 @@
-use Rattle.std.proofs.Common.{ℕ, Bool, ◌∙◌, ap}
+use Rattle.std.proofs.Common.{ℕ, Bool, ◌≡◌, ◌∙◌, sym, ap}
 use Rattle.std.specs.Prelude.{filter}
+use Rattle.std.specs.List.{range_with_len}
+use Rattle.std.proofs.lemmas.Result.{IfOk-weaker}
 use Rattle.candidates.specs.Within.{may_be}
 use Rattle.reading.proofs.CountLemmas.{counted_in}
-use Rattle.walks.proofs.AskedLemmas.{led_from_all}
+use Rattle.walks.specs.Families.{lists_of}
+use Rattle.walks.specs.Led.{joined, led_to}
+use Rattle.walks.specs.declared.family.Reach.{Reach}
+use Rattle.walks.specs.inside.Steps.{stepped}
+use Rattle.walks.proofs.AskedLemmas.{all_with_own, led_from_all}
 use Rattle.walks.proofs.ReadLemmas.{asked_from_many}
 use Rattle.walks.proofs.led.walk_from_all.Goals as goal
+
+-- an operator that leads to all concepts leads to all candidates
+pub returns-then-is_or_self-clause-items : goal.returns-then-is_or_self-clause-items
+returns-then-is_or_self-clause-items g c =
+    let may : ℕ → Bool = may_be g.S.ConceptSet.items_of c.args.candidates.now in
+    let count = g.S.ConceptSet.bound_of c.args.from.now in
+    let items = g.S.ConceptSet.items_of c.args.from.now in
+    let hierarchy = c.args.reader.indexes.now.hierarchy in
+    let step = c.of.result in
+    let lists = lists_of hierarchy step.family in
+    let led : led_to hierarchy count c.args.operator items ≡ range_with_len 0 count =
+    c.of.ensures.led hierarchy count items
+    ∙ ap (λ (reach : Reach). stepped lists count reach items) (c.is_or_self.ensures c.if-is_or_self.true)
+    ∙ all_with_own count hierarchy c.requires.over items (joined count lists items) (g.met.S.ConceptSet.rising c.args.from.now)
+    c.requires.all in
+    IfOk-weaker c.all_below.result _ _
+    (λ found same. same ∙ ap (λ (bound : ℕ). filter may (range_with_len 0 bound)) c.bound.ensures
+    ∙ ap (filter may) (sym led))
+    c.all_below.ensures.items
 
 -- more than one concept is asked
 pub returns-in_err-led-clause-counted : goal.returns-in_err-led-clause-counted

@@ -20,7 +20,7 @@ from_items-requires g c =
     (list_of (lists_of c.args.reader.indexes.now.hierarchy c.args.family) concept)) in
     let kept : c.as_slice.result.now ≡ filter test (g.S.ConceptSet.items_of c.args.operand.now) =
     c.as_slice.ensures.value ∙ c.in_ok-kept.ensures.kept ∙ ap (filter test) c.requires.concepts in
-    subst (λ (bound : ℕ). IsRisingBelow bound c.as_slice.result.now) (sym c.bound.ensures)
+    subst (λ (bound : ℕ). IsRisingBelow bound c.as_slice.result.now) (sym c.bound-2.ensures)
     (subst (λ (items : List ℕ). IsRisingBelow (g.S.ConceptSet.bound_of c.args.operand.now) items) (sym kept)
     (rises_within-filter 0 (g.S.ConceptSet.bound_of c.args.operand.now) test
     (g.S.ConceptSet.items_of c.args.operand.now) (g.met.S.ConceptSet.rising c.args.operand.now)))

@@ -1,0 +1,149 @@
+//! What is asked of the indexes without reading a list.
+ghost use Rattle.std.specs.Prelude.{◌≡◌, ◌<◌, ◌^◌, length, pos, slice_index_or};
+ghost use Rattle.std.specs.Ordering.{int_cmp};
+ghost use Rattle.std.specs.List.Sorted.{IsStrictlyIncreasing};
+ghost use Rattle.number_lists.specs.KeyedLists.{list_of};
+ghost use Rattle.held_release.specs.Numbering.{concept_number};
+ghost use Rattle.postings.specs.Groups.{groups_in};
+ghost use Rattle.postings.specs.Indexed.{HasListsFor, rows_by_source, rows_by_type, rows_by_value};
+ghost use Rattle.postings.specs.Stats.{stats_in};
+ghost use Rattle.std.proofs.Props.{props};
+
+use crate::index::Indexes;
+use crate::stats::Stats;
+use rf2_rows::Decimal;
+use std::cmp::Ordering;
+
+/// The indexes, of which only numbers are asked: how long a list is, how much there is, and the number of a concept. No
+/// call gives a list or an item of one. Sizes, bounds and estimates of plans are computed from these numbers.
+#[derive(Clone, Copy)]
+pub struct Lengths<'a> {
+    pub(crate) indexes: &'a Indexes,
+    // each concept has its lists, and its components
+    pub ghost lists: { HasListsFor (length indexes.now.concepts) indexes.now.hierarchy } by { Prim.hlevel props },
+    pub ghost members: { length indexes.now.members ≡ length indexes.now.concepts },
+}
+
+impl<'a> Lengths<'a> {
+    /// How much there is in the release.
+    pub fn stats(self) -> Stats
+        ensures { result ≡ stats_in self.entry.indexes.now }
+    {
+        self.indexes.stats()
+    }
+
+    /// How many concepts are in force.
+    pub fn concept_count(self) -> u32
+        ensures count { result ≡ length self.entry.indexes.now.concepts }
+        ensures few { length self.entry.indexes.now.concepts < 2 ^ 31 }
+        ensures rising { IsStrictlyIncreasing self.entry.indexes.now.concepts }
+    {
+        self.indexes.concept_count()
+    }
+
+    /// The number of the concept with an identifier, or `None` where there is none in force.
+    pub fn index_of(self, id: u64) -> Option<u32>
+        ensures { result ≡ concept_number self.entry.indexes.now.concepts id }
+    {
+        self.indexes.index_of(id)
+    }
+
+    /// How many attribute rows are in force.
+    pub fn row_count(self) -> u32
+        ensures count { result ≡ length self.entry.indexes.now.rows }
+        ensures few { length self.entry.indexes.now.rows < 2 ^ 31 }
+    {
+        self.indexes.row_count()
+    }
+
+    /// How many groups all concepts have.
+    pub fn group_count(self) -> u32
+        ensures count { result ≡ length (groups_in self.entry.indexes.now) }
+        ensures few { length (groups_in self.entry.indexes.now) < 2 ^ 31 }
+    {
+        self.indexes.group_count()
+    }
+
+    /// How many rows have a concept as their source.
+    pub fn source_row_count(self, concept: u32) -> u64
+        requires { concept < length self.indexes.now.concepts }
+        ensures { result ≡ length (rows_by_source self.entry.indexes.now concept) }
+    {
+        self.indexes.rows_of(concept).len() as u64
+    }
+
+    /// How many rows have a concept as their value.
+    pub fn value_row_count(self, concept: u32) -> u64
+        requires { concept < length self.indexes.now.concepts }
+        ensures { result ≡ length (rows_by_value self.entry.indexes.now concept) }
+    {
+        self.indexes.by_value(concept).len() as u64
+    }
+
+    /// How many rows have a type. Any number may be asked for.
+    pub fn type_row_count(self, id: u64) -> u64
+        ensures { result ≡ length (rows_by_type self.entry.indexes.now id) }
+    {
+        self.indexes.by_type(id).len() as u64
+    }
+
+    /// How many decimals there are among the values of the rows.
+    pub fn decimal_count(self) -> u32
+        ensures { result ≡ length self.entry.indexes.now.decimals }
+    {
+        self.indexes.decimals().len() as u32
+    }
+
+    /// How a decimal, by its place among the decimals of all values, which rise, stands to a number.
+    pub fn compare_decimal(self, place: u32, number: Decimal) -> Ordering
+        requires { place < length self.indexes.now.decimals }
+        ensures { result ≡ int_cmp (slice_index_or self.entry.indexes.now.decimals place (pos 0)) number.0 }
+    {
+        self.indexes.decimals()[place as usize].cmp(&number.0)
+    }
+
+    /// How many components a reference set has.
+    pub fn member_count(self, concept: u32) -> u64
+        requires { concept < length self.indexes.now.concepts }
+        ensures count { result ≡ length (list_of self.entry.indexes.now.members concept) }
+        ensures few { result < 2 ^ 63 }
+    {
+        self.indexes.members(concept).len() as u64
+    }
+
+    /// How many ancestors a concept has.
+    pub fn ancestor_count_of(self, concept: u32) -> u64
+        requires { concept < length self.indexes.now.concepts }
+        ensures count { result ≡ length (list_of self.entry.indexes.now.hierarchy.ancestors concept) }
+        ensures few { result < 2 ^ 63 }
+    {
+        self.indexes.hierarchy().ancestors(concept).len() as u64
+    }
+
+    /// How many descendants a concept has.
+    pub fn descendant_count_of(self, concept: u32) -> u64
+        requires { concept < length self.indexes.now.concepts }
+        ensures count { result ≡ length (list_of self.entry.indexes.now.hierarchy.descendants concept) }
+        ensures few { result < 2 ^ 63 }
+    {
+        self.indexes.hierarchy().descendants(concept).len() as u64
+    }
+
+    /// How many parents a concept has.
+    pub fn parent_count_of(self, concept: u32) -> u64
+        requires { concept < length self.indexes.now.concepts }
+        ensures count { result ≡ length (list_of self.entry.indexes.now.hierarchy.parents concept) }
+        ensures few { result < 2 ^ 63 }
+    {
+        self.indexes.hierarchy().parents(concept).len() as u64
+    }
+
+    /// How many children a concept has.
+    pub fn child_count_of(self, concept: u32) -> u64
+        requires { concept < length self.indexes.now.concepts }
+        ensures count { result ≡ length (list_of self.entry.indexes.now.hierarchy.children concept) }
+        ensures few { result < 2 ^ 63 }
+    {
+        self.indexes.hierarchy().children(concept).len() as u64
+    }
+}

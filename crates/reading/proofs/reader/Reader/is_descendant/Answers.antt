@@ -1,0 +1,31 @@
+use Rattle.std.proofs.Common.{ℕ, Bool, ◌<◌, ◌∙◌, arith, length, sym, ap, subst}
+use Rattle.std.specs.Prelude.{slice_index}
+use Rattle.hierarchy.specs.Hierarchy.{reaches}
+use Rattle.number_lists.specs.Rising.{IsRising, numbers_where}
+use Rattle.number_lists.specs.KeyedLists.{list_of}
+use Rattle.number_lists.proofs.RisingLemmas.{numbers_where-rising, rising_fits}
+use Rattle.ancestor_index.specs.HierarchyLists.{Hierarchy}
+use Rattle.ancestor_index.proofs.ClosureLemmas.{length-where, list_of-where}
+use Rattle.reading.proofs.reader.Reader.is_descendant.Goals as goal
+
+-- the list is of those below the number of concepts that stand so to the concept
+pub has_number-requires : goal.has_number-requires
+has_number-requires c =
+    let release = c.args.self.snapshot.now.release in
+    let count = length release.concepts in
+    let stands : ℕ → ℕ → Bool = λ concept other. reaches release.isa (slice_index release.concepts other) (slice_index release.concepts concept) in
+    let below : c.args.concept < count =
+    omega (
+      arith,
+      c.requires,
+      ap (λ (hierarchy : Hierarchy). length hierarchy.descendants) c.args.self.index.hierarchy,
+      length-where count stands,
+    ) in
+    subst IsRising
+    (sym (c.descendants.ensures
+    ∙ ap (λ (hierarchy : Hierarchy). list_of hierarchy.descendants c.args.concept)
+    (c.hierarchy.ensures ∙ c.args.self.index.hierarchy)
+    ∙ list_of-where count stands c.args.concept below))
+    (rising_fits count (numbers_where count (stands c.args.concept))
+    (numbers_where-rising count (stands c.args.concept))
+    (omega (arith, c.concept_count.ensures.few)))
