@@ -1,5 +1,6 @@
 -- What a request ends with, by the status and the faults that it met.
-use Rattle.std.proofs.Common.{◌+◌, ◌≤◌, max, ℕ, ◌≡◌, ◌≢◌, ◌<◌, ◌⊎◌, inl, inr, false, true, List, [], length, take, Option, None, Some, Result, Ok, Err, refl, sym, ap, subst, ◌∙◌}
+use Rattle.std.proofs.Common.{◌+◌, ◌≤◌, max, ℕ, ◌≡◌, ◌≢◌, ◌<◌, ◌⊎◌, inl, inr, false, true, List, [], length, take}
+use Rattle.std.proofs.Common.{Option, None, Some, Result, Ok, Err, refl, sym, ap, subst, ◌∙◌}
 use Rattle.std.specs.Prelude.{IfSome}
 use Rattle.std.proofs.lemmas.Bool.{true≢false}
 use Rattle.std.specs.Io.KnownBytes.{Appends}
@@ -13,37 +14,41 @@ use Rattle.row_lists.specs.declared.fault.LoadFault.{LoadFault}
 use Rattle.row_lists.specs.declared.fault.LoadFault.TheVariants as load
 use Rattle.release_rows.specs.declared.limits.Limits.{Limits}
 use Rattle.answer_printer.specs.ReportText.{report_text}
-use Rattle.query_run.specs.Fault.{CountsTurns, HaveFailed}
+use Rattle.query_run.specs.Fault.{CountsTurns, EndsAt, HaveFailed}
+use Rattle.query_service.specs.ModeAnswer.{answers_in}
 use Rattle.query_service.specs.Report.{report_of}
 use Rattle.sample_release.specs.SampleContents.{sample_contents}
-use Rattle.query_service.specs.Serve.{AnswersFiles, EndsWith, IsAskedFor, IsCut, IsLoadOf, IsLoadedFrom, IsServed, IsTask, ServesWith, Task, TellsLoadFault, fault_text, refusal_status_of, sample_task, status_of}
+use Rattle.query_service.specs.Serve.{EndsWith, IsAnswered, IsAskedFor, IsCut, IsLoadOf, IsLoadedFrom, IsServed}
+use Rattle.query_service.specs.Serve.{IsReportCut, IsStopped, IsTask, ServesWith, Task, TellsLoadFault}
+use Rattle.query_service.specs.Serve.{fault_text, refusal_status_of, sample_task, status_of}
 use Rattle.query_service.specs.Streams.{IsTold, Streams, streams}
 use Rattle.query_run.specs.declared.running.RunFault.{RunFault}
 use Rattle.query_run.specs.declared.running.RunFault.TheVariants.{Read, Write, Memory, Turns}
 use Rattle.query_service.specs.declared.service.Status.{Status}
-use Rattle.query_service.specs.declared.service.Status.TheVariants.{Done, DeviceFault, WordsFault, ReleaseRefused, MemoryRefused}
+use Rattle.query_service.specs.declared.service.Status.TheVariants.{Done, DeviceFault, WordsFault, ReleaseRefused}
+use Rattle.query_service.specs.declared.service.Status.TheVariants.{MemoryRefused}
 use Rattle.streams.specs.declared.output.AnswerOutput.{Ghosts as Output}
 use Rattle.streams.specs.declared.input.QueryInput.{Ghosts as Input}
 use Rattle.command_line.specs.declared.words.Mode.{Mode}
-use Rattle.command_line.specs.declared.words.Mode.TheVariants.{Sample, Query, QueryWith, Explain, Describe, Session, Check}
-use Rattle.command_line.specs.declared.words.QueryOptions.{QueryOptions}
+use Rattle.command_line.specs.declared.words.Mode.TheVariants.{Sample, Check}
 
 -- a fault that came while a release was served, and was told by its line
 pub stops_with : {R W E : Type 0} (r : Input R) (w : Output W) (e : Output E) (mode : Mode) (contents : Contents)
     (fault : RunFault) (status : Status) (before after : Streams R W E)
     → status ≡ status_of fault → IsCut r w mode fault contents before after
-    → HaveFailed fault (r.has_failed after.input) (w.has_failed after.output) → CountsTurns fault (r.read_count before.input) (r.read_count after.input)
+    → HaveFailed fault (r.has_failed after.input) (w.has_failed after.output)
+    → CountsTurns fault (r.read_count before.input) (r.read_count after.input)
     → IsTold e before.errors after.errors (fault_text fault) → ServesWith r w e mode contents status before after
 stops_with r w e mode contents fault status before after is cut failed turns told =
-    subst (λ (s : Status). ServesWith r w e mode contents s before after) (sym is) (by fault cut failed turns told)
+    subst (λ (s : Status). ServesWith r w e mode contents s before after) (sym is)
+    (by fault (record { fault = fault; ends = refl; served = cut; failed = failed; turns = turns; told = told }))
   where
-    by : (fault : RunFault) → IsCut r w mode fault contents before after
-        → HaveFailed fault (r.has_failed after.input) (w.has_failed after.output) → CountsTurns fault (r.read_count before.input) (r.read_count after.input)
-        → IsTold e before.errors after.errors (fault_text fault) → ServesWith r w e mode contents (status_of fault) before after
-    by (Read count) cut failed turns told = record { fault = Read count; ends = refl; served = cut; failed = failed; turns = turns; told = told }
-    by (Write count) cut failed turns told = record { fault = Write count; ends = refl; served = cut; failed = failed; turns = turns; told = told }
-    by (Memory count) cut failed turns told = record { fault = Memory count; ends = refl; served = cut; failed = failed; turns = turns; told = told }
-    by (Turns count) cut failed turns told = record { fault = Turns count; ends = refl; served = cut; failed = failed; turns = turns; told = told }
+    by : (fault : RunFault) → IsStopped r w e mode contents (status_of fault) before after
+        → ServesWith r w e mode contents (status_of fault) before after
+    by (Read count) stopped = stopped
+    by (Write count) stopped = stopped
+    by (Memory count) stopped = stopped
+    by (Turns count) stopped = stopped
 
 -- files that were refused, and nothing was read or written
 pub refuses_with : {R W E : Type 0} (r : Input R) (w : Output W) (e : Output E) (task : Task) (fault : LoadFault)
@@ -56,58 +61,49 @@ refuses_with r w e task fault DeviceFault input output before after is told =
 refuses_with r w e task fault WordsFault input output before after is told = absurd told
 refuses_with r w e task fault ReleaseRefused input output before after is told =
     inr (record { fault = fault; ends = told.0; loaded = is; read = refl; written = refl; told = told.1 })
-refuses_with r w e task fault MemoryRefused input output before after is told = inr (record { read = refl; written = refl; told = told })
+refuses_with r w e task fault MemoryRefused input output before after is told =
+    inr (record { read = refl; written = refl; told = told })
 
--- the release that is built in is served as one of files is
-serves_sample : {R W E : Type 0} (r : Input R) (w : Output W) (e : Output E) (contents : Contents) (status : Status) (before after : Streams R W E)
-    → ServesWith r w e Query contents status before after → ServesWith r w e Sample contents status before after
-serves_sample r w e contents Done before after done = record { served = done.served; sound = done.sound; told = done.told }
-serves_sample r w e contents DeviceFault before after stopped =
-    record { fault = stopped.fault; ends = stopped.ends; served = stopped.served; failed = stopped.failed; turns = stopped.turns; told = stopped.told }
-serves_sample r w e contents WordsFault before after none = none
-serves_sample r w e contents ReleaseRefused before after none = none
-serves_sample r w e contents MemoryRefused before after stopped =
-    record { fault = stopped.fault; ends = stopped.ends; served = stopped.served; failed = stopped.failed; turns = stopped.turns; told = stopped.told }
+-- in a mode other than the one that is built in the release of a source's files is asked for
+pub asked_of_files : {told : Option (List FileText)} {old new : History} {language : List ℕ} {task : Task} (mode : Mode)
+    → mode ≢ Sample → IsLoadedFrom told old new language task → IsAskedFor told old new language mode task
+asked_of_files Sample other loaded = absurd (other refl)
+asked_of_files mode other loaded = loaded
 
--- a mode that answers the lines over files asks for the release of a source's files
-pub asked_of_files : {told : Option (List FileText)} {old new : History} {language : List ℕ} {task : Task} (mode : Mode) → AnswersFiles mode
-    → IsLoadedFrom told old new language task → IsAskedFor told old new language mode task
-asked_of_files Sample files loaded = absurd files
-asked_of_files Query files loaded = loaded
-asked_of_files (QueryWith options) files loaded = loaded
-asked_of_files Explain files loaded = loaded
-asked_of_files Describe files loaded = loaded
-asked_of_files Session files loaded = loaded
-asked_of_files Check files loaded = absurd files
+-- in a mode other than `check` what is asked for is that the lines are answered
+pub served_in : {R W E : Type 0} (r : Input R) (w : Output W) (mode : Mode) (contents : Contents)
+    (before after : Streams R W E) → mode ≢ Check
+    → IsAnswered r w (answers_in mode contents) before after → IsServed r w mode contents before after
+served_in r w Check contents before after other answered = absurd (other refl)
+served_in r w mode contents before after other answered = answered
 
--- a mode over files that has no run of its own is served as queries are
-pub serves_files : {R W E : Type 0} (r : Input R) (w : Output W) (e : Output E) (mode : Mode) (contents : Contents)
-    (status : Status) (before after : Streams R W E) → AnswersFiles mode
-    → ((options : QueryOptions) → mode ≢ QueryWith options) → mode ≢ Explain → mode ≢ Describe → mode ≢ Session
-    → ServesWith r w e Query contents status before after → ServesWith r w e mode contents status before after
-serves_files r w e Sample contents status before after files plain told said held served = absurd files
-serves_files r w e Query contents status before after files plain told said held served = served
-serves_files r w e (QueryWith options) contents status before after files plain told said held served =
-    absurd (plain options refl)
-serves_files r w e Explain contents status before after files plain told said held served = absurd (told refl)
-serves_files r w e Describe contents status before after files plain told said held served = absurd (said refl)
-serves_files r w e Session contents status before after files plain told said held served = absurd (held refl)
-serves_files r w e Check contents status before after files plain told said held served = absurd files
+-- and what is cut are their answers
+pub cut_in : {R W E : Type 0} (r : Input R) (w : Output W) (mode : Mode) (fault : RunFault) (contents : Contents)
+    (before after : Streams R W E) → mode ≢ Check
+    → EndsAt fault (answers_in mode contents) (r.remaining before.input) (r.remaining after.input)
+    (w.written before.output) (w.written after.output)
+    → IsCut r w mode fault contents before after
+cut_in r w Check fault contents before after other ends = absurd (other refl)
+cut_in r w mode fault contents before after other ends = ends
 
 -- what is loaded is one thing, and a fault of it that of what is loaded
-pub same_contents : (loaded : Result Contents LoadFault) (own contents : Contents) → loaded ≡ Ok own → loaded ≡ Ok contents → contents ≡ own
+pub same_contents : (loaded : Result Contents LoadFault) (own contents : Contents) → loaded ≡ Ok own
+    → loaded ≡ Ok contents → contents ≡ own
 same_contents loaded own contents is loads = let same : Ok contents ≡ Ok own = sym loads ∙ is in (cc)
 
-pub same_fault : (loaded : Result Contents LoadFault) (own : Contents) (fault : LoadFault) → loaded ≡ Ok own → IsFaultOf fault loaded → IsFaultOf fault (Ok own)
+pub same_fault : (loaded : Result Contents LoadFault) (own : Contents) (fault : LoadFault) → loaded ≡ Ok own
+    → IsFaultOf fault loaded → IsFaultOf fault (Ok own)
 same_fault loaded own fault is said other = sym is ∙ said other
 
 -- the release that is built in was loaded and served
-pub ends_sample : {R W E : Type 0} (r : Input R) (w : Output W) (e : Output E) (contents : Contents) (status : Status) (before after : Streams R W E)
-    → contents ≡ sample_contents → ServesWith r w e Query contents status before after → EndsWith r w e sample_task status before after
+pub ends_sample : {R W E : Type 0} (r : Input R) (w : Output W) (e : Output E) (contents : Contents) (status : Status)
+    (before after : Streams R W E)
+    → contents ≡ sample_contents → ServesWith r w e Sample contents status before after
+    → EndsWith r w e sample_task status before after
 ends_sample r w e contents status before after same served = inl (record {
   contents = contents;
   loaded = ap Ok (sym same);
-  ended = serves_sample r w e contents status before after served;
+  ended = served;
 })
 
 only_memory : (fault : LoadFault) → IsFaultOf fault (Ok sample_contents) → (fault ≡ load.Memory → ⊥) → ⊥
@@ -120,24 +116,28 @@ pub refuses_sample : {R W E : Type 0} (r : Input R) (w : Output W) (e : Output E
     → EndsWith r w e sample_task status (streams input output before) (streams input output after)
 refuses_sample r w e fault Done input output before after said told = absurd told
 refuses_sample r w e fault DeviceFault input output before after said told =
-    absurd (only_memory fault said (λ memory. let clash : MemoryRefused ≡ DeviceFault = ap refusal_status_of (sym memory) ∙ told.0 in (cc)))
+    absurd (only_memory fault said (λ memory.
+    let clash : MemoryRefused ≡ DeviceFault = ap refusal_status_of (sym memory) ∙ told.0 in (cc)))
 refuses_sample r w e fault WordsFault input output before after said told = absurd told
 refuses_sample r w e fault ReleaseRefused input output before after said told =
-    absurd (only_memory fault said (λ memory. let clash : MemoryRefused ≡ ReleaseRefused = ap refusal_status_of (sym memory) ∙ told.0 in (cc)))
-refuses_sample r w e fault MemoryRefused input output before after said told = inr (record { read = refl; written = refl; told = told })
+    absurd (only_memory fault said (λ memory.
+    let clash : MemoryRefused ≡ ReleaseRefused = ap refusal_status_of (sym memory) ∙ told.0 in (cc)))
+refuses_sample r w e fault MemoryRefused input output before after said told =
+    inr (record { read = refl; written = refl; told = told })
 
 -- what a load of a source's files answered, where it tells its files
 pub loaded_whole : (told : Option (List FileText)) (limits : Limits) (language : List ℕ) (names : List (List ℕ))
     (contents : Contents) → limits ≡ standard_limits
-    → IfSome told (λ known. load_of limits language (listed known names) ≡ Ok contents) → IfSome told (λ known. AreInOrder known names ⊎ ⊥)
+    → IfSome told (λ known. load_of limits language (listed known names) ≡ Ok contents)
+    → IfSome told (λ known. AreInOrder known names ⊎ ⊥)
     → IfSome told (λ known. IsLoadOf known language names (Ok contents))
 loaded_whole None limits language names contents same loads ordered = tt
 loaded_whole (Some known) limits language names contents same loads (inl order) =
     (order, ap (λ (l : Limits). load_of l language (listed known names)) (sym same) ∙ loads)
 loaded_whole (Some known) limits language names contents same loads (inr none) = absurd none
 
-pub loaded_not : (told : Option (List FileText)) (limits : Limits) (language : List ℕ) (names : List (List ℕ)) (now : History) (fault : LoadFault)
-    → limits ≡ standard_limits
+pub loaded_not : (told : Option (List FileText)) (limits : Limits) (language : List ℕ) (names : List (List ℕ))
+    (now : History) (fault : LoadFault) → limits ≡ standard_limits
     → IfSome told (λ known. is_device fault ≡ false → IsFaultOf fault (load_of limits language (listed known names)))
     → IfSome told (λ known. AreInOrder known names ⊎ IsUnlisted {X = Contents} (Err fault) names now)
     → IfSome told (λ known. IsLoadOf known language names (Err fault))
@@ -146,7 +146,8 @@ loaded_not (Some known) limits language names now fault same said (inl order) =
     λ other own. (order, ap (λ (l : Limits). load_of l language (listed known names)) (sym same) ∙ said own other)
 loaded_not (Some known) limits language names now fault same said (inr (none, unlisted, inl device)) =
     λ other own. absurd (true≢false (ap is_device (sym device) ∙ own))
-loaded_not (Some known) limits language names now fault same said (inr (none, unlisted, inr memory)) = λ other own. absurd (other memory)
+loaded_not (Some known) limits language names now fault same said (inr (none, unlisted, inr memory)) =
+    λ other own. absurd (other memory)
 
 -- what may be read of a file of a load within the standard limits
 pub within_standard : (limits : Limits) (before after : ℕ) → limits ≡ standard_limits
@@ -155,16 +156,19 @@ within_standard limits before after is within =
     subst (λ (one : Limits). after ≤ max before ((limits_in_force one).bytes + 1)) is within
 
 -- what is said of want of memory behind a load
-pub loaded_no_more : (told : Option (List FileText)) (language : List ℕ) (names : List (List ℕ)) (fault : LoadFault) → fault ≡ load.Memory
+pub loaded_no_more : (told : Option (List FileText)) (language : List ℕ) (names : List (List ℕ)) (fault : LoadFault)
+    → fault ≡ load.Memory
     → IfSome told (λ known. IsLoadOf known language names (Err fault))
 loaded_no_more None language names fault memory = tt
 loaded_no_more (Some known) language names fault memory = λ other own. absurd (other memory)
 
 -- a task is told by its mode and its language
-pub asked_as : (told : Option (List FileText)) (old new : History) (lent language : List ℕ) (mode asked : Mode) (task : Task) → asked ≡ mode → lent ≡ language
+pub asked_as : (told : Option (List FileText)) (old new : History) (lent language : List ℕ) (mode asked : Mode)
+    (task : Task) → asked ≡ mode → lent ≡ language
     → IsTask told old new lent mode task → IsTask told old new language asked task
 asked_as told old new lent language mode asked task is same task_is =
-    subst (λ (m : Mode). IsTask told old new language m task) (sym is) (subst (λ (code : List ℕ). IsTask told old new code mode task) same task_is)
+    subst (λ (m : Mode). IsTask told old new language m task) (sym is)
+    (subst (λ (code : List ℕ). IsTask told old new code mode task) same task_is)
 
 -- a report that was written whole
 pub ends_reported : {R W E : Type 0} (r : Input R) (w : Output W) (e : Output E) (task : Task) (contents : Contents)
@@ -176,8 +180,12 @@ ends_reported r w e task contents text input before after errors mode loads is w
   contents = contents;
   loaded = loads;
   ended = record {
-    served = subst (λ (m : Mode). IsServed r w m contents (streams input before errors) (streams input after errors)) (sym mode)
-        (record { read = refl; written = subst (λ (t : List ℕ). Appends (w.written before) (w.written after) t) is wrote });
+    served = subst (λ (m : Mode). IsServed r w m contents (streams input before errors) (streams input after errors))
+        (sym mode)
+        (record {
+          read = refl;
+          written = subst (λ (t : List ℕ). Appends (w.written before) (w.written after) t) is wrote;
+        });
     sound = (reads, writes);
     told = refl;
   };
@@ -190,14 +198,19 @@ pub ends_cut : {R W E : Type 0} (r : Input R) (w : Output W) (e : Output E) (tas
     → (place : ℕ) × (place < length text) × Appends (w.written before) (w.written after) (take place text)
     → r.has_failed input ≡ false → w.has_failed after ≡ true → IsTold e errors told (fault_text (Write 0))
     → EndsWith r w e task status (streams input before errors) (streams input after told)
-ends_cut r w e task contents text input before after errors told status mode loads is ends wrote reads fails line = inl (record {
-  contents = contents;
-  loaded = loads;
-  ended = stops_with r w e task.mode contents (Write 0) status (streams input before errors) (streams input after told) ends
-      (subst (λ (m : Mode). IsCut r w m (Write 0) contents (streams input before errors) (streams input after told)) (sym mode) (record {
-        is_write = refl;
-        read = refl;
-        written = subst (λ (t : List ℕ). (place : ℕ) × (place < length t) × Appends (w.written before) (w.written after) (take place t)) is wrote;
-      }))
-      (reads, fails) tt line;
-})
+ends_cut r w e task contents text input before after errors told status mode loads is ends wrote reads fails line =
+    let opened = streams input before errors in
+    let closed = streams input after told in
+    let cut : IsReportCut w (Write 0) contents opened closed =
+    record {
+      is_write = refl;
+      read = refl;
+      written = subst (λ (t : List ℕ).
+          (place : ℕ) × (place < length t) × Appends (w.written before) (w.written after) (take place t)) is wrote;
+    } in
+    inl (record {
+      contents = contents;
+      loaded = loads;
+      ended = stops_with r w e task.mode contents (Write 0) status opened closed ends
+          (subst (λ (m : Mode). IsCut r w m (Write 0) contents opened closed) (sym mode) cut) (reads, fails) tt line;
+    })

@@ -1,6 +1,8 @@
 pub mod Answer
 pub mod Explanation
+pub mod FrontLaw
 pub mod LimitedAnswer
+pub mod ModeAnswer
 pub mod Report
 pub mod Serve
 pub mod SessionAnswer

@@ -1,5 +1,6 @@
 -- What a request ends with: a status, and what it says of what was read, written and told.
-use Rattle.std.specs.Prelude.{ℕ, ◌≡◌, ◌≢◌, ◌⊎◌, ◌+◌, ◌<◌, ◌≤◌, false, true, List, [], codes, length, max, take, IfErr, IfSome, Option, Result, Ok, Err, ⊤}
+use Rattle.std.specs.Prelude.{ℕ, ◌≡◌, ◌≢◌, ◌⊎◌, ◌+◌, ◌<◌, ◌≤◌, false, true, List, [], codes, length, max, take}
+use Rattle.std.specs.Prelude.{IfErr, IfSome, Option, Result, Ok, Err}
 use Rattle.std.specs.Io.KnownBytes.{Appends, IsAtEnd}
 use Rattle.held_release.specs.Contents.{Contents}
 use Rattle.snapshot.specs.Load.{load_of}
@@ -13,23 +14,19 @@ use Rattle.answer_printer.specs.LoadRefusal.{load_refusal}
 use Rattle.answer_printer.specs.ReportText.{report_text}
 use Rattle.query_run.specs.Fault.{CountsTurns, EndsAt, HaveFailed}
 use Rattle.query_run.specs.Lines.{Answers, AreWritten, query_lines}
-use Rattle.query_service.specs.Answer.{IsAnswer}
-use Rattle.query_service.specs.Explanation.{IsExplanation}
+use Rattle.query_service.specs.ModeAnswer.{answers_in}
 use Rattle.query_service.specs.Report.{report_of}
 use Rattle.sample_release.specs.SampleContents.{sample_contents}
 use Rattle.query_service.specs.Streams.{IsTold, Streams}
 use Rattle.query_run.specs.declared.running.RunFault.{RunFault}
 use Rattle.query_run.specs.declared.running.RunFault.TheVariants.{Read, Write, Memory, Turns}
 use Rattle.query_service.specs.declared.service.Status.{Status}
-use Rattle.query_service.specs.declared.service.Status.TheVariants.{Done, DeviceFault, WordsFault, ReleaseRefused, MemoryRefused}
+use Rattle.query_service.specs.declared.service.Status.TheVariants.{Done, DeviceFault, WordsFault, ReleaseRefused}
+use Rattle.query_service.specs.declared.service.Status.TheVariants.{MemoryRefused}
 use Rattle.streams.specs.declared.output.AnswerOutput.{Ghosts as Output}
 use Rattle.streams.specs.declared.input.QueryInput.{Ghosts as Input}
 use Rattle.command_line.specs.declared.words.Mode.{Mode}
-use Rattle.command_line.specs.declared.words.Mode.TheVariants.{Sample, Query, QueryWith, Explain, Describe, Session, Check}
-use Rattle.command_line.specs.declared.words.QueryOptions.{QueryOptions}
-use Rattle.answer_printer.specs.declared.form.AnswerForm.{AnswerForm}
-use Rattle.query_service.specs.LimitedAnswer.{IsAnswerWithin}
-use Rattle.query_service.specs.SessionAnswer.{IsDescription, IsSessionAnswer}
+use Rattle.command_line.specs.declared.words.Mode.TheVariants.{Sample, Check}
 
 -- the number that the program ends with
 abbrev pub status_code : Status → ℕ
@@ -72,18 +69,23 @@ pub record Task : Type 0 where
 -- what a load of files answered: their release, or their first fault, by the byte order of their names; or that
 -- memory was refused, or the device failed
 abbrev pub IsLoadOf : List FileText → List ℕ → List (List ℕ) → Result Contents LoadFault → Type 0
-IsLoadOf known language names (Ok contents) = AreInOrder known names × (load_of standard_limits language (listed known names) ≡ Ok contents)
+IsLoadOf known language names (Ok contents) =
+    AreInOrder known names × (load_of standard_limits language (listed known names) ≡ Ok contents)
 IsLoadOf known language names (Err fault) =
-    fault ≢ load.Memory → is_device fault ≡ false → AreInOrder known names × (load_of standard_limits language (listed known names) ≡ Err fault)
+    fault ≢ load.Memory → is_device fault ≡ false
+    → AreInOrder known names × (load_of standard_limits language (listed known names) ≡ Err fault)
 
--- where the device failed this was counted once: it was to list the files, or to read one of these. Else no failure was counted
+-- where the device failed this was counted once: it was to list the files, or to read one of these. Else no failure was
+-- counted
 pub record CountsDevice (old new : History) (names : List (List ℕ)) (loaded : Result Contents LoadFault) : Type 0 where
-  pub failed : IfErr loaded (λ fault. is_device fault ≡ true → FailsToList old new names fault ⊎ FailsAtOneOf names old new fault)
+  pub failed : IfErr loaded (λ fault. is_device fault ≡ true
+      → FailsToList old new names fault ⊎ FailsAtOneOf names old new fault)
   pub calm : RaisesOnlyAtDevice loaded old new
 
--- the files of a source were loaded, with which so much was done before and behind: their names were listed in byte order, or
--- none were, since the listing failed; and of each file no more was read than the limit of bytes and one
-pub record IsLoadedFrom (told : Option (List FileText)) (old new : History) (language : List ℕ) (task : Task) : Type 0 where
+-- the files of a source were loaded, with which so much was done before and behind: their names were listed in byte
+-- order, or none were, since the listing failed; and of each file no more was read than the limit of bytes and one
+pub record IsLoadedFrom (told : Option (List FileText)) (old new : History) (language : List ℕ) (task : Task)
+    : Type 0 where
   pub loaded : IfSome told (λ known. IsLoadOf known language task.names task.loaded)
   pub named : IfSome told (λ known. AreInOrder known task.names ⊎ IsUnlisted task.loaded task.names new)
   pub device : CountsDevice old new task.names task.loaded
@@ -93,25 +95,11 @@ pub record IsLoadedFrom (told : Option (List FileText)) (old new : History) (lan
 -- a language first
 abbrev pub IsAskedFor : Option (List FileText) → History → History → List ℕ → Mode → Task → Type 0
 IsAskedFor told old new language Sample task = task.loaded ≡ Ok sample_contents
-IsAskedFor told old new language Query task = IsLoadedFrom told old new language task
-IsAskedFor told old new language (QueryWith options) task = IsLoadedFrom told old new language task
-IsAskedFor told old new language Explain task = IsLoadedFrom told old new language task
-IsAskedFor told old new language Describe task = IsLoadedFrom told old new language task
-IsAskedFor told old new language Session task = IsLoadedFrom told old new language task
-IsAskedFor told old new language Check task = IsLoadedFrom told old new language task
-
--- whether the lines of a mode are answered over the release of a source's files
-abbrev pub AnswersFiles : Mode → Type 0
-AnswersFiles Sample = ⊥
-AnswersFiles Query = ⊤
-AnswersFiles (QueryWith options) = ⊤
-AnswersFiles Explain = ⊤
-AnswersFiles Describe = ⊤
-AnswersFiles Session = ⊤
-AnswersFiles Check = ⊥
+IsAskedFor told old new language mode task = IsLoadedFrom told old new language task
 
 -- the task of a mode
-pub record IsTask (told : Option (List FileText)) (old new : History) (language : List ℕ) (mode : Mode) (task : Task) : Type 0 where
+pub record IsTask (told : Option (List FileText)) (old new : History) (language : List ℕ) (mode : Mode) (task : Task)
+    : Type 0 where
   pub mode_is : task.mode ≡ mode
   pub loaded : IsAskedFor told old new language mode task
 
@@ -120,58 +108,42 @@ abbrev pub sample_task : Task
 sample_task = record { mode = Sample; loaded = Ok sample_contents; names = [] }
 
 -- the query lines of an input to its end were answered, by what answers a line
-pub record IsAnswered {R W E : Type 0} (r : Input R) (w : Output W) (answers : Answers) (before after : Streams R W E) : Type 0 where
+pub record IsAnswered {R W E : Type 0} (r : Input R) (w : Output W) (answers : Answers) (before after : Streams R W E)
+    : Type 0 where
   pub read : IsAtEnd (r.remaining after.input)
-  pub written : IfSome (r.remaining before.input) (λ bytes. AreWritten answers (query_lines bytes) (w.written before.output) (w.written after.output))
+  pub written : IfSome (r.remaining before.input) (λ bytes.
+      AreWritten answers (query_lines bytes) (w.written before.output) (w.written after.output))
 
 -- the report was written, and nothing was read
-pub record IsReported {R W E : Type 0} (w : Output W) (contents : Contents) (before after : Streams R W E) : Type 0 where
+pub record IsReported {R W E : Type 0} (w : Output W) (contents : Contents) (before after : Streams R W E)
+    : Type 0 where
   pub read : after.input ≡ before.input
   pub written : Appends (w.written before.output) (w.written after.output) (report_text (report_of contents))
 
--- the form of the answers that options ask for
-abbrev pub form_of : QueryOptions → AnswerForm
-form_of options = record { offset = 0; first = options.first; names = options.names }
-
--- what a mode asks for was done with a release
+-- what a mode asks for was done with a release: `check` wrote its report, and any other mode answered the lines
 abbrev pub IsServed : {R W E : Type 0} → Input R → Output W → Mode → Contents → Streams R W E → Streams R W E → Type 0
-IsServed r w Sample contents before after = IsAnswered r w (IsAnswer contents) before after
-IsServed r w Query contents before after = IsAnswered r w (IsAnswer contents) before after
-IsServed r w (QueryWith options) contents before after =
-    IsAnswered r w (IsAnswerWithin options.limit (form_of options) contents) before after
-IsServed r w Explain contents before after = IsAnswered r w (IsExplanation contents) before after
-IsServed r w Describe contents before after = IsAnswered r w (IsDescription contents) before after
-IsServed r w Session contents before after = IsAnswered r w (IsSessionAnswer contents) before after
 IsServed r w Check contents before after = IsReported w contents before after
+IsServed r w mode contents before after = IsAnswered r w (answers_in mode contents) before after
 
 -- a front of the report was written, not all of it, and nothing was read
-pub record IsReportCut {R W E : Type 0} (w : Output W) (fault : RunFault) (contents : Contents) (before after : Streams R W E) : Type 0 where
+pub record IsReportCut {R W E : Type 0} (w : Output W) (fault : RunFault) (contents : Contents)
+    (before after : Streams R W E) : Type 0 where
   pub is_write : fault ≡ Write 0
   pub read : after.input ≡ before.input
   pub written : (place : ℕ) × (place < length (report_text (report_of contents)))
       × Appends (w.written before.output) (w.written after.output) (take place (report_text (report_of contents)))
 
 -- what was read and written of what a mode asks for, where a fault came
-abbrev pub IsCut : {R W E : Type 0} → Input R → Output W → Mode → RunFault → Contents → Streams R W E → Streams R W E → Type 0
-IsCut r w Sample fault contents before after =
-    EndsAt fault (IsAnswer contents) (r.remaining before.input) (r.remaining after.input) (w.written before.output) (w.written after.output)
-IsCut r w Query fault contents before after =
-    EndsAt fault (IsAnswer contents) (r.remaining before.input) (r.remaining after.input) (w.written before.output) (w.written after.output)
-IsCut r w (QueryWith options) fault contents before after =
-    EndsAt fault (IsAnswerWithin options.limit (form_of options) contents) (r.remaining before.input)
-    (r.remaining after.input) (w.written before.output) (w.written after.output)
-IsCut r w Explain fault contents before after =
-    EndsAt fault (IsExplanation contents) (r.remaining before.input) (r.remaining after.input) (w.written before.output) (w.written after.output)
-IsCut r w Describe fault contents before after =
-    EndsAt fault (IsDescription contents) (r.remaining before.input) (r.remaining after.input) (w.written before.output)
-    (w.written after.output)
-IsCut r w Session fault contents before after =
-    EndsAt fault (IsSessionAnswer contents) (r.remaining before.input) (r.remaining after.input) (w.written before.output)
-    (w.written after.output)
+abbrev pub IsCut : {R W E : Type 0} → Input R → Output W → Mode → RunFault → Contents → Streams R W E → Streams R W E
+    → Type 0
 IsCut r w Check fault contents before after = IsReportCut w fault contents before after
+IsCut r w mode fault contents before after =
+    EndsAt fault (answers_in mode contents) (r.remaining before.input) (r.remaining after.input)
+    (w.written before.output) (w.written after.output)
 
 -- status 0: all was done, no stream has failed, and nothing was told
-pub record IsDone {R W E : Type 0} (r : Input R) (w : Output W) (mode : Mode) (contents : Contents) (before after : Streams R W E) : Type 0 where
+pub record IsDone {R W E : Type 0} (r : Input R) (w : Output W) (mode : Mode) (contents : Contents)
+    (before after : Streams R W E) : Type 0 where
   pub served : IsServed r w mode contents before after
   pub sound : (r.has_failed after.input ≡ false) × (w.has_failed after.output ≡ false)
   pub told : after.errors ≡ before.errors
@@ -188,7 +160,8 @@ pub record IsStopped {R W E : Type 0} (r : Input R) (w : Output W) (e : Output E
   pub told : IsTold e before.errors after.errors (fault_text fault)
 
 -- status 3, or 1 where the device failed: nothing was read or written, and the fault of the files was told
-pub record IsRefused {R W E : Type 0} (e : Output E) (task : Task) (status : Status) (before after : Streams R W E) : Type 0 where
+pub record IsRefused {R W E : Type 0} (e : Output E) (task : Task) (status : Status) (before after : Streams R W E)
+    : Type 0 where
   pub fault : LoadFault
   pub ends : refusal_status_of fault ≡ status
   pub loaded : task.loaded ≡ Err fault
@@ -203,7 +176,8 @@ pub record IsStarved {R W E : Type 0} (e : Output E) (before after : Streams R W
   pub told : IsTold e before.errors after.errors memory_text
 
 -- what each status says of a release that was loaded
-abbrev pub ServesWith : {R W E : Type 0} → Input R → Output W → Output E → Mode → Contents → Status → Streams R W E → Streams R W E → Type 0
+abbrev pub ServesWith : {R W E : Type 0} → Input R → Output W → Output E → Mode → Contents → Status
+    → Streams R W E → Streams R W E → Type 0
 ServesWith r w e mode contents Done before after = IsDone r w mode contents before after
 ServesWith r w e mode contents DeviceFault before after = IsStopped r w e mode contents DeviceFault before after
 ServesWith r w e mode contents WordsFault before after = ⊥
@@ -226,14 +200,17 @@ RefusesWith e task ReleaseRefused before after = IsRefused e task ReleaseRefused
 RefusesWith e task MemoryRefused before after = IsStarved e before after
 
 -- a task ends with a status: its release was loaded and served, or it was refused
-abbrev pub EndsWith : {R W E : Type 0} → Input R → Output W → Output E → Task → Status → Streams R W E → Streams R W E → Type 0
+abbrev pub EndsWith : {R W E : Type 0} → Input R → Output W → Output E → Task → Status
+    → Streams R W E → Streams R W E → Type 0
 EndsWith r w e task status before after =
     IsLoadedAndServed r w e task status before after ⊎ RefusesWith e task status before after
 
 -- what each status says where a fault of files with some names was to be told
 abbrev pub TellsLoadFault : {E : Type 0} → Output E → List (List ℕ) → LoadFault → Status → E → E → Type 0
 TellsLoadFault e names fault Done before after = ⊥
-TellsLoadFault e names fault DeviceFault before after = (refusal_status_of fault ≡ DeviceFault) × IsTold e before after (load_refusal names fault)
+TellsLoadFault e names fault DeviceFault before after =
+    (refusal_status_of fault ≡ DeviceFault) × IsTold e before after (load_refusal names fault)
 TellsLoadFault e names fault WordsFault before after = ⊥
-TellsLoadFault e names fault ReleaseRefused before after = (refusal_status_of fault ≡ ReleaseRefused) × IsTold e before after (load_refusal names fault)
+TellsLoadFault e names fault ReleaseRefused before after =
+    (refusal_status_of fault ≡ ReleaseRefused) × IsTold e before after (load_refusal names fault)
 TellsLoadFault e names fault MemoryRefused before after = IsTold e before after memory_text

@@ -1,29 +1,24 @@
 //! What the service needs of an engine.
-ghost use Rattle.std.specs.Prelude.{◌≡◌, ◌⊎◌, ◌+◌, ◌≤◌, ℕ, false, IfErr, IfOk, IfSome, List, Ok, OnOk, map, max, string_bytes};
-ghost use Rattle.std.specs.Io.KnownBytes.{IsAtEnd};
+ghost use Rattle.std.specs.Prelude.{◌≡◌, ◌⊎◌, ◌+◌, ◌≤◌, ℕ, false, IfErr, IfOk, IfSome, List, Ok, OnOk, map, max};
+ghost use Rattle.std.specs.Prelude.{string_bytes};
 ghost use Rattle.release_files.specs.Source.{file_text};
 ghost use Rattle.held_release.specs.Contents.{Contents, IsFaultOf};
 ghost use Rattle.snapshot.specs.Load.{load_of};
 ghost use Rattle.release_rows.specs.Limits.{limits_in_force};
 ghost use Rattle.release_rows.specs.Pieces.{AreInOrder, FailsAtFiles, IsUnlisted, listed};
 ghost use Rattle.release_rows.specs.DeviceFaults.{RaisesOnlyAtDevice, is_device};
-ghost use Rattle.query_run.specs.Fault.{CountsTurns, EndsAt, HaveFailed};
-ghost use Rattle.query_run.specs.Lines.{AreWritten, query_lines};
-ghost use Rattle.query_service.specs.Answer.{IsAnswer};
-ghost use Rattle.query_service.specs.Explanation.{IsExplanation};
-ghost use Rattle.query_service.specs.LimitedAnswer.{IsAnswerWithin};
+ghost use Rattle.streams.specs.Waiting.{LeavesAnswer, Puts, is_write};
+ghost use Rattle.query_service.specs.ModeAnswer.{answers_in};
 ghost use Rattle.query_service.specs.Report.{report_of};
-ghost use Rattle.query_service.specs.SessionAnswer.{IsDescription, IsSessionAnswer};
 
-use answer_printer::AnswerForm;
-use query_run::{AnswerLine, RunFault};
+use command_line::Mode;
 use release_files::{FileSource, NamedBytes};
 use snapshot::{Limits, LoadFault, Report};
 use std::alloc::Global;
-use streams::{AnswerOutput, QueryInput};
+use streams::{AnswerFault, AnswerOutput, Piece};
 
-/// A loaded release that answers query lines and explains them. Neither changes anything in it.
-pub trait QueryEngine: AnswerLine + Drop {
+/// A loaded release that answers lines. That changes nothing in it.
+pub trait QueryEngine: Drop {
     /// What the release contains.
     ghost contents: { Self → Contents };
 
@@ -48,12 +43,17 @@ pub trait QueryEngine: AnswerLine + Drop {
         lang: &str,
         limits: Limits,
     ) -> Result<Self, LoadFault>
-        ensures ok { IfSome (S.files source.old) (λ known. IfOk result (λ engine. load_of limits lang.now (listed known (map string_bytes names.new.items)) ≡ Ok (contents engine))) }
-        ensures err { IfSome (S.files source.old) (λ known. IfErr result (λ fault. is_device fault ≡ false → IsFaultOf fault (load_of limits lang.now (listed known (map string_bytes names.new.items))))) }
-        ensures names { IfSome (S.files source.old) (λ known. AreInOrder known (map string_bytes names.new.items) ⊎ IsUnlisted result (map string_bytes names.new.items) (S.history source.new)) }
-        ensures device { FailsAtFiles string_bytes names.new.items result (S.history source.old) (S.history source.new) }
+        ensures ok { IfSome (S.files source.old) (λ known. IfOk result (λ engine.
+            load_of limits lang.now (listed known (map string_bytes names.new.items)) ≡ Ok (contents engine))) }
+        ensures err { IfSome (S.files source.old) (λ known. IfErr result (λ fault. is_device fault ≡ false
+            → IsFaultOf fault (load_of limits lang.now (listed known (map string_bytes names.new.items))))) }
+        ensures names { IfSome (S.files source.old) (λ known. AreInOrder known (map string_bytes names.new.items)
+            ⊎ IsUnlisted result (map string_bytes names.new.items) (S.history source.new)) }
+        ensures device { FailsAtFiles string_bytes names.new.items result (S.history source.old)
+            (S.history source.new) }
         ensures calm { RaisesOnlyAtDevice result (S.history source.old) (S.history source.new) }
-        ensures bounded { (S.history source.new).most ≤ max (S.history source.old).most ((limits_in_force limits).bytes + 1) };
+        ensures bounded { (S.history source.new).most
+            ≤ max (S.history source.old).most ((limits_in_force limits).bytes + 1) };
 
     /// Loads the same release, leaves the same names, and answers what the release has, in place of an engine.
     fn report_from<S: FileSource>(
@@ -64,92 +64,33 @@ pub trait QueryEngine: AnswerLine + Drop {
         limits: Limits,
     ) -> Result<Report, LoadFault>
         ensures ok { IfOk result (λ report. (loaded : Contents) × (report ≡ report_of loaded)
-            × IfSome (S.files source.old) (λ known. load_of limits lang.now (listed known (map string_bytes names.new.items)) ≡ Ok loaded)) }
-        ensures err { IfSome (S.files source.old) (λ known. IfErr result (λ fault. is_device fault ≡ false → IsFaultOf fault (load_of limits lang.now (listed known (map string_bytes names.new.items))))) }
-        ensures names { IfSome (S.files source.old) (λ known. AreInOrder known (map string_bytes names.new.items) ⊎ IsUnlisted result (map string_bytes names.new.items) (S.history source.new)) }
-        ensures device { FailsAtFiles string_bytes names.new.items result (S.history source.old) (S.history source.new) }
+            × IfSome (S.files source.old) (λ known.
+            load_of limits lang.now (listed known (map string_bytes names.new.items)) ≡ Ok loaded)) }
+        ensures err { IfSome (S.files source.old) (λ known. IfErr result (λ fault. is_device fault ≡ false
+            → IsFaultOf fault (load_of limits lang.now (listed known (map string_bytes names.new.items))))) }
+        ensures names { IfSome (S.files source.old) (λ known. AreInOrder known (map string_bytes names.new.items)
+            ⊎ IsUnlisted result (map string_bytes names.new.items) (S.history source.new)) }
+        ensures device { FailsAtFiles string_bytes names.new.items result (S.history source.old)
+            (S.history source.new) }
         ensures calm { RaisesOnlyAtDevice result (S.history source.old) (S.history source.new) }
-        ensures bounded { (S.history source.new).most ≤ max (S.history source.old).most ((limits_in_force limits).bytes + 1) };
+        ensures bounded { (S.history source.new).most
+            ≤ max (S.history source.old).most ((limits_in_force limits).bytes + 1) };
 
-    /// Tells of each query line of an input, in order, how it is answered. It reads, writes and ends as `run` of
-    /// `query_run` does.
-    fn run_explain<R: QueryInput, W: AnswerOutput>(
+    /// Puts a text that answers a line in a mode into a piece of the output. Where memory is refused the piece and the
+    /// output are as they were.
+    fn write_in<W: AnswerOutput>(
         &self,
         alloc: Global,
-        input: &mut R,
+        mode: Mode,
+        line: &[u8],
+        piece: &mut Piece,
         output: &mut W,
-    ) -> Result<u64, RunFault>
-        requires input { R.has_failed input.old ≡ false }
-        requires output { W.has_failed output.old ≡ false }
-        ensures end { OnOk result (IsAtEnd (R.remaining input.new)) }
-        ensures answers { OnOk result (IfSome (R.remaining input.old) (λ bytes. AreWritten (IsExplanation (contents self.now)) (query_lines bytes) (W.written output.old) (W.written output.new))) }
-        ensures sound { OnOk result ((R.has_failed input.new ≡ false) × (W.has_failed output.new ≡ false)) }
-        ensures fault { IfErr result (λ fault. EndsAt fault (IsExplanation (contents self.now)) (R.remaining input.old) (R.remaining input.new) (W.written output.old) (W.written output.new)) }
-        ensures failed { IfErr result (λ fault. HaveFailed fault (R.has_failed input.new) (W.has_failed output.new)) }
-        ensures turns { IfErr result (λ fault. CountsTurns fault (R.read_count input.old) (R.read_count input.new)) };
-
-    /// Answers each query line of an input, in order, under a limit on what its plan visits, in a form. It reads,
-    /// writes and ends as `run` of `query_run` does.
-    fn run_within<R: QueryInput, W: AnswerOutput>(
-        &self,
-        alloc: Global,
-        limit: u64,
-        form: AnswerForm,
-        input: &mut R,
-        output: &mut W,
-    ) -> Result<u64, RunFault>
-        requires input { R.has_failed input.old ≡ false }
-        requires output { W.has_failed output.old ≡ false }
-        ensures end { OnOk result (IsAtEnd (R.remaining input.new)) }
-        ensures answers { OnOk result (IfSome (R.remaining input.old) (λ bytes.
-            AreWritten (IsAnswerWithin limit form (contents self.now)) (query_lines bytes) (W.written output.old)
-            (W.written output.new))) }
-        ensures sound { OnOk result ((R.has_failed input.new ≡ false) × (W.has_failed output.new ≡ false)) }
-        ensures fault { IfErr result (λ fault. EndsAt fault (IsAnswerWithin limit form (contents self.now))
-            (R.remaining input.old) (R.remaining input.new) (W.written output.old) (W.written output.new)) }
-        ensures failed { IfErr result (λ fault. HaveFailed fault (R.has_failed input.new) (W.has_failed output.new)) }
-        ensures turns { IfErr result (λ fault. CountsTurns fault (R.read_count input.old) (R.read_count input.new)) };
-
-    /// Tells of the concept that each line of an input names, in order, what the release has of it.
-    /// It reads, writes and ends as `run` of `query_run` does.
-    fn run_describe<R: QueryInput, W: AnswerOutput>(
-        &self,
-        alloc: Global,
-        input: &mut R,
-        output: &mut W,
-    ) -> Result<u64, RunFault>
-        requires input { R.has_failed input.old ≡ false }
-        requires output { W.has_failed output.old ≡ false }
-        ensures end { OnOk result (IsAtEnd (R.remaining input.new)) }
-        ensures answers { OnOk result (IfSome (R.remaining input.old) (λ bytes.
-            AreWritten (IsDescription (contents self.now)) (query_lines bytes) (W.written output.old)
-            (W.written output.new))) }
-        ensures sound { OnOk result ((R.has_failed input.new ≡ false) × (W.has_failed output.new ≡ false)) }
-        ensures fault { IfErr result (λ fault. EndsAt fault (IsDescription (contents self.now)) (R.remaining input.old)
-            (R.remaining input.new) (W.written output.old) (W.written output.new)) }
-        ensures failed { IfErr result (λ fault. HaveFailed fault (R.has_failed input.new) (W.has_failed output.new)) }
-        ensures turns { IfErr result (λ fault. CountsTurns fault (R.read_count input.old) (R.read_count input.new)) };
-
-    /// Answers the request in each line of an input, in order: a page of an answer, a plan, or what the release has of a concept.
-    /// It reads, writes and ends as `run` of `query_run` does.
-    fn run_session<R: QueryInput, W: AnswerOutput>(
-        &self,
-        alloc: Global,
-        input: &mut R,
-        output: &mut W,
-    ) -> Result<u64, RunFault>
-        requires input { R.has_failed input.old ≡ false }
-        requires output { W.has_failed output.old ≡ false }
-        ensures end { OnOk result (IsAtEnd (R.remaining input.new)) }
-        ensures answers { OnOk result (IfSome (R.remaining input.old) (λ bytes.
-            AreWritten (IsSessionAnswer (contents self.now)) (query_lines bytes) (W.written output.old)
-            (W.written output.new))) }
-        ensures sound { OnOk result ((R.has_failed input.new ≡ false) × (W.has_failed output.new ≡ false)) }
-        ensures fault { IfErr result (λ fault. EndsAt fault (IsSessionAnswer (contents self.now)) (R.remaining input.old)
-            (R.remaining input.new) (W.written output.old) (W.written output.new)) }
-        ensures failed { IfErr result (λ fault. HaveFailed fault (R.has_failed input.new) (W.has_failed output.new)) }
-        ensures turns { IfErr result (λ fault. CountsTurns fault (R.read_count input.old) (R.read_count input.new)) };
-
-    /// What answers a line is what the definitions say of the release.
-    ghost answers_by_contents: { (engine : Self) (line text : List ℕ) → Self.answers engine line text → IsAnswer (contents engine) line text };
+    ) -> Result<(), AnswerFault>
+        requires { W.has_failed output.old ≡ false }
+        ensures ok { OnOk result ((text : List ℕ) × answers_in mode (contents self.now) line.now text
+            × Puts (W.written output.old) (W.written output.new) piece.old text piece.new) }
+        ensures fault { IfErr result (λ fault. LeavesAnswer (answers_in mode (contents self.now) line.now) fault
+            (W.written output.old) (W.written output.new) piece.old piece.new) }
+        ensures sound { OnOk result (W.has_failed output.new ≡ false) }
+        ensures failed { IfErr result (λ fault. W.has_failed output.new ≡ is_write fault) };
 }

@@ -1,6 +1,6 @@
 //! What the program does with a request, its files and its streams.
-ghost use Rattle.std.specs.Prelude.{◌≡◌, ◌⊎◌, ◌+◌, ◌≤◌, false, Err, IfErr, IfOk, IfSome, Ok, OnOk, map, max, string_bytes};
-ghost use Rattle.std.specs.Io.KnownBytes.{IsAtEnd};
+ghost use Rattle.std.specs.Prelude.{◌≡◌, ◌≢◌, ◌⊎◌, ◌+◌, ◌≤◌, false, Err, IfErr, IfOk, IfSome, Ok, map, max};
+ghost use Rattle.std.specs.Prelude.{string_bytes};
 ghost use Rattle.text_parts.specs.Parts.{texts_of};
 ghost use Rattle.held_release.specs.Contents.{Contents, IsFaultOf};
 ghost use Rattle.release_rows.specs.Limits.{standard_limits};
@@ -9,20 +9,18 @@ ghost use Rattle.release_rows.specs.DeviceFaults.{RaisesOnlyAtDevice};
 ghost use Rattle.sample_release.specs.SampleContents.{sample_contents};
 ghost use Rattle.answer_printer.specs.LoadRefusal.{load_refusal};
 ghost use Rattle.answer_printer.specs.ReportText.{report_text};
-ghost use Rattle.query_run.specs.Fault.{CountsTurns, EndsAt, HaveFailed};
-ghost use Rattle.query_run.specs.Lines.{AreWritten, query_lines};
-ghost use Rattle.query_service.specs.Answer.{IsAnswer};
 ghost use Rattle.query_service.specs.Report.{report_of};
-ghost use Rattle.query_service.specs.Serve.{AnswersFiles, EndsWith, IsLoadOf, IsTask, ServesWith, Task, TellsLoadFault};
-ghost use Rattle.query_service.specs.Serve.{fault_text, form_of, memory_text, refusal_status_of, sample_task};
+ghost use Rattle.query_service.specs.Serve.{EndsWith, IsLoadOf, IsTask, ServesWith, Task, TellsLoadFault};
+ghost use Rattle.query_service.specs.Serve.{fault_text, memory_text, refusal_status_of, sample_task};
 ghost use Rattle.query_service.specs.Serve.{status_code, status_of};
 ghost use Rattle.query_service.specs.Streams.{IsTold, outputs, streams};
 ghost use Rattle.query_service.specs.WordRefusal.{TellsWordFault};
 
+use crate::lines::run_in;
 use crate::query_engine::QueryEngine;
-use answer_printer::{AnswerForm, print_load_fault, print_report};
-use command_line::{Mode, QueryOptions, Request, WordFault};
-use query_run::{RunFault, run};
+use answer_printer::{print_load_fault, print_report};
+use command_line::{Mode, Request, WordFault};
+use query_run::RunFault;
 use release_files::FileSource;
 use sample_release::sample_files;
 use snapshot::{Limits, LoadFault, Report};
@@ -76,59 +74,25 @@ pub fn serve<Q: QueryEngine, S: FileSource, R: QueryInput, W: AnswerOutput, E: A
     requires output { W.has_failed output.old ≡ false }
     requires errors { E.AnswerOutput.has_failed errors.old ≡ false }
     ensures served { (task : Task)
-        × IsTask (S.files source.old) (S.history source.old) (S.history source.new) (string_bytes request.now.lang) request.now.mode task
-        × EndsWith R.QueryInput W.AnswerOutput E.AnswerOutput task result (streams input.old output.old errors.old) (streams input.new output.new errors.new) }
+        × IsTask (S.files source.old) (S.history source.old) (S.history source.new) (string_bytes request.now.lang)
+        request.now.mode task
+        × EndsWith R.QueryInput W.AnswerOutput E.AnswerOutput task result
+        (streams input.old output.old errors.old) (streams input.new output.new errors.new) }
     ensures untouched { request.now.mode ≡ Mode.Sample → source.new ≡ source.old }
 {
     let lang = request.lang.as_str();
     match request.mode {
         Mode::Sample => answer_sample::<Q, R, W, E>(alloc, input, output, errors),
-        Mode::Query => answer_source::<Q, S, R, W, E>(
-            alloc,
-            Mode::Query,
-            lang,
-            source,
-            input,
-            output,
-            errors,
-        ),
-        Mode::QueryWith(options) => answer_source::<Q, S, R, W, E>(
-            alloc,
-            Mode::QueryWith(options),
-            lang,
-            source,
-            input,
-            output,
-            errors,
-        ),
-        Mode::Explain => answer_source::<Q, S, R, W, E>(
-            alloc,
-            Mode::Explain,
-            lang,
-            source,
-            input,
-            output,
-            errors,
-        ),
-        Mode::Describe => answer_source::<Q, S, R, W, E>(
-            alloc,
-            Mode::Describe,
-            lang,
-            source,
-            input,
-            output,
-            errors,
-        ),
-        Mode::Session => answer_source::<Q, S, R, W, E>(
-            alloc,
-            Mode::Session,
-            lang,
-            source,
-            input,
-            output,
-            errors,
-        ),
         Mode::Check => report_source::<Q, S, R, W, E>(alloc, lang, source, input, output, errors),
+        _ => answer_source::<Q, S, R, W, E>(
+            alloc,
+            request.mode,
+            lang,
+            source,
+            input,
+            output,
+            errors,
+        ),
     }
 }
 
@@ -146,7 +110,7 @@ fn answer_sample<Q: QueryEngine, R: QueryInput, W: AnswerOutput, E: AnswerOutput
         (streams input.old output.old errors.old) (streams input.new output.new errors.new) }
 {
     match sample_engine::<Q>(alloc) {
-        Ok(engine) => answer_lines(alloc, Mode::Query, engine, input, output, errors),
+        Ok(engine) => answer_lines(alloc, Mode::Sample, engine, input, output, errors),
         Err(fault) => refuse(alloc, fault, &[], errors),
     }
 }
@@ -169,13 +133,15 @@ fn answer_source<Q: QueryEngine, S: FileSource, R: QueryInput, W: AnswerOutput, 
     output: &mut W,
     errors: &mut E,
 ) -> Status
-    requires mode { AnswersFiles mode }
+    requires files { mode ≢ Mode.Sample }
+    requires lines { mode ≢ Mode.Check }
     requires input { R.has_failed input.old ≡ false }
     requires output { W.has_failed output.old ≡ false }
     requires errors { E.AnswerOutput.has_failed errors.old ≡ false }
     ensures { (task : Task)
         × IsTask (S.files source.old) (S.history source.old) (S.history source.new) lang.now mode task
-        × EndsWith R.QueryInput W.AnswerOutput E.AnswerOutput task result (streams input.old output.old errors.old) (streams input.new output.new errors.new) }
+        × EndsWith R.QueryInput W.AnswerOutput E.AnswerOutput task result
+        (streams input.old output.old errors.old) (streams input.new output.new errors.new) }
 {
     let mut names = Vec::new(alloc);
     match Q::load_from(alloc, source, &mut names, lang, Limits::standard()) {
@@ -193,7 +159,7 @@ fn answer_lines<Q: QueryEngine, R: QueryInput, W: AnswerOutput, E: AnswerOutput>
     output: &mut W,
     errors: &mut E,
 ) -> Status
-    requires mode { AnswersFiles mode }
+    requires lines { mode ≢ Mode.Check }
     requires input { R.has_failed input.old ≡ false }
     requires output { W.has_failed output.old ≡ false }
     requires errors { E.AnswerOutput.has_failed errors.old ≡ false }
@@ -214,149 +180,14 @@ fn serve_lines<Q: QueryEngine, R: QueryInput, W: AnswerOutput, E: AnswerOutput>(
     output: &mut W,
     errors: &mut E,
 ) -> Status
-    requires mode { AnswersFiles mode }
+    requires lines { mode ≢ Mode.Check }
     requires input { R.has_failed input.old ≡ false }
     requires output { W.has_failed output.old ≡ false }
     requires errors { E.AnswerOutput.has_failed errors.old ≡ false }
     ensures { ServesWith R.QueryInput W.AnswerOutput E.AnswerOutput mode (Q.contents engine.now) result
         (streams input.old output.old errors.old) (streams input.new output.new errors.new) }
 {
-    match mode {
-        Mode::QueryWith(options) => answer_all_with(alloc, engine, options, input, output, errors),
-        Mode::Explain => explain_all(alloc, engine, input, output, errors),
-        Mode::Describe => describe_all(alloc, engine, input, output, errors),
-        Mode::Session => answer_requests(alloc, engine, input, output, errors),
-        _ => answer_all(alloc, engine, input, output, errors),
-    }
-}
-
-// Answers the query lines of an input over a release.
-fn answer_all<Q: QueryEngine, R: QueryInput, W: AnswerOutput, E: AnswerOutput>(
-    alloc: Global,
-    engine: &Q,
-    input: &mut R,
-    output: &mut W,
-    errors: &mut E,
-) -> Status
-    requires input { R.has_failed input.old ≡ false }
-    requires output { W.has_failed output.old ≡ false }
-    requires errors { E.AnswerOutput.has_failed errors.old ≡ false }
-    ensures { ServesWith R.QueryInput W.AnswerOutput E.AnswerOutput Mode.Query (Q.contents engine.now) result
-        (streams input.old output.old errors.old) (streams input.new output.new errors.new) }
-{
-    match run_answers(alloc, engine, input, output) {
-        Ok(_) => Status::Done,
-        Err(fault) => tell_fault(fault, errors),
-    }
-}
-
-// Answers the query lines of an input over a release, under options.
-fn answer_all_with<Q: QueryEngine, R: QueryInput, W: AnswerOutput, E: AnswerOutput>(
-    alloc: Global,
-    engine: &Q,
-    options: QueryOptions,
-    input: &mut R,
-    output: &mut W,
-    errors: &mut E,
-) -> Status
-    requires input { R.has_failed input.old ≡ false }
-    requires output { W.has_failed output.old ≡ false }
-    requires errors { E.AnswerOutput.has_failed errors.old ≡ false }
-    ensures { ServesWith R.QueryInput W.AnswerOutput E.AnswerOutput (Mode.QueryWith options) (Q.contents engine.now)
-        result (streams input.old output.old errors.old) (streams input.new output.new errors.new) }
-{
-    let form = form_of(options);
-    match engine.run_within(alloc, options.limit, form, input, output) {
-        Ok(_) => Status::Done,
-        Err(fault) => tell_fault(fault, errors),
-    }
-}
-
-// The form of the answers that options ask for.
-fn form_of(options: QueryOptions) -> AnswerForm
-    ensures { result ≡ form_of options }
-{
-    AnswerForm {
-        offset: 0,
-        first: options.first,
-        names: options.names,
-    }
-}
-
-// The run, which writes what the definitions say of the release.
-fn run_answers<Q: QueryEngine, R: QueryInput, W: AnswerOutput>(
-    alloc: Global,
-    engine: &Q,
-    input: &mut R,
-    output: &mut W,
-) -> Result<u64, RunFault>
-    requires input { R.has_failed input.old ≡ false }
-    requires output { W.has_failed output.old ≡ false }
-    ensures end { OnOk result (IsAtEnd (R.remaining input.new)) }
-    ensures answers { OnOk result (IfSome (R.remaining input.old) (λ bytes. AreWritten (IsAnswer (Q.contents engine.now)) (query_lines bytes) (W.written output.old) (W.written output.new))) }
-    ensures sound { OnOk result ((R.has_failed input.new ≡ false) × (W.has_failed output.new ≡ false)) }
-    ensures fault { IfErr result (λ fault. EndsAt fault (IsAnswer (Q.contents engine.now)) (R.remaining input.old) (R.remaining input.new) (W.written output.old) (W.written output.new)) }
-    ensures failed { IfErr result (λ fault. HaveFailed fault (R.has_failed input.new) (W.has_failed output.new)) }
-    ensures turns { IfErr result (λ fault. CountsTurns fault (R.read_count input.old) (R.read_count input.new)) }
-{
-    run(alloc, engine, input, output)
-}
-
-// Tells the plans of the query lines of an input over a release.
-fn explain_all<Q: QueryEngine, R: QueryInput, W: AnswerOutput, E: AnswerOutput>(
-    alloc: Global,
-    engine: &Q,
-    input: &mut R,
-    output: &mut W,
-    errors: &mut E,
-) -> Status
-    requires input { R.has_failed input.old ≡ false }
-    requires output { W.has_failed output.old ≡ false }
-    requires errors { E.AnswerOutput.has_failed errors.old ≡ false }
-    ensures { ServesWith R.QueryInput W.AnswerOutput E.AnswerOutput Mode.Explain (Q.contents engine.now) result
-        (streams input.old output.old errors.old) (streams input.new output.new errors.new) }
-{
-    match engine.run_explain(alloc, input, output) {
-        Ok(_) => Status::Done,
-        Err(fault) => tell_fault(fault, errors),
-    }
-}
-
-// Tells what a release has of the concepts that the lines of an input name.
-fn describe_all<Q: QueryEngine, R: QueryInput, W: AnswerOutput, E: AnswerOutput>(
-    alloc: Global,
-    engine: &Q,
-    input: &mut R,
-    output: &mut W,
-    errors: &mut E,
-) -> Status
-    requires input { R.has_failed input.old ≡ false }
-    requires output { W.has_failed output.old ≡ false }
-    requires errors { E.AnswerOutput.has_failed errors.old ≡ false }
-    ensures { ServesWith R.QueryInput W.AnswerOutput E.AnswerOutput Mode.Describe (Q.contents engine.now) result
-        (streams input.old output.old errors.old) (streams input.new output.new errors.new) }
-{
-    match engine.run_describe(alloc, input, output) {
-        Ok(_) => Status::Done,
-        Err(fault) => tell_fault(fault, errors),
-    }
-}
-
-// Answers the requests in the lines of an input over a release.
-fn answer_requests<Q: QueryEngine, R: QueryInput, W: AnswerOutput, E: AnswerOutput>(
-    alloc: Global,
-    engine: &Q,
-    input: &mut R,
-    output: &mut W,
-    errors: &mut E,
-) -> Status
-    requires input { R.has_failed input.old ≡ false }
-    requires output { W.has_failed output.old ≡ false }
-    requires errors { E.AnswerOutput.has_failed errors.old ≡ false }
-    ensures { ServesWith R.QueryInput W.AnswerOutput E.AnswerOutput Mode.Session (Q.contents engine.now) result
-        (streams input.old output.old errors.old) (streams input.new output.new errors.new) }
-{
-    match engine.run_session(alloc, input, output) {
+    match run_in(alloc, engine, mode, input, output) {
         Ok(_) => Status::Done,
         Err(fault) => tell_fault(fault, errors),
     }
@@ -376,7 +207,8 @@ fn report_source<Q: QueryEngine, S: FileSource, R: QueryInput, W: AnswerOutput, 
     requires errors { E.AnswerOutput.has_failed errors.old ≡ false }
     ensures { (task : Task)
         × IsTask (S.files source.old) (S.history source.old) (S.history source.new) lang.now Mode.Check task
-        × EndsWith R.QueryInput W.AnswerOutput E.AnswerOutput task result (streams input.old output.old errors.old) (streams input.new output.new errors.new) }
+        × EndsWith R.QueryInput W.AnswerOutput E.AnswerOutput task result
+        (streams input.old output.old errors.old) (streams input.new output.new errors.new) }
 {
     let mut names = Vec::new(alloc);
     match report::<Q, S>(alloc, lang, source, &mut names) {
@@ -396,9 +228,12 @@ fn report<Q: QueryEngine, S: FileSource>(
     names: &mut Vec<String>,
 ) -> Result<Vec<u8>, LoadFault>
     ensures ok { IfOk result (λ text. (contents : Contents) × (text.items ≡ report_text (report_of contents))
-        × IfSome (S.files source.old) (λ known. IsLoadOf known lang.now (map string_bytes names.new.items) (Ok contents))) }
-    ensures err { IfErr result (λ fault. IfSome (S.files source.old) (λ known. IsLoadOf known lang.now (map string_bytes names.new.items) (Err fault))) }
-    ensures named { IfSome (S.files source.old) (λ known. AreInOrder known (map string_bytes names.new.items) ⊎ IsUnlisted result (map string_bytes names.new.items) (S.history source.new)) }
+        × IfSome (S.files source.old) (λ known.
+        IsLoadOf known lang.now (map string_bytes names.new.items) (Ok contents))) }
+    ensures err { IfErr result (λ fault. IfSome (S.files source.old) (λ known.
+        IsLoadOf known lang.now (map string_bytes names.new.items) (Err fault))) }
+    ensures named { IfSome (S.files source.old) (λ known. AreInOrder known (map string_bytes names.new.items)
+        ⊎ IsUnlisted result (map string_bytes names.new.items) (S.history source.new)) }
     ensures device { FailsAtFiles string_bytes names.new.items result (S.history source.old) (S.history source.new) }
     ensures calm { RaisesOnlyAtDevice result (S.history source.old) (S.history source.new) }
     ensures bounded { (S.history source.new).most ≤ max (S.history source.old).most (standard_limits.bytes + 1) }

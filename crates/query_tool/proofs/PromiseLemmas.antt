@@ -34,7 +34,7 @@ use Rattle.command_line.specs.declared.words.Mode.TheVariants.{Query, QueryWith}
 use Rattle.query_run.specs.Lines.{AreAnswers, AreWritten, query_lines}
 use Rattle.query_service.specs.Answer.{IsAnswer}
 use Rattle.query_service.specs.Serve.{EndsWith, IsAnswered, IsAskedFor, IsLoadOf, IsLoadedFrom, IsServed, IsTask, Task}
-use Rattle.query_service.specs.Serve.{form_of}
+use Rattle.query_service.specs.ModeAnswer.{form_of}
 use Rattle.query_service.specs.Streams.{Streams}
 use Rattle.query_service.specs.declared.service.Status.TheVariants.{Done}
 use Rattle.query_service.proofs.WrittenLemmas.{AreAnswers-weaker}

@@ -1,3 +1,2 @@
-pub mod FrontLaw
 pub mod inside
 pub mod Promise

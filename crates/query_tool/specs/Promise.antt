@@ -27,7 +27,8 @@ use Rattle.answer_printer.specs.declared.form.AnswerForm.{AnswerForm}
 use Rattle.query_run.specs.Lines.{AreAnswers, query_lines}
 use Rattle.query_service.specs.Explanation.{Explains}
 use Rattle.query_service.specs.LimitedAnswer.{least_plan, told_bound, unless_above}
-use Rattle.query_service.specs.Serve.{EndsWith, IsTask, Task, form_of}
+use Rattle.query_service.specs.ModeAnswer.{form_of}
+use Rattle.query_service.specs.Serve.{EndsWith, IsTask, Task}
 use Rattle.query_service.specs.Streams.{Streams}
 use Rattle.query_service.specs.declared.service.Status.TheVariants.{Done}
 use Rattle.streams.specs.declared.output.AnswerOutput.{Ghosts as Output}

@@ -1,5 +1,6 @@
 //! The engine: a release that answers queries.
-ghost use Rattle.std.specs.Prelude.{ℕ, ◌≡◌, ◌+◌, ◌<◌, ◌≤◌, ◌⊎◌, ◌++◌, List, Err, IfErr, IfOk, IfSome, Ok, OnErr, OnOk, false, length, map, max, string_bytes};
+ghost use Rattle.std.specs.Prelude.{ℕ, ◌≡◌, ◌+◌, ◌<◌, ◌≤◌, ◌⊎◌, ◌++◌, List, Err, IfErr, IfOk, IfSome, Ok, OnErr, OnOk};
+ghost use Rattle.std.specs.Prelude.{false, length, map, max, string_bytes};
 ghost use Rattle.std.specs.Cmp.Lexicographic.{slice_cmp};
 ghost use Rattle.std.specs.List.Sorted.{IsSorted, IsStrictlyIncreasing};
 ghost use Rattle.std.specs.Ordering.{nat_cmp};
@@ -19,7 +20,6 @@ ghost use Rattle.query_service.specs.SessionAnswer.{AnswersAsked, IsSessionAnswe
 ghost use Rattle.concept_printer.specs.ConceptText.{description_text};
 ghost use Rattle.session_line.specs.SessionRequest.{asked_in};
 ghost use Rattle.streams.specs.Waiting.{LeavesAnswer, Puts, is_write};
-ghost use Rattle.query_tool.specs.FrontLaw.{same_front};
 ghost use Rattle.query_tool.specs.Promise.{AnswersUnder};
 
 use crate::answering::{answer_over_with, explain_over, print_and_drop};
@@ -32,7 +32,6 @@ use executor::Visits;
 use idset::MixedSet;
 use planner::Choice;
 use postings::Indexes;
-use query_run::AnswerLine;
 use release_files::{FileSource, NamedBytes};
 use rewrites::Step;
 use session_line::{Page, SessionRequest, read_request};
@@ -89,17 +88,23 @@ impl Engine {
         lang: &str,
         limits: Limits,
     ) -> Result<Engine, LoadFault>
-        ensures ok { IfSome (S.files source.old) (λ known. IfOk result (λ engine. load_of limits lang.now (listed known (map string_bytes names.new.items)) ≡ Ok engine)) }
-        ensures err { IfSome (S.files source.old) (λ known. IfErr result (λ fault. is_device fault ≡ false → IsFaultOf fault (load_of limits lang.now (listed known (map string_bytes names.new.items))))) }
-        ensures names { IfSome (S.files source.old) (λ known. AreInOrder known (map string_bytes names.new.items) ⊎ IsUnlisted result (map string_bytes names.new.items) (S.history source.new)) }
-        ensures device { FailsAtFiles string_bytes names.new.items result (S.history source.old) (S.history source.new) }
+        ensures ok { IfSome (S.files source.old) (λ known. IfOk result (λ engine.
+            load_of limits lang.now (listed known (map string_bytes names.new.items)) ≡ Ok engine)) }
+        ensures err { IfSome (S.files source.old) (λ known. IfErr result (λ fault. is_device fault ≡ false
+            → IsFaultOf fault (load_of limits lang.now (listed known (map string_bytes names.new.items))))) }
+        ensures names { IfSome (S.files source.old) (λ known. AreInOrder known (map string_bytes names.new.items)
+            ⊎ IsUnlisted result (map string_bytes names.new.items) (S.history source.new)) }
+        ensures device { FailsAtFiles string_bytes names.new.items result (S.history source.old)
+            (S.history source.new) }
         ensures calm { RaisesOnlyAtDevice result (S.history source.old) (S.history source.new) }
-        ensures bounded { (S.history source.new).most ≤ max (S.history source.old).most ((limits_in_force limits).bytes + 1) }
+        ensures bounded { (S.history source.new).most
+            ≤ max (S.history source.old).most ((limits_in_force limits).bytes + 1) }
         ensures kind { IfErr result (λ fault. FailsAtRead (has_kind_at (map string_bytes names.new.items)) fault) }
         ensures files { S.files source.new ≡ S.files source.old }
         ensures rising { IsSorted (slice_cmp nat_cmp) (map string_bytes names.new.items) }
         ensures unnamed { name_concepts string_bytes names.new.items ≡ false
-            → (result ≡ Err LoadFault.NoConceptFile) ⊎ IsUnlisted result (map string_bytes names.new.items) (S.history source.new) }
+            → (result ≡ Err LoadFault.NoConceptFile)
+            ⊎ IsUnlisted result (map string_bytes names.new.items) (S.history source.new) }
         ensures found { result ≡ Err LoadFault.NoConceptFile → name_concepts string_bytes names.new.items ≡ false }
         ensures named { IfErr result (FileIs (λ file. file < length names.new.items)) }
     {
@@ -162,6 +167,26 @@ impl Engine {
             visits,
         )?;
         print_and_drop(alloc, &self.snapshot, found, form, output)
+    }
+
+    // Puts the answer to a query line into a piece of an output: the text of `answer`. Once the concepts are found, no
+    // memory is taken from line to line.
+    pub(crate) fn write_answer<W: AnswerOutput>(
+        &self,
+        alloc: Global,
+        line: &[u8],
+        piece: &mut Piece,
+        output: &mut W,
+    ) -> Result<(), AnswerFault>
+        requires { W.has_failed output.old ≡ false }
+        ensures ok { OnOk result ((text : List ℕ) × IsAnswer self.now line.now text
+            × Puts (W.written output.old) (W.written output.new) piece.old text piece.new) }
+        ensures fault { IfErr result (λ fault. LeavesAnswer (IsAnswer self.now line.now) fault
+            (W.written output.old) (W.written output.new) piece.old piece.new) }
+        ensures sound { OnOk result (W.has_failed output.new ≡ false) }
+        ensures failed { IfErr result (λ fault. W.has_failed output.new ≡ is_write fault) }
+    {
+        self.write_within(alloc, line, u64::MAX, AnswerForm::whole(), piece, output)
     }
 
     // Puts the answer to a line under a limit, in a form, into a piece of an output. The concepts are there before the
@@ -232,7 +257,8 @@ impl Engine {
         line: &[u8],
         output: &mut Vec<u8>,
     ) -> Result<(), AllocError>
-        ensures ok { OnOk result ((text : List ℕ) × IsExplanation self.now line.now text × (output.new.items ≡ output.old.items ++ text)) }
+        ensures ok { OnOk result ((text : List ℕ) × IsExplanation self.now line.now text
+            × (output.new.items ≡ output.old.items ++ text)) }
         ensures err { OnErr result (output.new.items ≡ output.old.items) }
     {
         explain_over(alloc, &self.snapshot, &self.indexes, line, output)
@@ -266,7 +292,8 @@ impl Engine {
     /// Appends the answer to a request: `list OFFSET COUNT LIMIT ECL` is answered by the count of the concepts and, of
     /// their lines, those from OFFSET on, COUNT at most, as `answer_within` does under LIMIT; `ids` is the same without
     /// names; `explain ECL` is answered as `explain` does, and `describe ID` as `describe` does. A line of more than
-    /// 65,535 bytes is answered by `ERR long`, any other by `ERR request`. Where memory is refused `output` is unchanged.
+    /// 65,535 bytes is answered by `ERR long`, any other by `ERR request`. Where memory is refused `output` is
+    /// unchanged.
     pub fn request(
         &self,
         alloc: Global,
@@ -325,23 +352,6 @@ impl Engine {
             &mut Visits { count: 0 },
             output,
         )
-    }
-}
-
-impl AnswerLine for Engine {
-    ghost answers = { IsAnswer };
-
-    ghost same_front = { same_front };
-
-    /// The text of `answer`. Once the concepts are found, no memory is taken from line to line.
-    fn answer_line<W: AnswerOutput>(
-        &self,
-        alloc: Global,
-        line: &[u8],
-        piece: &mut Piece,
-        output: &mut W,
-    ) -> Result<(), AnswerFault> {
-        self.write_within(alloc, line, u64::MAX, AnswerForm::whole(), piece, output)
     }
 }
 

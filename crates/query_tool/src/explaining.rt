@@ -1,39 +1,12 @@
-//! The run over the lines of an input that tells how each is answered.
-ghost use Rattle.std.specs.Prelude.{◌≡◌, ◌+◌, ◌^◌, ◌≤◌, ℕ, false, IfErr, IfOk, IfSome, List, OnOk, length};
-ghost use Rattle.std.specs.Io.KnownBytes.{IsAtEnd};
-ghost use Rattle.query_run.specs.Fault.{CountsTurns, EndsAt, HaveFailed};
-ghost use Rattle.query_run.specs.Lines.{AreWritten, query_lines};
+//! What is put into a piece of an output to explain a line.
+ghost use Rattle.std.specs.Prelude.{◌≡◌, ℕ, false, IfErr, List, OnOk};
 ghost use Rattle.query_service.specs.Explanation.{IsExplanation};
 ghost use Rattle.streams.specs.Waiting.{LeavesAnswer, Puts, is_write};
-ghost use Rattle.query_tool.specs.FrontLaw.{same_front_explained};
 
 use crate::engine::Engine;
 use crate::writing::put_text;
-use query_run::{AnswerLine, RunFault, run};
 use std::alloc::{AllocError, Global};
-use streams::{AnswerFault, AnswerOutput, Piece, QueryInput};
-
-// What answers a line by its plan.
-#[derive(Clone, Copy)]
-struct Explainer<'a> {
-    engine: &'a Engine,
-}
-
-impl<'a> AnswerLine for Explainer<'a> {
-    ghost answers = { λ explainer. IsExplanation explainer.engine.now };
-
-    ghost same_front = { λ explainer. same_front_explained explainer.engine.now };
-
-    fn answer_line<W: AnswerOutput>(
-        &self,
-        alloc: Global,
-        line: &[u8],
-        piece: &mut Piece,
-        output: &mut W,
-    ) -> Result<(), AnswerFault> {
-        write_explanation(alloc, self.engine, line, piece, output)
-    }
-}
+use streams::{AnswerFault, AnswerOutput, Piece};
 
 /// Puts what explains a line into a piece of an output.
 pub fn write_explanation<W: AnswerOutput>(
@@ -56,26 +29,4 @@ pub fn write_explanation<W: AnswerOutput>(
         Ok(()) => put_text(text.as_slice(), piece, output),
         Err(AllocError) => Err(AnswerFault::Memory),
     }
-}
-
-/// Tells of each query line of an input, in order, how it is answered and how many items that visits at most, as `Engine::explain`
-/// does. It reads, writes and ends as `run` does.
-pub fn run_explain<R: QueryInput, W: AnswerOutput>(
-    alloc: Global,
-    engine: &Engine,
-    input: &mut R,
-    output: &mut W,
-) -> Result<u64, RunFault>
-    requires input { R.has_failed input.old ≡ false }
-    requires output { W.has_failed output.old ≡ false }
-    ensures end { OnOk result (IsAtEnd (R.remaining input.new)) }
-    ensures count { IfOk result (λ count. IfSome (R.remaining input.old) (λ bytes. count ≡ length (query_lines bytes))) }
-    ensures answers { OnOk result (IfSome (R.remaining input.old) (λ bytes. AreWritten (IsExplanation engine.now) (query_lines bytes) (W.written output.old) (W.written output.new))) }
-    ensures sound { OnOk result ((R.has_failed input.new ≡ false) × (W.has_failed output.new ≡ false)) }
-    ensures fault { IfErr result (λ fault. EndsAt fault (IsExplanation engine.now) (R.remaining input.old) (R.remaining input.new) (W.written output.old) (W.written output.new)) }
-    ensures failed { IfErr result (λ fault. HaveFailed fault (R.has_failed input.new) (W.has_failed output.new)) }
-    ensures turns { IfErr result (λ fault. CountsTurns fault (R.read_count input.old) (R.read_count input.new)) }
-    ensures reads { R.read_count input.new ≤ R.read_count input.old + 2 ^ 40 }
-{
-    run(alloc, &Explainer { engine }, input, output)
 }

@@ -1,27 +1,25 @@
 //! The service, by the engine.
 ghost use Rattle.std.specs.Prelude.{◌≡◌, false, string_bytes};
+ghost use Rattle.query_service.specs.ModeAnswer.{form_of};
 ghost use Rattle.query_service.specs.Report.{report_of};
 ghost use Rattle.query_service.specs.Serve.{EndsWith, IsTask, Task};
 ghost use Rattle.query_service.specs.Streams.{streams};
 
-use crate::describing::run_describe;
+use crate::describing::write_description;
 use crate::engine::Engine;
-use crate::explaining::run_explain;
-use crate::limiting::run_within;
-use crate::session::run_session;
+use crate::explaining::write_explanation;
+use crate::session::write_request;
+use crate::writing::put_text;
 use answer_printer::AnswerForm;
-use command_line::{Mode, Request};
-use query_run::RunFault;
+use command_line::{Mode, QueryOptions, Request};
 use query_service::{QueryEngine, Status};
 use release_files::{FileSource, NamedBytes};
 use snapshot::{Limits, LoadFault, LoadSnapshot, Report, Snapshot};
 use std::alloc::Global;
-use streams::{AnswerOutput, QueryInput};
+use streams::{AnswerFault, AnswerOutput, Piece, QueryInput};
 
 impl QueryEngine for Engine {
     ghost contents = { λ engine. engine };
-
-    ghost answers_by_contents = { λ engine line text answered. answered };
 
     fn load(
         alloc: Global,
@@ -55,42 +53,36 @@ impl QueryEngine for Engine {
         }
     }
 
-    fn run_explain<R: QueryInput, W: AnswerOutput>(
+    fn write_in<W: AnswerOutput>(
         &self,
         alloc: Global,
-        input: &mut R,
+        mode: Mode,
+        line: &[u8],
+        piece: &mut Piece,
         output: &mut W,
-    ) -> Result<u64, RunFault> {
-        run_explain(alloc, self, input, output)
+    ) -> Result<(), AnswerFault> {
+        match mode {
+            Mode::Sample | Mode::Query => self.write_answer(alloc, line, piece, output),
+            Mode::QueryWith(options) => {
+                let form = form_of(options);
+                self.write_within(alloc, line, options.limit, form, piece, output)
+            }
+            Mode::Explain => write_explanation(alloc, self, line, piece, output),
+            Mode::Describe => write_description(alloc, self, line, piece, output),
+            Mode::Session => write_request(alloc, self, line, piece, output),
+            Mode::Check => put_text(b"", piece, output),
+        }
     }
+}
 
-    fn run_describe<R: QueryInput, W: AnswerOutput>(
-        &self,
-        alloc: Global,
-        input: &mut R,
-        output: &mut W,
-    ) -> Result<u64, RunFault> {
-        run_describe(alloc, self, input, output)
-    }
-
-    fn run_session<R: QueryInput, W: AnswerOutput>(
-        &self,
-        alloc: Global,
-        input: &mut R,
-        output: &mut W,
-    ) -> Result<u64, RunFault> {
-        run_session(alloc, self, input, output)
-    }
-
-    fn run_within<R: QueryInput, W: AnswerOutput>(
-        &self,
-        alloc: Global,
-        limit: u64,
-        form: AnswerForm,
-        input: &mut R,
-        output: &mut W,
-    ) -> Result<u64, RunFault> {
-        run_within(alloc, self, limit, form, input, output)
+// The form of the answers that options ask for.
+fn form_of(options: QueryOptions) -> AnswerForm
+    ensures { result ≡ form_of options }
+{
+    AnswerForm {
+        offset: 0,
+        first: options.first,
+        names: options.names,
     }
 }
 
@@ -120,8 +112,10 @@ pub fn serve<S: FileSource, R: QueryInput, W: AnswerOutput, E: AnswerOutput>(
     requires output { W.has_failed output.old ≡ false }
     requires errors { E.AnswerOutput.has_failed errors.old ≡ false }
     ensures served { (task : Task)
-        × IsTask (S.files source.old) (S.history source.old) (S.history source.new) (string_bytes request.now.lang) request.now.mode task
-        × EndsWith R.QueryInput W.AnswerOutput E.AnswerOutput task result (streams input.old output.old errors.old) (streams input.new output.new errors.new) }
+        × IsTask (S.files source.old) (S.history source.old) (S.history source.new) (string_bytes request.now.lang)
+        request.now.mode task
+        × EndsWith R.QueryInput W.AnswerOutput E.AnswerOutput task result
+        (streams input.old output.old errors.old) (streams input.new output.new errors.new) }
     ensures untouched { request.now.mode ≡ Mode.Sample → source.new ≡ source.old }
 {
     query_service::serve::<Engine, S, R, W, E>(alloc, request, source, input, output, errors)

@@ -12,8 +12,9 @@ returns-in-Ok g c =
       task,
       record {
         mode_is = refl;
-        loaded = asked_of_files c.args.mode c.requires.mode (record {
-          loaded = loaded_whole _ c.standard.result c.args.lang.now names contents c.standard.ensures c.in-Ok.ensures.ok c.in-Ok.ensures.names;
+        loaded = asked_of_files c.args.mode c.requires.files (record {
+          loaded = loaded_whole _ c.standard.result c.args.lang.now names contents c.standard.ensures c.in-Ok.ensures.ok
+              c.in-Ok.ensures.names;
           named = c.in-Ok.ensures.names;
           device = record { failed = tt; calm = c.in-Ok.ensures.calm };
           bounded = within_standard c.standard.result _ _ c.standard.ensures c.in-Ok.ensures.bounded;
@@ -30,8 +31,10 @@ returns g c =
       task,
       record {
         mode_is = refl;
-        loaded = asked_of_files c.args.mode c.requires.mode (record {
-          loaded = loaded_not _ c.standard.result c.args.lang.now names (g.S.FileSource.history c.load_from.new.source) c.in-Err.fault c.standard.ensures c.in-Err.ensures.err c.in-Err.ensures.names;
+        loaded = asked_of_files c.args.mode c.requires.files (record {
+          loaded = loaded_not _ c.standard.result c.args.lang.now names
+              (g.S.FileSource.history c.load_from.new.source) c.in-Err.fault c.standard.ensures c.in-Err.ensures.err
+              c.in-Err.ensures.names;
           named = c.in-Err.ensures.names;
           device = record { failed = c.in-Err.ensures.device; calm = c.in-Err.ensures.calm };
           bounded = within_standard c.standard.result _ _ c.standard.ensures c.in-Err.ensures.bounded;

@@ -5,7 +5,7 @@ use Rattle.answer_printer.specs.declared.form.AnswerForm.{AnswerForm}
 use Rattle.query_service.specs.Answer.{IsAnswer}
 use Rattle.query_service.specs.LimitedAnswer.{IsAnswerWithin}
 use Rattle.query_tool.proofs.LimitLemmas.{unlimited_answers}
-use Rattle.query_tool.proofs.engine.EngineAnswerLine.answer_line.Goals as goal
+use Rattle.query_tool.proofs.engine.Engine.write_answer.Goals as goal
 
 -- the answer without a limit, in the form of all lines with names
 pub returns-clause-ok : goal.returns-clause-ok

@@ -1,27 +1,31 @@
--- Lines that begin alike have the same answers: with this an engine answers the lines of a run, which keeps no more of a
--- line.
+-- Lines that begin alike have the same answers, in each mode. So a run need keep no more of a line.
 use Rattle.std.proofs.Common.{◌≡◌, ℕ, ◌<◌, List, Some, codes, cond, length, inl, inr, sym, ap, ◌∙◌, subst, min, arith}
 use Rattle.std.proofs.lemmas.Bool.{cases_lt, lt-ltb}
 use Rattle.std.proofs.lemmas.List.{length-take, take_all}
 use Rattle.ecl_lexer.specs.Tokens.{most_bytes}
 use Rattle.ecl_lexer.specs.declared.fault.QueryFault.{QueryFault}
-use Rattle.ecl_lexer.specs.declared.fault.QueryFault.TheVariants.{Long, Utf8, Token, Unsupported, Limit, Depth, Syntax, Memory}
+use Rattle.ecl_lexer.specs.declared.fault.QueryFault.TheVariants.{Long, Utf8, Token, Unsupported, Limit, Depth, Syntax}
+use Rattle.ecl_lexer.specs.declared.fault.QueryFault.TheVariants.{Memory}
 use Rattle.constraint_tree.specs.Refusal.{IsRefusalOf}
 use Rattle.constraint_tree.specs.Tree.{Tree}
 use Rattle.held_release.specs.Contents.{Contents}
 use Rattle.answer_printer.specs.AnswerText.{refusal_text}
 use Rattle.query_run.specs.KeptLine.{kept_of}
-use Rattle.query_service.specs.Answer.{IsAnswer, IsForLine, constraint_answer}
-use Rattle.query_service.specs.Explanation.{Explains, IsExplanation}
-use Rattle.query_service.specs.LimitedAnswer.{AnswersWithin, IsAnswerWithin}
-use Rattle.answer_printer.specs.declared.form.AnswerForm.{AnswerForm}
+use Rattle.query_service.specs.Answer.{IsForLine, constraint_answer}
+use Rattle.query_service.specs.Explanation.{Explains}
+use Rattle.query_service.specs.LimitedAnswer.{AnswersWithin}
+use Rattle.query_service.specs.ModeAnswer.{answers_in, form_of}
 use Rattle.concept_printer.specs.ConceptText.{description_text, told_unless}
 use Rattle.concept_printer.specs.NamedConcept.{short_fault}
 use Rattle.concept_printer.specs.declared.named_concept.LineFault.TheVariants.{Long as TooLong}
 use Rattle.query_service.specs.SessionAnswer.{IsDescription, IsSessionAnswer}
+use Rattle.command_line.specs.declared.words.Mode.{Mode}
+use Rattle.command_line.specs.declared.words.Mode.TheVariants.{Sample, Query, QueryWith, Explain, Describe, Session}
+use Rattle.command_line.specs.declared.words.Mode.TheVariants.{Check}
 
 -- a line that is too long has no text but that
-long_text : (IsFor : Tree → List ℕ → Type 0) (line text : List ℕ) → most_bytes < length line → IsForLine IsFor line text → text ≡ refusal_text Long
+long_text : (IsFor : Tree → List ℕ → Type 0) (line text : List ℕ) → most_bytes < length line
+    → IsForLine IsFor line text → text ≡ refusal_text Long
 long_text IsFor line text long (inl (tree, is, found)) = absurd (omega (arith, long, is.readable.0))
 long_text IsFor line text long (inr (fault, is, same)) = by fault is same
   where
@@ -38,7 +42,8 @@ long_text IsFor line text long (inr (fault, is, same)) = by fault is same
 -- lines with the same first bytes, one more than a line may have, are one line, or both are too long: so they have the
 -- same answers where any two lines that are too long have
 same_front_of : (answers : List ℕ → List ℕ → Type 0)
-    → ((one other text : List ℕ) → most_bytes < length one → most_bytes < length other → answers one text → answers other text)
+    → ((one other text : List ℕ) → most_bytes < length one → most_bytes < length other
+    → answers one text → answers other text)
     → (one other text : List ℕ) → kept_of one ≡ kept_of other → answers one text → answers other text
 same_front_of answers alike one other text same answered =
     let lengths : min 65536 (length one) ≡ min 65536 (length other) =
@@ -46,45 +51,32 @@ same_front_of answers alike one other text same answered =
     elim (cases_lt most_bytes (length one)) [
       | inl long ↦ alike one other text long (omega (arith, lengths)) answered
       | inr short ↦
-          let whole : one ≡ other = sym (take_all 65536 one (omega arith)) ∙ same ∙ take_all 65536 other (omega (arith, lengths)) in
+          let whole : one ≡ other =
+          sym (take_all 65536 one (omega arith)) ∙ same ∙ take_all 65536 other (omega (arith, lengths)) in
           subst (λ (line : List ℕ). answers line text) whole answered
     ]
 
-same_front_for : (IsFor : Tree → List ℕ → Type 0) (one other text : List ℕ) → kept_of one ≡ kept_of other → IsForLine IsFor one text
-    → IsForLine IsFor other text
+same_front_for : (IsFor : Tree → List ℕ → Type 0) (one other text : List ℕ) → kept_of one ≡ kept_of other
+    → IsForLine IsFor one text → IsForLine IsFor other text
 same_front_for IsFor =
     same_front_of (IsForLine IsFor)
     (λ one other text long also answered. inr (Long, also, long_text IsFor one text long answered))
-
--- they have the same answers
-pub same_front : (contents : Contents) (one other text : List ℕ) → kept_of one ≡ kept_of other → IsAnswer contents one text → IsAnswer contents other text
-same_front contents = same_front_for (λ tree text. text ≡ constraint_answer contents tree)
-
--- and are explained alike
-pub same_front_explained : (contents : Contents) (one other text : List ℕ) → kept_of one ≡ kept_of other → IsExplanation contents one text
-    → IsExplanation contents other text
-same_front_explained contents = same_front_for (Explains contents)
-
--- and are answered alike under a limit, in a form
-pub same_front_within : (limit : ℕ) (form : AnswerForm) (contents : Contents) (one other text : List ℕ)
-    → kept_of one ≡ kept_of other → IsAnswerWithin limit form contents one text
-    → IsAnswerWithin limit form contents other text
-same_front_within limit form contents = same_front_for (AnswersWithin limit form contents)
 
 -- a line of `describe` that is too long has no text but that
 long_described : (contents : Contents) (line : List ℕ) → most_bytes < length line
     → description_text contents line ≡ codes "ERR long\n"
 long_described contents line long =
-    ap (told_unless contents line) (λ i. cond (lt-ltb most_bytes (length line) long i) (Some TooLong) (short_fault line))
+    ap (told_unless contents line)
+    (λ i. cond (lt-ltb most_bytes (length line) long i) (Some TooLong) (short_fault line))
 
-pub same_front_described : (contents : Contents) (one other text : List ℕ) → kept_of one ≡ kept_of other
+same_front_described : (contents : Contents) (one other text : List ℕ) → kept_of one ≡ kept_of other
     → IsDescription contents one text → IsDescription contents other text
 same_front_described contents =
     same_front_of (IsDescription contents)
-    (λ one other text long also told. told ∙ long_described contents one long ∙ sym (long_described contents other also))
+    (λ one other text long also told.
+    told ∙ long_described contents one long ∙ sym (long_described contents other also))
 
--- lines that begin alike have the same answers as requests of a session
-pub same_front_requested : (contents : Contents) (one other text : List ℕ) → kept_of one ≡ kept_of other
+same_front_requested : (contents : Contents) (one other text : List ℕ) → kept_of one ≡ kept_of other
     → IsSessionAnswer contents one text → IsSessionAnswer contents other text
 same_front_requested contents =
     same_front_of (IsSessionAnswer contents)
@@ -92,3 +84,14 @@ same_front_requested contents =
       long = λ _. answered.long long;
       asked_is = λ short. absurd (omega (arith, also, short));
     })
+
+-- lines that begin alike have the same answers
+pub same_front_in : (mode : Mode) (contents : Contents) (one other text : List ℕ) → kept_of one ≡ kept_of other
+    → answers_in mode contents one text → answers_in mode contents other text
+same_front_in Sample contents = same_front_for (λ tree text. text ≡ constraint_answer contents tree)
+same_front_in Query contents = same_front_for (λ tree text. text ≡ constraint_answer contents tree)
+same_front_in (QueryWith options) contents = same_front_for (AnswersWithin options.limit (form_of options) contents)
+same_front_in Explain contents = same_front_for (Explains contents)
+same_front_in Describe contents = same_front_described contents
+same_front_in Session contents = same_front_requested contents
+same_front_in Check contents = λ one other text same none. none
