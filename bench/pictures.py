@@ -2,7 +2,7 @@
 """Draws two pictures of docs/DESIGN.md: docs/layers.svg, the layers and their crates, and docs/row.svg, the way of a
 row from its file to the columns.
 
-python3 bench/pictures.py [--check]
+    python3 bench/pictures.py [--check]
 
 The layers are those of the code block under "Layers and crates", from the lowest up. With `--check` the script
 writes nothing, and its status is 1 if a picture is old."""
