@@ -189,26 +189,30 @@ fn check_long_runs(rt: &impl Abort, alloc: Global, engine: &Engine, answers: &[u
 }
 
 // An engine with the long names, whose answers are looked at, and which is dropped.
-fn check_long_and_drop(rt: &impl Abort, alloc: Global, engine: Engine) -> Result<(), AllocError> {
-    let mut answers = long_answer(alloc)?;
-    let again = long_answer(alloc)?;
-    answers.extend_from_slice(again.as_slice())?;
-    check_long_runs(rt, alloc, &engine, answers.as_slice());
+fn check_long_and_drop(rt: &impl Abort, alloc: Global, engine: Engine, answers: &[u8]) {
+    check_long_runs(rt, alloc, &engine, answers);
     drop(engine);
-    Ok(())
 }
 
-fn check_long_names(rt: &impl Abort, alloc: Global, rows: &[u8]) -> Result<(), LoadFault> {
+fn check_long_names(
+    rt: &impl Abort,
+    alloc: Global,
+    rows: &[u8],
+    answers: &[u8],
+) -> Result<(), LoadFault> {
     let files = sample_with(alloc, DESCRIPTIONS, rows)?;
     match Engine::load(alloc, files.as_slice(), "en", Limits::standard()) {
-        Ok(engine) => Ok(check_long_and_drop(rt, alloc, engine)?),
+        Ok(engine) => Ok(check_long_and_drop(rt, alloc, engine, answers)),
         Err(fault) => Err(fault),
     }
 }
 
 fn check_long_answers(rt: &impl Abort, alloc: Global) -> Result<(), LoadFault> {
     let rows = name_rows(alloc)?;
-    check_long_names(rt, alloc, rows.as_slice())
+    let mut answers = long_answer(alloc)?;
+    let again = long_answer(alloc)?;
+    answers.extend_from_slice(again.as_slice())?;
+    check_long_names(rt, alloc, rows.as_slice(), answers.as_slice())
 }
 
 // Lines that wait, go out as they are, and fill a piece.

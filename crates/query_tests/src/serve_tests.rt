@@ -56,100 +56,111 @@ const TEN_EXPLAINED: [&str; 12] = [
     "hosecrag", "explain", "1", "2", "3", "4", "5", "6", "7", "8", "9", "10",
 ];
 
+// Words, and the mode, the folders and the language that they ask for.
+type Requested<'a> = (&'a [&'a str], Mode, &'a [&'a str], &'a str);
+
+const REQUESTS: [Requested<'static>; 12] = [
+    (&["hosecrag"], Mode::Sample, &[], "en"),
+    (&["hosecrag", "query", "F"], Mode::Query, &["F"], "en"),
+    (
+        &["hosecrag", "query", "F", "G", "--lang", "da"],
+        Mode::Query,
+        &["F", "G"],
+        "da",
+    ),
+    (
+        &["hosecrag", "query", "--lang=da", "G", "F"],
+        Mode::Query,
+        &["G", "F"],
+        "da",
+    ),
+    (
+        &["hosecrag", "query", "F", "--lang", "da", "F"],
+        Mode::Query,
+        &["F", "F"],
+        "da",
+    ),
+    (
+        &["hosecrag", "query", "", "--lang", ""],
+        Mode::Query,
+        &[""],
+        "",
+    ),
+    (
+        &[
+            "hosecrag",
+            "query",
+            "--limit",
+            "004",
+            "F",
+            "--no-names",
+            "--first",
+            "2",
+        ],
+        Mode::QueryWith(QueryOptions {
+            limit: 4,
+            first: Some(2),
+            names: false,
+        }),
+        &["F"],
+        "en",
+    ),
+    (
+        &["hosecrag", "query", "F", "--limit", "18446744073709551615"],
+        Mode::QueryWith(QueryOptions {
+            limit: u64::MAX,
+            first: None,
+            names: true,
+        }),
+        &["F"],
+        "en",
+    ),
+    (
+        &["hosecrag", "explain", "F", "G"],
+        Mode::Explain,
+        &["F", "G"],
+        "en",
+    ),
+    (
+        &["hosecrag", "describe", "F", "--lang", "da"],
+        Mode::Describe,
+        &["F"],
+        "da",
+    ),
+    (
+        &["hosecrag", "session", "F", "G"],
+        Mode::Session,
+        &["F", "G"],
+        "en",
+    ),
+    (
+        &["hosecrag", "check", "F", "G"],
+        Mode::Check,
+        &["F", "G"],
+        "en",
+    ),
+];
+
+// Whether words are read as the request that they are.
+fn is_request(alloc: Global, row: Requested<'_>) -> bool {
+    let (words, mode, folders, lang) = row;
+    match read_words(alloc, words) {
+        Ok(request) => {
+            request.mode == mode
+                && are_texts(request.folders.as_slice(), folders)
+                && request.lang.as_str() == lang
+        }
+        Err(_) => false,
+    }
+}
+
 #[test]
 fn reads_words(rt: HostRuntime) {
-    let requests = [
-        (["hosecrag"].as_slice(), Mode::Sample, [].as_slice(), "en"),
-        (&["hosecrag", "query", "F"], Mode::Query, &["F"], "en"),
-        (
-            &["hosecrag", "query", "F", "G", "--lang", "da"],
-            Mode::Query,
-            &["F", "G"],
-            "da",
-        ),
-        (
-            &["hosecrag", "query", "--lang=da", "G", "F"],
-            Mode::Query,
-            &["G", "F"],
-            "da",
-        ),
-        (
-            &["hosecrag", "query", "F", "--lang", "da", "F"],
-            Mode::Query,
-            &["F", "F"],
-            "da",
-        ),
-        (
-            &["hosecrag", "query", "", "--lang", ""],
-            Mode::Query,
-            &[""],
-            "",
-        ),
-        (
-            &[
-                "hosecrag",
-                "query",
-                "--limit",
-                "004",
-                "F",
-                "--no-names",
-                "--first",
-                "2",
-            ],
-            Mode::QueryWith(QueryOptions {
-                limit: 4,
-                first: Some(2),
-                names: false,
-            }),
-            &["F"],
-            "en",
-        ),
-        (
-            &["hosecrag", "query", "F", "--limit", "18446744073709551615"],
-            Mode::QueryWith(QueryOptions {
-                limit: u64::MAX,
-                first: None,
-                names: true,
-            }),
-            &["F"],
-            "en",
-        ),
-        (
-            &["hosecrag", "explain", "F", "G"],
-            Mode::Explain,
-            &["F", "G"],
-            "en",
-        ),
-        (
-            &["hosecrag", "describe", "F", "--lang", "da"],
-            Mode::Describe,
-            &["F"],
-            "da",
-        ),
-        (
-            &["hosecrag", "session", "F", "G"],
-            Mode::Session,
-            &["F", "G"],
-            "en",
-        ),
-        (
-            &["hosecrag", "check", "F", "G"],
-            Mode::Check,
-            &["F", "G"],
-            "en",
-        ),
-        (&TEN_FOLDERS[..11], Mode::Check, &TEN_FOLDERS[2..11], "en"),
-    ];
-    for (words, mode, folders, lang) in requests {
-        match read_words(rt.alloc(), words) {
-            Ok(request) => {
-                assert!(rt; request.mode == mode);
-                assert!(rt; are_texts(request.folders.as_slice(), folders));
-                assert!(rt; request.lang.as_str() == lang);
-            }
-            Err(_) => assert!(rt; false, "words of a request"),
-        }
+    for row in REQUESTS {
+        assert!(rt; is_request(rt.alloc(), row));
     }
+    let nine = (&TEN_FOLDERS[..11], Mode::Check, &TEN_FOLDERS[2..11], "en");
+    assert!(rt; is_request(rt.alloc(), nine));
 }
 
 fn are_texts(texts: &[String], wanted: &[&str]) -> bool {
@@ -160,115 +171,135 @@ fn are_texts(texts: &[String], wanted: &[&str]) -> bool {
             .all(|(text, other)| text.as_str() == *other)
 }
 
+// Words that are no request.
+const NO_REQUESTS: [&[&str]; 10] = [
+    &["hosecrag", "query"],
+    &["hosecrag", "explain"],
+    &["hosecrag", "describe"],
+    &["hosecrag", "session", "F", "--first", "1"],
+    &["hosecrag", "explain", "F", "--lang", "da"],
+    &["hosecrag", "query", "F", "--lang"],
+    &["hosecrag", "query", "--lang", "da"],
+    &["hosecrag", "check"],
+    &["hosecrag", "check", "F", "--lang", "da"],
+    &["hosecrag", "--"],
+];
+
+// Words that ask for help, or for the version.
+const HELPED: [&[&str]; 6] = [
+    &["hosecrag", "--help"],
+    &["hosecrag", "query", "-h"],
+    &["hosecrag", "explain", "-h"],
+    &["hosecrag", "check", "-h"],
+    &["hosecrag", "--version"],
+    &["hosecrag", "-V"],
+];
+
 #[test]
 fn refuses_words(rt: HostRuntime) {
-    let refused = [
-        ["hosecrag", "query"].as_slice(),
-        &["hosecrag", "explain"],
-        &["hosecrag", "describe"],
-        &["hosecrag", "session", "F", "--first", "1"],
-        &["hosecrag", "explain", "F", "--lang", "da"],
-        &["hosecrag", "query", "F", "--lang"],
-        &["hosecrag", "query", "--lang", "da"],
-        &["hosecrag", "check"],
-        &["hosecrag", "check", "F", "--lang", "da"],
-        &["hosecrag", "--"],
-    ];
-    for words in refused {
+    for words in NO_REQUESTS {
         assert!(rt; matches!(read_words(rt.alloc(), words), Err(WordFault::Usage(_))));
     }
-    for words in [
-        ["hosecrag", "--help"].as_slice(),
-        &["hosecrag", "query", "-h"],
-        &["hosecrag", "explain", "-h"],
-        &["hosecrag", "check", "-h"],
-        &["hosecrag", "--version"],
-        &["hosecrag", "-V"],
-    ] {
+    for words in HELPED {
         assert!(rt; matches!(read_words(rt.alloc(), words), Err(WordFault::Help(_))));
+    }
+}
+
+// Words, and what the text that answers them names.
+type Named<'a> = (&'a [&'a str], &'a [&'a str]);
+
+const HELP: [Named<'static>; 5] = [
+    (
+        &["hosecrag", "--help"],
+        &["query", "explain", "check", "--help", "--version"],
+    ),
+    (
+        &["hosecrag", "query", "-h"],
+        &[
+            "FOLDER",
+            "--lang",
+            "CODE",
+            "--limit",
+            "VISITS",
+            "--first",
+            "--no-names",
+            "--help",
+        ],
+    ),
+    (&["hosecrag", "explain", "-h"], &["FOLDER", "--help"]),
+    (&["hosecrag", "check", "-h"], &["FOLDER", "--help"]),
+    (&["hosecrag", "--version"], &["hosecrag 0.1.0"]),
+];
+
+// Whether what is told for help names what there is.
+fn is_helped(alloc: Global, row: Named<'_>) -> bool {
+    match read_words(alloc, row.0) {
+        Err(WordFault::Help(text)) => has_all(text.as_str(), row.1),
+        _ => false,
     }
 }
 
 // What help tells names each command, each flag and each value of the command that it is asked of.
 #[test]
 fn help_names_what_there_is(rt: HostRuntime) {
-    let calls = [
-        (
-            ["hosecrag", "--help"].as_slice(),
-            ["query", "explain", "check", "--help", "--version"].as_slice(),
-        ),
-        (
-            &["hosecrag", "query", "-h"],
-            &[
-                "FOLDER",
-                "--lang",
-                "CODE",
-                "--limit",
-                "VISITS",
-                "--first",
-                "--no-names",
-                "--help",
-            ],
-        ),
-        (&["hosecrag", "explain", "-h"], &["FOLDER", "--help"]),
-        (&["hosecrag", "check", "-h"], &["FOLDER", "--help"]),
-        (&["hosecrag", "--version"], &["hosecrag 0.1.0"]),
-    ];
-    for (words, names) in calls {
-        match read_words(rt.alloc(), words) {
-            Err(WordFault::Help(text)) => assert!(rt; has_all(text.as_str(), names)),
-            _other => assert!(rt; false, "a call for help or for the version"),
-        }
+    for row in HELP {
+        assert!(rt; is_helped(rt.alloc(), row));
+    }
+}
+
+const WRONG: [Named<'static>; 16] = [
+    (&["hosecrag", "qery"], &["qery"]),
+    (&["hosecrag", "query", "F", "--land", "da"], &["--land"]),
+    (&["hosecrag", "check", "F", "--lang", "da"], &["--lang"]),
+    (&["hosecrag", "query", "F", "--lang"], &["--lang", "CODE"]),
+    (&["hosecrag", "explain"], &["FOLDER"]),
+    (
+        &["hosecrag", "query", "F", "--limit"],
+        &["--limit", "VISITS"],
+    ),
+    (&["hosecrag", "query", "F", "--limit", "-1"], &["--limit"]),
+    (
+        &["hosecrag", "query", "F", "--limit", "1e6"],
+        &["--limit", "1e6"],
+    ),
+    (
+        &["hosecrag", "query", "F", "--limit", "+5"],
+        &["--limit", "+5"],
+    ),
+    (
+        &["hosecrag", "query", "F", "--first", "111111111111111111111"],
+        &["--first"],
+    ),
+    (
+        &["hosecrag", "query", "F", "--first", "18446744073709551616"],
+        &["--first"],
+    ),
+    (
+        &["hosecrag", "query", "F", "--first", "1", "--first", "2"],
+        &["--first"],
+    ),
+    (
+        &["hosecrag", "query", "F", "--no-names", "--no-names"],
+        &["--no-names"],
+    ),
+    (&["hosecrag", "explain", "F", "--first", "1"], &["--first"]),
+    (&["hosecrag", "check", "F", "--limit", "1"], &["--limit"]),
+    (&["hosecrag", "--"], &["query", "explain", "check"]),
+];
+
+// Whether what is told of words that are wrong names the wrong ones.
+fn is_named(alloc: Global, row: Named<'_>) -> bool {
+    match read_words(alloc, row.0) {
+        Err(WordFault::Usage(text)) => has_all(text.as_str(), row.1),
+        _ => false,
     }
 }
 
 // What is told of words that are wrong names the wrong one, or what is missing.
 #[test]
 fn wrong_words_are_named(rt: HostRuntime) {
-    let wrong = [
-        (["hosecrag", "qery"].as_slice(), ["qery"].as_slice()),
-        (&["hosecrag", "query", "F", "--land", "da"], &["--land"]),
-        (&["hosecrag", "check", "F", "--lang", "da"], &["--lang"]),
-        (&["hosecrag", "query", "F", "--lang"], &["--lang", "CODE"]),
-        (&["hosecrag", "explain"], &["FOLDER"]),
-        (
-            &["hosecrag", "query", "F", "--limit"],
-            &["--limit", "VISITS"],
-        ),
-        (&["hosecrag", "query", "F", "--limit", "-1"], &["--limit"]),
-        (
-            &["hosecrag", "query", "F", "--limit", "1e6"],
-            &["--limit", "1e6"],
-        ),
-        (
-            &["hosecrag", "query", "F", "--limit", "+5"],
-            &["--limit", "+5"],
-        ),
-        (
-            &["hosecrag", "query", "F", "--first", "111111111111111111111"],
-            &["--first"],
-        ),
-        (
-            &["hosecrag", "query", "F", "--first", "18446744073709551616"],
-            &["--first"],
-        ),
-        (
-            &["hosecrag", "query", "F", "--first", "1", "--first", "2"],
-            &["--first"],
-        ),
-        (
-            &["hosecrag", "query", "F", "--no-names", "--no-names"],
-            &["--no-names"],
-        ),
-        (&["hosecrag", "explain", "F", "--first", "1"], &["--first"]),
-        (&["hosecrag", "check", "F", "--limit", "1"], &["--limit"]),
-        (&["hosecrag", "--"], &["query", "explain", "check"]),
-    ];
-    for (words, names) in wrong {
-        match read_words(rt.alloc(), words) {
-            Err(WordFault::Usage(text)) => assert!(rt; has_all(text.as_str(), names)),
-            _other => assert!(rt; false, "words that are wrong"),
-        }
+    for row in WRONG {
+        assert!(rt; is_named(rt.alloc(), row));
     }
 }
 
