@@ -3,8 +3,8 @@ use Rattle.std.proofs.Common.{ℕ, ℤ, pos, ◌≡◌, ◌<◌, ◌+◌, ◌==�
 use Rattle.std.proofs.Common.{refl, sym, ap, subst}
 use Rattle.std.specs.Prelude.{All, Contains, count_by, slice_get, slice_index}
 use Rattle.std.specs.Ordering.{int_cmp}
-use Rattle.std.proofs.lemmas.List.Elements.{All-cons, All-contains, All-filter, All-from_get_or, All-head, All-nil, All-tail}
-use Rattle.std.proofs.lemmas.List.Elements.{All-weaker, Contains-get_or}
+use Rattle.std.proofs.lemmas.List.Elements.{All-cons, All-contains, All-filter, All-from_get_or, All-head}
+use Rattle.std.proofs.lemmas.List.Elements.{All-nil, All-tail, All-weaker, Contains-get_or}
 use Rattle.std.proofs.Math.Bool.{Bool-set, and-false}
 use Rattle.std.proofs.Math.Logic.{∥∥₁_elim}
 use Rattle.number_lists.proofs.BlockLemmas.{All-flat_map}
@@ -83,7 +83,8 @@ count_of_none counts (entry ∷ entries) none =
     ∙ count_of_none counts entries (All-tail (λ entry. counts entry ≡ false) entry entries none)
 
 neither : (one other : Bool) {last : Bool} → last ≡ false → (one && (other && last)) ≡ false
-neither one other fails = (λ i. one && (other && fails i)) ∙ ap (λ (b : Bool). one && b) (and-false other) ∙ and-false one
+neither one other fails =
+    (λ i. one && (other && fails i)) ∙ ap (λ (b : Bool). one && b) (and-false other) ∙ and-false one
 
 -- no number stands for a row of some types where no row counts
 none_counts : (rows : List Attribute) (P : Attribute → Type 0) (counts : ℕ → Entry → Bool)
@@ -111,7 +112,7 @@ none_kept owner indexed kept =
     none_counts indexed.rows (λ (row : Attribute). kept row ≡ false) (counts_for_owner owner indexed kept)
     (not_kept owner indexed kept)
 
--- and none for its value
+-- where no row is kept, none counts for its value
 pub none_kept_back : (indexed : Indexed) (kept : Attribute → Bool) (ids : List ℕ) (bound : ℕ)
     → ((row : Attribute) → kept row ≡ false)
     → AreHits bound (counts_for_value indexed.concepts kept) (entries_with_types indexed.rows ids) []

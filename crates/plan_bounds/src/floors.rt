@@ -115,7 +115,8 @@ fn parts_floor(parts: &[ConceptPlan], lengths: Lengths<'_>) -> u64
 // The floors of sibling plans of groups together.
 #[cycle(floor)]
 fn unit_parts_floor(parts: &[UnitPlan], lengths: Lengths<'_>) -> u64
-    ensures { result ≡ capped (groups_sum (floor_number lengths.entry.indexes.now) (physical_units_list_of parts.now)) }
+    ensures { result ≡ capped (groups_sum (floor_number lengths.entry.indexes.now)
+        (physical_units_list_of parts.now)) }
 {
     let mut floor = 0u64;
     for part in parts {
@@ -165,7 +166,8 @@ pub fn leaf_floor(
     test: &ValueTest,
     choice: Choice,
 ) -> u64
-    ensures { result ≡ leaf_floor_of lengths.entry.indexes.now back (physical_of types.now) (physical_test_of test.now)
+    ensures { result ≡ leaf_floor_of lengths.entry.indexes.now back (physical_of types.now)
+        (physical_test_of test.now)
         choice }
 {
     match choice {

@@ -197,7 +197,8 @@ fn list_of_units(
     lengths: Lengths<'_>,
     bounds: &mut Vec<u64>,
 ) -> Result<NodeCost, AllocError>
-    ensures { IfOk result (λ node. IsNode lengths.entry.indexes.now (physical_units count (physical_units_of units.now))
+    ensures { IfOk result (λ node. IsNode lengths.entry.indexes.now
+        (physical_units count (physical_units_of units.now))
         bounds.old.items bounds.new.items node) }
 {
     let inner = list_units(units, lengths, bounds)?;
@@ -212,7 +213,8 @@ fn list_units(
     lengths: Lengths<'_>,
     bounds: &mut Vec<u64>,
 ) -> Result<u64, AllocError>
-    ensures bounds { OnOk result (bounds.new.items ≡ bounds.old.items ++ group_list (own_list lengths.entry.indexes.now)
+    ensures bounds { OnOk result (bounds.new.items ≡ bounds.old.items
+        ++ group_list (own_list lengths.entry.indexes.now)
         (physical_units_of plan.now)) }
     ensures size { IfOk result (λ size. size ≡ group_size lengths.entry.indexes.now (physical_units_of plan.now)) }
 {
@@ -303,7 +305,8 @@ fn list_test(
     lengths: Lengths<'_>,
     bounds: &mut Vec<u64>,
 ) -> Result<u64, AllocError>
-    ensures bounds { OnOk result (bounds.new.items ≡ bounds.old.items ++ test_list (own_list lengths.entry.indexes.now)
+    ensures bounds { OnOk result (bounds.new.items ≡ bounds.old.items
+        ++ test_list (own_list lengths.entry.indexes.now)
         (physical_test_of test.now)) }
     ensures size { IfOk result (λ size. size ≡ test_size lengths.entry.indexes.now (physical_test_of test.now)) }
 {
@@ -323,7 +326,8 @@ fn list_parts(
     lengths: Lengths<'_>,
     bounds: &mut Vec<u64>,
 ) -> Result<Tally, AllocError>
-    ensures bounds { OnOk result (bounds.new.items ≡ bounds.old.items ++ plans_list (own_list lengths.entry.indexes.now)
+    ensures bounds { OnOk result (bounds.new.items ≡ bounds.old.items
+        ++ plans_list (own_list lengths.entry.indexes.now)
         (physicals_of parts.now)) }
     ensures tally { IfOk result (λ tally. IsTallyOf all (sizes lengths.entry.indexes.now (physicals_of parts.now))
         tally) }

@@ -77,7 +77,7 @@ pub served_in : {R W E : Type 0} (r : Input R) (w : Output W) (mode : Mode) (con
 served_in r w Check contents before after other answered = absurd (other refl)
 served_in r w mode contents before after other answered = answered
 
--- and what is cut are their answers
+-- in a mode that answers lines, what is cut by a fault are the answers to the lines
 pub cut_in : {R W E : Type 0} (r : Input R) (w : Output W) (mode : Mode) (fault : RunFault) (contents : Contents)
     (before after : Streams R W E) → mode ≢ Check
     → EndsAt fault (answers_in mode contents) (r.remaining before.input) (r.remaining after.input)

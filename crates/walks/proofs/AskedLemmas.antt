@@ -120,7 +120,7 @@ module _ (count : ℕ) (hierarchy : Hierarchy) (over : IsOver count hierarchy) w
       told true none = refl
       told false none = sym none
 
-  -- so that from these an operator that leads to the concepts themselves too leads to all
+  -- from all numbers below a count an operator that leads to the concepts themselves too leads to all
   pub all_with_own : (items others : List ℕ) → IsRisingBelow count items → length items ≡ count
       → all_items count items others ≡ range_with_len 0 count
   all_with_own items others rises full =
@@ -128,7 +128,7 @@ module _ (count : ℕ) (hierarchy : Hierarchy) (over : IsOver count hierarchy) w
       (λ n inside. (λ i. each_there items rises full n inside i || has others n))
       ∙ numbers_where-all count
 
-  -- and of these an operator leads to all that it leads to
+  -- where a set has all numbers below a count, all that an operator leads to from it is in the set
   pub led_from_all : (operator : Operator) (items : List ℕ) → IsRisingBelow count items → length items ≡ count
       → filter (has items) (led_to hierarchy count operator items) ≡ led_to hierarchy count operator items
   led_from_all operator items rises full =

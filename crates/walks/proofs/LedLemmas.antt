@@ -1,5 +1,6 @@
 -- Where an operator leads, asked of one concept by its own lists.
-use Rattle.std.proofs.Common.{arith, ℕ, Bool, ◌≡◌, ◌<◌, ◌∙◌, true, false, not, [], ◌∷◌, ◌&&◌, ◌||◌, List, refl, sym, ap, subst}
+use Rattle.std.proofs.Common.{ℕ, Bool, ◌≡◌, ◌<◌, ◌∙◌, true, false, not, [], ◌∷◌, ◌&&◌, ◌||◌, List}
+use Rattle.std.proofs.Common.{arith, refl, sym, ap, subst}
 use Rattle.std.specs.Prelude.{◌==◌, filter, if◌then◌else◌}
 use Rattle.std.specs.List.{list_any}
 use Rattle.std.proofs.lemmas.Bool.Decides.{nat_tests}
@@ -37,12 +38,14 @@ any_of_one concept (first ∷ rest) =
 pub one_left : (lists : List (List ℕ)) (concept : ℕ) → has (list_of lists concept) concept ≡ false
     → apart lists (concept ∷ []) ≡ concept ∷ []
 one_left lists concept absent =
-    ap (λ (there : Bool). if not there then concept ∷ [] else []) (any_of_one concept (list_of lists concept) ∙ absent)
+    ap (λ (there : Bool). if not there then concept ∷ [] else [])
+    (any_of_one concept (list_of lists concept) ∙ absent)
 
 pub none_left : (lists : List (List ℕ)) (concept : ℕ) → has (list_of lists concept) concept ≡ true
     → apart lists (concept ∷ []) ≡ []
 none_left lists concept there =
-    ap (λ (listed : Bool). if not listed then concept ∷ [] else []) (any_of_one concept (list_of lists concept) ∙ there)
+    ap (λ (listed : Bool). if not listed then concept ∷ [] else [])
+    (any_of_one concept (list_of lists concept) ∙ there)
 
 -- one concept stands to another as the other stands back to it
 stands_back : (release : Release) (f : Family) (a b : ℕ) → stands release f a b ≡ stands release (back_of f) b a

@@ -24,7 +24,8 @@ returns-then-is_or_self-clause-items g c =
     let led : led_to hierarchy count c.args.operator items ≡ range_with_len 0 count =
     c.of.ensures.led hierarchy count items
     ∙ ap (λ (reach : Reach). stepped lists count reach items) (c.is_or_self.ensures c.if-is_or_self.true)
-    ∙ all_with_own count hierarchy c.requires.over items (joined count lists items) (g.met.S.ConceptSet.rising c.args.from.now)
+    ∙ all_with_own count hierarchy c.requires.over items (joined count lists items)
+    (g.met.S.ConceptSet.rising c.args.from.now)
     c.requires.all in
     IfOk-weaker c.all_below.result _ _
     (λ found same. same ∙ ap (λ (bound : ℕ). filter may (range_with_len 0 bound)) c.bound.ensures

@@ -13,7 +13,8 @@ pub has_number-requires : goal.has_number-requires
 has_number-requires c =
     let release = c.args.self.snapshot.now.release in
     let count = length release.concepts in
-    let stands : ℕ → ℕ → Bool = λ concept other. reaches release.isa (slice_index release.concepts concept) (slice_index release.concepts other) in
+    let stands : ℕ → ℕ → Bool = λ concept other.
+    reaches release.isa (slice_index release.concepts concept) (slice_index release.concepts other) in
     let below : c.args.concept < count =
     omega (
       arith,
