@@ -1,4 +1,4 @@
--- The ancestors of a concept are its parents and the ancestors of these.
+-- The ancestors of a concept are its parents and their ancestors.
 use Rattle.std.proofs.Common.{ℕ, zero, suc, ◌==◌, ◌&&◌, ◌≡◌, ◌<◌, ◌∷◌, [], ◌∙◌, ⊎_elim, Bool, true, false, List, length, get_or, map, take, refl, sym, ap, subst, arith, length-take, get_or-take}
 use Rattle.std.specs.Prelude.{All, Contains, flat_map}
 use Rattle.std.proofs.lemmas.Bool.{eq-eqb, eqb-true, or_cases, or_left, or_right}
@@ -17,7 +17,8 @@ use Rattle.ancestor_index.specs.HierarchyLists.{is_child, lists_where}
 use Rattle.ancestor_index.specs.inside.Gathered.{gathered_by}
 use Rattle.ancestor_index.specs.inside.Parents.{AreParentsBy}
 
--- ---- lists of the items of a list, one behind the other
+-- ---- lists of the items of a list, in a row
+-- a number in the joined lists is in the list of one of the items
 joined_there : (f : ℕ → List ℕ) (xs : List ℕ) (x : ℕ) → has (flat_map f xs) x ≡ true → (y : ℕ) × Contains xs y × (has (f y) x ≡ true)
 joined_there f [] x told = absurd (cc)
 joined_there f (y ∷ xs) x told = ⊎_elim
@@ -26,6 +27,7 @@ joined_there f (y ∷ xs) x told = ⊎_elim
     (found.0, Contains-append_right (y ∷ []) xs found.0 found.1, found.2))
     (or_cases (has (f y) x) (has (flat_map f xs) x) (sym (has-append (f y) (flat_map f xs) x) ∙ told))
 
+-- a number in the list of one of the items is in the joined lists
 there_joined : (f : ℕ → List ℕ) (xs : List ℕ) (x y : ℕ) → Contains xs y → has (f y) x ≡ true → has (flat_map f xs) x ≡ true
 there_joined f [] x y there told = absurd (omega (arith, there.1))
 there_joined f (z ∷ xs) x y (zero, within, is) told =
@@ -33,7 +35,7 @@ there_joined f (z ∷ xs) x y (zero, within, is) told =
 there_joined f (z ∷ xs) x y (suc k, within, is) told =
     has-append (f z) (flat_map f xs) x ∙ or_right (has (f z) x) (has (flat_map f xs) x) (there_joined f xs x y (k, omega arith, is) told)
 
--- the test of a child tells whether there is such a row
+-- if the test `is_child` holds, there is a row from `child` to `parent`
 pub row_there : (rows : List (ℕ × ℕ)) (child parent : ℕ) → is_child rows child parent ≡ true → Contains rows (child, parent)
 row_there [] child parent told = absurd (cc)
 row_there (row ∷ rows) child parent told = ⊎_elim
@@ -43,10 +45,12 @@ row_there (row ∷ rows) child parent told = ⊎_elim
     (λ (rest : is_child rows child parent ≡ true). Contains-append_right (row ∷ []) rows (child, parent) (row_there rows child parent rest))
     (or_cases ((row.0 == child) && (row.1 == parent)) (is_child rows child parent) told)
   where
+    -- if a conjunction holds, both parts hold
     both : (a b : Bool) → (a && b) ≡ true → (a ≡ true) × (b ≡ true)
     both true b told = (refl, told)
     both false b told = absurd (cc)
 
+-- if there is a row from `child` to `parent`, the test `is_child` holds
 pub there_row : (rows : List (ℕ × ℕ)) (child parent : ℕ) → Contains rows (child, parent) → is_child rows child parent ≡ true
 there_row [] child parent there = absurd (omega (arith, there.1))
 there_row (row ∷ rows) child parent (zero, within, is) =
@@ -57,31 +61,40 @@ there_row (row ∷ rows) child parent (suc k, within, is) =
     (there_row rows child parent (k, omega arith, is))
 
 -- ---- lists for each concept
+-- the list of a concept below `count` has the numbers that pass its test
 pub list_of-where : (count : ℕ) (test : ℕ → ℕ → Bool) (concept : ℕ) → concept < count
     → list_of (lists_where count test) concept ≡ numbers_where count (test concept)
 list_of-where count test concept below =
     get_or-map-range_with_len (λ concept. numbers_where count (test concept)) 0 count concept concept [] below (omega arith)
 
+-- lists by a test have one list for each number below `count`
 pub length-where : (count : ℕ) (test : ℕ → ℕ → Bool) → length (lists_where count test) ≡ count
 length-where count test = length-map-range_with_len (λ concept. numbers_where count (test concept)) 0 count
 
 -- ---- the turn of a concept of the order
+-- the numbers below `count` that a concept reaches by the rows
 pub ancestors_by : List (ℕ × ℕ) → ℕ → ℕ → List ℕ
 ancestors_by rows count concept = numbers_where count (reaches rows concept)
 
--- the lists of those before are known
+-- the state at concept `k` of the order: the lists of ancestors of the concepts before it are known
 pub record Turn (rows : List (ℕ × ℕ)) (parents : List (List ℕ)) (order places : List ℕ) (lists : List (List ℕ)) (k : ℕ) : Type 0 where
+  -- the parents are those of the rows, and the order has parents first
   pub given : AreParentsBy rows parents order
+  -- each concept of the order has a place
   pub len : length places ≡ length order
+  -- `places` maps the concept at each place of the order back to that place
   pub placed : (place : ℕ) → place < length order → get_or places (get_or order place 0) 0 ≡ place
+  -- `k` is a place of the order
   pub within : k < length order
+  -- the lists are the ancestors of the first `k` concepts of the order
   pub known : lists ≡ map (λ concept. numbers_where (length order) (reaches rows concept)) (take k order)
 
+-- each concept of the order is below the length of the order
 pub order_below : (rows : List (ℕ × ℕ)) (parents : List (List ℕ)) (order : List ℕ) → AreParentsBy rows parents order
     → (k : ℕ) (d : ℕ) → k < length order → get_or order k d < length order
 order_below rows parents order given k d within = (given.first.members (get_or order k d)).0 (Contains-get_or order k d within)
 
--- its parents are those of the rows
+-- the parents that are listed for concept `k` of the order are those that the rows give it
 pub own_parents : {rows : List (ℕ × ℕ)} {parents : List (List ℕ)} {order places : List ℕ} {lists : List (List ℕ)}
     {k : ℕ} → Turn rows parents order places lists k
     → list_of parents (get_or order k 0) ≡ numbers_where (length order) (is_child rows (get_or order k 0))
@@ -89,12 +102,16 @@ own_parents {rows} {parents} {order} {places} {lists} {k} turn =
     ap (λ (all : List (List ℕ)). list_of all (get_or order k 0)) turn.given.lists
     ∙ list_of-where (length order) (is_child rows) (get_or order k 0) (order_below rows parents order turn.given k 0 turn.within)
 
--- a parent stands before it, with its list
+-- a parent stands before concept `k` in the order, so its list of ancestors is known
 pub record Placed (rows : List (ℕ × ℕ)) (order places : List ℕ) (lists : List (List ℕ)) (parent : ℕ) : Type 0 where
+  -- the parent has a place
   pub near : parent < length places
+  -- the place of the parent has a list
   pub early : get_or places parent 0 < length lists
+  -- the list at the parent's place is its ancestors
   pub list : list_of lists (get_or places parent 0) ≡ numbers_where (length order) (reaches rows parent)
 
+-- each parent of concept `k` is placed before it
 pub parent_placed : {rows : List (ℕ × ℕ)} {parents : List (List ℕ)} {order places : List ℕ} {lists : List (List ℕ)}
     {k : ℕ} → Turn rows parents order places lists k
     → (parent : ℕ) → Contains (numbers_where (length order) (is_child rows (get_or order k 0))) parent → Placed rows order places lists parent
@@ -117,7 +134,8 @@ parent_placed {rows} {parents} {order} {places} {lists} {k} turn parent there =
           ∙ (λ i. numbers_where (length order) (reaches rows ((get_or-take k order j 0 less ∙ is) i)));
     }
 
--- ---- what is gathered for it: its parents, each with its list
+-- ---- what is gathered for a concept: its parents, each with its list
+-- each number that is gathered for concept `k` is an ancestor of it
 gathered_told : {rows : List (ℕ × ℕ)} {parents : List (List ℕ)} {order places : List ℕ} {lists : List (List ℕ)} {k : ℕ} → Turn rows parents order places lists k
     → (d : ℕ) → has (gathered_by places lists (numbers_where (length order) (is_child rows (get_or order k 0))))
     d ≡ true → (d < length order) × Reaches rows (get_or order k 0) d
@@ -139,6 +157,7 @@ gathered_told {rows} {parents} {order} {places} {lists} {k} turn d told =
     (there.0, more_rows row (chain_from_test rows parent d there.1)))
     (or_cases (parent == d) (has (list_of lists (get_or places parent 0)) d) found.2)
 
+-- each ancestor of concept `k` is gathered for it
 told_gathered : {rows : List (ℕ × ℕ)} {parents : List (List ℕ)} {order places : List ℕ} {lists : List (List ℕ)} {k : ℕ} → Turn rows parents order places lists k
     → (concept d : ℕ) → concept ≡ get_or order k 0 → d < length order → Reaches rows concept d
     → has (gathered_by places lists (numbers_where (length order) (is_child rows (get_or order k 0)))) d ≡ true
@@ -158,7 +177,7 @@ told_gathered {rows} {parents} {order} {places} {lists} {k} turn concept d is be
     (or_right (parent == d) (has (list_of lists (get_or places parent 0)) d)
     (ap (λ (xs : List ℕ). has xs d) placed.list ∙ has-numbers_where count (reaches rows parent) d below ∙ test_from_chain rows rest))
 
--- brought in order, that is its ancestors
+-- the gathered numbers of concept `k`, sorted without repeats, are its ancestors
 pub gathered_listed : {rows : List (ℕ × ℕ)} {parents : List (List ℕ)} {order places : List ℕ} {lists : List (List ℕ)}
     {k : ℕ} → Turn rows parents order places lists k
     → listed_numbers (length order) (gathered_by places lists (numbers_where (length order)
@@ -171,6 +190,7 @@ gathered_listed {rows} {parents} {order} {places} {lists} {k} turn =
     (λ told. test_from_chain rows (gathered_told turn d told).1)
     (λ told. told_gathered turn (get_or order k 0) d refl below (chain_from_test rows (get_or order k 0) d told)))
 
+-- each gathered number is below the length of the order
 pub gathered_below : {rows : List (ℕ × ℕ)} {parents : List (List ℕ)} {order places : List ℕ} {lists : List (List ℕ)}
     {k : ℕ} → Turn rows parents order places lists k
     → All (λ number. number < length order) (gathered_by places lists (numbers_where (length order) (is_child rows (get_or order k 0))))
@@ -180,13 +200,18 @@ gathered_below {rows} {parents} {order} {places} {lists} {k} turn i d within =
 
 -- ---- from the order to the numbers
 
--- the place of a concept
+-- the place of a concept in the order
 pub record At (order places : List ℕ) (concept : ℕ) : Type 0 where
+  -- the place
   pub place : ℕ
+  -- the place is within the order
   pub within : place < length order
+  -- the concept stands at the place
   pub is : get_or order place 0 ≡ concept
+  -- `places` maps the concept to the place
   pub told : get_or places concept 0 ≡ place
 
+-- each concept below the length of the order has a place in it
 pub place_at : (rows : List (ℕ × ℕ)) (parents : List (List ℕ)) (order places : List ℕ) → AreParentsBy rows parents order
     → ((place : ℕ) → place < length order → get_or places (get_or order place 0) 0 ≡ place) → (concept : ℕ) → concept < length order → At order places concept
 place_at rows parents order places given placed concept below =
@@ -198,6 +223,7 @@ place_at rows parents order places given placed concept below =
       told = (λ i. get_or places (sym is i) 0) ∙ placed there.0 there.1;
     }
 
+-- lists by the order, taken by the places of the concepts, are the lists of ancestors by concept number
 pub lists_reordered : (rows : List (ℕ × ℕ)) (parents : List (List ℕ)) (order places : List ℕ) (lists : List (List ℕ))
     → AreParentsBy rows parents order → length places ≡ length order
     → ((place : ℕ) → place < length order → get_or places (get_or order place 0) 0 ≡ place)

@@ -1,4 +1,4 @@
--- The lists of a hierarchy have what the definition of reaching says, and rise.
+-- The lists of a hierarchy hold exactly the concepts that are reached, and rise.
 use Rattle.std.proofs.Common.{ℕ, ◌≡◌, ◌<◌, ◌+◌, ◌↔◌, ◌∙◌, Bool, true, List, [], length, get_or, subst, sym, arith}
 use Rattle.std.specs.Prelude.{All, Contains}
 use Rattle.std.specs.List.{range_with_len}
@@ -14,7 +14,7 @@ use Rattle.ancestor_index.specs.HierarchyLists.{is_child, lists_where}
 use Rattle.ancestor_index.proofs.ClosureLemmas.{length-where, list_of-where, row_there, there_row}
 use Rattle.number_lists.proofs.WhereLemmas.{there_where, where_there}
 
--- a list has another number exactly where the test says so
+-- the list of a concept holds another number exactly if the test does
 tested : (count : ℕ) (test : ℕ → ℕ → Bool) (concept other : ℕ) → concept < count → other < count
     → Contains (list_of (lists_where count test) concept) other ↔ (test concept other ≡ true)
 tested count test concept other below near = (
@@ -22,18 +22,20 @@ tested count test concept other below near = (
   (λ told. subst (λ (xs : List ℕ). Contains xs other) (sym (list_of-where count test concept below)) (where_there count (test concept) other near told)),
 )
 
+-- the numbers from 0 on rise strictly
 range_rises : (count : ℕ) → IsStrictlyIncreasing (range_with_len 0 count)
 range_rises count k within =
     let long = length-range_with_len 0 count in
     omega (arith, within, long, get_or-range_with_len 0 count k 0 (omega arith), get_or-range_with_len 0 count (k + 1) 0 (omega arith))
 
--- the list of each concept rises
+-- lists by a test rise strictly
 pub rising : (count : ℕ) (test : ℕ → ℕ → Bool) → All IsStrictlyIncreasing (lists_where count test)
 rising count test k d within =
     let below : k < count = omega (arith, within, length-where count test) in
     let list = get_or_default (lists_where count test) k d [] within ∙ list_of-where count test k below in
     subst IsStrictlyIncreasing (sym list) (IsStrictlyIncreasing-filter (test k) (range_with_len 0 count) (range_rises count))
 
+-- the four families of lists of a hierarchy rise strictly
 pub are_rising : AreRisingLists
 are_rising release =
     let count = length release.concepts in
@@ -44,6 +46,7 @@ are_rising release =
       rising count (λ concept other. is_child release.isa (id other) (id concept)),
     )
 
+-- the lists of ancestors and descendants hold exactly what chains of is-a rows lead to
 pub are_complete : AreComplete
 are_complete release concept other below near =
     let count = length release.concepts in
@@ -54,6 +57,7 @@ are_complete release concept other below near =
       ((λ there. chain_from_test release.isa (id other) (id concept) (down.0 there)), (λ chain. down.1 (test_from_chain release.isa chain))),
     )
 
+-- the lists of parents and children hold exactly what single is-a rows lead to
 pub are_single_steps : AreSingleSteps
 are_single_steps release concept other below near =
     let count = length release.concepts in

@@ -1,4 +1,4 @@
--- Joining the lists of concepts: their numbers in a list, and those of the long ones in a set.
+-- Lemmas on joining the lists of concepts: the short lists in a list, and the long ones in a set.
 use Rattle.std.proofs.Common.{arith, ℕ, ◌≡◌, ◌<◌, ◌+◌, ◌∙◌, ◌++◌, ◌∷◌, ◌==◌, ◌||◌, [], Bool, false, true, List, Option, None, Some, ap, append-nil, append_assoc, get_or, length, refl, subst, sym, take}
 use Rattle.std.specs.Prelude.{All, Contains, IfSome}
 use Rattle.std.proofs.lemmas.Bool.Decides.{nat_tests}
@@ -17,27 +17,29 @@ use Rattle.number_lists.proofs.WhereLemmas.{there_where, has-numbers_where, numb
 use Rattle.idset.specs.Words.{is_set}
 use Rattle.ancestor_index.specs.inside.Gathered.{AreRisingBelow, gathered_by, joined_by}
 
--- what a set has with the numbers of words
+-- a set joined with the numbers of `words` has a number exactly if it had it or the bit of the number is set
 pub with_words_has : (count number : ℕ) (others words : List ℕ) → number < count
     → has (all_items count others (numbers_where count (is_set words))) number ≡ (has others number || is_set words number)
 with_words_has count number others words below =
     has-numbers_where count (λ n. has others n || has (numbers_where count (is_set words)) n) number below
     ∙ ap (λ (is : Bool). has others number || is) (has-numbers_where count (is_set words) number below)
 
--- a list is gathered in the set, or in the list
+-- if a list is added to the set, list and set together still hold all that was gathered
 pub gathered_words : (all list own : List ℕ) (number : ℕ) (joined now words : Bool) → has all number ≡ (has list number || joined)
     → now ≡ (joined || words) → words ≡ has own number → has (all ++ own) number ≡ (has list number || now)
 gathered_words all list own number joined now words before with_words is = grind (arith, common_steps, nat_tests, list_any-append)
 
+-- if a list is added to `list`, list and set together still hold all that was gathered
 pub gathered_list : (all list own : List ℕ) (number : ℕ) (joined : Bool) → has all number ≡ (has list number || joined)
     → has (all ++ own) number ≡ (has (list ++ own) number || joined)
 gathered_list all list own number joined before = grind (arith, common_steps, nat_tests, list_any-append)
 
--- a concept is gathered, and then its list
+-- if a concept is added to `list`, list and set together still hold all that was gathered
 pub gathered_item : (all list : List ℕ) (concept number : ℕ) (joined : Bool) → has all number ≡ (has list number || joined)
     → has (all ++ concept ∷ []) number ≡ (has (list ++ concept ∷ []) number || joined)
 gathered_item all list concept number joined before = grind (arith, common_steps, nat_tests, list_any-append)
 
+-- what is gathered for one concept more is what was gathered, then the concept, then its list
 pub gathered_more : (places : List ℕ) (lists : List (List ℕ)) (concepts : List ℕ) (i : ℕ) → i < length concepts
     → gathered_by places lists (take (i + 1) concepts)
     ≡ (gathered_by places lists (take i concepts) ++ get_or concepts i 0 ∷ []) ++ list_of lists (get_or places (get_or concepts i 0) 0)
@@ -49,13 +51,13 @@ gathered_more places lists concepts i within =
     ∙ ap (λ (last : List ℕ). gathered_by places lists (take i concepts) ++ last) (append-nil (own concept))
     ∙ sym (append_assoc (gathered_by places lists (take i concepts)) (concept ∷ []) (list_of lists (get_or places concept 0)))
 
--- a rising list with the items of a set
+-- a list of tested numbers joined with `items` has the numbers that pass the test or are in `items`
 pub joined_list : (count : ℕ) (test : ℕ → Bool) (items list : List ℕ) → list ≡ numbers_where count test
     → all_items count items list ≡ numbers_where count (λ number. test number || has items number)
 joined_list count test items list is = numbers_where-agree count _ _ (λ number below.
     grind (arith, common_steps, nat_tests, (ap (λ (xs : List ℕ). has xs number) is), (has-numbers_where count test number below)))
 
--- numbers below a count rise below the bound of a set
+-- a list of tested numbers below `count` rises below the bound of a set whose bound is `count`
 pub rises_below : {S : Type 0} (bound_of : S → ℕ) (count : ℕ) (test : ℕ → Bool) (list : List ℕ) (joined : Option S)
     → IfSome joined (λ set. bound_of set ≡ count)
     → list ≡ numbers_where count test → IfSome joined (λ set. IsRisingBelow (bound_of set) list)
@@ -63,12 +65,12 @@ rises_below bound_of count test list None bound is = tt
 rises_below bound_of count test list (Some set) bound is =
     subst (λ (most : ℕ). IsRisingBelow most list) (sym bound) (subst (IsRisingBelow count) (sym is) (numbers_where-rising count test))
 
--- numbers below a count are below it
+-- the numbers in a list of tested numbers below `count` are below `count`
 pub where_below : (count : ℕ) (test : ℕ → Bool) (list : List ℕ) → list ≡ numbers_where count test → All (λ number. number < count) list
 where_below count test list is i d inside =
     (there_where count test (get_or list i d) (subst (λ (xs : List ℕ). Contains xs (get_or list i d)) is (Contains-get_or list i d inside))).0
 
--- one list more, whose items are below a count
+-- if one more list has items below `count`, all lists have
 pub items_more : (count : ℕ) (lists : List (List ℕ)) (list : List ℕ) → AreItemsBelow count lists → All (λ item. item < count) list
     → AreItemsBelow count (lists ++ list ∷ [])
 items_more count lists list below own =
@@ -76,12 +78,12 @@ items_more count lists list below own =
     All-append are_below lists (list ∷ []) below (All-cons are_below list [] own (All-nil are_below))
 
 -- ---- lists that are joined one after another
--- concepts that rise are in order
+-- rising concepts are their own sorted list
 pub none_joined : (count : ℕ) (concepts : List ℕ) → IsRisingBelow count concepts → concepts ≡ listed_numbers count (concepts ++ [])
 none_joined count concepts rises =
     rising_is_where count concepts (has (concepts ++ [])) rises (λ n below. ap (λ (xs : List ℕ). has xs n) (sym (append-nil concepts)))
 
--- the lists of one concept more
+-- the joined lists of one concept more are the joined lists, then the list of that concept
 pub joined_more : (places : List ℕ) (lists : List (List ℕ)) (concepts : List ℕ) (i : ℕ) → i < length concepts
     → joined_by places lists (take (i + 1) concepts) ≡ joined_by places lists (take i concepts) ++ list_of lists (get_or places (get_or concepts i 0) 0)
 joined_more places lists concepts i within =
@@ -91,7 +93,7 @@ joined_more places lists concepts i within =
     ∙ flat_map-append own (take i concepts) (concept ∷ [])
     ∙ ap (λ (last : List ℕ). joined_by places lists (take i concepts) ++ last) (append-nil (own concept))
 
--- numbers in order and once each, with those of one list more
+-- sorted numbers joined with one list more are all these numbers sorted
 pub listed_more : (count : ℕ) (concepts joined own : List ℕ)
     → all_items count (listed_numbers count (concepts ++ joined)) own ≡ listed_numbers count (concepts ++ (joined ++ own))
 listed_more count concepts joined own =
@@ -100,26 +102,26 @@ listed_more count concepts joined own =
     ∙ sym (has-append (concepts ++ joined) own n))
     ∙ ap (listed_numbers count) (append_assoc concepts joined own)
 
--- the list at a place rises
+-- the list at a place of rising lists rises
 pub own_rises : (count place : ℕ) (lists : List (List ℕ)) (own : List ℕ) → AreRisingBelow count lists
     → place < length lists → own ≡ list_of lists place → IsRisingBelow count own
 own_rises count place lists own rise within is = subst (IsRisingBelow count) (sym is) (rise place [] within)
 
--- what is joined of numbers in order with such a list
+-- a sorted list joined with a rising list has the numbers of both, in rising order
 pub joined_with : (count : ℕ) (all list own union : List ℕ) → list ≡ listed_numbers count all → IsRisingBelow count own
     → ((bound : ℕ) → IsRisingBelow bound list → IsRisingBelow bound own → union ≡ all_items bound list own)
     → union ≡ all_items count (listed_numbers count all) own
 joined_with count all list own union is rises joined =
     joined count (subst (IsRisingBelow count) (sym is) (numbers_where-rising count (has all))) rises ∙ (λ i. all_items count (is i) own)
 
--- one list more that rises
+-- if one more list rises below `count`, all lists do
 pub rising_more : (count : ℕ) (lists : List (List ℕ)) (list : List ℕ) → AreRisingBelow count lists
     → IsRisingBelow count list → AreRisingBelow count (lists ++ list ∷ [])
 rising_more count lists list rise own =
     let rises = λ (xs : List ℕ). IsRisingBelow count xs in
     All-append rises lists (list ∷ []) rise (All-cons rises list [] own (All-nil rises))
 
--- concepts and their lists are the concepts, each with its list
+-- if `e` is `b || d`, then `a || b || c || d` is `a || c || e`
 swapped : (a b c d e : Bool) → (b || d) ≡ e → (a || (b || (c || d))) ≡ (a || (c || e))
 swapped true b c d e is = refl
 swapped false true true d e is = refl
@@ -127,6 +129,7 @@ swapped false true false d e is = is
 swapped false false true d e is = refl
 swapped false false false d e is = is
 
+-- `concepts` and then their lists hold the same numbers as each concept followed by its list
 joined_gathered : (places : List ℕ) (lists : List (List ℕ)) (concepts : List ℕ) (n : ℕ)
     → has (concepts ++ joined_by places lists concepts) n ≡ has (gathered_by places lists concepts) n
 joined_gathered places lists [] n = refl
@@ -140,6 +143,7 @@ joined_gathered places lists (concept ∷ concepts) n =
     ∙ swapped (concept == n) (has concepts n) (has own n) (has joined n) (has (gathered_by places lists concepts) n) rest
     ∙ ap (λ (b : Bool). (concept == n) || b) (sym (has-append own (gathered_by places lists concepts) n))
 
+-- `concepts` and then their lists, sorted, are what is gathered for the concepts, sorted
 pub joined_listed : (count : ℕ) (places : List ℕ) (lists : List (List ℕ)) (concepts : List ℕ)
     → listed_numbers count (concepts ++ joined_by places lists concepts) ≡ listed_numbers count (gathered_by places lists concepts)
 joined_listed count places lists concepts =

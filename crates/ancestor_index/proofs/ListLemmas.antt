@@ -1,4 +1,4 @@
--- Lists by concepts: one list more, and the places of concepts in an order.
+-- Lemmas on lists by concepts: one list more, and the places of concepts in an order.
 use Rattle.std.proofs.Common.{ℕ, ◌+◌, ◌≡◌, ◌≢◌, ◌<◌, ◌++◌, ◌∷◌, [], ◌∙◌, ⊎_elim, List, length, get_or, map, take, set, sym, ap, subst, arith}
 use Rattle.std.specs.Prelude.{nat_eq}
 use Rattle.std.specs.List.{IsDistinct}
@@ -6,11 +6,11 @@ use Rattle.std.proofs.lemmas.Bool.{cases_eq, cases_lt, eqb-false}
 use Rattle.std.proofs.lemmas.List.{get_or-set_same, get_or-set_other, map-append, take_more}
 use Rattle.std.proofs.lemmas.Map.Keys.{apart_from_distinct}
 
--- what is made of the lists up to behind a place
+-- mapping the first `i + 1` items is mapping the first `i` items and then item `i`
 pub map_more : {X Y : Type 0} (f : X → Y) (xs : List X) (i : ℕ) (d : X) → i < length xs → map f (take (i + 1) xs) ≡ map f (take i xs) ++ f (get_or xs i d) ∷ []
 map_more f xs i d within = ap (map f) (take_more xs i d within) ∙ map-append f (take i xs) (get_or xs i d ∷ [])
 
--- the place of one concept more is known
+-- after `place` is stored for its concept, the places of the concepts up to `place` are known
 pub places_step : (order places : List ℕ) (place : ℕ) → IsDistinct nat_eq order → place < length order → get_or order place 0 < length places
     → ((k : ℕ) → k < place → get_or places (get_or order k 0) 0 ≡ k)
     → (k : ℕ) → k < place + 1 → get_or (set places (get_or order place 0) place) (get_or order k 0) 0 ≡ k
@@ -25,5 +25,6 @@ places_step order places place once within below known k less = ⊎_elim
     ∙ known k before)
     (cases_eq k place)
   where
+    -- a place below `place + 1` other than `place` is below `place`
     earlier : k ≢ place → k < place
     earlier other = ⊎_elim (λ (before : k < place). before) (λ past. absurd (other (omega arith))) (cases_lt k place)

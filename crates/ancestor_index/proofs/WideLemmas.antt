@@ -1,4 +1,4 @@
--- Long lists as words of bits, one behind the other.
+-- Lemmas on long lists that are kept as words of bits, one list after another.
 use Rattle.std.proofs.Common.{ℕ, ◌+◌, ◌-◌, ◌≡◌, ◌≢◌, ◌≤◌, ◌<◌, ◌++◌, ◌∷◌, [], ◌∙◌, inl, inr, ⊎_elim, List, length, get_or, take, refl, sym, subst, arith, length-append}
 use Rattle.std.specs.Prelude.{All}
 use Rattle.std.specs.List.{slice_range}
@@ -10,7 +10,7 @@ use Rattle.number_lists.specs.KeyedLists.{list_of}
 use Rattle.number_lists.proofs.CutLemmas.{slice_range-append}
 use Rattle.ancestor_index.specs.Wide.{AreWide, IsKept, IsWide}
 
--- words stay when more come behind
+-- the kept words of a list stay if more words are added at the end
 pub kept_more : (count : ℕ) (list words added : List ℕ) (end : ℕ) → IsKept count list words end → IsKept count list (words ++ added) end
 kept_more count list words added end (inl none) = inl none
 kept_more count list words added end (inr (some, wide, enough, within, marked)) =
@@ -23,7 +23,7 @@ kept_more count list words added end (inr (some, wide, enough, within, marked)) 
           (sym (slice_range-append words added (end - words_for count) end (omega arith) within)) marked,
     )
 
--- the words that were put behind others
+-- words that are added after others are the kept words of a list, ending at the new length
 pub kept_new : (count : ℕ) (list words marks : List ℕ) (end : ℕ) → IsWide count list
     → All (λ item. item < count) list → MarkedBelow count marks (has list) → end ≡ length words + length marks
     → IsKept count list (words ++ marks) end
@@ -44,13 +44,14 @@ kept_new count list words marks end wide below marked is =
     start : end - words_for count ≡ length words
     start = omega (arith, is, marked.below.enough)
 
+    -- the added words are the slice from the old length to the new one
     whole : (words marks : List ℕ) → slice_range (words ++ marks) (length words) (length words + length marks) ≡ marks
     whole words marks = (λ i. take (size words marks i) (drop_at words marks (length words) refl i)) ∙ take_all (length marks) marks (omega arith)
       where
         size : (words marks : List ℕ) → length words + length marks - length words ≡ length marks
         size words marks = omega arith
 
--- one list more
+-- with one list more, each list up to `place` has its kept words
 pub kept_step : (count place : ℕ) (lists : List (List ℕ)) (words added ends : List ℕ) (end : ℕ) → length ends ≡ place
     → ((concept : ℕ) → concept < place → IsKept count (list_of lists concept) words (get_or ends concept 0))
     → IsKept count (list_of lists place) (words ++ added) end
@@ -65,10 +66,11 @@ kept_step count place lists words added ends end len known here concept below = 
     (kept_more count (list_of lists concept) words added (get_or ends concept 0) (known concept less)))
     (cases_eq concept place)
   where
+    -- a concept below `place + 1` other than `place` is below `place`
     earlier : concept ≢ place → concept < place
     earlier other = ⊎_elim (λ (less : concept < place). less) (λ (past : place ≤ concept). absurd (other (omega arith))) (cases_lt concept place)
 
--- the words of one list more
+-- if the words of one list more are kept, all lists are wide as before and that list
 pub wide_step : (count : ℕ) (lists : List (List ℕ)) (list words added ends : List ℕ) (end : ℕ)
     → AreWide count lists ends words → IsKept count list (words ++ added) end
     → AreWide count (lists ++ list ∷ []) (ends ++ end ∷ []) (words ++ added)

@@ -1,4 +1,4 @@
--- What the lists of a hierarchy have, in the words of the release: chains of is-a rows, and rows.
+-- The contents of the lists of a hierarchy, in the words of the release: chains of is-a rows, and single rows.
 use Rattle.std.specs.Prelude.{ℕ, ◌↔◌, ◌<◌, All, Contains, length, slice_index}
 use Rattle.std.specs.List.Sorted.{IsStrictlyIncreasing}
 use Rattle.hierarchy.specs.Hierarchy.{Reaches}
@@ -6,15 +6,15 @@ use Rattle.rf2_rows.specs.Release.{Release}
 use Rattle.number_lists.specs.KeyedLists.{list_of}
 use Rattle.ancestor_index.specs.HierarchyLists.{hierarchy_of}
 
--- each list rises strictly
+-- each list of a hierarchy rises strictly
 abbrev pub AreRisingLists : Type 0
 AreRisingLists =
     (release : Release)
     → All IsStrictlyIncreasing (hierarchy_of release).ancestors × All IsStrictlyIncreasing (hierarchy_of release).descendants
     × All IsStrictlyIncreasing (hierarchy_of release).parents × All IsStrictlyIncreasing (hierarchy_of release).children
 
--- a concept's list of ancestors has another exactly where a chain of rows leads to it, and the list of descendants
--- exactly where a chain leads from it
+-- the list of ancestors of a concept holds another exactly if a chain of rows leads to it, and the list of descendants
+-- exactly if a chain leads from it
 abbrev pub AreComplete : Type 0
 AreComplete =
     (release : Release) (concept other : ℕ) → concept < length release.concepts → other < length release.concepts
@@ -23,7 +23,8 @@ AreComplete =
     × (Contains (list_of (hierarchy_of release).descendants concept) other
     ↔ Reaches release.isa (slice_index release.concepts other) (slice_index release.concepts concept))
 
--- a list of parents exactly where a row leads to it, and a list of children exactly where a row leads from it
+-- the list of parents of a concept holds another exactly if a row leads to it, and the list of children exactly if a
+-- row leads from it
 abbrev pub AreSingleSteps : Type 0
 AreSingleSteps =
     (release : Release) (concept other : ℕ) → concept < length release.concepts → other < length release.concepts

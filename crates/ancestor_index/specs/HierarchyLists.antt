@@ -1,27 +1,31 @@
--- The hierarchy that the is-a rows of a release make (Release File Specification, |Is a|), as lists of concept numbers: for
--- each concept those above it and below it, whole, and one is-a row away.
+-- The hierarchy that the is-a rows of a release make (Release File Specification, |Is a|), as lists of concept
+-- numbers: for each concept all its ancestors and descendants, its parents and its children.
 use Rattle.std.specs.Prelude.{ℕ, ◌==◌, ◌&&◌, Bool, List, length, map, slice_index}
 use Rattle.std.specs.List.{list_any, range_with_len}
 use Rattle.hierarchy.specs.Hierarchy.{reaches}
 use Rattle.rf2_rows.specs.Release.{Release}
 use Rattle.number_lists.specs.Rising.{numbers_where}
 
--- for each concept below a count the others that stand to it as a test says, in rising order and once each
+-- for each concept below `count` the numbers below `count` that `test` relates to it, in rising order and once each
 abbrev pub lists_where : ℕ → (ℕ → ℕ → Bool) → List (List ℕ)
 lists_where count test = map (λ concept. numbers_where count (test concept)) (range_with_len 0 count)
 
--- whether there is an is-a row from a child to a parent
+-- whether there is an is-a row from `child` to `parent`
 abbrev pub is_child : List (ℕ × ℕ) → ℕ → ℕ → Bool
 is_child isa child parent = list_any (λ row. (row.0 == child) && (row.1 == parent)) isa
 
--- for each concept those that it reaches, those that reach it, and both one row away
+-- the hierarchy as four families of lists, with a list for each concept number
 pub record Hierarchy : Type 0 where
+  -- the concepts that a concept reaches
   pub ancestors : List (List ℕ)
+  -- the concepts that reach a concept
   pub descendants : List (List ℕ)
+  -- the concepts that an is-a row leads to from a concept
   pub parents : List (List ℕ)
+  -- the concepts from which an is-a row leads to a concept
   pub children : List (List ℕ)
 
--- the hierarchy of a release, its concepts by their numbers
+-- the hierarchy of a release, with concepts as numbers
 abbrev pub hierarchy_of : Release → Hierarchy
 hierarchy_of release =
     let count = length release.concepts in

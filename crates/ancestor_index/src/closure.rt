@@ -1,4 +1,4 @@
-//! The ancestors of each concept: its parents, and the ancestors of these.
+//! The ancestors of each concept: its parents and their ancestors.
 ghost use Rattle.std.specs.Prelude.{ℕ, ◌≡◌, ◌<◌, ◌^◌, ◌||◌, ◌++◌, Bool, List, All, IfOk, IfSome, OnOk, length, map, nat_eq, slice_index, vec_len};
 ghost use Rattle.std.specs.List.{IsDistinct};
 ghost use Rattle.hierarchy.specs.Hierarchy.{reaches};
@@ -18,19 +18,19 @@ use number_lists::{KeyedLists, keep_rising};
 use std::alloc::{AllocError, Global};
 use std::mem::swap;
 
-// So many lists are joined one after another. To join more in that way, each with all that was joined before, could take
-// long: they are gathered and sorted.
+// How many lists are joined one after another at most. Each join copies all that was joined before, so more lists
+// would take long: they are gathered and sorted instead.
 const FEW: usize = 8;
 
-// Where one list after another is joined, so that none asks for memory of its own.
+// Buffers for joining one list after another, so that no join asks for memory of its own.
 #[derive(Drop)]
 struct Room {
     list: Vec<u32>,
-    // takes the list with one more that it is joined with
+    // receives the joined list; then both buffers are swapped
     spare: Vec<u32>,
 }
 
-/// The ancestors of each concept, by the parents of each and an order in which parents come first.
+/// Returns the ancestors of each concept, from the parents of each and an order in which parents come first.
 pub fn ancestor_lists(
     alloc: Global,
     parents: &KeyedLists,
@@ -46,7 +46,7 @@ pub fn ancestor_lists(
     reordered(alloc, &by_place, places.as_slice())
 }
 
-// The place of each concept in the order.
+// Returns the place of each concept in the order.
 fn places_in(alloc: Global, order: &[u32]) -> Result<Vec<u32>, AllocError>
     requires few { length order.now < 2 ^ 32 }
     requires once { IsDistinct nat_eq order.now }
@@ -61,7 +61,7 @@ fn places_in(alloc: Global, order: &[u32]) -> Result<Vec<u32>, AllocError>
     Ok(places)
 }
 
-// The ancestors of each concept of the order, in its turn.
+// Returns the ancestors of each concept of the order, in the order of the concepts.
 fn ancestors_in_order(
     alloc: Global,
     parents: &KeyedLists,
@@ -98,8 +98,7 @@ fn ancestors_in_order(
     Ok(lists)
 }
 
-// Leaves in the room concepts, each with the concepts of its list, which is the list of its place, in rising order and
-// once each.
+// Leaves `concepts` and the lists at their places in `room`, in rising order and once each.
 fn join(
     alloc: Global,
     room: &mut Room,
@@ -123,7 +122,7 @@ fn join(
     join_many(alloc, &mut room.list, concepts, places, lists, wide, count)
 }
 
-// Whether one of the lists of concepts has more than a 32nd of all numbers.
+// Whether one of the lists of `concepts` has more than a 32nd of all numbers.
 fn has_long(concepts: &[u32], places: &[u32], lists: &KeyedLists, count: u32) -> bool
     requires { All (λ concept. (concept < count) × (concept < length places.now) × (slice_index places.now concept < length lists.now)) concepts.now }
 {
@@ -136,7 +135,7 @@ fn has_long(concepts: &[u32], places: &[u32], lists: &KeyedLists, count: u32) ->
     false
 }
 
-// Joins few lists. They rise, so that they are joined without being sorted.
+// Joins at most `FEW` lists. The lists rise, so they are joined without sorting.
 fn join_few(
     room: &mut Room,
     concepts: &[u32],
@@ -159,7 +158,7 @@ fn join_few(
     Ok(())
 }
 
-// Joins any lists: sorted, and the long ones by their words.
+// Joins any number of lists: it sorts the short ones, and joins the long ones by their words.
 fn join_many(
     alloc: Global,
     list: &mut Vec<u32>,
@@ -179,8 +178,8 @@ fn join_many(
     add_joined(alloc, list, joined)
 }
 
-// Gathers concepts, each with the concepts of its list, which is the list of its place: those of the long lists in
-// a set, so that joining them takes words and not all their items, and the others in `list`.
+// Gathers `concepts` and the lists at their places. The long lists go into a set, because joining them takes words
+// and not all their items. The others go into `list`.
 fn gather<S: ConceptSet>(
     alloc: Global,
     list: &mut Vec<u32>,
@@ -208,7 +207,7 @@ fn gather<S: ConceptSet>(
     Ok(joined)
 }
 
-// Gathers a list: in the set where it has words of bits, else in `list`.
+// Gathers a list: into the set if the list has words, otherwise into `list`.
 fn add_list<S: ConceptSet>(
     alloc: Global,
     list: &mut Vec<u32>,
@@ -238,7 +237,7 @@ fn add_list<S: ConceptSet>(
     }
 }
 
-// A set, if there is one, with the numbers of words of bits.
+// Returns the set, if there is one, with the numbers of `words` added.
 fn with_words<S: ConceptSet>(
     alloc: Global,
     joined: Option<S>,
@@ -258,7 +257,7 @@ fn with_words<S: ConceptSet>(
     }
 }
 
-// Adds the items of a set, if there is one, to a rising list.
+// Adds the items of the set, if there is one, to a rising list.
 fn add_joined<S: ConceptSet>(
     alloc: Global,
     list: &mut Vec<u32>,
@@ -275,7 +274,7 @@ fn add_joined<S: ConceptSet>(
     Ok(())
 }
 
-// The lists of some places.
+// Returns the lists at `places`.
 fn reordered(alloc: Global, lists: &KeyedLists, places: &[u32]) -> Result<KeyedLists, AllocError>
     requires { All (λ place. place < length lists.now) places.now }
     ensures { IfOk result (λ found. found ≡ map (λ place. list_of lists.now place) places.now) }

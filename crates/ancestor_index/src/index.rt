@@ -21,7 +21,7 @@ pub struct AncestorIndex {
     descendants: KeyedLists,
     parents: KeyedLists,
     children: KeyedLists,
-    // the long ones of the lists of descendants, as words of bits
+    // the long lists of descendants as words of bits
     wide: WideLists,
 }
 
@@ -38,8 +38,8 @@ impl Model for AncestorIndex {
 }
 
 impl AncestorIndex {
-    /// The hierarchy of a release, whose concepts are numbered in rising order. Takes time and memory
-    /// linear in the pairs of a concept and an ancestor; 2^32 of them or more are answered as want of memory.
+    /// Makes the hierarchy of a release, whose concepts are numbered in rising order. Takes time and memory linear
+    /// in the pairs of a concept and an ancestor. 2^32 such pairs or more are answered as want of memory.
     pub fn build(alloc: Global, snapshot: &Snapshot) -> Result<AncestorIndex, AllocError>
         ensures hierarchy { IfOk result (λ index. index ≡ hierarchy_of snapshot.now.release) }
         ensures rising { IsStrictlyIncreasing snapshot.now.release.concepts }
@@ -60,22 +60,22 @@ impl AncestorIndex {
         })
     }
 
-    /// How many pairs of a concept and one of its ancestors there are.
+    /// Returns how many pairs of a concept and one of its ancestors there are.
     pub fn ancestor_count(&self) -> usize
         ensures { result ≡ length (concat self.now.ancestors) }
     {
         self.ancestors.flat().len()
     }
 
-    /// How many pairs of a concept and one of its parents there are.
+    /// Returns how many pairs of a concept and one of its parents there are.
     pub fn link_count(&self) -> usize
         ensures { result ≡ length (concat self.now.parents) }
     {
         self.parents.flat().len()
     }
 
-    /// The concepts that a concept reaches by is-a rows, in rising order. `concept` is below the number
-    /// of concepts (Expression Constraint Language, "Simple Expression Constraints", `>`).
+    /// Returns the concepts that a concept reaches by is-a rows, in rising order. `concept` is below the number of
+    /// concepts (Expression Constraint Language, "Simple Expression Constraints", `>`).
     pub fn ancestors(&self, concept: u32) -> &[u32]
         requires { concept < length self.now.ancestors }
         ensures { result.now ≡ list_of self.now.ancestors concept }
@@ -83,8 +83,8 @@ impl AncestorIndex {
         self.ancestors.of(concept)
     }
 
-    /// The concepts that reach a concept by is-a rows, in rising order. `concept` is below the number of
-    /// concepts (the same, `<`).
+    /// Returns the concepts that reach a concept by is-a rows, in rising order. `concept` is below the number of
+    /// concepts (Expression Constraint Language, "Simple Expression Constraints", `<`).
     pub fn descendants(&self, concept: u32) -> &[u32]
         requires { concept < length self.now.descendants }
         ensures { result.now ≡ list_of self.now.descendants concept }
@@ -92,8 +92,8 @@ impl AncestorIndex {
         self.descendants.of(concept)
     }
 
-    /// The descendants of a concept as words of bits, a bit for each concept, where they are more than
-    /// a 32nd of all concepts; `None` where they are fewer. `concept` is below the number of concepts.
+    /// Returns the descendants of a concept as words of bits, a bit for each concept, if they are more than a 32nd
+    /// of all concepts, and otherwise `None`. `concept` is below the number of concepts.
     pub fn descendant_words(&self, concept: u32) -> Option<&[u64]>
         requires { concept < length self.now.descendants }
         ensures some { IfSome result (λ words. AreWordsOf (length self.now.descendants) (list_of self.now.descendants concept) words.now) }
@@ -102,8 +102,8 @@ impl AncestorIndex {
         self.wide.of(concept, self.descendants.len())
     }
 
-    /// The concepts that an is-a row of a concept leads to, in rising order, each once. `concept` is
-    /// below the number of concepts (the same, `>!`).
+    /// Returns the concepts that an is-a row of a concept leads to, in rising order, each once. `concept` is below
+    /// the number of concepts (Expression Constraint Language, "Simple Expression Constraints", `>!`).
     pub fn parents(&self, concept: u32) -> &[u32]
         requires { concept < length self.now.parents }
         ensures { result.now ≡ list_of self.now.parents concept }
@@ -111,8 +111,8 @@ impl AncestorIndex {
         self.parents.of(concept)
     }
 
-    /// The concepts from which an is-a row leads to a concept, in rising order, each once. `concept` is
-    /// below the number of concepts (the same, `<!`).
+    /// Returns the concepts from which an is-a row leads to a concept, in rising order, each once. `concept` is
+    /// below the number of concepts (Expression Constraint Language, "Simple Expression Constraints", `<!`).
     pub fn children(&self, concept: u32) -> &[u32]
         requires { concept < length self.now.children }
         ensures { result.now ≡ list_of self.now.children concept }
@@ -120,14 +120,14 @@ impl AncestorIndex {
         self.children.of(concept)
     }
 
-    /// The parents of all concepts, a list for each.
+    /// Returns the parents of all concepts, a list for each.
     pub fn all_parents(&self) -> &KeyedLists
         ensures { result.now ≡ self.now.parents }
     {
         &self.parents
     }
 
-    /// The children of all concepts, a list for each.
+    /// Returns the children of all concepts, a list for each.
     pub fn all_children(&self) -> &KeyedLists
         ensures { result.now ≡ self.now.children }
     {

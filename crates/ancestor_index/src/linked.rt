@@ -1,4 +1,4 @@
-//! What rows between concepts lead to, as lists.
+//! Lists of the concepts to which rows between concepts lead.
 ghost use Rattle.std.specs.Prelude.{◌≡◌, ◌<◌, ◌^◌, IfOk, length};
 ghost use Rattle.hierarchy.specs.Hierarchy.{IsWithin};
 ghost use Rattle.ancestor_index.specs.HierarchyLists.{is_child, lists_where};
@@ -7,8 +7,8 @@ use crate::rising::rising_lists;
 use number_lists::KeyedLists;
 use std::alloc::{AllocError, Global};
 
-/// For each concept the concepts that some rows, fewer than 2^32, lead to, in rising order and once each.
-/// Both ends of each row are below `count`.
+/// Returns for each concept below `count` the concepts that `rows` lead to, in rising order and once each. There are
+/// fewer than 2^32 rows, and both ends of each are below `count`.
 pub fn linked_lists(
     alloc: Global,
     count: u32,

@@ -7,7 +7,7 @@ use crate::grown::with_list;
 use number_lists::{KeyedLists, keep_rising};
 use std::alloc::{AllocError, Global};
 
-/// Each of some lists in rising order, without repeats. All items are below `bound`.
+/// Returns each of `lists` in rising order, without repeats. All items are below `bound`.
 pub fn rising_lists(alloc: Global, lists: &KeyedLists, bound: u32) -> Result<KeyedLists, AllocError>
     requires items { AreItemsBelow bound lists.now }
     requires few { length lists.now < 2 ^ 32 }

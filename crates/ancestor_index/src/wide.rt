@@ -1,4 +1,4 @@
-//! Long lists once more as words of bits, which sets are made of without going through the list.
+//! Long lists, also kept as words of bits. Sets are made of the words without going through the list.
 ghost use Rattle.std.specs.Prelude.{ℕ, ◌≡◌, ◌↔◌, ◌<◌, ◌++◌, ◌∷◌, ◌^◌, [], List, All, IfOk, IfSome, IsSome, IsTrue, OnOk, length};
 ghost use Rattle.number_lists.specs.Members.{has};
 ghost use Rattle.idset.specs.Words.{MarkedBelow};
@@ -12,13 +12,13 @@ use std::alloc::{AllocError, Global};
 /// The lists of more than a 32nd of all concepts, as words of bits.
 #[derive(Drop)]
 pub struct WideLists {
-    // the words of all these lists, one list behind the other
+    // the words of the long lists, one list after another
     words: Vec<u64>,
-    // for each concept where its words end, or 0 where its list is short
+    // for each concept where its words end, or 0 if its list is short
     ends: Vec<usize>,
 }
 
-/// The long ones among lists of numbers below `count`.
+/// Returns the words of the long lists among `lists`, whose numbers are below `count`.
 pub fn wide_lists(alloc: Global, lists: &KeyedLists, count: u32) -> Result<WideLists, AllocError>
     requires items { AreItemsBelow count lists.now }
     requires few { length lists.now < 2 ^ 32 }
@@ -31,7 +31,7 @@ pub fn wide_lists(alloc: Global, lists: &KeyedLists, count: u32) -> Result<WideL
     Ok(wide)
 }
 
-// Adds the words of a list, if it is long, and tells where they end.
+// Adds the words of a list, if it is long, and returns where they end; for a short list it returns 0.
 fn put_words(
     alloc: Global,
     list: &[u32],
@@ -50,7 +50,7 @@ fn put_words(
     Ok(words.len())
 }
 
-// Whether a list has more than a 32nd of all numbers.
+// Whether a list has more than a 32nd of all numbers below `count`.
 fn is_wide(list: &[u32], count: u32) -> bool
     ensures { IsTrue result ↔ IsWide count list.now }
 {
@@ -58,7 +58,7 @@ fn is_wide(list: &[u32], count: u32) -> bool
 }
 
 impl WideLists {
-    /// No list, with room for so many before any more memory is asked for.
+    /// Makes an empty `WideLists` with room for `lists` lists before it asks for more memory.
     pub fn with_capacity(alloc: Global, lists: usize) -> Result<WideLists, AllocError>
         ensures { IfOk result (λ wide. (count : ℕ) → AreWide count [] wide.ends.items wide.words.items) }
     {
@@ -69,7 +69,7 @@ impl WideLists {
         })
     }
 
-    /// Takes the list of the next concept, of numbers below `count`.
+    /// Adds the list of the next concept, of numbers below `count`.
     pub fn push(&mut self, alloc: Global, list: &[u32], count: u32) -> Result<(), AllocError>
         requires { All (λ item. item < count) list.now }
         ensures { OnOk result ((lists : List (List ℕ)) → AreWide count lists self.old.ends.items self.old.words.items
@@ -80,7 +80,7 @@ impl WideLists {
         Ok(())
     }
 
-    /// The words of the list of a concept below `count`, if it is long.
+    /// Returns the words of the list of a concept below `count`, if the list is long.
     pub fn of(&self, concept: u32, count: u32) -> Option<&[u64]>
         requires { (lists : List (List ℕ)) × AreWide count lists self.now.ends.items self.now.words.items × (concept < length lists) }
         ensures some { IfSome result (λ words. (lists : List (List ℕ)) → AreWide count lists self.now.ends.items self.now.words.items
@@ -92,7 +92,7 @@ impl WideLists {
     }
 }
 
-// The words that end at a place, if there are any.
+// Returns the words of a list that end at `end`, if the list has words.
 fn words_before(words: &[u64], end: usize, count: u32) -> Option<&[u64]>
     requires { (list : List ℕ) × IsKept count list words.now end }
     ensures some { IfSome result (λ found. (list : List ℕ) → IsKept count list words.now end → MarkedBelow count found.now (has list)) }

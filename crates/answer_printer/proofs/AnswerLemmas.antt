@@ -1,4 +1,4 @@
--- The numbers that an answer is printed from, and the texts that are printed of the items of a list.
+-- Lemmas on the concepts whose lines an answer shows, and on texts that are written item by item.
 use Rattle.std.proofs.Common.{◌≡◌, ◌∙◌, ℕ, ◌+◌, ◌<◌, ◌≤◌, ◌-◌, ◌^◌, ◌++◌, ◌∷◌, [], All, List, Option}
 use Rattle.std.proofs.Common.{append-nil, append_assoc, ap, unwrap_or}
 use Rattle.std.proofs.Common.{arith, drop, get_or, length, map, None, Some, subst, sym, take}
@@ -15,7 +15,7 @@ use Rattle.answer_printer.specs.AnswerText.{answer_head, answer_in, shown_names,
 use Rattle.answer_printer.specs.declared.form.AnswerForm.{AnswerForm}
 use Rattle.answer_printer.specs.inside.Prefix.{IsPrefixOf}
 
--- items of which no number is asked for are shown to their end: a list in memory is shorter than the greatest number
+-- without a number asked for, all items after the offset are shown, because a list in memory has fewer than 2^63 items
 pub most_shown : (offset : ℕ) (first : Option ℕ) (items shown : List ℕ)
     → shown ≡ take (unwrap_or first (2 ^ 64 - 1)) (drop offset items) → length shown < 2 ^ 63
     → shown ≡ shown_of offset first items
@@ -24,7 +24,7 @@ most_shown offset None items shown is small =
     is ∙ take_all (2 ^ 64 - 1) (drop offset items)
     (omega (arith, ap length is, length-take (2 ^ 64 - 1) (drop offset items)))
 
--- the concepts of a set that are shown are concepts
+-- the concepts of a set that are shown are below the count of concepts
 pub shown_are_concepts : (bound count offset : ℕ) (first : Option ℕ) (items shown : List ℕ)
     → shown ≡ shown_of offset first items → IsRisingBelow bound items → bound ≡ count
     → All (λ concept. concept < count) shown
@@ -34,14 +34,16 @@ shown_are_concepts bound count offset first items shown is rising same =
     all : All (λ concept. concept < count) items
     all = subst (λ (least : ℕ). All (λ concept. concept < least) items) same (items_below bound items rising)
 
+    -- the items after the offset are below the count of concepts
     behind : All (λ concept. concept < count) (drop offset items)
     behind = All-drop (λ concept. concept < count) offset items all
 
+    -- for each number of first items, the shown items are below the count of concepts
     of_each : (first : Option ℕ) → All (λ concept. concept < count) (shown_of offset first items)
     of_each None = behind
     of_each (Some first) = All-take (λ concept. concept < count) first (drop offset items) behind
 
--- by their numbers or by their identifiers the same concepts are shown
+-- the identifiers of the shown numbers are the shown identifiers
 shown_mapped : (concepts : List ℕ) (offset : ℕ) (first : Option ℕ) (items : List ℕ)
     → map (slice_index concepts) (shown_of offset first items)
     ≡ shown_of offset first (map (slice_index concepts) items)
@@ -50,7 +52,7 @@ shown_mapped concepts offset (Some first) items =
     sym (take-map (slice_index concepts) first (drop offset items))
     ∙ ap (take first) (sym (drop-map (slice_index concepts) offset items))
 
--- the lines of the concepts that are shown, behind the line that counts all, are the answer
+-- the head of an answer and the lines of the shown concepts are the answer in the form
 pub lines_answer : (form : AnswerForm) (name : ℕ → Option (List ℕ)) (concepts items shown head : List ℕ) (count : ℕ)
     → head ≡ answer_head count → count ≡ length items → shown ≡ shown_of form.offset form.first items
     → head ++ flat_map (concept_line (shown_names form.names name)) (map (slice_index concepts) shown)
@@ -61,10 +63,10 @@ lines_answer form name concepts items shown head count head_is count_is shown_is
     let among = ap (map (slice_index concepts)) shown_is ∙ shown_mapped concepts form.offset form.first items in
     (λ i. counted i ++ lines (among i))
 
--- the texts of the items of a list are written one after the other: what was written and what is left are the whole
+-- ---- the texts of the items of a list are written one after the other
 module _ {X : Type 0} (texts : List X → List ℕ) (items : List X) (place : ℕ) (so_far whole : List ℕ)
     (before : so_far ++ texts (drop place items) ≡ whole) where
-  -- a turn
+  -- invariant step: the text so far plus the text of the remaining items is the whole text
   pub text_turn : (d : X) (text next : List ℕ) → place < length items
       → text ++ texts (drop (place + 1) items) ≡ texts (get_or items place d ∷ drop (place + 1) items)
       → next ≡ so_far ++ text → next ++ texts (drop (place + 1) items) ≡ whole
@@ -74,28 +76,29 @@ module _ {X : Type 0} (texts : List X → List ℕ) (items : List X) (place : �
       ∙ ap (λ (left : List ℕ). so_far ++ left) (text_is ∙ sym (at_drop_more texts items place d within))
       ∙ before
 
-  -- the end
+  -- if no item remains, the text so far is the whole text
   pub text_end : length items ≤ place → texts [] ≡ [] → so_far ≡ whole
   text_end past none =
       sym (append-nil so_far)
       ∙ ap (λ (left : List ℕ). so_far ++ left) (sym (at_drop_all texts items place past ∙ none))
       ∙ before
 
--- bytes begin with themselves, whatever is put behind them
+-- bytes are a prefix of these bytes and more
 pub prefix_of : (bytes more : List ℕ) → IsPrefixOf bytes (bytes ++ more)
 prefix_of bytes more = take-append_seam bytes more
 
+-- bytes are a prefix of themselves
 pub prefix_same : (bytes : List ℕ) → IsPrefixOf bytes bytes
 prefix_same bytes = ap (take (length bytes)) (sym (append-nil bytes)) ∙ prefix_of bytes []
 
--- and with what these bytes begin with
+-- a prefix of bytes is a prefix of these bytes and more
 pub prefix_more : (front bytes more : List ℕ) → IsPrefixOf front bytes → IsPrefixOf front (bytes ++ more)
 prefix_more front bytes more begun =
     let as_long = ap (λ (found : List ℕ). length found) begun in
     let shorter : length front ≤ length bytes = omega (arith, length-take (length front) bytes, as_long) in
     take-append-le (length front) bytes more shorter ∙ begun
 
--- what begins with bytes that begin with others begins with these
+-- a prefix of a prefix of bytes is a prefix of the bytes
 pub prefix_joined : (front middle bytes : List ℕ) → IsPrefixOf front middle → IsPrefixOf middle bytes
     → IsPrefixOf front bytes
 prefix_joined front middle bytes begun goes_on =

@@ -1,4 +1,4 @@
--- Where the bounds that are listed are those of the nodes of a plan, its lines are those of the definition.
+-- With the own bounds of a plan's nodes, the lines of its outline are the lines of the definition.
 use Rattle.std.proofs.Common.{ℕ, suc, ◌+◌, ◌++◌, ◌∷◌, [], ◌≡◌, ◌∙◌, List, length, refl, sym, ap, append-nil}
 use Rattle.std.proofs.Common.{append_assoc, length-append}
 use Rattle.std.specs.List.{flat_map}
@@ -19,15 +19,19 @@ use Rattle.answer_printer.specs.PlanText.{bound_line, group_outline, group_words
 use Rattle.answer_printer.specs.PlanText.{node_words, outline, plan_lines, plans_outline, test_outline}
 use Rattle.answer_printer.proofs.LineLemmas.{with_bounds-append}
 
--- there are as many bounds as lines, and with them, whatever bounds follow, the lines are these
+-- there is one bound for each line, and with these bounds, whatever bounds follow, the lines are `lines`
 pub record AreLined (before : List (List ℕ)) (bounds : List ℕ) (lines : List (List ℕ)) : Type 0 where
+  -- there are as many bounds as lines
   pub count : length before ≡ length bounds
+  -- with the bounds, and any bounds after them, the lines are `lines`
   pub same : (more : List ℕ) → with_bounds before (bounds ++ more) ≡ flat_map (λ line. line) lines
 
+-- no lines need no bounds
 none_lined : AreLined [] [] []
 none_lined = record { count = refl; same = λ more. refl }
 
--- the line of a node, and those of its children
+-- if the lines below a node are lined with their bounds, so are these lines with the node's own line and bound in
+-- front
 node_lined : (before : List ℕ) (most : ℕ) {others : List (List ℕ)} {bounds : List ℕ} {lines : List (List ℕ)} → AreLined others bounds lines
     → AreLined (before ∷ others) (most ∷ bounds) (bound_line before most ∷ lines)
 node_lined before most inner = record {
@@ -35,7 +39,7 @@ node_lined before most inner = record {
   same = λ more. ap (λ (text : List ℕ). bound_line before most ++ text) (inner.same more);
 }
 
--- the lines of two plans
+-- the lines of two plans are lined with the bounds of both
 both_lined : {one other : List (List ℕ)} {bounds more_bounds : List ℕ} {lines more_lines : List (List ℕ)} → AreLined one bounds lines
     → AreLined other more_bounds more_lines → AreLined (one ++ other) (bounds ++ more_bounds) (lines ++ more_lines)
 both_lined {one} {other} {bounds} {more_bounds} {lines} {more_lines} first second = record {
@@ -52,13 +56,16 @@ both_lined {one} {other} {bounds} {more_bounds} {lines} {more_lines} first secon
       ∙ sym (flat_map-append (λ (line : List ℕ). line) lines more_lines);
 }
 
+-- ---- the lines of a plan and its own bounds
 module _ (indexed : Indexed) where
+  -- the line of a concept plan, in front of others, is lined with the plan's own bound
   plan_lined : (spaces : List ℕ) (plan : Physical) {others : List (List ℕ)} {bounds : List ℕ} {lines : List (List ℕ)}
       → AreLined others bounds lines
       → AreLined ((spaces ++ node_words plan) ∷ others) (capped (own_bound indexed plan) ∷ bounds)
       (bound_line (spaces ++ node_words plan) (capped (own_bound indexed plan)) ∷ lines)
   plan_lined spaces plan inner = node_lined (spaces ++ node_words plan) (capped (own_bound indexed plan)) inner
 
+  -- the line of a group plan, in front of others, is lined with the plan's own bound
   unit_lined : (spaces : List ℕ) (plan : PhysicalUnits) {others : List (List ℕ)} {bounds : List ℕ} {lines : List (List ℕ)}
       → AreLined others bounds lines
       → AreLined ((spaces ++ group_words plan) ∷ others) (capped (group_own_bound indexed plan) ∷ bounds)
@@ -66,6 +73,7 @@ module _ (indexed : Indexed) where
   unit_lined spaces plan inner = node_lined (spaces ++ group_words plan) (capped (group_own_bound indexed plan)) inner
 
   mutual
+    -- the outline of a concept plan is lined with the own bounds of its nodes
     pub lined : (spaces : List ℕ) (plan : Physical)
         → AreLined (outline before_bound spaces plan) (node_list (own_list indexed) plan) (outline (node_line indexed) spaces plan)
     lined spaces physical_empty = plan_lined spaces physical_empty none_lined
@@ -88,6 +96,7 @@ module _ (indexed : Indexed) where
     lined spaces (physical_units count units) =
         plan_lined spaces (physical_units count units) (group_lined (32 ∷ spaces) units)
 
+    -- the outlines of a list of concept plans are lined with the own bounds of their nodes
     plans_lined : (spaces : List ℕ) (parts : Physicals)
         → AreLined (plans_outline before_bound spaces parts) (plans_list (own_list indexed) parts)
         (plans_outline (node_line indexed) spaces parts)
@@ -95,6 +104,7 @@ module _ (indexed : Indexed) where
     plans_lined spaces (physical_then first rest) =
         both_lined (lined spaces first) (plans_lined spaces rest)
 
+    -- the outline of a group plan is lined with the own bounds of its nodes
     group_lined : (spaces : List ℕ) (plan : PhysicalUnits)
         → AreLined (group_outline before_bound spaces plan) (group_list (own_list indexed) plan)
         (group_outline (node_line indexed) spaces plan)
@@ -109,6 +119,7 @@ module _ (indexed : Indexed) where
         unit_lined spaces (physical_units_pairs count types test choice)
         (both_lined (lined (32 ∷ spaces) types) (test_lined (32 ∷ spaces) test))
 
+    -- the outlines of a list of group plans are lined with the own bounds of their nodes
     groups_lined : (spaces : List ℕ) (parts : PhysicalUnitsList)
         → AreLined (groups_outline before_bound spaces parts) (groups_list (own_list indexed) parts)
         (groups_outline (node_line indexed) spaces parts)
@@ -116,6 +127,7 @@ module _ (indexed : Indexed) where
     groups_lined spaces (physical_units_then first rest) =
         both_lined (group_lined spaces first) (groups_lined spaces rest)
 
+    -- the outline of a test is lined with the own bounds of the nodes of its plan
     test_lined : (spaces : List ℕ) (test : PhysicalTest)
         → AreLined (test_outline before_bound spaces test) (test_list (own_list indexed) test)
         (test_outline (node_line indexed) spaces test)
@@ -123,7 +135,7 @@ module _ (indexed : Indexed) where
     test_lined spaces (physical_outside operand) = lined spaces operand
     test_lined spaces (physical_number compare number) = none_lined
 
--- with the own bounds of a plan its lines are those of the definition
+-- with the own bounds of a plan, the lines of its outline are the lines of the plan
 pub lines_are : (indexed : Indexed) (plan : Physical) (bounds : List ℕ) → bounds ≡ own_bounds indexed plan
     → with_bounds (outline before_bound [] plan) bounds ≡ plan_lines indexed plan
 lines_are indexed plan bounds is =

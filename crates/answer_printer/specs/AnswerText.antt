@@ -1,4 +1,4 @@
--- The text that answers a query, or refuses a text that is none.
+-- The text that answers a query, or refuses a text that is no query.
 use Rattle.std.specs.Prelude.{ℕ, ◌++◌, Bool, true, false, List, [], ◌∷◌, length, drop, take, codes, decimal}
 use Rattle.std.specs.Prelude.{Option, None, Some}
 use Rattle.std.specs.List.{flat_map}
@@ -12,39 +12,40 @@ use Rattle.answer_printer.specs.declared.form.AnswerForm.{AnswerForm}
 abbrev pub number_line : ℕ → List ℕ
 number_line number = decimal number ++ 10 ∷ []
 
--- `OK` and how many concepts there are
+-- the first line of an answer: `OK` and the count of concepts
 abbrev pub answer_head : ℕ → List ℕ
 answer_head count = codes "OK " ++ number_line count
 
--- then a line for each, with the names that they have
+-- the answer: its first line, then a line for each concept, with its name if it has one
 abbrev pub answer_text : (ℕ → Option (List ℕ)) → List ℕ → List ℕ
 answer_text name concepts = answer_head (length concepts) ++ flat_map (concept_line name) concepts
 
--- the form of an answer for which nothing is asked: every line, with names
+-- the form of an answer without options: every line, with names
 abbrev pub whole_form : AnswerForm
 whole_form = record { offset = 0; first = None; names = true }
 
--- of concepts in order those whose lines are written: behind the first `offset` all of them, or the first so many
+-- the concepts whose lines are written: those after the first `offset`, and of these the first `first`, or all
 abbrev pub shown_of : ℕ → Option ℕ → List ℕ → List ℕ
 shown_of offset None concepts = drop offset concepts
 shown_of offset (Some first) concepts = take first (drop offset concepts)
 
--- the names that are written: those that the concepts have, or none
+-- the names that are written: those of the concepts, or none
 abbrev pub shown_names : Bool → (ℕ → Option (List ℕ)) → ℕ → Option (List ℕ)
 shown_names true name = name
 shown_names false name = λ concept. None
 
--- an answer in a form: `OK` and how many concepts there are in all, then the lines that the form asks for
+-- an answer in a form: `OK` and the count of all concepts, then the lines that the form asks for
 abbrev pub answer_in : AnswerForm → (ℕ → Option (List ℕ)) → List ℕ → List ℕ
 answer_in form name concepts =
     answer_head (length concepts)
     ++ flat_map (concept_line (shown_names form.names name)) (shown_of form.offset form.first concepts)
 
--- the line that refuses a constraint whose plan visits more items at most than a limit allows: so many
+-- the line that refuses a constraint whose plan may visit more items than a limit allows: `ERR bound` and the bound
+-- `most`
 abbrev pub bound_refusal : ℕ → List ℕ
 bound_refusal most = codes "ERR bound " ++ number_line most
 
--- the line that refuses a text; want of memory has none
+-- the line that refuses a text; want of memory has no line
 abbrev pub refusal_text : QueryFault → List ℕ
 refusal_text Long = codes "ERR long\n"
 refusal_text Utf8 = codes "ERR utf8\n"

@@ -1,5 +1,6 @@
--- The text of a plan: how many items it visits at most, and then a line for each node, a node before its children. A line has a space
--- for each node above, what the node is, and how many items it visits at most beside its children.
+-- The text of a plan: how many items the plan visits at most, and then a line for each node, a node before its
+-- children. A line has a space for each node above it, the words for the node, and how many items the node itself
+-- visits at most, besides its children.
 use Rattle.std.specs.Prelude.{ℕ, ◌++◌, Bool, true, false, List, [], ◌∷◌, codes, decimal}
 use Rattle.std.specs.Fmt.{signed_decimal}
 use Rattle.std.specs.List.{flat_map}
@@ -23,6 +24,7 @@ use Rattle.plan_bounds.specs.Bounds.{bound, capped, group_own_bound, own_bound}
 use Rattle.answer_printer.specs.AnswerText.{number_line}
 
 -- ---- what a node is
+-- the word for a hierarchy operator
 abbrev pub operator_word : Operator → List ℕ
 operator_word Descendants = codes "descendants"
 operator_word DescendantsOrSelf = codes "descendants-self"
@@ -35,31 +37,32 @@ operator_word ParentsOrSelf = codes "parents-self"
 operator_word Top = codes "top"
 operator_word Bottom = codes "bottom"
 
--- how many there may be
+-- the words for a cardinality: its least and its greatest number
 abbrev pub count_words : Cardinality → List ℕ
 count_words count = decimal count.min ++ codes ".." ++ most_text count.max
 
--- what a value must pass: a number is in 10^-18
+-- the words for the test of a value; a number counts units of 10^-18
 abbrev pub test_words : PhysicalTest → List ℕ
 test_words (physical_within operand) = codes "within"
 test_words (physical_outside operand) = codes "outside"
 test_words (physical_number compare number) = compare_text compare ++ codes " " ++ signed_decimal number
 
--- from which rows a leaf is answered
+-- the words for the choice of a leaf: by value, by type, or by scan
 abbrev pub choice_words : Choice → List ℕ
 choice_words ByValue = codes "by value"
 choice_words ByType = codes "by type"
 choice_words Scan = codes "by scan"
 
+-- the words for a leaf: its cardinality, its test and its choice
 abbrev pub leaf_words : Cardinality → PhysicalTest → Choice → List ℕ
 leaf_words count test choice = count_words count ++ codes " " ++ test_words test ++ codes " " ++ choice_words choice
 
--- whether rows are read from their sources or backwards
+-- the words for the direction in which rows are read: from their sources, or backwards
 abbrev pub pairs_words : Bool → List ℕ
 pairs_words false = codes "pairs out "
 pairs_words true = codes "pairs in "
 
--- a node of either sort
+-- the words for a node of a concept plan
 abbrev pub node_words : Physical → List ℕ
 node_words physical_empty = codes "empty"
 node_words physical_all = codes "all"
@@ -73,6 +76,7 @@ node_words (physical_values start names) = codes "values"
 node_words (physical_pairs back count types test choice) = pairs_words back ++ leaf_words count test choice
 node_words (physical_units count units) = codes "units " ++ count_words count
 
+-- the words for a node of a group plan
 abbrev pub group_words : PhysicalUnits → List ℕ
 group_words physical_nothing = codes "no-units"
 group_words physical_every = codes "every-unit"
@@ -82,13 +86,16 @@ group_words (physical_units_minus first second) = codes "unit-minus"
 group_words (physical_units_pairs count types test choice) = codes "unit-pairs " ++ leaf_words count test choice
 
 -- ---- a text for each node
--- what stands there of a node, by the spaces before it
+-- a text for each node, by the spaces before it
 pub record NodeText : Type 0 where
+  -- the text for a node of a concept plan
   pub of_plan : List ℕ → Physical → List ℕ
+  -- the text for a node of a group plan
   pub of_group : List ℕ → PhysicalUnits → List ℕ
 
--- of all nodes, a node before its children, which have one space more before them
+-- ---- the outline: a text for each node, a node before its children, which have one space more
 abbrev mutual
+  -- the texts of the nodes of a concept plan
   pub outline : NodeText → List ℕ → Physical → List (List ℕ)
   outline node spaces physical_empty = node.of_plan spaces physical_empty ∷ []
   outline node spaces physical_all = node.of_plan spaces physical_all ∷ []
@@ -113,11 +120,13 @@ abbrev mutual
   outline node spaces (physical_units count units) =
       node.of_plan spaces (physical_units count units) ∷ group_outline node (32 ∷ spaces) units
 
+  -- the texts of the nodes of a list of concept plans
   pub plans_outline : NodeText → List ℕ → Physicals → List (List ℕ)
   plans_outline node spaces no_physicals = []
   plans_outline node spaces (physical_then first rest) =
       outline node spaces first ++ plans_outline node spaces rest
 
+  -- the texts of the nodes of a group plan
   pub group_outline : NodeText → List ℕ → PhysicalUnits → List (List ℕ)
   group_outline node spaces physical_nothing = node.of_group spaces physical_nothing ∷ []
   group_outline node spaces physical_every = node.of_group spaces physical_every ∷ []
@@ -132,33 +141,35 @@ abbrev mutual
       node.of_group spaces (physical_units_pairs count types test choice)
       ∷ (outline node (32 ∷ spaces) types ++ test_outline node (32 ∷ spaces) test)
 
+  -- the texts of the nodes of a list of group plans
   pub groups_outline : NodeText → List ℕ → PhysicalUnitsList → List (List ℕ)
   groups_outline node spaces no_physical_units = []
   groups_outline node spaces (physical_units_then first rest) =
       group_outline node spaces first ++ groups_outline node spaces rest
 
-  -- a test is no node
+  -- the texts of the nodes of the plan in a test; a test is no node itself
   pub test_outline : NodeText → List ℕ → PhysicalTest → List (List ℕ)
   test_outline node spaces (physical_within operand) = outline node spaces operand
   test_outline node spaces (physical_outside operand) = outline node spaces operand
   test_outline node spaces (physical_number compare number) = []
 
 -- ---- the text of a plan
--- a line, by what stands before the bound
+-- a line of a text and a bound
 abbrev pub bound_line : List ℕ → ℕ → List ℕ
 bound_line before most = before ++ codes " " ++ number_line most
 
--- the line of a node
+-- the line of each node: its spaces, its words and its own bound
 abbrev pub node_line : Indexed → NodeText
 node_line indexed = record {
   of_plan = λ spaces plan. bound_line (spaces ++ node_words plan) (capped (own_bound indexed plan));
   of_group = λ spaces plan. bound_line (spaces ++ group_words plan) (capped (group_own_bound indexed plan));
 }
 
--- the lines of all nodes, behind one another
+-- the lines of all nodes of a plan, one after another
 abbrev pub plan_lines : Indexed → Physical → List ℕ
 plan_lines indexed plan = flat_map (λ line. line) (outline (node_line indexed) [] plan)
 
+-- the text of a plan: `PLAN` and the bound of the plan, then the lines of its nodes
 abbrev pub plan_text : Indexed → Physical → List ℕ
 plan_text indexed plan =
     (codes "PLAN " ++ number_line (capped (bound indexed plan))) ++ plan_lines indexed plan

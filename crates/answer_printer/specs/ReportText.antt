@@ -1,9 +1,9 @@
--- The text that tells what a loaded release has, in numbers.
+-- The text of the report of a loaded release, in numbers.
 use Rattle.std.specs.Prelude.{ℕ, ◌++◌, List, codes}
 use Rattle.held_release.specs.declared.report.Report.{Report}
 use Rattle.answer_printer.specs.AnswerText.{number_line}
 
--- a line for each number: the files that have a kind, the rows of the five lists, and the rows in none of them
+-- the report: a line each for the files that have a kind, the rows of the five lists, and the rows in none of them
 abbrev pub report_text : Report → List ℕ
 report_text report =
     (codes "FILES " ++ number_line report.files)

@@ -1,5 +1,5 @@
--- The texts of four plans over the sample release, with the choices that they have where none is asked for: facts that follow by
--- computing. Above each stands the text of its query, with numbers in place of names.
+-- The texts of four plans over the sample release, with the choices that they have if none is asked for: facts that
+-- follow by computing. Above each stands the text of its query, with numbers in place of names.
 use Rattle.std.specs.Prelude.{ℕ, ◌≡◌, false, List, [], ◌∷◌, codes}
 use Rattle.constraint_tree.specs.declared.operator.Compare.TheVariants.{Greater}
 use Rattle.constraint_tree.specs.Sample.{alpha, type_t, type_u, value_x}
@@ -12,7 +12,7 @@ use Rattle.planner.specs.Chosen.{chosen}
 use Rattle.planner.specs.WorkedBounds.{indexed_sample}
 use Rattle.answer_printer.specs.PlanText.{plan_text}
 
--- a plan has this text
+-- `text` is the text of the plan over the sample release, with the choice of least bound for each leaf
 abbrev pub HasText : Plan → List ℕ → Type 0
 HasText plan text = plan_text indexed_sample (chosen indexed_sample plan) ≡ text
 
@@ -34,6 +34,6 @@ TextInBraces =
     HasText (both_plan below_alpha_plan (units_plan (at_least 1) (and_units (units_from (x_group ∷ u_group ∷ [])))))
     (codes "PLAN 50\nand 12\n descendants 4\n  one 100005 0\n units 1..* 3\n  unit-and 18\n   unit-pairs 1..* within by type 4\n    one 104001 0\n    descendants-self 2\n     one 106004 0\n   unit-pairs 1..* within by type 7\n    one 105000 0\n    all 0\n")
 
--- 100005,100005, of which one is left
+-- 100005,100005, which is simplified to one concept
 abbrev pub TextOfOne : Type 0
 TextOfOne = HasText (one_plan alpha) (codes "PLAN 0\none 100005 0\n")

@@ -15,16 +15,16 @@ use idset::ConceptSet;
 use std::alloc::{AllocError, Global};
 use streams::{AnswerFault, AnswerOutput, IoFault, Piece};
 
-// The bytes of the first line at the most: `OK `, 10 digits and LF.
+// The most bytes that the first line has: `OK `, 10 digits and LF.
 const HEAD_ROOM: usize = 14;
 
-// The bytes of a line without a name at the most: 18 digits and LF.
+// The most bytes that a line without a name has: 18 digits and LF.
 const BARE_LINE_ROOM: usize = 19;
 
-/// Appends `OK`, the number of the concepts of a set, and then a line for each, in the rising order of
-/// their identifiers: the identifier, and the name if the concept has one (Expression Constraint
-/// Language, "Concept references"). Every line ends in LF. The set is of concepts by their numbers in
-/// the release. `AllocError` is answered where memory is refused; `output` is unchanged then.
+/// Appends `OK`, the number of the concepts of a set, and then a line for each, in the rising order of their
+/// identifiers: the identifier, and the name if the concept has one (Expression Constraint Language, "Concept
+/// references"). Every line ends in LF. The set holds concepts by their numbers in the release. If memory is
+/// refused, it returns `AllocError`, and `output` is unchanged.
 pub fn print_answer<S: ConceptSet>(
     alloc: Global,
     snapshot: &Snapshot,
@@ -38,9 +38,8 @@ pub fn print_answer<S: ConceptSet>(
     print_answer_in(alloc, snapshot, set, AnswerForm::whole(), output)
 }
 
-/// Appends the answer that `print_answer` appends in a form: the count is whole, and of the lines of the
-/// concepts those stand that the form asks for. `AllocError` is answered where memory is refused; `output` is
-/// unchanged then.
+/// Appends the answer in a form. The count is that of all concepts; only the lines that the form asks for are
+/// appended. If memory is refused, it returns `AllocError`, and `output` is unchanged.
 pub fn print_answer_in<S: ConceptSet>(
     alloc: Global,
     snapshot: &Snapshot,
@@ -63,8 +62,8 @@ pub fn print_answer_in<S: ConceptSet>(
     appended
 }
 
-// Appends the answer of concepts in a form, or a part of it where memory is refused. The room is made at once, so
-// that nothing is copied again.
+// Appends the answer of concepts in a form. If memory is refused, a part of it is appended. The room is made at
+// once, so that nothing is copied again.
 fn append_answer<S: ConceptSet>(
     snapshot: &Snapshot,
     set: &S,
@@ -84,7 +83,7 @@ fn append_answer<S: ConceptSet>(
     append_lines(snapshot, shown, form.names, output)
 }
 
-// Appends the first line of the answer of so many concepts, or a part of it where memory is refused.
+// Appends the first line of the answer of `count` concepts. If memory is refused, a part of it may be appended.
 fn append_head(count: usize, output: &mut Vec<u8>) -> Result<(), AllocError>
     ensures ok { OnOk result (output.new.items ≡ output.old.items ++ answer_head count) }
     ensures begun { IsPrefixOf output.old.items output.new.items }
@@ -95,7 +94,8 @@ fn append_head(count: usize, output: &mut Vec<u8>) -> Result<(), AllocError>
     Ok(())
 }
 
-// How many bytes the answer that shows concepts has, or a few more; the greatest number where there are more.
+// Returns at least the number of bytes that an answer with these lines has, and not much more; `usize::MAX` if it
+// would be greater.
 fn room_of(snapshot: &Snapshot, concepts: &[u32], names: bool) -> usize
     requires { All (λ concept. concept < length snapshot.now.release.concepts) concepts.now }
 {
@@ -109,7 +109,7 @@ fn room_of(snapshot: &Snapshot, concepts: &[u32], names: bool) -> usize
     room
 }
 
-// Appends the lines of concepts, or a part of them where memory is refused.
+// Appends the lines of concepts. If memory is refused, a part of them may be appended.
 fn append_lines(
     snapshot: &Snapshot,
     concepts: &[u32],
@@ -128,7 +128,7 @@ fn append_lines(
     Ok(())
 }
 
-// Appends the line of a concept, or a part of it where memory is refused.
+// Appends the line of a concept. If memory is refused, a part of it may be appended.
 fn append_line(
     snapshot: &Snapshot,
     concept: u32,
@@ -149,9 +149,9 @@ fn append_line(
     Ok(())
 }
 
-/// Puts the text that `print_answer_in` appends into a piece of an output, line by line. All memory is taken before:
-/// where it is refused the piece and the output are as they were. Where the output fails a front of what waited and of
-/// the text was written, not all of it.
+/// Puts the text that `print_answer_in` appends into a piece of an output, line by line. All memory is taken before
+/// the first byte is put: if it is refused, the piece and the output are unchanged. If the output fails, a proper
+/// front of the waiting bytes and the text was written.
 pub fn write_answer<S: ConceptSet, W: AnswerOutput>(
     alloc: Global,
     snapshot: &Snapshot,
@@ -193,7 +193,7 @@ pub fn write_answer<S: ConceptSet, W: AnswerOutput>(
     }
 }
 
-// The first line of the answer of so many concepts.
+// Returns the first line of the answer of `count` concepts.
 fn head_line(alloc: Global, count: usize) -> Result<Vec<u8>, AllocError>
     ensures { IfOk result (λ line. line.items ≡ answer_head count) }
 {
@@ -202,7 +202,7 @@ fn head_line(alloc: Global, count: usize) -> Result<Vec<u8>, AllocError>
     Ok(line)
 }
 
-// Puts a first line and the lines of concepts.
+// Puts a first line and the lines of concepts into a piece of an output.
 fn put_answer<W: AnswerOutput>(
     snapshot: &Snapshot,
     head: &[u8],
@@ -227,7 +227,7 @@ fn put_answer<W: AnswerOutput>(
     }
 }
 
-// Puts the lines of concepts.
+// Puts the lines of concepts into a piece of an output.
 fn put_lines<W: AnswerOutput>(
     snapshot: &Snapshot,
     concepts: &[u32],
@@ -278,7 +278,7 @@ fn put_line<W: AnswerOutput>(
     put_number_line(snapshot.id_at(concept).number(), piece, output)
 }
 
-// Puts a number on a line of its own.
+// Puts a number on a line of its own into a piece of an output.
 fn put_number_line<W: AnswerOutput>(
     number: u64,
     piece: &mut Piece,

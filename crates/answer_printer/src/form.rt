@@ -5,20 +5,19 @@ ghost use Rattle.answer_printer.specs.AnswerText.{shown_of, whole_form};
 use idset::ConceptSet;
 use std::alloc::{AllocError, Global};
 
-/// Which lines of an answer are written, and whether with names. The count of the concepts is whole in each form.
+/// Which lines of an answer are written, and whether with names. In each form the count is that of all concepts.
 #[derive(Clone, Copy, Debug)]
 pub struct AnswerForm {
-    /// How many lines of concepts are left out before the first that is written; 0 leaves none out.
+    /// How many lines of concepts are skipped before the first that is written.
     pub offset: u64,
-    /// How many lines of concepts are written at the most, the first ones behind the offset; all of them where it is
-    /// `None`.
+    /// How many lines of concepts are written at most, from the offset on; `None` writes all.
     pub first: Option<u64>,
-    /// Whether the name of a concept stands in its line.
+    /// Whether the line of a concept has its name.
     pub names: bool,
 }
 
 impl AnswerForm {
-    /// The form of an answer for which nothing is asked: every line, with names.
+    /// Returns the form without options: every line, with names.
     pub fn whole() -> AnswerForm
         ensures { result ≡ whole_form }
     {
@@ -29,7 +28,7 @@ impl AnswerForm {
         }
     }
 
-    /// Of the items of a set those whose lines are written. No other item is listed.
+    /// Returns the items of a set whose lines are written.
     pub(crate) fn shown<S: ConceptSet>(
         &self,
         alloc: Global,

@@ -1,9 +1,9 @@
-//! The text that the program writes: the answer to a query, the plan of one, the report of a release, and the
-//! lines that refuse a query, a release or the files of one.
+//! The texts that the program writes: the answer to a query, the plan of a query, the report of a release, and the
+//! lines that refuse a query, a release or its files.
 //!
-//! Each printer appends to a vector. Where memory is refused it answers `AllocError`, and the vector
-//! is unchanged. The answer to a query may also be put into a piece of an output, line by line. `specs/` says which bytes
-//! are appended.
+//! Each printer appends to a vector. If memory is refused, it returns `AllocError`, and the vector is unchanged. The
+//! answer to a query may also be put into a piece of an output, line by line. `specs/` says which bytes are
+//! appended.
 #![tactic(auto)]
 
 mod answer;

@@ -10,12 +10,11 @@ use row_lists::LoadFault;
 use sctid::IdFault;
 use std::alloc::{AllocError, Global};
 
-/// Appends the line that tells why a release was refused: `REFUSED`, the kind of the fault, and then
-/// its file, line, column and cause or its concept, as far as it has them. `names` are the names of the
-/// files that were to be loaded, in their order; a fault's file is told by its name there, with control
-/// characters as `\x` and two hexadecimal digits. A line counts from 1, and so does a column; column 0
-/// stands for a wrong number of fields. `AllocError` is answered where memory is refused; `output` is
-/// unchanged then.
+/// Appends the line that tells why a release was refused: `REFUSED`, the kind of the fault, and then its file, line,
+/// column and cause or its concept, as far as the fault has them. `names` are the names of the files that were to be
+/// loaded, in their order. A file is told by its name there, with control characters as `\x` and two hexadecimal
+/// digits. Lines and columns count from 1; column 0 stands for a wrong number of fields. If memory is refused, it
+/// returns `AllocError`, and `output` is unchanged.
 pub fn print_load_fault(
     alloc: Global,
     fault: LoadFault,
@@ -29,7 +28,8 @@ pub fn print_load_fault(
     output.extend_from_slice(line.as_slice())
 }
 
-// The line of a fault, apart, so that a growth that is refused leaves no part of it behind.
+// Returns the line of a fault. It is built apart from the output, so that a refused growth leaves no part of it
+// there.
 fn refusal_line(alloc: Global, fault: LoadFault, names: &[&str]) -> Result<Vec<u8>, AllocError>
     ensures { IfOk result (λ line. line.items ≡ load_refusal (texts_of names.now) fault) }
 {
@@ -52,7 +52,7 @@ fn refusal_line(alloc: Global, fault: LoadFault, names: &[&str]) -> Result<Vec<u
     }
 }
 
-// The line that tells that a file can't be read, or that the files can't be listed.
+// Returns the line for a file that can't be read, or for files that can't be listed.
 fn device_line(alloc: Global, names: &[&str], file: Option<usize>) -> Result<Vec<u8>, AllocError>
     ensures { IfOk result (λ line. line.items ≡ load_refusal (texts_of names.now) (LoadFault.Device file)) }
 {
@@ -62,6 +62,7 @@ fn device_line(alloc: Global, names: &[&str], file: Option<usize>) -> Result<Vec
     }
 }
 
+// Returns the line of a fault that has a kind alone.
 fn plain_line(alloc: Global, kind: &[u8]) -> Result<Vec<u8>, AllocError>
     ensures { IfOk result (λ line. line.items ≡ refused_line (kind.now ∷ [])) }
 {
@@ -70,6 +71,7 @@ fn plain_line(alloc: Global, kind: &[u8]) -> Result<Vec<u8>, AllocError>
     Ok(line)
 }
 
+// Returns the line of a fault in a file.
 fn file_line(alloc: Global, kind: &[u8], name: &str) -> Result<Vec<u8>, AllocError>
     ensures { IfOk result (λ line. line.items ≡ refused_line (kind.now ∷ told_name name.now ∷ [])) }
 {
@@ -79,6 +81,7 @@ fn file_line(alloc: Global, kind: &[u8], name: &str) -> Result<Vec<u8>, AllocErr
     Ok(line)
 }
 
+// Returns the line of a fault in a line of a file.
 fn place_line(alloc: Global, kind: &[u8], name: &str, number: u64) -> Result<Vec<u8>, AllocError>
     ensures { IfOk result (λ line. line.items ≡ refused_line (kind.now ∷ told_name name.now ∷ decimal number ∷ [])) }
 {
@@ -89,6 +92,7 @@ fn place_line(alloc: Global, kind: &[u8], name: &str, number: u64) -> Result<Vec
     Ok(line)
 }
 
+// Returns the line of a fault in a row.
 fn row_line(alloc: Global, name: &str, number: u64, fault: RowFault) -> Result<Vec<u8>, AllocError>
     ensures { IfOk result (λ line. line.items ≡ refused_line (codes "row" ∷ told_name name.now ∷ decimal number ∷ decimal fault.column ∷ word_of_cause fault.cause ∷ [])) }
 {
@@ -101,6 +105,7 @@ fn row_line(alloc: Global, name: &str, number: u64, fault: RowFault) -> Result<V
     Ok(line)
 }
 
+// Returns the line of a cycle through a concept.
 fn cycle_line(alloc: Global, concept: u64) -> Result<Vec<u8>, AllocError>
     ensures { IfOk result (λ line. line.items ≡ refused_line (codes "cycle" ∷ decimal concept ∷ [])) }
 {
@@ -110,7 +115,7 @@ fn cycle_line(alloc: Global, concept: u64) -> Result<Vec<u8>, AllocError>
     Ok(line)
 }
 
-// The name of a file, or no bytes where there is no such file.
+// Returns the name of a file, or no bytes if there is no such file.
 fn name_at<'a>(names: &[&'a str], file: usize) -> &'a str
     ensures { result.now ≡ slice_index_or (texts_of names.now) file [] }
 {
@@ -120,7 +125,7 @@ fn name_at<'a>(names: &[&'a str], file: usize) -> &'a str
     }
 }
 
-// A line as far as the kind of the fault.
+// Returns a line up to the kind of the fault.
 fn begun(alloc: Global, kind: &[u8]) -> Result<Vec<u8>, AllocError>
     ensures { IfOk result (λ line. line.items ≡ codes "REFUSED" ++ 32 ∷ kind.now) }
 {
@@ -129,7 +134,7 @@ fn begun(alloc: Global, kind: &[u8]) -> Result<Vec<u8>, AllocError>
     Ok(line)
 }
 
-// Adds a word behind a space.
+// Adds a space and a word.
 fn push_word(line: &mut Vec<u8>, word: &[u8]) -> Result<(), AllocError>
     ensures { OnOk result (line.new.items ≡ line.old.items ++ 32 ∷ word.now) }
 {
@@ -137,7 +142,7 @@ fn push_word(line: &mut Vec<u8>, word: &[u8]) -> Result<(), AllocError>
     line.extend_from_slice(word)
 }
 
-// Adds a number behind a space.
+// Adds a space and a number.
 fn push_number(line: &mut Vec<u8>, number: u64) -> Result<(), AllocError>
     ensures { OnOk result (line.new.items ≡ line.old.items ++ 32 ∷ decimal number) }
 {
@@ -145,6 +150,7 @@ fn push_number(line: &mut Vec<u8>, number: u64) -> Result<(), AllocError>
     push_word(line, digits.format(number).as_bytes())
 }
 
+// Returns the word for the cause for which a row is refused.
 fn cause_word(cause: RowCause) -> &'static [u8]
     ensures { result.now ≡ word_of_cause cause }
 {
@@ -160,6 +166,7 @@ fn cause_word(cause: RowCause) -> &'static [u8]
     }
 }
 
+// Returns the word for the cause for which an identifier is refused.
 fn id_word(fault: IdFault) -> &'static [u8]
     ensures { result.now ≡ word_of_id fault }
 {

@@ -1,4 +1,4 @@
-//! The text of a plan: how it is executed, and how many items each node of it visits at most.
+//! The text of a plan: its nodes, and how many items each of them visits at most.
 ghost use Rattle.std.specs.Prelude.{◌≡◌, ◌++◌, ◌∷◌, IfOk, OnErr, OnOk, codes, drop, length};
 ghost use Rattle.set_algebra.specs.Physical.{physical_units_of, physical_units_list_of, physical_of, physicals_of};
 ghost use Rattle.set_algebra.specs.Physical.{physical_test_of};
@@ -14,10 +14,10 @@ use postings::Indexes;
 use set_algebra::{ConceptPlan, UnitPlan, ValueTest};
 use std::alloc::{AllocError, Global};
 
-/// Appends the text of a plan over the indexes of a release: `PLAN` and how many items it visits at most, then a line
-/// for each node, a node before its children, which have one space more before them. A line says what the node is, of a
-/// leaf also from which rows it is answered, and how many items the node visits at most beside its children. Every line
-/// ends in LF. `AllocError` is answered where memory is refused; `output` is unchanged then.
+/// Appends the text of a plan over the indexes of a release: `PLAN` and how many items the plan visits at most, then
+/// a line for each node, a node before its children, which have one space more before them. A line says what the
+/// node is, for a leaf also by which rows it is answered, and how many items the node itself visits at most, besides
+/// its children. Every line ends in LF. If memory is refused, it returns `AllocError`, and `output` is unchanged.
 pub fn print_plan(
     alloc: Global,
     physical: &PhysicalPlan,
@@ -32,7 +32,8 @@ pub fn print_plan(
     output.extend_from_slice(text.as_slice())
 }
 
-// The text of a plan, apart, so that a growth that is refused leaves no part of it behind.
+// Returns the text of a plan. It is built apart from the output, so that a refused growth leaves no part of it
+// there.
 fn plan_bytes(
     alloc: Global,
     physical: &PhysicalPlan,
@@ -47,8 +48,8 @@ fn plan_bytes(
     Ok(text)
 }
 
-// Adds the lines of a plan of concepts behind some spaces, where its bounds stand at the front of a list. Answers those
-// behind them.
+// Adds the lines of a concept plan, each after `spaces`. The nodes take the first entries of `bounds`; it returns
+// the remaining ones.
 #[cycle(write)]
 fn write_plan<'a>(
     alloc: Global,
@@ -68,7 +69,8 @@ fn write_plan<'a>(
     Ok(left)
 }
 
-// Adds those of what stands below a node of a plan of concepts.
+// Adds the lines below a node of a concept plan, each after `spaces`. The nodes take the first entries of `bounds`;
+// it returns the remaining ones.
 #[cycle(write)]
 fn write_below<'a>(
     alloc: Global,
@@ -106,7 +108,8 @@ fn write_below<'a>(
     }
 }
 
-// Adds those of a plan of groups.
+// Adds the lines of a group plan, each after `spaces`. The nodes take the first entries of `bounds`; it returns the
+// remaining ones.
 #[cycle(write)]
 fn write_units<'a>(
     alloc: Global,
@@ -126,7 +129,8 @@ fn write_units<'a>(
     Ok(left)
 }
 
-// Adds those of what stands below a node of a plan of groups.
+// Adds the lines below a node of a group plan, each after `spaces`. The nodes take the first entries of `bounds`; it
+// returns the remaining ones.
 #[cycle(write)]
 fn write_below_unit<'a>(
     alloc: Global,
@@ -156,7 +160,8 @@ fn write_below_unit<'a>(
     }
 }
 
-// Adds those of the plan of a test, if it has one: a test is no node.
+// Adds the lines of the plan in a test, if it has one, for a test is no node itself. The nodes take the first
+// entries of `bounds`; it returns the remaining ones.
 #[cycle(write)]
 fn write_test<'a>(
     alloc: Global,
@@ -178,7 +183,8 @@ fn write_test<'a>(
     }
 }
 
-// Adds those of some plans of concepts.
+// Adds the lines of a list of concept plans, each after `spaces`. The nodes take the first entries of `bounds`; it
+// returns the remaining ones.
 #[cycle(write)]
 fn write_parts<'a>(
     alloc: Global,
@@ -199,7 +205,8 @@ fn write_parts<'a>(
     Ok(left)
 }
 
-// Adds those of some plans of groups.
+// Adds the lines of a list of group plans, each after `spaces`. The nodes take the first entries of `bounds`; it
+// returns the remaining ones.
 #[cycle(write)]
 fn write_unit_parts<'a>(
     alloc: Global,
@@ -220,7 +227,7 @@ fn write_unit_parts<'a>(
     Ok(left)
 }
 
-// Adds the line of a node of a plan of concepts, which has the first of some bounds, and gives the bounds behind it.
+// Adds the line of a node of a concept plan with the first of `bounds`; returns the remaining ones.
 fn write_line<'a>(
     plan: &ConceptPlan,
     spaces: &[u8],
@@ -237,7 +244,7 @@ fn write_line<'a>(
     Ok(behind)
 }
 
-// Adds that of a node of a plan of groups.
+// Adds the line of a node of a group plan with the first of `bounds`; returns the remaining ones.
 fn write_unit_line<'a>(
     plan: &UnitPlan,
     spaces: &[u8],
@@ -254,7 +261,7 @@ fn write_unit_line<'a>(
     Ok(behind)
 }
 
-// Ends a line with the first of some bounds, and gives those behind it.
+// Ends a line with the first of `bounds`; returns the remaining ones.
 fn write_bound<'a>(bounds: &'a [u64], text: &mut Vec<u8>) -> Result<&'a [u64], AllocError>
     ensures text { OnOk result (text.new.items ≡ text.old.items ++
         (codes " " ++ number_line (first_bound bounds.now))) }
@@ -273,7 +280,7 @@ fn write_bound<'a>(bounds: &'a [u64], text: &mut Vec<u8>) -> Result<&'a [u64], A
     }
 }
 
-// Adds a number that ends its line.
+// Adds a number and ends the line.
 fn write_number(number: u64, text: &mut Vec<u8>) -> Result<(), AllocError>
     ensures { OnOk result (text.new.items ≡ text.old.items ++ number_line number) }
 {
@@ -282,7 +289,7 @@ fn write_number(number: u64, text: &mut Vec<u8>) -> Result<(), AllocError>
     Ok(())
 }
 
-// Some spaces, and one more.
+// Returns `spaces` with one space more.
 fn one_space_more(alloc: Global, spaces: &[u8]) -> Result<Vec<u8>, AllocError>
     ensures { IfOk result (λ more. more.items ≡ 32 ∷ spaces.now) }
 {

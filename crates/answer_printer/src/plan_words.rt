@@ -1,4 +1,4 @@
-//! What a node of a plan is, in words.
+//! The words for the nodes of a plan.
 ghost use Rattle.std.specs.Prelude.{◌≡◌, ◌++◌, OnOk};
 ghost use Rattle.std.specs.Fmt.{signed_decimal};
 ghost use Rattle.constraint_tree.specs.Text.{compare_text, most_text};
@@ -12,7 +12,7 @@ use rf2_rows::Decimal;
 use set_algebra::{ConceptPlan, UnitPlan, ValueTest};
 use std::alloc::AllocError;
 
-/// Adds what a node of a plan of concepts is.
+/// Adds the words for a node of a concept plan.
 pub fn write_node(plan: &ConceptPlan, text: &mut Vec<u8>) -> Result<(), AllocError>
     ensures { OnOk result (text.new.items ≡ text.old.items ++ node_words (physical_of plan.now)) }
 {
@@ -46,7 +46,7 @@ pub fn write_node(plan: &ConceptPlan, text: &mut Vec<u8>) -> Result<(), AllocErr
     }
 }
 
-/// Adds what a node of a plan of groups is.
+/// Adds the words for a node of a group plan.
 pub fn write_unit_node(plan: &UnitPlan, text: &mut Vec<u8>) -> Result<(), AllocError>
     ensures { OnOk result (text.new.items ≡ text.old.items ++ group_words (physical_units_of plan.now)) }
 {
@@ -68,7 +68,7 @@ pub fn write_unit_node(plan: &UnitPlan, text: &mut Vec<u8>) -> Result<(), AllocE
     }
 }
 
-// What a leaf counts, and from which rows it is answered.
+// Adds the words for a leaf: what it counts, and by which rows it is answered.
 fn write_leaf(
     count: Cardinality,
     test: &ValueTest,
@@ -84,6 +84,7 @@ fn write_leaf(
     text.extend_from_slice(choice_word(choice))
 }
 
+// Adds the words for a cardinality.
 fn write_count(count: Cardinality, text: &mut Vec<u8>) -> Result<(), AllocError>
     ensures { OnOk result (text.new.items ≡ text.old.items ++ count_words count) }
 {
@@ -95,6 +96,7 @@ fn write_count(count: Cardinality, text: &mut Vec<u8>) -> Result<(), AllocError>
     }
 }
 
+// Adds the words for the test of a value.
 fn write_test(test: &ValueTest, text: &mut Vec<u8>) -> Result<(), AllocError>
     ensures { OnOk result (text.new.items ≡ text.old.items ++ test_words (physical_test_of test.now)) }
 {
@@ -109,7 +111,7 @@ fn write_test(test: &ValueTest, text: &mut Vec<u8>) -> Result<(), AllocError>
     }
 }
 
-// How many 10^-18 a number is.
+// Adds a number, which counts units of 10^-18.
 fn write_decimal(number: Decimal, text: &mut Vec<u8>) -> Result<(), AllocError>
     ensures { OnOk result (text.new.items ≡ text.old.items ++ signed_decimal number.0) }
 {
@@ -117,13 +119,14 @@ fn write_decimal(number: Decimal, text: &mut Vec<u8>) -> Result<(), AllocError>
     text.extend_from_slice(digits.format(number.0).as_bytes())
 }
 
-// Whether rows are read from their sources or backwards.
+// Returns the words for the direction in which rows are read: from their sources, or backwards.
 fn direction(back: bool) -> &'static [u8]
     ensures { result.now ≡ pairs_words back }
 {
     if back { b"pairs in " } else { b"pairs out " }
 }
 
+// Returns the word for a hierarchy operator.
 fn operator_word(operator: Operator) -> &'static [u8]
     ensures { result.now ≡ word_of_operator operator }
 {
@@ -141,6 +144,7 @@ fn operator_word(operator: Operator) -> &'static [u8]
     }
 }
 
+// Returns the sign of a comparison.
 fn compare_sign(compare: Compare) -> &'static [u8]
     ensures { result.now ≡ compare_text compare }
 {
@@ -154,6 +158,7 @@ fn compare_sign(compare: Compare) -> &'static [u8]
     }
 }
 
+// Returns the words for the choice of a leaf.
 fn choice_word(choice: Choice) -> &'static [u8]
     ensures { result.now ≡ choice_words choice }
 {

@@ -7,9 +7,9 @@ use crate::numbers::append_number;
 use ecl_lexer::{Feature, QueryFault};
 use std::alloc::{AllocError, Global};
 
-/// Appends the line that refuses a text: `ERR`, the fault, the offset of its place in bytes, from 0,
-/// and the form of the language that is not read, as far as it has them, and LF. Want of memory has no
-/// line. `AllocError` is answered where memory is refused; `output` is unchanged then.
+/// Appends the line that refuses a text: `ERR`, the fault, its offset in bytes from 0, the form of the language that
+/// is not read, as far as the fault has them, and LF. Want of memory has no line. If memory is refused, it returns
+/// `AllocError`, and `output` is unchanged.
 pub fn print_fault(alloc: Global, fault: QueryFault, output: &mut Vec<u8>) -> Result<(), AllocError>
     requires { fault ≢ QueryFault.Memory }
     ensures ok { OnOk result (output.new.items ≡ output.old.items ++ refusal_text fault) }
@@ -19,8 +19,8 @@ pub fn print_fault(alloc: Global, fault: QueryFault, output: &mut Vec<u8>) -> Re
     output.extend_from_slice(line.as_slice())
 }
 
-/// Appends the line that refuses a constraint whose plan visits more items at most than a limit allows: `ERR bound`,
-/// how many it visits at most, and LF. `AllocError` is answered where memory is refused; `output` is unchanged then.
+/// Appends the line that refuses a constraint whose plan may visit more items than a limit allows: `ERR bound`, the
+/// bound of the plan, and LF. If memory is refused, it returns `AllocError`, and `output` is unchanged.
 pub fn print_bound(alloc: Global, bound: u64, output: &mut Vec<u8>) -> Result<(), AllocError>
     ensures ok { OnOk result (output.new.items ≡ output.old.items ++ bound_refusal bound) }
     ensures err { OnErr result (output.new.items ≡ output.old.items) }
@@ -29,7 +29,8 @@ pub fn print_bound(alloc: Global, bound: u64, output: &mut Vec<u8>) -> Result<()
     output.extend_from_slice(text.as_slice())
 }
 
-// The line that refuses a text, apart, so that a growth that is refused leaves no part of it behind.
+// Returns the line that refuses a text. It is built apart from the output, so that a refused growth leaves no part
+// of it there.
 fn fault_line(alloc: Global, fault: QueryFault) -> Result<Vec<u8>, AllocError>
     requires { fault ≢ QueryFault.Memory }
     ensures { IfOk result (λ line. line.items ≡ refusal_text fault) }
@@ -46,7 +47,7 @@ fn fault_line(alloc: Global, fault: QueryFault) -> Result<Vec<u8>, AllocError>
     }
 }
 
-// A line of words and a number.
+// Returns a line of words and a number.
 fn numbered_line(alloc: Global, words: &[u8], number: u64) -> Result<Vec<u8>, AllocError>
     ensures { IfOk result (λ line. line.items ≡ words.now ++ number_line number) }
 {
@@ -56,7 +57,7 @@ fn numbered_line(alloc: Global, words: &[u8], number: u64) -> Result<Vec<u8>, Al
     Ok(line)
 }
 
-// The line of a form of the language that is not read.
+// Returns the line for a form of the language that is not read.
 fn form_line(alloc: Global, offset: usize, feature: Feature) -> Result<Vec<u8>, AllocError>
     ensures { IfOk result (λ line. line.items ≡ refusal_text (QueryFault.Unsupported offset feature)) }
 {

@@ -7,10 +7,9 @@ use crate::numbers::append_number;
 use held_release::Report;
 use std::alloc::{AllocError, Global};
 
-/// Appends what a release has, in numbers, each on a line of its own behind a word: the files that have
-/// a kind (`FILES`), the rows in force of the five lists (`CONCEPTS`, `ISA`, `ATTRIBUTES`, `MEMBERS` and
-/// `NAMES`), and the rows in none of them (`PASSED`). `AllocError` is answered where memory is refused;
-/// `output` is unchanged then.
+/// Appends how many rows a release has, each number on a line of its own after a word: the files that have a kind
+/// (`FILES`), the rows in force of the five lists (`CONCEPTS`, `ISA`, `ATTRIBUTES`, `MEMBERS` and `NAMES`), and the
+/// rows in none of them (`PASSED`). If memory is refused, it returns `AllocError`, and `output` is unchanged.
 pub fn print_report(alloc: Global, report: &Report, output: &mut Vec<u8>) -> Result<(), AllocError>
     ensures ok { OnOk result (output.new.items ≡ output.old.items ++ report_text report.now) }
     ensures err { OnErr result (output.new.items ≡ output.old.items) }
@@ -19,7 +18,8 @@ pub fn print_report(alloc: Global, report: &Report, output: &mut Vec<u8>) -> Res
     output.extend_from_slice(text.as_slice())
 }
 
-// The text of a report, apart, so that a growth that is refused leaves no part of it behind.
+// Returns the text of a report. It is built apart from the output, so that a refused growth leaves no part of it
+// there.
 fn report_bytes(alloc: Global, report: &Report) -> Result<Vec<u8>, AllocError>
     ensures { IfOk result (λ text. text.items ≡ report_text report.now) }
 {
@@ -34,7 +34,7 @@ fn report_bytes(alloc: Global, report: &Report) -> Result<Vec<u8>, AllocError>
     Ok(text)
 }
 
-// Adds a line: a word and a number.
+// Adds a line of a word and a number.
 fn push_count(word: &[u8], count: u64, text: &mut Vec<u8>) -> Result<(), AllocError>
     ensures { OnOk result (text.new.items ≡ text.old.items ++ (word.now ++ number_line count)) }
 {

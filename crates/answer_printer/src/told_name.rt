@@ -5,8 +5,8 @@ ghost use Rattle.answer_printer.specs.ToldName.{told_byte, told_name};
 
 use std::alloc::AllocError;
 
-/// Adds the name of a file behind a space. Control characters of ASCII are told by `\x` and two
-/// hexadecimal digits, so that what is told is one line whatever the name is.
+/// Adds a space and the name of a file. Control characters of ASCII are told by `\x` and two hexadecimal digits, so
+/// that the text is one line whatever the name is.
 pub fn push_name(line: &mut Vec<u8>, name: &str) -> Result<(), AllocError>
     ensures { OnOk result (line.new.items ≡ line.old.items ++ 32 ∷ told_name name.now) }
 {
@@ -17,7 +17,7 @@ pub fn push_name(line: &mut Vec<u8>, name: &str) -> Result<(), AllocError>
     Ok(())
 }
 
-// Adds a byte of a name.
+// Adds a byte of a name as it is told.
 fn push_byte(line: &mut Vec<u8>, byte: u8) -> Result<(), AllocError>
     ensures { OnOk result (line.new.items ≡ line.old.items ++ told_byte byte) }
 {
@@ -31,7 +31,7 @@ fn push_byte(line: &mut Vec<u8>, byte: u8) -> Result<(), AllocError>
     Ok(())
 }
 
-// The digit, a small letter from 10 on.
+// Returns the hexadecimal digit of a value, in lower case.
 fn hexadecimal_digit(value: u8) -> u8
     requires { value < 16 }
     ensures { result ≡ digit_glyph false value }

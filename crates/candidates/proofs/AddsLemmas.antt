@@ -1,4 +1,4 @@
--- What is known of the rows of values once more values were found.
+-- How a tally of rows grows as values are found.
 use Rattle.std.proofs.Common.{ℕ, ◌+◌, ◌≡◌, ◌≤◌, ◌∙◌, Bool, List, [], Option, Some, None, refl, arith}
 use Rattle.std.specs.Prelude.{filter}
 use Rattle.idset.specs.Sets.{all_items}
@@ -8,18 +8,20 @@ use Rattle.candidates.specs.RowCounts.{row_count_of}
 use Rattle.candidates.specs.Tallies.{Adds, Tally, tally_sum}
 use Rattle.candidates.proofs.SumLemmas.{sum_of_both, sum_of_some}
 
+-- the values that pass `p` have no more rows than all values
 some_rows : (indexed : Option Indexed) (back : Bool) (p : ℕ → Bool) (values : List ℕ)
     → tally_sum indexed back (filter p values) ≤ tally_sum indexed back values
 some_rows None back p values = omega arith
 some_rows (Some indexed) back p values = sum_of_some (row_count_of indexed back) p values
 
+-- the items of two sets together have no more rows than those of each set, added up
 both_rows : (indexed : Option Indexed) (back : Bool) (bound : ℕ) (items others : List ℕ) → IsRisingBelow bound items → IsRisingBelow bound others
     → tally_sum indexed back (all_items bound items others) ≤ tally_sum indexed back items + tally_sum indexed back others
 both_rows None back bound items others rising others_rising = omega arith
 both_rows (Some indexed) back bound items others rising others_rising =
     sum_of_both (row_count_of indexed back) bound items others rising others_rising
 
--- what was added for some values is enough for those of them that pass a test
+-- a tally that adds the rows of `values` adds enough for the values that pass `p`
 pub adds_some : (p : ℕ → Bool) (values : List ℕ) (early late : Tally) → Adds values early late → Adds (filter p values) early late
 adds_some p values early late adds = record {
   indexed = adds.indexed;
@@ -29,7 +31,7 @@ adds_some p values early late adds = record {
       (before.0, (before.1.0, omega (arith, before.1.1, some_rows early.indexed early.back p values)));
 }
 
--- what was added for the items of two sets, one after the other, is enough for those of both
+-- a tally that adds the rows of `items` and then those of `others` adds enough for the union of both
 pub adds_both : (bound : ℕ) (items others : List ℕ) (early middle late : Tally) → IsRisingBelow bound items → IsRisingBelow bound others
     → Adds items early middle → Adds others middle late → Adds (all_items bound items others) early late
 adds_both bound items others early middle late rising others_rising first second = record {
@@ -43,7 +45,7 @@ adds_both bound items others early middle late rising others_rising first second
       (before.0, (before.1.0, omega (arith, before.1.1, then.1.1, same, both_rows early.indexed early.back bound items others rising others_rising)));
 }
 
--- where nothing was found nothing is added
+-- a tally that stays as it is adds the rows of no values
 pub adds_none : (tally : Tally) → Adds [] tally tally
 adds_none tally = record {
   indexed = refl;

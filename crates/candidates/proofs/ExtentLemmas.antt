@@ -1,4 +1,4 @@
--- Of some of the concepts, or groups, whose extent is known there is no more than of all of them.
+-- Some of the concepts, or groups, with a known extent have no more than all of them.
 use Rattle.std.proofs.Common.{ℕ, ◌+◌, ◌≡◌, ◌≤◌, ◌∙◌, Bool, true, false, not, ◌&&◌, List, length, refl, sym, ap, arith}
 use Rattle.std.specs.Prelude.{All, filter}
 use Rattle.std.specs.List.{sum_by}
@@ -16,7 +16,7 @@ use Rattle.candidates.proofs.WithinLemmas.{has_kept}
 
 module _ (xs ys : List ℕ) (low high : ℕ) (xs_rise : IsRisingBelow low xs) (ys_rise : IsRisingBelow high ys)
     (among : All (λ number. has ys number ≡ true) xs) where
-  -- a rising list whose items another has is what is kept of that by a test
+  -- a rising list whose items are all in another rising list is what a filter keeps of that one
   kept : xs ≡ filter (has xs) ys
   kept =
       same_rising 0 (low + high) xs (filter (has xs) ys)
@@ -33,7 +33,7 @@ module _ (xs ys : List ℕ) (low high : ℕ) (xs_rise : IsRisingBelow low xs) (y
       both false true had = refl
       both false false had = refl
 
-  -- a sum over the numbers that are among others is no more than the sum over these
+  -- a sum over `xs`, whose items are all in `ys`, is no more than the sum over `ys`
   sum_among : (f : ℕ → ℕ) → sum_by f xs ≤ sum_by f ys
   sum_among f =
       omega (
@@ -42,10 +42,11 @@ module _ (xs ys : List ℕ) (low high : ℕ) (xs_rise : IsRisingBelow low xs) (y
         sum_by-filter_both (has xs) (λ n. not (has xs n)) (λ n. refl) f ys,
       )
 
+  -- a limit of the saturated sum over `ys` is a limit of the saturated sum over `xs`
   full_among : (f : ℕ → ℕ) (most : ℕ) → full_sum f ys ≤ most → full_sum f xs ≤ most
   full_among f most within = omega (arith, sum_among f, within)
 
-  -- an extent of some concepts, with another count of them, is one of so many of these
+  -- an extent of the concepts `ys`, with `items` as their count, is an extent of `xs`, which are among them
   pub extent_among : (indexed : Indexed) (extent : Extent) (items : ℕ) → length xs ≤ items
       → IsExtentOf indexed ys extent → IsExtentOf indexed xs (record extent { items = items })
   extent_among indexed extent items few is = record {
@@ -61,7 +62,7 @@ module _ (xs ys : List ℕ) (low high : ℕ) (xs_rise : IsRisingBelow low xs) (y
     };
   }
 
-  -- an extent of some groups, with another count of them, is one of so many of these
+  -- an extent of the groups `ys`, with `items` as their count, is an extent of `xs`, which are among them
   pub group_extent_among : (indexed : Indexed) (extent : Extent) (items : ℕ) → length xs ≤ items
       → IsGroupExtentOf indexed ys extent → IsGroupExtentOf indexed xs (record extent { items = items })
   group_extent_among indexed extent items few is = record { items = few; rows = full_among _ _ is.rows }

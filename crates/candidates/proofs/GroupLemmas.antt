@@ -6,7 +6,7 @@ use Rattle.postings.specs.Groups.{all_groups, groups_in, rows_alone}
 use Rattle.postings.specs.Indexed.{Indexed, IsIndexOf}
 use Rattle.postings.proofs.CountLemmas.{all_groups_again}
 
--- they are those of the release
+-- the groups in the indexes of a release are the groups of the release
 pub groups_are : (indexed : Indexed) (release : Release) → IsIndexOf indexed release → IsStrictlyIncreasing release.concepts
     → groups_in indexed ≡ all_groups release
 groups_are indexed release is rising =

@@ -35,24 +35,26 @@ numbers_in-agree release p q agree =
 pub in_force_at : (release : Release) (n : ℕ) → n < length release.concepts → has_concept release (get_or release.concepts n 0) ≡ true
 in_force_at release n within = (tells_in_force release (get_or release.concepts n 0)).1 (Contains-get_or release.concepts n 0 within)
 
--- so that they are need not be asked
+-- a set of concepts of the release has the same numbers if its concepts must also be in force
 pub in_force_kept : (release : Release) (set : ℕ → Bool) → numbers_in release set ≡ numbers_in release (λ concept. has_concept release concept && set concept)
 in_force_kept release set =
     numbers_in-agree release set (λ concept. has_concept release concept && set concept)
     (λ n within i. sym (in_force_at release n within) i && set (get_or release.concepts n 0))
 
--- all numbers, and none
+-- all numbers below the count of concepts are those of the set of all concepts
 pub each_in : (release : Release) → range_with_len 0 (length release.concepts) ≡ numbers_in release (λ _. true)
 each_in release = sym (numbers_where-all (length release.concepts))
 
+-- all numbers below the count of concepts are those of the concepts in force
 pub each_in_force : (release : Release) → range_with_len 0 (length release.concepts) ≡ numbers_in release (has_concept release)
 each_in_force release =
     each_in release ∙ numbers_in-agree release (λ _. true) (has_concept release) (λ n within. sym (in_force_at release n within))
 
+-- the empty set has no numbers
 pub none_in : (release : Release) → [] ≡ numbers_in release (λ _. false)
 none_in release = sym (numbers_where-none (length release.concepts))
 
--- a number among them is that of a concept in the set
+-- the numbers of a set have n exactly if the concept with number n is in the set
 pub member_in : (release : Release) (set : ℕ → Bool) (n : ℕ) → n < length release.concepts
     → has (numbers_in release set) n ≡ set (get_or release.concepts n 0)
 member_in release set n within =
@@ -61,16 +63,18 @@ member_in release set n within =
     below : (ltb n (length release.concepts) && set (get_or release.concepts n 0)) ≡ set (get_or release.concepts n 0)
     below i = lt-ltb n (length release.concepts) within i && set (get_or release.concepts n 0)
 
--- what two sets have in common, what is in either, and what is in the one alone
+-- the numbers of two sets of concepts, `p` and `q`
 module _ (release : Release) (one other : List ℕ) (p q : ℕ → Bool) (one_is : one ≡ numbers_in release p) (other_is : other ≡ numbers_in release q) where
+  -- the test `set` on the concept with a number
   abbrev by_number : (ℕ → Bool) → ℕ → Bool
   by_number set n = set (get_or release.concepts n 0)
 
+  -- the union of the numbers of `p` and of `q` are the numbers of the concepts that are in `p` or in `q`
   pub either_in : (bound : ℕ) → bound ≡ length release.concepts → all_items bound one other ≡ numbers_in release (λ concept. p concept || q concept)
   either_in bound is = (λ i. all_items (is i) (one_is i) (other_is i)) ∙ all_items-numbers_where (length release.concepts) (by_number p) (by_number q)
 
 -- ---- the number of a concept
--- a number stands at one place of a rising list
+-- equal items of a rising list stand at one place
 pub same_place : (xs : List ℕ) → IsStrictlyIncreasing xs → (i j : ℕ) → i < length xs → j < length xs → get_or xs i 0 ≡ get_or xs j 0 → i ≡ j
 same_place xs rising i j i_within j_within same = elim (cases_order i j) [
   | inl here ↦ here
@@ -78,20 +82,20 @@ same_place xs rising i j i_within j_within same = elim (cases_order i j) [
   | inr (inr after) ↦ let below : get_or xs j 0 < get_or xs i 0 = earlier_below xs rising j i after i_within in absurd (omega arith)
 ]
 
--- so concepts are the same where their numbers are
+-- two items of a rising list are equal exactly if their places are equal
 pub same_by_number : (xs : List ℕ) → IsStrictlyIncreasing xs → (i j : ℕ) → i < length xs → j < length xs → (get_or xs i 0 == get_or xs j 0) ≡ (i == j)
 same_by_number xs rising i j i_within j_within =
     both_ways (get_or xs i 0 == get_or xs j 0) (i == j)
     (λ told. eq-eqb i j (same_place xs rising i j i_within j_within (eqb-true (get_or xs i 0) (get_or xs j 0) told)))
     (λ told. eq-eqb (get_or xs i 0) (get_or xs j 0) (ap (λ (k : ℕ). get_or xs k 0) (eqb-true i j told)))
 
--- the number of a concept is its place
+-- if a concept has a number, the list of concepts has it at that place
 pub concept_number-Some : (xs : List ℕ) (id place : ℕ) → concept_number xs id ≡ Some place → (place < length xs) × (get_or xs place 0 ≡ id)
 concept_number-Some xs id place at =
     let found = position-Some (λ other. id == other) xs place 0 at in
     (found.0, sym (eqb-true id (get_or xs place 0) found.1))
 
--- and where it has none it is at no place
+-- a concept without a number is at no place of the list of concepts
 pub concept_number-None : (xs : List ℕ) (id : ℕ) → concept_number xs id ≡ None → (i : ℕ) → i < length xs → get_or xs i 0 ≡ id → ⊥
 concept_number-None xs id at i within same = elim (cases_Bool (ltb (place_of xs id) (length xs))) [
   | inl there ↦ let found : Some (place_of xs id) ≡ None = rw there at at in absurd cc
@@ -101,11 +105,12 @@ concept_number-None xs id at i within same = elim (cases_Bool (ltb (place_of xs 
       false≢true (sym (not-true (id == get_or xs i 0) other) ∙ eq-eqb id (get_or xs i 0) (sym same))
 ]
 
--- the concept with an identifier, if there is one
+-- a list of the number, if there is one
 abbrev pub as_list : Option ℕ → List ℕ
 as_list None = []
 as_list (Some number) = number ∷ []
 
+-- the number of `id`, if it has one, is the only number in the set of the concept in force `id`
 pub one_in : (release : Release) → IsStrictlyIncreasing release.concepts → (id : ℕ) (number : Option ℕ) → concept_number release.concepts id ≡ number
     → as_list number ≡ numbers_in release (λ concept. has_concept release concept && (concept == id))
 one_in release rising id None at =
@@ -131,6 +136,7 @@ one_in release rising id (Some place) at =
     turned_round a b = both_ways (a == b) (b == a) (λ told. eq-eqb b a (sym (eqb-true a b told))) (λ told. eq-eqb a b (sym (eqb-true b a told)))
 
 -- ---- back to the concepts
+-- to map and then filter gives the list that is filtered by the test of the mapped items and then mapped
 filter_of_map : (test : ℕ → Bool) (f : ℕ → ℕ) (xs : List ℕ) → filter test (map f xs) ≡ map f (filter (λ x. test (f x)) xs)
 filter_of_map test f [] = refl
 filter_of_map test f (x ∷ xs) =

@@ -1,4 +1,4 @@
--- Sets of which only candidates are asked for.
+-- Sets that are restricted to candidates.
 use Rattle.std.proofs.Common.{ℕ, ◌≡◌, ◌<◌, ◌+◌, ◌∙◌, ◌∷◌, [], Bool, true, false, not, ◌&&◌, ◌||◌, ◌==◌, cond, List, length, get_or, take, refl, sym, ap, inl, inr}
 use Rattle.std.specs.Prelude.{filter, slice_get}
 use Rattle.std.specs.List.{list_all, list_any}
@@ -18,19 +18,19 @@ use Rattle.candidates.specs.Within.{groups_within, numbers_within}
 use Rattle.candidates.proofs.ListLemmas.{all_take, any_take}
 use Rattle.number_lists.proofs.ListLemmas.{next_place}
 
--- both, the other way round
+-- the two parts of a conjunction can be exchanged
 and_swap : (a b : Bool) → (a && b) ≡ (b && a)
 and_swap true true = refl
 and_swap true false = refl
 and_swap false true = refl
 and_swap false false = refl
 
--- three, put together the other way
+-- a conjunction of three parts does not depend on which two are joined first
 together : (a b c : Bool) → ((a && b) && c) ≡ (a && (b && c))
 together true b c = refl
 together false b c = refl
 
--- of what a filter keeps
+-- a filtered list has n exactly if the list has n and n passes the filter
 pub has_kept : (p : ℕ → Bool) (xs : List ℕ) (n : ℕ) → has (filter p xs) n ≡ (has xs n && p n)
 has_kept p [] n = refl
 has_kept p (x ∷ xs) n = elim (cases_eq x n) [
@@ -51,20 +51,20 @@ has_kept p (x ∷ xs) n = elim (cases_eq x n) [
     by_other rest apart true = (λ i. apart i || rest i) ∙ sym (λ i. (apart i || has xs n) && p n)
     by_other rest apart false = rest ∙ sym (λ i. (apart i || has xs n) && p n)
 
--- what a set has, of the candidates
+-- the candidates that a filter keeps of the numbers in `set` are the numbers that are candidates and in `set`
 pub restricted_to : (bound : ℕ) (may set : ℕ → Bool) (found left : List ℕ) → found ≡ numbers_where bound set → left ≡ filter may found
     → left ≡ numbers_where bound (λ n. may n && set n)
 restricted_to bound may set found left found_is left_is =
     left_is ∙ ap (filter may) found_is ∙ filter-numbers_where bound set may
     ∙ (λ i. numbers_where bound (λ n. and_swap (set n) (may n) i))
 
--- where there is no candidate
+-- without a candidate, the empty list is the numbers that are candidates and in `set`
 pub none_within : (bound : ℕ) (may set : ℕ → Bool) (found : List ℕ) → ((n : ℕ) → may n ≡ false) → found ≡ []
     → found ≡ numbers_where bound (λ n. may n && set n)
 none_within bound may set found none is =
     is ∙ sym (numbers_where-none bound) ∙ (λ i. numbers_where bound (λ n. sym (none n) i && set n))
 
--- what is left where a second set was asked for what the first has
+-- the numbers of a first result that are in `set` are the numbers that are in `start` and in `set`
 pub asked_of : (bound : ℕ) (start set : ℕ → Bool) (found next : List ℕ) → found ≡ numbers_where bound start
     → next ≡ numbers_where bound (λ n. has found n && set n)
     → next ≡ numbers_where bound (λ n. start n && set n)
@@ -73,7 +73,7 @@ asked_of bound start set found next found_is next_is =
     ∙ numbers_where-agree bound (λ n. has found n && set n) (λ n. start n && set n)
     (λ n within. ap (λ (b : Bool). b && set n) (ap (λ (xs : List ℕ). has xs n) found_is ∙ has-numbers_where bound start n within))
 
--- the first set without the second, of candidates
+-- the candidates in `one`, less those of them in `other`, are the candidates that are in `one` and not in `other`
 pub minus_within : (bound : ℕ) (may one other : ℕ → Bool) (left right found : List ℕ)
     → left ≡ numbers_where bound (λ n. may n && one n)
     → right ≡ numbers_where bound (λ n. has left n && other n)
@@ -91,6 +91,7 @@ minus_within bound may one other left right found left_is right_is found_is =
     less false b c = refl
 
 module _ {X : Type 0} (bound : ℕ) (test : X → ℕ → Bool) (parts : List X) (k : ℕ) (d : X) (within : k < length parts) where
+  -- to pass the first k parts and part k is to pass the first k + 1 parts
   one_more : (start : ℕ → Bool) (n : ℕ) → ((start n && list_all (λ part. test part n) (take k parts)) && test (get_or parts k d) n)
       ≡ (start n && list_all (λ part. test part n) (take (k + 1) parts))
   one_more start n =
@@ -98,7 +99,8 @@ module _ {X : Type 0} (bound : ℕ) (test : X → ℕ → Bool) (parts : List X)
       ∙ ap (λ (b : Bool). start n && b) (sym (all_take (λ part. test part n) parts k d within))
       ∙ ap (λ (m : ℕ). start n && list_all (λ part. test part n) (take m parts)) (sym (next_place k))
 
-  -- one part more, asked of what is left
+  -- if `found` passes the first k parts, and `next` are those of `found` that pass part k, `next` passes the first k +
+  -- 1 parts
   pub all_within : (start : ℕ → Bool) (found next : List ℕ)
       → found ≡ numbers_where bound (λ n. start n && list_all (λ part. test part n) (take k parts))
       → next ≡ numbers_where bound (λ n. has found n && test (get_or parts k d) n)
@@ -107,7 +109,7 @@ module _ {X : Type 0} (bound : ℕ) (test : X → ℕ → Bool) (parts : List X)
       asked_of bound (λ n. start n && list_all (λ part. test part n) (take k parts)) (test (get_or parts k d)) found next found_is next_is
       ∙ (λ i. numbers_where bound (λ n. one_more start n i))
 
-  -- a part that is passed over, since those that are left have it
+  -- if all that start also pass part k, what passes the first k parts passes the first k + 1 parts
   pub all_again : (start : ℕ → Bool) (found : List ℕ)
       → ((n : ℕ) → n < bound → start n ≡ true → test (get_or parts k d) n ≡ true)
       → found ≡ numbers_where bound (λ n. start n && list_all (λ part. test part n) (take k parts))
@@ -123,7 +125,8 @@ module _ {X : Type 0} (bound : ℕ) (test : X → ℕ → Bool) (parts : List X)
       kept true false c had = refl
       kept false b c had = refl
 
-  -- one part more, asked of the same candidates
+  -- if `found` are the candidates that pass one of the first k parts, their union with the candidates that pass part k
+  -- are those that pass one of the first k + 1 parts
   pub some_within : (may : ℕ → Bool) (count : ℕ) → count ≡ bound → (found next joined : List ℕ)
       → found ≡ numbers_where bound (λ n. may n && list_any (λ part. test part n) (take k parts))
       → next ≡ numbers_where bound (λ n. may n && test (get_or parts k d) n)
@@ -146,17 +149,18 @@ module _ {X : Type 0} (bound : ℕ) (test : X → ℕ → Bool) (parts : List X)
           ∙ ap (λ (b : Bool). may n && b) (sym (any_take (λ part. test part n) parts k d within))
           ∙ ap (λ (m : ℕ). may n && list_any (λ part. test part n) (take m parts)) (sym (next_place k))
 
--- of no parts
+-- no candidate passes one of no parts
 pub some_of_none : (bound : ℕ) (may : ℕ → Bool) (found : List ℕ) → found ≡ [] → found ≡ numbers_where bound (λ n. may n && false)
 some_of_none bound may found is =
     is ∙ sym (numbers_where-none bound) ∙ (λ i. numbers_where bound (λ n. sym (and-false (may n)) i))
 
--- of no parts all that it started from
+-- all that start pass each of no parts
 pub all_of_none : (bound : ℕ) (start : ℕ → Bool) (found : List ℕ) → found ≡ numbers_where bound start
     → found ≡ numbers_where bound (λ n. start n && true)
 all_of_none bound start found is = is ∙ (λ i. numbers_where bound (λ n. and_swap true (start n) i))
 
--- those left of all parts, where the one that was executed first is one of them
+-- what is left of the candidates in `lead` after all parts is what is left of all candidates, if `lead` is one of the
+-- parts
 pub all_done : (bound : ℕ) (may lead all : ℕ → Bool) (found : List ℕ) → ((n : ℕ) → n < bound → all n ≡ true → lead n ≡ true)
     → found ≡ numbers_where bound (λ n. (may n && lead n) && all n) → found ≡ numbers_where bound (λ n. may n && all n)
 all_done bound may lead all found had found_is =
@@ -168,11 +172,14 @@ all_done bound may lead all found had found_is =
     dropped true false false had = refl
     dropped false b c had = refl
 
--- ---- sets of concepts and of groups, of which the candidates are kept
+-- ---- sets of concepts and of groups, restricted to candidates
 module _ (release : Release) (may : ℕ → Bool) where
+  -- the candidates that a filter keeps of a set of concepts are the numbers of the set within the candidates
   pub kept_set : (set : ℕ → Bool) (some found : List ℕ) → some ≡ numbers_in release set → found ≡ filter may some → found ≡ numbers_within release may set
   kept_set set some found some_is found_is = restricted_to (length release.concepts) may (λ n. set (get_or release.concepts n 0)) some found some_is found_is
 
+  -- the candidates that a filter keeps of a set of groups are the numbers of the groups of the set within the
+  -- candidates
   pub kept_groups : (set : List Pair → Bool) (some found : List ℕ) → some ≡ groups_where release set → found ≡ filter may some
       → found ≡ groups_within release may set
   kept_groups set some found some_is found_is =

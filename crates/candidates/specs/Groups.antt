@@ -6,7 +6,7 @@ use Rattle.rf2_rows.specs.Release.{Release}
 use Rattle.number_lists.specs.Rising.{numbers_where}
 use Rattle.postings.specs.Groups.{ConceptGroup, all_groups, pairs_of_group}
 
--- whether the pairs of a group are in a set
+-- whether the pairs of a group are in `set`; false if there is no group
 abbrev pub some_group_in : Release → (List Pair → Bool) → Option ConceptGroup → Bool
 some_group_in release set None = false
 some_group_in release set (Some group) = set (pairs_of_group release group)
@@ -16,7 +16,7 @@ abbrev pub groups_where : Release → (List Pair → Bool) → List ℕ
 groups_where release set =
     numbers_where (length (all_groups release)) (λ number. some_group_in release set (slice_get (all_groups release) number))
 
--- the concept of a group
+-- the concept of a group; 0 if there is no group
 abbrev pub concept_in : Option ConceptGroup → ℕ
 concept_in None = 0
 concept_in (Some group) = group.concept

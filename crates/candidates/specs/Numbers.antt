@@ -8,6 +8,6 @@ use Rattle.number_lists.specs.Rising.{numbers_where}
 abbrev pub numbers_in : Release → (ℕ → Bool) → List ℕ
 numbers_in release set = numbers_where (length release.concepts) (λ number. set (slice_index release.concepts number))
 
--- whether a concept is one of some, by their numbers
+-- whether `id` is the concept that one of `numbers` stands for
 abbrev pub is_one_of : List ℕ → List ℕ → ℕ → Bool
 is_one_of concepts numbers id = list_any (λ number. slice_index concepts number == id) numbers

@@ -8,7 +8,7 @@ use Rattle.candidates.specs.declared.candidates.Extent.{Extent}
 abbrev pub row_count_of : Indexed → Bool → ℕ → ℕ
 row_count_of indexed back number = length (if back then rows_by_source indexed number else rows_by_value indexed number)
 
--- how many items are read of candidates, each with its rows; as many as can be told where all are candidates
+-- how many items are read to go through the candidates and their rows; 2^64 - 1 if all are candidates
 abbrev pub extent_items : Option Extent → ℕ
 extent_items (Some extent) = full (extent.items + extent.rows)
 extent_items None = 2 ^ 64 - 1

@@ -1,4 +1,4 @@
-//! Of which concepts or groups it is asked whether they are in a set.
+//! The candidates that a node must test, and how much there is of them.
 ghost use Rattle.std.specs.Prelude.{ℕ, ◌≡◌, ◌≤◌, ◌<◌, ◌+◌, ◌*◌, All, Bool, false, true, filter, IfOk, List, length};
 ghost use Rattle.std.specs.Prelude.{min};
 ghost use Rattle.postings.specs.Groups.{all_groups, groups_in};
@@ -11,37 +11,37 @@ use idset::ConceptSet;
 use reading::{Answer, Counter, Reader};
 use std::alloc::AllocError;
 
-// To ask a concept by its own list takes about as long as to go through so many concepts, and to ask so few takes no
-// longer than to copy one list.
+// To test a concept by its own list takes about as long as to go through this many concepts.
 const QUESTION: u64 = 32;
 
+// To test this many concepts by their own lists takes no longer than to copy one list.
 const FEW: u64 = 16;
 
-// The rows of more concepts than there are other rows to read, divided by this, are not counted: to read these is
-// sooner done.
+// If there are more concepts than other rows to read, divided by this, the rows of the concepts are not counted,
+// because it is faster to read the other rows.
 const WIDE: u64 = 64;
 
-// The rows of more groups than there are other rows to read, divided by this, are not counted. It is less than WIDE,
-// because of a group only the number of its rows is looked up.
+// If there are more groups than other rows to read, divided by this, the rows of the groups are not counted. It is
+// less than WIDE, because only the number of rows is looked up for a group.
 const WIDE_GROUPS: u64 = 16;
 
-// The lists of more candidates are not counted.
+// The lists of the candidates are not counted if there are more candidates than this.
 const LISTED: usize = 256;
 
-/// The numbers of which it is asked whether they are in a set: those of concepts, or those of groups.
+/// The numbers that a node must test: those of concepts, or those of groups.
 #[derive(Drop)]
 pub enum Candidates<'a, S> {
-    /// All.
+    /// All numbers are candidates.
     All,
-    /// Those in a set, and what there is of them.
+    /// The numbers in a set are candidates. The extent says how much there is of them.
     Within(&'a Answer<S>, Extent),
 }
 
-/// How much there is of some concepts or groups. It tells which way is the shorter, and how many items are counted that
-/// are read of them; no answer depends on it.
+/// How much there is of some concepts or groups. It tells which way is shorter and how many items a way visits; no
+/// answer depends on it.
 #[derive(Clone, Copy, Debug)]
 pub struct Extent {
-    /// How many they are.
+    /// How many concepts or groups there are.
     pub items: u64,
     /// How many attribute rows they have, or more.
     pub rows: u64,
@@ -53,20 +53,20 @@ pub struct Extent {
     pub lists: ListExtent,
 }
 
-/// How many items the lists of some concepts have in the hierarchy, or more.
+/// Upper limits of how many items the lists of some concepts have in the hierarchy.
 #[derive(Clone, Copy, Debug)]
 pub struct ListExtent {
-    /// Their ancestors.
+    /// The lists of ancestors.
     pub ancestors: u64,
-    /// Their descendants.
+    /// The lists of descendants.
     pub descendants: u64,
-    /// Their parents.
+    /// The lists of parents.
     pub parents: u64,
-    /// Their children.
+    /// The lists of children.
     pub children: u64,
 }
 
-// What is said of lists that are not counted.
+// The extent of lists that are not counted.
 const UNLISTED: ListExtent = ListExtent {
     ancestors: u64::MAX,
     descendants: u64::MAX,
@@ -75,7 +75,8 @@ const UNLISTED: ListExtent = ListExtent {
 };
 
 impl Extent {
-    /// This extent for attributes read backwards: its rows are those that have a candidate as their value.
+    /// Returns this extent for attributes that are read backwards: its rows are those that have a candidate as their
+    /// value.
     pub fn read_backwards(self) -> Extent
         ensures { result ≡ record self { rows = self.back_rows } }
     {
@@ -85,27 +86,27 @@ impl Extent {
         }
     }
 
-    /// How many items are read of them, each with its rows.
+    /// Returns how many items are read to go through the candidates and their rows.
     pub fn items_and_rows(self) -> u64
         ensures { result ≡ full (self.items + self.rows) }
     {
         self.items.saturating_add(self.rows)
     }
 
-    /// Whether they are asked one by one sooner than a list is copied, or so many concepts are gone through.
+    /// Whether it is faster to test them one by one than to copy a list, or to go through `concepts` concepts.
     pub fn are_few_beside(self, concepts: u32) -> bool {
         self.items <= FEW || self.items.saturating_mul(QUESTION) < u64::from(concepts)
     }
 
-    /// Whether their groups are looked up sooner than so many groups are found without them, which may be no more than
-    /// others.
+    /// Whether they have fewer than `groups` groups, so that it is faster to look these up than to find `groups`
+    /// groups without the candidates. The items that are read to do so may be at most `most`.
     pub fn has_few_groups(self, groups: u64, most: u64) -> bool
         ensures { result ≡ true → (found : ℕ) → found ≤ self.groups → full ((self.items + self.groups) + found) ≤ most }
     {
         self.groups < groups && self.items_of_groups(self.groups) <= most
     }
 
-    /// How many items are read to look up their groups, and of these so many that are found.
+    /// Returns how many items are read to look up their groups and then to read `found` of these groups.
     pub fn items_of_groups(self, found: u64) -> u64
         ensures { result ≡ full ((self.items + self.groups) + found) }
     {
@@ -123,8 +124,8 @@ pub fn none_left<S: ConceptSet>(candidates: &Candidates<'_, S>) -> bool
     }
 }
 
-/// How much there is of the candidates, where not all are; read backwards, with the rows that have one of them as their
-/// value.
+/// Returns the extent of the candidates, or `None` if all are. If `back`, its rows are those that have a candidate as
+/// their value.
 pub fn extent_for<S>(candidates: &Candidates<'_, S>, back: bool) -> Option<Extent>
     ensures { result ≡ extent_told back candidates.now }
 {
@@ -135,7 +136,7 @@ pub fn extent_for<S>(candidates: &Candidates<'_, S>, back: bool) -> Option<Exten
     }
 }
 
-/// The candidates among some numbers.
+/// Returns the candidates among the numbers in `found`.
 pub fn restricted<S: ConceptSet>(
     reader: Reader<'_>,
     found: Answer<S>,
@@ -155,9 +156,9 @@ pub fn restricted<S: ConceptSet>(
     }
 }
 
-/// How much there is of the concepts of a set, for what reads so many rows without it. It is looked up only where they
-/// are few beside these, or so few that their lists are counted. The items of the set are read once then, and counted;
-/// their lists are not.
+/// Returns the extent of the concepts in a set. A node that does not use them reads `rows` rows. Their own rows are
+/// counted only if the concepts are few compared with `rows`, or so few that their lists are counted. Counting visits
+/// each item of the set once, and no list.
 pub fn extent_of<S: ConceptSet>(
     reader: Reader<'_>,
     concepts: &Answer<S>,
@@ -176,13 +177,13 @@ pub fn extent_of<S: ConceptSet>(
     Ok(extent_among(reader, own.as_slice()))
 }
 
-// Whether so many candidates are more than those that are always looked up, and than so many.
+// Whether there are more candidates than those that are always looked up, and more than `most`.
 fn are_many_beside(candidates: u32, most: u64) -> bool {
     candidates as usize > LISTED && u64::from(candidates) > most
 }
 
-/// How much there is of the groups of a set, for what reads so many rows without it. It is looked up only where they
-/// are few beside these. The items of the set are read once then, and counted.
+/// Returns the extent of the groups in a set. A node that does not use them reads `rows` rows. Their own rows are
+/// counted only if the groups are few compared with `rows`. Counting visits each item of the set once.
 pub fn group_extent_of<S: ConceptSet>(
     reader: Reader<'_>,
     groups: &Answer<S>,
@@ -197,15 +198,15 @@ pub fn group_extent_of<S: ConceptSet>(
     if are_many_beside(count, rows / WIDE_GROUPS) {
         return Ok(uncounted(count));
     }
-    // the concepts rise, so that each has its groups once
+    // This call tells the prover that the concepts rise, so that each concept has its groups once.
     reader.concept_count();
     let own = groups.items(reader.alloc, visits)?;
     Ok(group_extent_among(reader, own.as_slice()))
 }
 
-/// How much there is of a set of some candidates, from which something is to be taken. Its rows are counted where the
-/// set may be read thrice, by what both parts of MINUS find at most; else it has no more than the candidates, and is
-/// not read.
+/// Returns the extent of a set of candidates from which MINUS takes another set. `sizes` says how many concepts the
+/// two parts of MINUS find at most. If these sizes allow reading the set three times, its rows are counted. If they
+/// do not, the set is not read, and it gets the limits of the candidates.
 pub fn extent_to_take<S: ConceptSet>(
     reader: Reader<'_>,
     candidates: &Candidates<'_, S>,
@@ -226,8 +227,9 @@ pub fn extent_to_take<S: ConceptSet>(
     }
 }
 
-/// How much there is of a set of some candidates, which are groups, from which something is to be taken. Its rows are
-/// counted where the set may be read thrice; else it has no more than the candidates, and is not read.
+/// Returns the extent of a set of candidates, which are groups, from which MINUS takes another set. `sizes` says how
+/// many groups the two parts of MINUS find at most. If these sizes allow reading the set three times, its rows are
+/// counted. If they do not, the set is not read, and it gets the limits of the candidates.
 pub fn group_extent_to_take<S: ConceptSet>(
     reader: Reader<'_>,
     candidates: &Candidates<'_, S>,
@@ -248,14 +250,14 @@ pub fn group_extent_to_take<S: ConceptSet>(
     }
 }
 
-// Whether so many items may be read three times.
+// Whether the sum of `sizes` allows reading `items` numbers three times.
 fn may_be_read_thrice(items: u32, sizes: (u64, u64)) -> bool
     ensures { result ≡ true → items * 3 ≤ sizes.0 + sizes.1 }
 {
     items as u64 * 3 <= sizes.0.saturating_add(sizes.1)
 }
 
-// How much there is of a set of some candidates: of rows and groups no more than these have.
+// Returns the extent of a set of candidates: the candidates' own limits, with the count of the set.
 fn extent_left<S: ConceptSet>(candidates: &Candidates<'_, S>, left: &Answer<S>) -> Extent
     requires { All (λ number. may_be S.items_of candidates.now number ≡ true) (S.items_of left.now) }
     ensures concepts { (indexed : Indexed) → HaveExtent S.items_of (IsExtentOf indexed) candidates.now
@@ -272,7 +274,7 @@ fn extent_left<S: ConceptSet>(candidates: &Candidates<'_, S>, left: &Answer<S>) 
     }
 }
 
-// What is said of so many candidates whose rows are not counted.
+// Returns the extent of `items` candidates whose rows are not counted.
 fn uncounted(items: u32) -> Extent
     ensures concepts { (indexed : Indexed) (concepts : List ℕ) → length concepts ≡ items → IsExtentOf indexed concepts
         result }
@@ -288,7 +290,7 @@ fn uncounted(items: u32) -> Extent
     }
 }
 
-// How much there is of some concepts.
+// Counts the rows, groups and list items of `concepts`.
 fn extent_among(reader: Reader<'_>, concepts: &[u32]) -> Extent
     requires { All (λ concept. concept < length reader.indexes.now.concepts) concepts.now }
     ensures { IsExtentOf reader.entry.indexes.now concepts.now result }
@@ -311,7 +313,7 @@ fn extent_among(reader: Reader<'_>, concepts: &[u32]) -> Extent
     }
 }
 
-// How many items the lists of some concepts have, if these are few.
+// Counts the items in the lists of `concepts`, if there are at most `LISTED` concepts.
 fn lists_among(reader: Reader<'_>, concepts: &[u32]) -> ListExtent
     requires { All (λ concept. concept < length reader.indexes.now.concepts) concepts.now }
     ensures { AreListed reader.entry.indexes.now.hierarchy concepts.now result }
@@ -338,7 +340,7 @@ fn lists_among(reader: Reader<'_>, concepts: &[u32]) -> ListExtent
     lists
 }
 
-// How much there is of some groups.
+// Counts the rows of `groups`.
 fn group_extent_among(reader: Reader<'_>, groups: &[u32]) -> Extent
     requires { All (λ group. group < length (groups_in reader.indexes.now)) groups.now }
     ensures { IsGroupExtentOf reader.entry.indexes.now groups.now result }

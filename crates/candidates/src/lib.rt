@@ -1,6 +1,6 @@
-//! The concepts and the groups of which it is asked whether they are in a set, and how much there is of them.
+//! The candidates: the concepts or groups that a node must test, and how much there is of them.
 //!
-//! How much there is of them tells which way is the shorter; no answer depends on it.
+//! Their extent tells which way is shorter; no answer depends on it.
 #![tactic(auto)]
 
 mod candidates;

@@ -1,4 +1,4 @@
-//! How many rows values have, as these are found.
+//! Counts the rows of values as they are found.
 ghost use Rattle.std.specs.Prelude.{◌≡◌, ◌+◌, IfOk, IfSome, None, Some};
 ghost use Rattle.std.specs.List.{sum_by};
 ghost use Rattle.reading.specs.Counted.{full};
@@ -13,24 +13,26 @@ use set_algebra::Choice;
 use std::alloc::{AllocError, Global};
 use std::marker::Model;
 
-// To look at a value is worth it where so many rows that stand side by side might be left out for it.
+// To look at a value pays if this many rows that stand side by side might be left out for it.
 const VALUE: u64 = 4;
 
-// A set is brought into the form in which it is asked soonest where more rows than these are tested by it.
+// A set that tests more rows than this is brought into the form with the fastest test.
 const TESTED: u64 = 512;
 
-/// How many rows have one of some concepts as their value, or, read backwards, as their source, or more than that:
-/// added up as the lists are read in which they are found, if that is asked for. No answer depends on it.
+/// Counts the rows that have a found concept as their value or, read backwards, as their source. It adds them up as
+/// the lists are read in which the concepts are found, if the caller wants the count. The count may be too high. No
+/// answer depends on it.
 #[derive(Drop)]
 pub struct RowTally<'a> {
-    // whose rows, where they are asked for
+    // the reader of the rows, if they are counted
     reader: Option<Reader<'a>>,
+    // whether the rows are read backwards, by their source
     back: bool,
-    // how many items a list may have whose rows are added up
+    // how many items a list may have for its rows to be added up
     most: u64,
-    // how many so far, where that is known
+    // how many rows there are so far, if that is known
     rows: Option<u64>,
-    // how many other rows are tested by what is found, if it is not read by these
+    // how many other rows are tested by what is found, if its own rows are not read in place of them
     tested: u64,
 }
 
@@ -45,7 +47,7 @@ impl<'a> Model for RowTally<'a> {
 }
 
 impl<'a> RowTally<'a> {
-    /// Of rows that are not asked for.
+    /// Creates a tally that counts no rows.
     pub fn unasked() -> RowTally<'a>
         ensures { result.rows ≡ None }
     {
@@ -58,8 +60,8 @@ impl<'a> RowTally<'a> {
         }
     }
 
-    /// Of the rows of the indexes, to be read in place of so many others if they are fewer. What is found tests these
-    /// others, but where the choice, or the candidates, say that they are not read.
+    /// Creates a tally of the rows in the indexes, which are read in place of `others` rows if they are fewer. What
+    /// is found tests the `others`, unless `choice` or the candidates say that those are not read.
     pub fn of<S>(
         reader: Reader<'a>,
         choice: Choice,
@@ -82,21 +84,21 @@ impl<'a> RowTally<'a> {
         }
     }
 
-    /// How many they are at the most, where all that was found was added.
+    /// Returns how many rows the values have at most; `None` if they are not counted or not all were added.
     pub fn rows(&self) -> Option<u64>
         ensures { result ≡ self.now.rows }
     {
         self.rows
     }
 
-    /// What is found is not added, so it is not known how many there are.
+    /// Makes the count unknown, since the caller does not add what it finds.
     pub fn forget(&mut self)
         ensures { self.new ≡ record self.old { rows = None } }
     {
         self.rows = None;
     }
 
-    /// What was found, for a test of many rows in the form in which it is asked soonest.
+    /// Returns `found`, in the form with the fastest test if many rows are tested by it.
     pub fn prepared<S: ConceptSet>(
         &self,
         reader: Reader<'_>,
@@ -112,12 +114,12 @@ impl<'a> RowTally<'a> {
         }
     }
 
-    /// Whether the rows of a list of so many items are to be added.
+    /// Whether the rows of a list of `items` concepts are to be added.
     pub fn asks_for(&self, items: u64) -> bool {
         self.rows.is_some() && items <= self.most
     }
 
-    /// The items of a list, whose rows are added. The list is read once.
+    /// Copies a list and adds the rows of its items. The list is read once.
     pub fn read(&mut self, alloc: Global, list: &[u32]) -> Result<Vec<u32>, AllocError>
         ensures items { IfOk result (λ own. own.items ≡ list.now) }
         ensures adds { IfOk result (λ own. Adds list.now self.old self.new) }
@@ -127,8 +129,7 @@ impl<'a> RowTally<'a> {
         Ok(own)
     }
 
-    /// Adds the rows of some concepts. Where one of them is no concept of the indexes it is no longer known how many
-    /// there are.
+    /// Adds the rows of `concepts`. If one of them is not a concept of the indexes, the count becomes unknown.
     pub fn add(&mut self, concepts: &[u32])
         ensures { Adds concepts.now self.old self.new }
     {
@@ -139,7 +140,7 @@ impl<'a> RowTally<'a> {
     }
 }
 
-// How many rows there are with those of some concepts, if all of these are concepts of the indexes.
+// Returns `before` plus the rows of `concepts`; `None` if one of them is not a concept of the indexes.
 fn rows_after(reader: Reader<'_>, back: bool, before: u64, concepts: &[u32]) -> Option<u64>
     ensures { IfSome result (λ all. full (before + sum_by (row_count_of reader.entry.indexes.now back) concepts.now)
         ≡ all) }

@@ -1,4 +1,4 @@
--- What a command that was named has, by the matches of the words.
+-- Lemmas on the command that words name, by the matches of clap, and on requests and refusals.
 use Rattle.std.proofs.Common.{ℕ, not, ◌≡◌, ◌≢◌, ◌∙◌, ◌⊎◌, ◌||◌, Bool, true, false, if◌then◌else◌, inl, inr, ap, List}
 use Rattle.std.proofs.Common.{[], Option, None, Some, Box, Global, option_map, box_value, Result, Ok, Err, IfOk, IfErr}
 use Rattle.std.proofs.Common.{codes, refl, subst, sym}
@@ -28,7 +28,7 @@ use Rattle.command_line.specs.declared.words.Request.{Request}
 use Rattle.command_line.specs.declared.words.WordFault.{WordFault}
 use Rattle.command_line.specs.declared.words.WordFault.TheVariants.{Usage, Help, Memory}
 
--- the name and the arguments of the command are those of one command
+-- if `name` and `rows` are read of the command in the matches, that command is `name` with `rows`
 pub command_named : (matches : ArgMatches) (name : Text) (rows : List Row) → subcommand_name_of matches ≡ Some name
     → option_map (λ (command : Text × List Row). command.1) (subcommand_rows_of matches) ≡ Some rows → subcommand_rows_of matches ≡ Some (name, rows)
 command_named matches name rows named held = by (out-ArgMatches matches).subcommand named held
@@ -41,7 +41,7 @@ command_named matches name rows named held = by (out-ArgMatches matches).subcomm
         let rows_are : rows_of (found_of (out-SubCommand (box_value command)).matches) ≡ rows = (cc) in
         (λ i. Some (name_is i, rows_are i))
 
--- a text that is lent, or another where there is none
+-- a lent text, or another if there is none, is the text found, or the other if none is found
 pub lent_or : (lent : Option (Bor Text)) (other : Bor Text) (found : Option Text) → option_map (λ (text : Bor Text). text.now) lent ≡ found
     → (unwrap_or lent other).now ≡ unwrap_or found other.now
 lent_or None other None is = refl
@@ -49,14 +49,14 @@ lent_or None other (Some text) is = (cc)
 lent_or (Some lent) other None is = (cc)
 lent_or (Some lent) other (Some text) is = (cc)
 
--- what a command of folders alone asks for, by what was read of it
+-- a command with folders alone asks for the request that was read of it
 pub asks_folders : (command : Option (Text × List Row)) (name : Text) (rows : List Row) (folders : List Text) (request : Request)
     → command ≡ Some (name, rows) → folders ≡ folders_of rows → folders_in request ≡ folders → AreOneToNine folders
     → string_bytes request.lang ≡ default_language → AsksFolders name command request
 asks_folders command name rows folders request named folders_are in_order few lang =
     (rows, named, (in_order ∙ folders_are, subst AreOneToNine folders_are few), lang)
 
--- where clap finds no fault, what a command asks for the words ask for
+-- if clap finds no fault in the words, they ask for what their command asks for
 words_ask : (mode : Mode) (words : List Text) (request : Request) → fault_of program words ≡ []
     → CommandAsks mode (subcommand_of program words) request → Asks mode words request
 words_ask Sample words request clean asked = absurd asked
@@ -67,25 +67,25 @@ words_ask Describe words request clean asked = (clean, asked)
 words_ask Session words request clean asked = (clean, asked)
 words_ask Check words request clean asked = (clean, asked)
 
--- where the command is that of the words, so is the request
+-- a request that the command of the words asks for is the request of the words
 pub request_is : (words : List Text) (command : Option (Text × List Row)) (result : Result Request WordFault) → command ≡ subcommand_of program words
     → fault_of program words ≡ [] → IfOk result (λ (request : Request). CommandAsks request.mode command request) → IfOk result (IsRequest words)
 request_is words command (Ok request) named clean asked =
     words_ask request.mode words request clean (subst (λ (c : Option (Text × List Row)). CommandAsks request.mode c request) named asked)
 request_is words command (Err fault) named clean asked = tt
 
--- the folders that a command names are those of its rows
+-- the folders that a command names are those of its rows, if its name is that of a command
 pub names_folders : (command : Option (Text × List Row)) (name : Text) (rows : List Row) → command ≡ Some (name, rows)
     → is_command name ≡ true → folders_named command ≡ folders_of rows
 names_folders command name rows is named =
     ap folders_named is ∙ (λ i. if named i then folders_of rows else [])
 
--- the rows of a command `query` are those of its options
+-- the rows of a command `query` are those of its options and folders
 pub rows_of_query : (command : Option (Text × List Row)) (rows : List Row) → command ≡ Some (codes "query", rows)
     → query_rows command ≡ rows
 rows_of_query command rows is = ap query_rows is
 
--- what `query` asks for, in the mode that its options ask for
+-- a command `query` asks for the request of its rows, in the mode that its options ask for
 pub asks_query : (command : Option (Text × List Row)) (rows : List Row) (request : Request)
     → command ≡ Some (codes "query", rows) → IsQueryOf rows request → CommandAsks request.mode command request
 asks_query command rows request named (folders, lang, mode) =
@@ -99,7 +99,7 @@ asks_query command rows request named (folders, lang, mode) =
     by None (Some first) names asked = asked
     by (Some limit) first names asked = asked
 
--- where the rows of `query` are no request, the command is none
+-- if the rows of `query` are no request, the command is none
 pub is_no_query : (command : Option (Text × List Row)) (rows : List Row) (fault : WordFault)
     → command ≡ Some (codes "query", rows) → IsFaultOfQuery rows fault → IsNoRequest command fault
 is_no_query command rows fault is (inl none) =
@@ -108,7 +108,7 @@ is_no_query command rows fault is (inl none) =
 is_no_query command rows fault is (inr none) =
     inr (subst (λ (own : List Row). IsFaultOfNumbers own fault) (sym (rows_of_query command rows is)) none)
 
--- the test whether two texts are the same, of two that are not
+-- the test for equal texts fails for two different texts
 unlike : (one other : Text) → one ≢ other → bytes_eq one other ≡ false
 unlike one other apart = by (bytes_eq one other) refl
   where
@@ -116,7 +116,7 @@ unlike one other apart = by (bytes_eq one other) refl
     by false is = is
     by true is = absurd (apart ((bytes_eq-Decides one other).0 is))
 
--- a command of another name names none
+-- a command whose name is none of the five names no folder
 pub names_no_folder : (command : Option (Text × List Row)) (name : Text) (rows : List Row) → command ≡ Some (name, rows)
     → name ≢ codes "query" → name ≢ codes "explain" → name ≢ codes "describe" → name ≢ codes "session"
     → name ≢ codes "check" → folders_named command ≡ []
@@ -130,14 +130,14 @@ names_no_folder command name rows is no_query no_explain no_describe no_session 
     ∙ (λ i. if query_not i || (explain_not i || (describe_not i || (session_not i || check_not i)))
     then folders_of rows else [])
 
--- what a command with a language asks for, by what was read of it
+-- a command with folders and a language asks for the request that was read of it
 pub asks_in_language : (command : Option (Text × List Row)) (name : Text) (rows : List Row) (request : Request)
     → command ≡ Some (name, rows) → HasFoldersOf rows request
     → unwrap_or (first_of (codes "lang") rows) default_language ≡ string_bytes request.lang
     → AsksInLanguage name command request
 asks_in_language command name rows request named folders lang = (rows, named, folders, lang)
 
--- where a command names no folder, it is no request, and no call for help
+-- if a command names no folder, it is no request, and no call for help
 pub is_no_request : (command : Option (Text × List Row)) (fault : WordFault) → IsFaultBy MissingSubcommand fault
     → folders_named command ≡ [] → IsNoRequest command fault
 is_no_request command (Usage text) by none = inl (inl none)
@@ -148,7 +148,7 @@ is_no_request command (Help text) by none = absurd (no_call by)
     no_call (inr version) = (cc)
 is_no_request command Memory by none = inl tt
 
--- where the command is that of the words, so is the refusal
+-- if the command of the words is no request, the words are refused
 pub refusal_is : (words : List Text) (command : Option (Text × List Row)) (result : Result Request WordFault) → command ≡ subcommand_of program words
     → fault_of program words ≡ [] → IfErr result (IsNoRequest command) → IfErr result (IsRefusal words)
 refusal_is words command (Ok request) named clean none = tt
@@ -157,12 +157,12 @@ refusal_is words command (Err (Help text)) named clean none =
     elim none [ inl folders ↦ absurd folders | inr numbers ↦ absurd numbers ]
 refusal_is words command (Err Memory) named clean none = tt
 
--- want of memory is no call
+-- want of memory is no call for help or for the version
 no_memory : (kind : ErrorKind) → IsCall kind → kind ≡ OutOfMemory → ⊥
 no_memory kind (inl help) refused = (cc)
 no_memory kind (inr version) refused = (cc)
 
--- a fault that tells of clap's error is a refusal of the words
+-- a fault that tells clap's error refuses the words
 pub refusal_by : (words : List Text) (kind : ErrorKind) (fault : WordFault) → IsFaultBy kind fault
     → (kind ≡ OutOfMemory) ⊎ IsAmong kind (fault_of program words) → IsRefusal words fault
 refusal_by words kind (Usage text) by (inl refused) = absurd (by.1 refused)
@@ -171,17 +171,19 @@ refusal_by words kind (Help text) by (inl refused) = absurd (no_memory kind by r
 refusal_by words kind (Help text) by (inr among) = (kind, among, by)
 refusal_by words kind Memory by found = tt
 
--- the fault of a number that is none is no call for help
+-- the fault of an option whose number is none is no call for help or for the version
 pub number_fault : (given : Option Text) (fault : WordFault) → IsNoCall fault → IsNoNumber given
     → IsFaultOfNumber given fault
 number_fault given (Usage text) told none = none
 number_fault given (Help text) told none = absurd told
 number_fault given Memory told none = tt
 
--- a command with one more argument has one more rule, and has its own arguments still
+-- ---- a command with one more argument
 module _ (old : Command) (arg : Arg) (new : Command) (adds : AddsArg old arg new) (local : arg.global ≡ false) where
+  -- the command with the argument has one more rule
   pub rule_added : (app : App) (rule : Rule) → rule_of arg ≡ rule → app_of old ≡ app → app_of new ≡ with_rule app rule
   rule_added app rule is so_far = adds.shape local ∙ (λ i. with_rule (so_far i) (is i))
 
+  -- the command with the argument still has no argument that its commands share
   pub own_added : HasOwnArguments old → HasOwnArguments new
   own_added own = adds.globals ∙ (λ i. own i || local i)

@@ -1,5 +1,6 @@
--- What the words of a command line ask for. The words begin with the program's name. How words are read as
--- arguments is clap's; here is what the program takes, and what a request is of it.
+-- The request that the words of a command line ask for. The words begin with the program's name. The crate clap
+-- defines how words are read as arguments. Here stand the arguments that the program takes, and the request that they
+-- ask for.
 use Rattle.std.specs.Prelude.{◌≡◌, ◌-◌, ◌^◌, ◌≢◌, ◌⊎◌, ◌<◌, ◌≤◌, ◌||◌, Bool, ℕ, ⊤, false, true, if◌then◌else◌, List, []}
 use Rattle.std.specs.Prelude.{bytes_eq, length, map, codes, string_bytes, unwrap_or, Option, None, Some}
 use Rattle.clap.specs.Words.{App, IsAmong, Row, Rule, Text, all_of, fault_of, first_of, new_app, new_rule, subcommand_of, with_rule, with_subcommand}
@@ -16,56 +17,58 @@ use Rattle.command_line.specs.QueryWords.{IsFaultOfNumbers, IsQueryMode}
 use Rattle.command_line.specs.declared.words.WordFault.{WordFault}
 use Rattle.command_line.specs.declared.words.WordFault.TheVariants.{Usage, Help, Memory}
 
--- folders, one of which has to be there and more may be, and `--lang` with a code of a language
+-- the argument `FOLDER`: at least one folder has to be there
 abbrev pub folder_rule : Rule
 folder_rule = record (new_rule (codes "FOLDER")) { required = true; action = Some Append }
 
+-- the option `--lang` with the code of a language
 abbrev pub lang_rule : Rule
 lang_rule = record (new_rule (codes "lang")) { long = Some (codes "lang"); value_names = 1 }
 
--- `--limit` and `--first`, each with a number of 64 bits
+-- the options `--limit` and `--first`, each with a number of 64 bits
 abbrev pub number_rule : Text → Rule
 number_rule name =
     record (new_rule name) { long = Some name; value_names = 1; parser = Some (Unsigned 0 (2 ^ 64 - 1)) }
 
--- `--no-names`, without a value
+-- the option `--no-names`, without a value
 abbrev pub no_names_rule : Rule
 no_names_rule = record (new_rule (codes "no-names")) { long = Some (codes "no-names"); action = Some SetTrue }
 
--- `query`, with all of these
+-- the command `query`, with folders and all four options
 abbrev pub query_command : App
 query_command =
     with_rule (with_rule (with_rule (with_rule (with_rule (new_app (codes "query")) folder_rule) lang_rule)
     (number_rule (codes "limit"))) (number_rule (codes "first"))) no_names_rule
 
--- `explain` and `check`, with the folders alone
+-- the command `explain`, with folders alone
 abbrev pub explain_command : App
 explain_command = with_rule (new_app (codes "explain")) folder_rule
 
+-- the command `check`, with folders alone
 abbrev pub check_command : App
 check_command = with_rule (new_app (codes "check")) folder_rule
 
--- `describe` and `session`, with the folders and a language
+-- the commands `describe` and `session`, with folders and a language
 abbrev pub language_command : Text → App
 language_command name = with_rule (with_rule (new_app name) folder_rule) lang_rule
 
--- none of its arguments is one of its commands too
+-- no argument of the command is shared with its commands
 abbrev pub HasOwnArguments : Command → Type 0
 HasOwnArguments command = (out-Command command).has_globals ≡ false
 
--- a command has to be named
+-- the program with the rule that a command has to be named
 abbrev pub requiring_command : App → App
 requiring_command app = record app { top = record app.top { subcommand_required = true } }
 
--- the version can be asked for
+-- the program with a version that can be asked for
 abbrev pub having_version : App → App
 having_version app = record app { top = record app.top { has_version = true } }
 
--- the program, without its commands
+-- the program without its commands
 abbrev pub bare_program : App
 bare_program = requiring_command (having_version (new_app (codes "hosecrag")))
 
--- the program
+-- the program with its five commands
 abbrev pub program : App
 program =
     with_subcommand
@@ -76,7 +79,7 @@ program =
     (language_command (codes "session")).top)
     check_command.top
 
--- the language whose names come first where none is given
+-- the language whose names come first if none is given
 abbrev pub default_language : List ℕ
 default_language = codes "en"
 
@@ -84,7 +87,7 @@ default_language = codes "en"
 abbrev pub most_folders : ℕ
 most_folders = 9
 
--- one to nine folders
+-- there are one to nine folders
 abbrev pub AreOneToNine : List Text → Type 0
 AreOneToNine folders = (1 ≤ length folders) × (length folders ≤ most_folders)
 
@@ -96,7 +99,7 @@ folders_in request = map string_bytes request.folders.items
 abbrev pub folders_of : List Row → List Text
 folders_of rows = unwrap_or (all_of (codes "FOLDER") rows) []
 
--- no word but the program's name asks for the built-in release, and for no folder
+-- only the program's name is given: this asks for the built-in release, which has no folder
 abbrev pub AsksSample : List Text → Request → Type 0
 AsksSample words request = (length words ≤ 1) × (folders_in request ≡ []) × (string_bytes request.lang ≡ default_language)
 
@@ -104,7 +107,7 @@ AsksSample words request = (length words ≤ 1) × (folders_in request ≡ []) �
 abbrev pub HasFoldersOf : List Row → Request → Type 0
 HasFoldersOf rows request = (folders_in request ≡ folders_of rows) × AreOneToNine (folders_of rows)
 
--- the rows of `query` ask for the release of their folders, for their language first, and for what their options say
+-- the rows of `query` ask for the release of their folders, with their language first, in the mode of their options
 abbrev pub IsQueryOf : List Row → Request → Type 0
 IsQueryOf rows request =
     HasFoldersOf rows request
@@ -115,28 +118,30 @@ IsQueryOf rows request =
 abbrev pub AsksQuery : Option (Text × List Row) → Request → Type 0
 AsksQuery command request = (rows : List Row) × (command ≡ Some (codes "query", rows)) × IsQueryOf rows request
 
--- a command of another name asks for the release of its folders alone
+-- a command with folders alone asks for the release of its folders, with the default language first
 abbrev pub AsksFolders : Text → Option (Text × List Row) → Request → Type 0
 AsksFolders name command request =
     (rows : List Row) × (command ≡ Some (name, rows))
     × HasFoldersOf rows request
     × (string_bytes request.lang ≡ default_language)
 
--- `explain` for the plans of queries, and `check` for the report
+-- a command `explain` asks for the plans of queries
 abbrev pub AsksExplain : Option (Text × List Row) → Request → Type 0
 AsksExplain command request = AsksFolders (codes "explain") command request
 
+-- a command `check` asks for the report of a release
 abbrev pub AsksCheck : Option (Text × List Row) → Request → Type 0
 AsksCheck command request = AsksFolders (codes "check") command request
 
--- `describe` and `session` ask for the release of their folders, and for their language first
+-- a command with folders and a language (`describe`, `session`) asks for the release of its folders, with its language
+-- first
 abbrev pub AsksInLanguage : Text → Option (Text × List Row) → Request → Type 0
 AsksInLanguage name command request =
     (rows : List Row) × (command ≡ Some (name, rows))
     × HasFoldersOf rows request
     × (unwrap_or (first_of (codes "lang") rows) default_language ≡ string_bytes request.lang)
 
--- what a command asks for in each mode: none asks for the built-in release
+-- what a command asks for in each mode; no command asks for the built-in release
 abbrev pub CommandAsks : Mode → Option (Text × List Row) → Request → Type 0
 CommandAsks Sample command request = ⊥
 CommandAsks Query command request = AsksQuery command request
@@ -146,7 +151,7 @@ CommandAsks Describe command request = AsksInLanguage (codes "describe") command
 CommandAsks Session command request = AsksInLanguage (codes "session") command request
 CommandAsks Check command request = AsksCheck command request
 
--- what words ask for in each mode: a command is one in which clap finds no fault
+-- what words ask for in each mode; clap finds no fault in the words of a command
 abbrev pub Asks : Mode → List Text → Request → Type 0
 Asks Sample words request = AsksSample words request
 Asks Query words request = (fault_of program words ≡ []) × AsksQuery (subcommand_of program words) request
@@ -158,11 +163,11 @@ Asks Session words request =
     (fault_of program words ≡ []) × AsksInLanguage (codes "session") (subcommand_of program words) request
 Asks Check words request = (fault_of program words ≡ []) × AsksCheck (subcommand_of program words) request
 
--- the request is that of the words
+-- the words ask for the request, in its mode
 abbrev pub IsRequest : List Text → Request → Type 0
 IsRequest words request = Asks request.mode words request
 
--- a name is that of a command
+-- whether a name is that of a command
 abbrev pub is_command : Text → Bool
 is_command name =
     bytes_eq name (codes "query")
@@ -174,17 +179,17 @@ abbrev pub folders_named : Option (Text × List Row) → List Text
 folders_named None = []
 folders_named (Some command) = if is_command command.0 then folders_of command.1 else []
 
--- what is told of more folders than a release is read from
+-- the text that tells the user of too many folders
 abbrev pub too_many_text : Text
 too_many_text = codes "at most 9 folders\n"
 
--- that is told, or memory was refused
+-- the fault tells of too many folders, or memory was refused
 abbrev pub TellsTooMany : WordFault → Type 0
 TellsTooMany (Usage text) = string_bytes text ≡ too_many_text
 TellsTooMany (Help text) = ⊥
 TellsTooMany Memory = ⊤
 
--- why no release is read from folders: there are none, or more than nine, and then that is told
+-- why no release is read from folders: there are none, or there are more than nine and the fault tells this
 abbrev pub IsFaultOfFolders : List Text → WordFault → Type 0
 IsFaultOfFolders folders (Usage text) = (folders ≡ []) ⊎ ((most_folders < length folders) × TellsTooMany (Usage text))
 IsFaultOfFolders folders (Help text) = ⊥
@@ -199,23 +204,23 @@ abbrev pub query_rows : Option (Text × List Row) → List Row
 query_rows None = []
 query_rows (Some command) = if bytes_eq command.0 (codes "query") then command.1 else []
 
--- why a command that was named is no request: no release is read from the folders that it names, or an option of
--- `query` has no number
+-- why a command is no request: no release is read from the folders that it names, or an option of `query` has no
+-- number
 abbrev pub IsNoRequest : Option (Text × List Row) → WordFault → Type 0
 IsNoRequest command fault = IsFaultOfFolders (folders_named command) fault ⊎ IsFaultOfNumbers (query_rows command) fault
 
--- a call for help, or for the version
+-- an error of clap is a call for help or for the version
 abbrev pub IsCall : ErrorKind → Type 0
 IsCall kind = (kind ≡ DisplayHelp) ⊎ (kind ≡ DisplayVersion)
 
--- a fault tells of clap's error: of what was called for, or of words that are wrong
+-- a fault tells clap's error: `Help` tells a call, and `Usage` tells wrong words
 abbrev pub IsFaultBy : ErrorKind → WordFault → Type 0
 IsFaultBy kind (Usage text) = (¬ IsCall kind) × (kind ≢ OutOfMemory)
 IsFaultBy kind (Help text) = IsCall kind
 IsFaultBy kind Memory = ⊤
 
--- why words are refused: clap finds a fault in them that is no call for help or for the version; or it finds
--- none, and they name no folder for a command, or more than nine, or an option of `query` has no number; or they are such a call; or memory was refused
+-- why words are refused. `Usage`: clap finds a fault in them that is no call for help or for the version, or it finds
+-- none and their command is no request. `Help`: they are such a call. `Memory`: memory was refused
 abbrev pub IsRefusal : List Text → WordFault → Type 0
 IsRefusal words (Usage text) =
     ((kind : ErrorKind) × IsAmong kind (fault_of program words) × (¬ IsCall kind))
@@ -223,7 +228,7 @@ IsRefusal words (Usage text) =
 IsRefusal words (Help text) = (kind : ErrorKind) × IsAmong kind (fault_of program words) × IsCall kind
 IsRefusal words Memory = ⊤
 
--- the numbers of the faults
+-- the number of each fault of words
 abbrev pub word_fault_number : WordFault → ℕ
 word_fault_number (Usage text) = 1
 word_fault_number (Help text) = 2

@@ -1,4 +1,4 @@
--- What the options of `query` ask for, by a command's rows.
+-- The mode that the options of `query` ask for, by a command's rows.
 use Rattle.std.specs.Prelude.{ℕ, ◌≡◌, ◌-◌, ◌^◌, ◌<◌, ◌⊎◌, ⊤, not, Bool, true, false, bytes_eq, codes, unwrap_or, List}
 use Rattle.std.specs.Prelude.{Option, None, Some}
 use Rattle.std.specs.Option.{option_map_or}
@@ -13,28 +13,32 @@ use Rattle.command_line.specs.declared.words.WordFault.TheVariants.{Usage, Help,
 abbrev pub IsNumberText : Text → ℕ → Type 0
 IsNumberText text number = IsNumeral 10 text × (digits_value 10 text ≡ number) × (number < 2 ^ 64)
 
--- the number of an option, by the text that is given for it, if there is one
+-- `given` is the number of an option's text, or none if the option has no text
 abbrev pub GivesNumber : Option Text → Option ℕ → Type 0
 GivesNumber None given = given ≡ None
 GivesNumber (Some text) given = (number : ℕ) × (given ≡ Some number) × IsNumberText text number
 
--- an option without a value is given
+-- whether an option without a value is given
 abbrev pub is_given : Text → List Row → Bool
 is_given name rows = option_map_or (λ text. bytes_eq text (codes "true")) (first_of name rows) false
 
--- a limit, a number of lines and whether names are written: where nothing is asked for, queries are answered as they
--- are
+-- the mode that a limit, a number of lines and a choice of names ask for: `Query` if nothing is asked for
 abbrev pub mode_of : Option ℕ → Option ℕ → Bool → Mode
 mode_of None None true = Query
 mode_of limit first names =
     QueryWith (record { limit = unwrap_or limit (2 ^ 64 - 1); first = first; names = names })
 
--- what the options among a command's rows ask for
+-- what the options in a command's rows ask for
 pub record IsQueryMode (rows : List Row) (mode : Mode) : Type 0 where
+  -- the limit, if one is given
   pub limit : Option ℕ
+  -- the number of lines, if one is given
   pub first : Option ℕ
+  -- the limit is the number of the option `--limit`
   pub limit_given : GivesNumber (first_of (codes "limit") rows) limit
+  -- the number of lines is that of the option `--first`
   pub first_given : GivesNumber (first_of (codes "first") rows) first
+  -- the mode is the one that limit, number of lines and `--no-names` ask for
   pub mode_is : mode ≡ mode_of limit first (not (is_given (codes "no-names") rows))
 
 -- a fault that is no call for help or for the version
@@ -43,18 +47,18 @@ IsNoCall (Usage text) = ⊤
 IsNoCall (Help text) = ⊥
 IsNoCall Memory = ⊤
 
--- a text is given for an option that is no number
+-- the text that is given for an option is no number
 abbrev pub IsNoNumber : Option Text → Type 0
 IsNoNumber None = ⊥
 IsNoNumber (Some text) = (number : ℕ) → IsNumberText text number → ⊥
 
--- why the number of an option can't be had: it is none
+-- why an option has no number: its text is none, or memory was refused
 abbrev pub IsFaultOfNumber : Option Text → WordFault → Type 0
 IsFaultOfNumber given (Usage text) = IsNoNumber given
 IsFaultOfNumber given (Help text) = ⊥
 IsFaultOfNumber given Memory = ⊤
 
--- that of a limit, or of a number of lines
+-- why `--limit` or `--first` has no number: its text is none, or memory was refused
 abbrev pub IsFaultOfNumbers : List Row → WordFault → Type 0
 IsFaultOfNumbers rows (Usage text) =
     IsNoNumber (first_of (codes "limit") rows) ⊎ IsNoNumber (first_of (codes "first") rows)

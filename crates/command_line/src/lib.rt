@@ -1,4 +1,4 @@
-//! What the words of a command line ask of the program.
+//! The request that the words of a command line ask for.
 #![tactic(auto)]
 
 mod words;

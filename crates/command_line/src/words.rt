@@ -19,51 +19,51 @@ use clap::error::ErrorKind;
 use clap::{Arg, ArgAction, ArgMatches, Command, Error};
 use std::alloc::{AllocError, Global};
 
-/// What a run of the program does.
+/// The task of a run of the program.
 #[derive(Clone, Copy, Debug, PartialEq, Eq)]
 pub enum Mode {
-    /// It answers queries over the release that is built in.
+    /// The program answers queries over the built-in release.
     Sample,
-    /// It answers queries over the release of folders.
+    /// The program answers queries over the release of folders.
     Query,
-    /// It answers queries over the release of folders, under a limit or in a form of its own.
+    /// The program answers queries over the release of folders, under a limit or in a form of their own.
     QueryWith(QueryOptions),
-    /// It tells how queries are executed over the release of folders, and how much each visits at most.
+    /// The program writes the plans of queries over the release of folders, and how much each visits at most.
     Explain,
-    /// It tells what the release of folders has of concepts, by their identifiers.
+    /// The program writes what the release of folders has of concepts, by their identifiers.
     Describe,
-    /// It answers requests of a program over the release of folders: pages of answers, plans, and what it has of concepts.
+    /// The program answers requests over the release of folders: pages of answers, plans, and what it has of
+    /// concepts.
     Session,
-    /// It reports what the release of folders has.
+    /// The program reports what the release of folders has.
     Check,
 }
 
-/// What is asked of the answers to queries.
+/// The options of the command `query`.
 #[derive(Clone, Copy, Debug, PartialEq, Eq)]
 pub struct QueryOptions {
-    /// How many items the plan of a constraint may visit at the most; `u64::MAX`, above which no bound is, where no
-    /// limit is asked for.
+    /// How many items the plan of a constraint may visit at most. Without a limit it is `u64::MAX`, which no bound
+    /// exceeds.
     pub limit: u64,
-    /// How many lines of concepts are written at the most, the first ones; all of them where it is `None`.
+    /// How many lines of concepts are written at most, from the first on; `None` writes all.
     pub first: Option<u64>,
-    /// Whether the name of a concept stands in its line.
+    /// Whether the line of a concept has its name.
     pub names: bool,
 }
 
-/// What the command line asks for.
+/// A request, which the command line asks for.
 #[derive(Drop, Debug)]
 pub struct Request {
-    /// What is to be done.
+    /// The task.
     pub mode: Mode,
-    /// The folders in the order of their words, from 1 to 9, each as its word stands; none for the
-    /// release that is built in.
+    /// The folders in the order of their words, from 1 to 9, each as its word stands. The built-in release has none.
     pub folders: Vec<String>,
-    /// The code of the language whose names come first: `en` where none is given.
+    /// The code of the language whose names come first, `en` if none is given.
     pub lang: String,
 }
 
 impl Request {
-    // What is asked of the release of folders.
+    // Makes a request over the release of folders.
     fn of_folders(
         alloc: Global,
         mode: Mode,
@@ -88,7 +88,7 @@ impl Request {
     }
 }
 
-// Texts of one's own, in order.
+// Copies texts, in order.
 fn copies(alloc: Global, texts: &[&str]) -> Result<Vec<String>, AllocError>
     ensures { IfOk result (λ copies. map string_bytes copies.items ≡ texts_of texts.now) }
 {
@@ -102,9 +102,9 @@ fn copies(alloc: Global, texts: &[&str]) -> Result<Vec<String>, AllocError>
 /// Why the words are no request.
 #[derive(Drop, Debug)]
 pub enum WordFault {
-    /// The words are not those of a command: what to tell the user.
+    /// The words are no command. The text tells the user why.
     Usage(String),
-    /// Help or the version was asked for: what to tell the user.
+    /// Help or the version was asked for. The text is what to tell the user.
     Help(String),
     /// A growth of memory was refused.
     Memory,
@@ -130,14 +130,14 @@ const DEFAULT_LANGUAGE: &str = "en";
 // How many folders a release is read from at most.
 const MOST_FOLDERS: usize = 9;
 
-// The version of the program. It stands nowhere else.
+// The version of the program, which is written nowhere else.
 const VERSION: &str = "0.1.0";
 
-// How `query` is used. It names each option, also where a word behind one is taken for a flag, as `-1` is.
+// The usage line of `query`. It names each option, because after one a word such as `-1` is taken for a flag.
 const QUERY_USAGE: &str =
     "hosecrag query <FOLDER>... [--lang <CODE>] [--limit <VISITS>] [--first <N>] [--no-names]";
 
-// What help tells behind the commands.
+// The text that help prints after the commands.
 const USES: &str = "Seven ways to start it:
   printf '<100005\\n' | hosecrag
   printf '<<404684003\\n' | hosecrag query SnomedCT_Release/Snapshot --lang en
@@ -154,10 +154,10 @@ It ends with a status:
   3  the files are no release
   4  memory was refused";
 
-/// Reads the words of a command line, of which the first is the program's name: no more words,
-/// `query FOLDER.. [--lang CODE] [--limit VISITS] [--first N] [--no-names]`, `explain FOLDER..`,
-/// `describe FOLDER.. [--lang CODE]`, `session FOLDER.. [--lang CODE]`, or `check FOLDER..`, each with 1 to 9 folders. VISITS and N are decimal numbers of 64 bits without a sign. `--help` and `--version` are
-/// answered as `Help`.
+/// Reads the words of a command line, of which the first is the program's name. They are no more words, `query
+/// FOLDER.. [--lang CODE] [--limit VISITS] [--first N] [--no-names]`, `explain FOLDER..`, `describe FOLDER.. [--lang
+/// CODE]`, `session FOLDER.. [--lang CODE]`, or `check FOLDER..`. Each command has 1 to 9 folders. VISITS and N are
+/// decimal numbers of 64 bits without a sign. `--help` and `--version` are answered as `Help`.
 pub fn read_words<'a>(alloc: Global, words: &'a [&'a str]) -> Result<Request, WordFault>
     ensures asked { IfOk result (IsRequest (texts_of words.now)) }
     ensures refused { IfErr result (IsRefusal (texts_of words.now)) }
@@ -178,7 +178,7 @@ pub fn read_words<'a>(alloc: Global, words: &'a [&'a str]) -> Result<Request, Wo
     }
 }
 
-// What is asked by matches, which are let go.
+// Returns the request in the matches, and drops the matches.
 fn request_by(alloc: Global, matches: ArgMatches<'_>) -> Result<Request, WordFault>
     ensures asked { IfOk result (λ request. CommandAsks request.mode (subcommand_rows_of matches.entry) request) }
     ensures refused { IfErr result (IsNoRequest (subcommand_rows_of matches.entry)) }
@@ -188,7 +188,7 @@ fn request_by(alloc: Global, matches: ArgMatches<'_>) -> Result<Request, WordFau
     request
 }
 
-// The fault of words that clap refuses, by its error, which is let go.
+// Returns the fault of words that clap refuses, and drops clap's error.
 fn fault_by(alloc: Global, error: Error) -> WordFault
     ensures { IsFaultBy (kind_of error) result }
 {
@@ -197,7 +197,7 @@ fn fault_by(alloc: Global, error: Error) -> WordFault
     fault
 }
 
-// What the program takes.
+// Returns what the program takes: its commands with their arguments.
 fn command_line<'a>(alloc: Global) -> Result<Command<'a>, AllocError>
     ensures { IfOk result (λ command. app_of command ≡ program) }
 {
@@ -223,7 +223,7 @@ fn command_line<'a>(alloc: Global) -> Result<Command<'a>, AllocError>
     with(with_session, check_command(alloc))
 }
 
-// A program with one command more, if there was memory for it.
+// Adds a command to a program, unless memory for it was refused.
 fn with<'a>(
     program: Command<'a>,
     command: Result<Command<'a>, AllocError>,
@@ -239,7 +239,7 @@ fn with<'a>(
     }
 }
 
-// The program without its commands.
+// Makes the program without its commands.
 fn bare_program<'a>(alloc: Global) -> Result<Command<'a>, AllocError>
     ensures { IfOk result (λ command. app_of command ≡ bare_program) }
 {
@@ -256,6 +256,7 @@ fn bare_program<'a>(alloc: Global) -> Result<Command<'a>, AllocError>
     )
 }
 
+// Makes the command `query` with its options.
 fn query_command<'a>(alloc: Global) -> Result<Command<'a>, AllocError>
     ensures shape { IfOk result (λ command. app_of command ≡ query_command) }
     ensures own { IfOk result HasOwnArguments }
@@ -277,7 +278,7 @@ fn query_command<'a>(alloc: Global) -> Result<Command<'a>, AllocError>
     with_first.arg(no_names_argument(alloc))
 }
 
-// `query` without its options.
+// Makes the command `query` without its options.
 fn query_of_folders<'a>(alloc: Global) -> Result<Command<'a>, AllocError>
     ensures shape { IfOk result (λ command. app_of command ≡ with_rule (new_app (codes "query")) folder_rule) }
     ensures own { IfOk result HasOwnArguments }
@@ -288,6 +289,7 @@ fn query_of_folders<'a>(alloc: Global) -> Result<Command<'a>, AllocError>
         .arg(folder_argument(alloc))
 }
 
+// Makes the command `explain`.
 fn explain_command<'a>(alloc: Global) -> Result<Command<'a>, AllocError>
     ensures shape { IfOk result (λ command. app_of command ≡ explain_command) }
     ensures own { IfOk result HasOwnArguments }
@@ -299,7 +301,7 @@ fn explain_command<'a>(alloc: Global) -> Result<Command<'a>, AllocError>
         .arg(folder_argument(alloc))
 }
 
-// A command with folders and a language.
+// Makes a command with folders and a language.
 fn language_command<'a>(
     alloc: Global,
     name: &'a str,
@@ -312,7 +314,7 @@ fn language_command<'a>(
     with_folder.arg(lang_argument(alloc))
 }
 
-// A command with folders.
+// Makes a command with folders.
 fn folders_command<'a>(
     alloc: Global,
     name: &'a str,
@@ -326,6 +328,7 @@ fn folders_command<'a>(
         .arg(folder_argument(alloc))
 }
 
+// Makes the command `check`.
 fn check_command<'a>(alloc: Global) -> Result<Command<'a>, AllocError>
     ensures shape { IfOk result (λ command. app_of command ≡ check_command) }
     ensures own { IfOk result HasOwnArguments }
@@ -335,7 +338,7 @@ fn check_command<'a>(alloc: Global) -> Result<Command<'a>, AllocError>
         .arg(folder_argument(alloc))
 }
 
-// The folders that a command takes.
+// Makes the argument for the folders of a command.
 fn folder_argument<'a>(alloc: Global) -> Arg<'a>
     ensures rule { rule_of result ≡ folder_rule }
     ensures own { result.global ≡ false }
@@ -348,7 +351,7 @@ fn folder_argument<'a>(alloc: Global) -> Arg<'a>
         )
 }
 
-// The code of a language that `query` takes.
+// Makes the option `--lang`, the code of a language.
 fn lang_argument<'a>(alloc: Global) -> Arg<'a>
     ensures rule { rule_of result ≡ lang_rule }
     ensures own { result.global ≡ false }
@@ -359,7 +362,7 @@ fn lang_argument<'a>(alloc: Global) -> Arg<'a>
         .help("the language whose names come first, en by default")
 }
 
-// An option with a number that `query` takes.
+// Makes an option with a number, for `query`.
 fn number_argument<'a>(alloc: Global, name: &'a str, value: &'a str, help: &'a str) -> Arg<'a>
     ensures rule { rule_of result ≡ number_rule name.now }
     ensures own { result.global ≡ false }
@@ -371,7 +374,7 @@ fn number_argument<'a>(alloc: Global, name: &'a str, value: &'a str, help: &'a s
         .help(help)
 }
 
-// The option that leaves out names.
+// Makes the option that leaves out names.
 fn no_names_argument<'a>(alloc: Global) -> Arg<'a>
     ensures rule { rule_of result ≡ no_names_rule }
     ensures own { result.global ≡ false }
@@ -382,7 +385,7 @@ fn no_names_argument<'a>(alloc: Global) -> Arg<'a>
         .help("writes identifiers alone")
 }
 
-// What is asked by the command that was named.
+// Returns the request of the command that was named.
 fn command_request(alloc: Global, matches: &ArgMatches<'_>) -> Result<Request, WordFault>
     ensures asked { IfOk result (λ request. CommandAsks request.mode (subcommand_rows_of matches.now) request) }
     ensures refused { IfErr result (IsNoRequest (subcommand_rows_of matches.now)) }
@@ -409,7 +412,7 @@ fn command_request(alloc: Global, matches: &ArgMatches<'_>) -> Result<Request, W
     Err(no_command(alloc))
 }
 
-// What is asked in a mode by the arguments of a command with folders and a language.
+// Returns the request, in a mode, of the arguments of a command with folders and a language.
 fn language_request(
     alloc: Global,
     mode: Mode,
@@ -424,7 +427,7 @@ fn language_request(
     Request::of_folders(alloc, mode, folders_of(arguments), lang)
 }
 
-// What is asked by the arguments of `query`.
+// Returns the request of the arguments of `query`.
 fn query_request(alloc: Global, arguments: &ArgMatches<'_>) -> Result<Request, WordFault>
     ensures asked { IfOk result (IsQueryOf (rows_of (found_of arguments.now))) }
     ensures refused { IfErr result (IsFaultOfQuery (rows_of (found_of arguments.now))) }
@@ -437,7 +440,7 @@ fn query_request(alloc: Global, arguments: &ArgMatches<'_>) -> Result<Request, W
     Request::of_folders(alloc, mode, folders_of(arguments), lang)
 }
 
-// What the options of `query` ask for. A number that is none is refused.
+// Returns the mode that the options of `query` ask for. Refuses an option whose text is no number.
 fn query_mode(alloc: Global, arguments: &ArgMatches<'_>) -> Result<Mode, WordFault>
     ensures asked { IfOk result (IsQueryMode (rows_of (found_of arguments.now))) }
     ensures refused { IfErr result (IsFaultOfNumbers (rows_of (found_of arguments.now))) }
@@ -448,7 +451,7 @@ fn query_mode(alloc: Global, arguments: &ArgMatches<'_>) -> Result<Mode, WordFau
     Ok(mode_of(limit, first, names))
 }
 
-// What is done by the options that are given.
+// Returns the mode that the given options ask for.
 fn mode_of(limit: Option<u64>, first: Option<u64>, names: bool) -> Mode
     ensures { result ≡ mode_of limit first names }
 {
@@ -462,7 +465,7 @@ fn mode_of(limit: Option<u64>, first: Option<u64>, names: bool) -> Mode
     })
 }
 
-// The number of an option, if it is given.
+// Returns the number of an option, if it is given.
 fn number_given(
     alloc: Global,
     arguments: &ArgMatches<'_>,
@@ -480,7 +483,7 @@ fn number_given(
     }
 }
 
-// The number of 64 bits that a text of digits alone is.
+// Returns the number that a text writes, if it is digits alone and fits in 64 bits.
 fn decimal_number(text: &str) -> Option<u64>
     ensures { MatchOption result ((number : ℕ) → IsNumberText text.now number → ⊥) (IsNumberText text.now) }
 {
@@ -504,7 +507,7 @@ fn is_given(arguments: &ArgMatches<'_>, name: &str) -> bool
     text == "true"
 }
 
-// The fault of an option whose number is none.
+// Returns the fault of an option whose text is no number.
 fn no_number(alloc: Global, name: &str, text: &str) -> WordFault
     ensures { IsNoCall result }
 {
@@ -514,7 +517,7 @@ fn no_number(alloc: Global, name: &str, text: &str) -> WordFault
     }
 }
 
-// The folders among the arguments of a command.
+// Returns the folders among the arguments of a command.
 fn folders_of<'a>(arguments: &'a ArgMatches<'_>) -> &'a [&'a str]
     ensures { texts_of result.now ≡ folders_of (rows_of (found_of arguments.now)) }
 {
@@ -524,7 +527,7 @@ fn folders_of<'a>(arguments: &'a ArgMatches<'_>) -> &'a [&'a str]
     folders
 }
 
-// The fault of words that name no command.
+// Returns the fault of words that name no command.
 fn no_command(alloc: Global) -> WordFault
     ensures { IsFaultBy MissingSubcommand result }
 {
@@ -534,7 +537,7 @@ fn no_command(alloc: Global) -> WordFault
     }
 }
 
-// The fault of words that name more folders than a release is read from.
+// Returns the fault of words that name more than `MOST_FOLDERS` folders.
 fn too_many_folders(alloc: Global) -> WordFault
     ensures { TellsTooMany result }
 {
@@ -544,7 +547,7 @@ fn too_many_folders(alloc: Global) -> WordFault
     }
 }
 
-// The fault of words, with what to tell the user.
+// Returns the fault of words, with the text for the user.
 fn word_fault(alloc: Global, error: &Error) -> WordFault
     ensures { IsFaultBy (kind_of error.now) result }
 {

@@ -1,4 +1,4 @@
--- Concepts in force, and their names.
+-- Lemmas on concepts in force and their names.
 use Rattle.std.proofs.Common.{◌≡◌, ◌∙◌, ℕ, ◌<◌, ◌==◌, Bool, true, false, cond, List, [], ◌∷◌, ◌++◌, None, Some, decimal}
 use Rattle.std.proofs.Common.{length, get_or, append-nil, codes, sym, subst, ap}
 use Rattle.std.proofs.lemmas.Bool.{eqb-true}
@@ -13,20 +13,20 @@ use Rattle.held_release.specs.Numbering.{concept_number}
 use Rattle.held_release.proofs.NumberedLemmas.{concept_none}
 use Rattle.concept_printer.specs.ConceptText.{concept_text, concept_words, identifier_line, name_in_force, told_of}
 
--- a concept that has a number is in force
+-- if an identifier has a number, the number is below the count and its concept has the identifier
 pub number_told : (concepts : List ℕ) (id number : ℕ) → concept_number concepts id ≡ Some number
     → (number < length concepts) × (get_or concepts number 0 ≡ id)
 number_told concepts id number is =
     let found = position-Some (λ other. id == other) concepts number 0 is in
     (found.0, sym (eqb-true id (get_or concepts number 0) found.1))
 
--- the concept with a number is one of those in force
+-- the concept with a number is in force
 pub in_force : (concepts : List ℕ) (number : ℕ) → number < length concepts
     → has concepts (get_or concepts number 0) ≡ true
 in_force concepts number below =
     had_contained concepts (get_or concepts number 0) (Contains-get_or concepts number 0 below)
 
--- its name is that of the release
+-- the name of a concept in force is the name that the release gives it
 pub name_by_number : (contents : Contents) (number : ℕ) → number < length contents.release.concepts
     → name_in_force contents (get_or contents.release.concepts number 0)
     ≡ name_of contents.release contents.language (get_or contents.release.concepts number 0)
@@ -42,7 +42,7 @@ line_by_number contents number below =
     ap (λ name. (decimal (get_or contents.release.concepts number 0) ++ name_text name) ++ 10 ∷ [])
     (name_by_number contents number below)
 
--- one that has none is told by its identifier alone
+-- an identifier without a number is told without a name
 pub words_without : (contents : Contents) (id : ℕ) → concept_number contents.release.concepts id ≡ None
     → concept_words (name_in_force contents) id ≡ decimal id
 words_without contents id none =
@@ -51,7 +51,7 @@ words_without contents id none =
     (name_of contents.release contents.language id) None))
     ∙ append-nil (decimal id)
 
--- what is told of a concept in force, of an inactive one, and of one that is neither
+-- the text of a concept in force is what is told of its identifier
 pub told_in_force : (contents : Contents) (id number : ℕ) → concept_number contents.release.concepts id ≡ Some number
     → concept_text contents (get_or contents.release.concepts number 0) ≡ told_of contents id
 told_in_force contents id number is =
@@ -63,6 +63,7 @@ told_in_force contents id number is =
     ∙ sym (λ i. cond (among i) (concept_text contents id)
     (cond (has contents.inactive id) (identifier_line (codes "INACTIVE") id) (identifier_line (codes "UNKNOWN") id)))
 
+-- the line of a concept that is not in force is what is told of its identifier: inactive or unknown
 pub told_otherwise : (contents : Contents) (id : ℕ) (inactive : Bool)
     → concept_number contents.release.concepts id ≡ None
     → has contents.inactive id ≡ inactive

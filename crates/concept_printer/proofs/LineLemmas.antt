@@ -1,8 +1,8 @@
--- Lines made of words.
+-- A line is made word by word.
 use Rattle.std.proofs.Common.{◌≡◌, ◌∙◌, ℕ, List, [], ◌∷◌, ◌++◌, ap}
 use Rattle.std.proofs.lemmas.List.{append_assoc}
 
--- a line of three words, put piece by piece
+-- three words put piece by piece, with spaces between and a line feed at the end, are a line of three words
 pub three_words : (old one two three four five all first second third : List ℕ) → one ≡ old ++ first
     → two ≡ one ++ 32 ∷ [] → three ≡ two ++ second → four ≡ three ++ 32 ∷ [] → five ≡ four ++ third
     → all ≡ five ++ 10 ∷ [] → all ≡ old ++ (first ++ 32 ∷ second ++ 32 ∷ third ++ 10 ∷ [])

@@ -13,7 +13,7 @@ use Rattle.rf2_rows.specs.Columns.{fault_for}
 use Rattle.concept_printer.specs.declared.named_concept.LineFault.{LineFault}
 use Rattle.concept_printer.specs.declared.named_concept.LineFault.TheVariants.{Long, Utf8, Id}
 
--- a space, a tab or a carriage return
+-- whether a byte is a space, a tab or a carriage return
 abbrev pub is_blank : ℕ → Bool
 is_blank byte = (byte == 32) || (byte == 9) || (byte == 13)
 
@@ -26,11 +26,11 @@ behind_blanks (byte ∷ bytes) = if is_blank byte then behind_blanks bytes else 
 abbrev pub before_blanks : List ℕ → List ℕ
 before_blanks text = reverse (behind_blanks (reverse text))
 
--- the last byte is a bar
+-- whether the last byte of a text is a bar
 abbrev pub ends_in_bar : List ℕ → Bool
 ends_in_bar text = slice_index_or (reverse text) 0 0 == 124
 
--- what stands before the first bar
+-- the text before the first bar
 abbrev pub before_bar : List ℕ → List ℕ
 before_bar text = slice_index_or (parts_at 124 text) 0 []
 
@@ -42,13 +42,13 @@ without_term text = if ends_in_bar text then before_blanks (before_bar text) els
 abbrev pub identifier_in : List ℕ → List ℕ
 identifier_in line = without_term (before_blanks (behind_blanks line))
 
--- why a line that is not too long names no concept: it is not UTF-8, or its identifier is not that of a concept; none
--- where it names one
+-- why a line that is not too long names no concept: it is not UTF-8, or its identifier is not that of a concept. None
+-- if it names a concept
 abbrev pub short_fault : List ℕ → Option LineFault
 short_fault line =
     if not (is_utf8 line) then Some Utf8 else option_map Id (fault_for Concept (identifier_in line))
 
--- why a line names no concept: it is too long, or for that
+-- why a line names no concept: it is too long, it is not UTF-8, or its identifier is not that of a concept
 abbrev pub line_fault : List ℕ → Option LineFault
 line_fault line = if nat_lt most_bytes (length line) then Some Long else short_fault line
 

@@ -14,11 +14,12 @@ use held_release::{NumberedValue, Snapshot};
 use sctid::SctId;
 use std::alloc::{AllocError, Global};
 
-// The key of a row is its number behind that of its group, so that rows whose keys rise go by group.
+// How many keys a group has. The key of a row is its group number times this, plus its own number, so rows in the
+// order of their keys go group by group.
 const KEYS_OF_GROUP: u64 = 1 << 32;
 
-/// Appends how many attribute rows there are, whose numbers rise, and a line for each: group by group, and those of
-/// one group in the order of their numbers.
+/// Appends the count of attribute rows and a line for each. The lines go group by group, and within a group by the
+/// rows' numbers. `rows` are the numbers of the rows, and rise.
 pub fn append_attributes(
     alloc: Global,
     snapshot: &Snapshot,
@@ -35,7 +36,7 @@ pub fn append_attributes(
     append_rows(snapshot, keys.as_slice(), text)
 }
 
-// The keys of rows, whose numbers rise, group by group.
+// Returns the keys of rows in rising order, so that the rows go group by group. The numbers of the rows rise.
 fn keys_by_group(alloc: Global, snapshot: &Snapshot, rows: &[u32]) -> Result<Vec<u64>, AllocError>
     requires { IsRisingBelow (length snapshot.now.release.attributes) rows.now }
     ensures order { IfOk result (λ keys. map (row_with_key snapshot.now.release) keys.items
@@ -43,13 +44,13 @@ fn keys_by_group(alloc: Global, snapshot: &Snapshot, rows: &[u32]) -> Result<Vec
     ensures found { IfOk result (λ keys.
         All (λ key. key % 2 ^ 32 < length snapshot.now.release.attributes) keys.items) }
 {
-    // the numbers of the rows are of 31 bits
+    // called for its contract: the numbers of the rows have 31 bits
     snapshot.attribute_count();
     let keys = group_keys(alloc, snapshot, rows)?;
     Ok(rising(keys))
 }
 
-// The keys of rows.
+// Returns the keys of rows.
 fn group_keys(alloc: Global, snapshot: &Snapshot, rows: &[u32]) -> Result<Vec<u64>, AllocError>
     requires { All (λ row. row < length snapshot.now.release.attributes) rows.now }
     ensures { IfOk result (λ keys. keys.items ≡ map (group_key snapshot.now.release) rows.now) }
@@ -61,7 +62,7 @@ fn group_keys(alloc: Global, snapshot: &Snapshot, rows: &[u32]) -> Result<Vec<u6
     Ok(keys)
 }
 
-// The key of a row: its number behind that of its group.
+// Returns the key of a row: the number of its group, and after it in 32 bits its own number.
 #[tactic(auto, using(crate::proofs::GroupLemmas::row_read))]
 fn key_of_row(snapshot: &Snapshot, row: u32) -> u64
     requires { row < length snapshot.now.release.attributes }
@@ -71,7 +72,7 @@ fn key_of_row(snapshot: &Snapshot, row: u32) -> u64
     u64::from(group) * KEYS_OF_GROUP + u64::from(row)
 }
 
-// Keys in rising order, each once.
+// Returns keys in rising order, each once.
 fn rising(mut keys: Vec<u64>) -> Vec<u64>
     ensures { result.items ≡ rising_of keys.items }
 {
@@ -80,7 +81,7 @@ fn rising(mut keys: Vec<u64>) -> Vec<u64>
     keys
 }
 
-// Appends the lines of the attribute rows with some keys.
+// Appends the lines of the attribute rows with `keys`.
 fn append_rows(snapshot: &Snapshot, keys: &[u64], text: &mut Vec<u8>) -> Result<(), AllocError>
     requires { All (λ key. key % 2 ^ 32 < length snapshot.now.release.attributes) keys.now }
     ensures { OnOk result (text.new.items ≡ text.old.items
@@ -109,7 +110,7 @@ fn append_attribute(snapshot: &Snapshot, row: u32, text: &mut Vec<u8>) -> Result
     Ok(())
 }
 
-// Appends a type: with its name where it is a concept in force.
+// Appends a type, with its name if it is a concept in force.
 fn append_type(snapshot: &Snapshot, type_id: SctId, text: &mut Vec<u8>) -> Result<(), AllocError>
     ensures { OnOk result (text.new.items ≡ text.old.items ++ concept_words (name_in_force snapshot.now) type_id) }
 {

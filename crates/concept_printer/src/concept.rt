@@ -1,4 +1,4 @@
-//! What a release has of a concept in force.
+//! The text for a concept in force.
 ghost use Rattle.std.specs.Prelude.{◌≡◌, ◌<◌, ◌++◌, ◌∷◌, [], All, codes, decimal, length, map, OnOk, slice_index};
 ghost use Rattle.std.specs.List.{flat_map};
 ghost use Rattle.held_release.specs.Line.{concept_line};
@@ -13,8 +13,8 @@ use held_release::Snapshot;
 use postings::Indexes;
 use std::alloc::{AllocError, Global};
 
-/// Appends what a release has of a concept by its number: the concept, its parents and children, its attribute rows,
-/// and the reference sets that it is in.
+/// Appends what a release has of a concept in force: the concept, its parents and children, its attribute rows, and
+/// the reference sets that it is in. `concept` is its number.
 pub fn append_concept(
     alloc: Global,
     snapshot: &Snapshot,
@@ -35,7 +35,7 @@ pub fn append_concept(
     append_reference_sets(alloc, snapshot, indexes, concept, text)
 }
 
-// Appends the parents of a concept.
+// Appends the count and the lines of the parents of a concept.
 fn append_parents(
     snapshot: &Snapshot,
     indexes: &Indexes,
@@ -52,7 +52,7 @@ fn append_parents(
     append_concepts(snapshot, b"PARENTS", hierarchy.parents(concept), text)
 }
 
-// Appends the children of a concept.
+// Appends the count and the lines of the children of a concept.
 fn append_children(
     snapshot: &Snapshot,
     indexes: &Indexes,
@@ -69,7 +69,7 @@ fn append_children(
     append_concepts(snapshot, b"CHILDREN", hierarchy.children(concept), text)
 }
 
-// Appends the attribute rows of a concept.
+// Appends the count and the lines of the attribute rows of a concept.
 fn append_rows_of(
     alloc: Global,
     snapshot: &Snapshot,
@@ -83,13 +83,13 @@ fn append_rows_of(
         ++ headed (codes "ATTRIBUTES") (attribute_line (name_in_force snapshot.now))
         (attributes_of snapshot.now.release (slice_index snapshot.now.release.concepts concept))) }
 {
-    // the concepts rise, and each row has its number by source
+    // called for its contract: the concepts rise, and each row has its number by source
     snapshot.concept_count();
     snapshot.attribute_count();
     append_attributes(alloc, snapshot, indexes.rows_of(concept), text)
 }
 
-// Appends the reference sets that a concept is in.
+// Appends the count and the lines of the reference sets that a concept is in.
 fn append_reference_sets(
     alloc: Global,
     snapshot: &Snapshot,
@@ -107,7 +107,7 @@ fn append_reference_sets(
     append_concepts(snapshot, b"MEMBER-OF", sets.as_slice(), text)
 }
 
-// Appends a word and how many concepts there are, and then their lines.
+// Appends a word and the count of concepts, and then the lines of the concepts.
 fn append_concepts(
     snapshot: &Snapshot,
     word: &[u8],
@@ -146,7 +146,7 @@ fn append_line(snapshot: &Snapshot, concept: u32, text: &mut Vec<u8>) -> Result<
     text.extend_from_slice(snapshot.line(concept))
 }
 
-/// Appends a word and a number on a line.
+/// Appends a line of a word and a number.
 pub fn append_head(word: &[u8], count: usize, text: &mut Vec<u8>) -> Result<(), AllocError>
     ensures { OnOk result (text.new.items ≡ text.old.items ++ (word.now ++ 32 ∷ decimal count ++ 10 ∷ [])) }
 {
@@ -157,7 +157,7 @@ pub fn append_head(word: &[u8], count: usize, text: &mut Vec<u8>) -> Result<(), 
     Ok(())
 }
 
-/// Appends a concept by its number: its identifier, and its name if it has one.
+/// Appends the identifier of a concept, and its name if it has one. `concept` is its number.
 pub fn append_words(snapshot: &Snapshot, concept: u32, text: &mut Vec<u8>) -> Result<(), AllocError>
     requires { concept < length snapshot.now.release.concepts }
     ensures { OnOk result (text.new.items ≡ text.old.items

@@ -1,4 +1,4 @@
-//! What a release says of the concept that a line names.
+//! The text that describes the concept that a line names.
 ghost use Rattle.std.specs.Prelude.{◌≡◌, ◌++◌, codes, IfOk, OnOk};
 ghost use Rattle.postings.specs.Indexed.{IsIndexOf};
 ghost use Rattle.concept_printer.specs.ConceptText.{description_text, fault_line, identifier_line, told_of};
@@ -9,10 +9,10 @@ use held_release::Snapshot;
 use postings::Indexes;
 use std::alloc::{AllocError, Global};
 
-/// What a release says of the concept that a line names: of one in force its parents and children, its attributes
-/// group by group, and the reference sets that it is in; of an inactive or an unknown one that it is so; or why the line
-/// names none. Every line ends in LF. The indexes are those of the release. `AllocError` is answered where memory is
-/// refused.
+/// Returns what a release says of the concept that a line names. For a concept in force these are its parents and
+/// children, its attributes group by group, and the reference sets that it is in. Otherwise the text says that the
+/// concept is inactive or unknown, or why the line names none. Every line ends in LF. The indexes are those of the
+/// release. If memory is refused, it returns `AllocError`.
 pub fn description(
     alloc: Global,
     snapshot: &Snapshot,
@@ -48,7 +48,7 @@ fn append_told(
     }
 }
 
-// Appends a word and an identifier on a line.
+// Appends a line of a word and an identifier.
 fn append_identifier(word: &[u8], id: u64, text: &mut Vec<u8>) -> Result<(), AllocError>
     ensures { OnOk result (text.new.items ≡ text.old.items ++ identifier_line word.now id) }
 {
@@ -59,7 +59,7 @@ fn append_identifier(word: &[u8], id: u64, text: &mut Vec<u8>) -> Result<(), All
     Ok(())
 }
 
-// Appends the line that refuses a line.
+// Appends the line that tells why a line names no concept.
 fn append_fault(fault: LineFault, text: &mut Vec<u8>) -> Result<(), AllocError>
     ensures { OnOk result (text.new.items ≡ text.old.items ++ fault_line fault) }
 {

@@ -10,8 +10,8 @@ use idset::has_number;
 use postings::Indexes;
 use std::alloc::{AllocError, Global};
 
-/// The reference sets that a component is in, by their numbers in rising order: each reference set with members is
-/// asked for the component (Release File Specification, "Simple reference set").
+/// Returns the reference sets that a component is in, by their numbers in rising order. It looks for the component
+/// in each reference set with members (Release File Specification, "Simple reference set").
 pub fn reference_sets_with(
     alloc: Global,
     indexes: &Indexes,
@@ -30,13 +30,13 @@ pub fn reference_sets_with(
     Ok(sets)
 }
 
-// Whether a component is one of a reference set.
+// Whether a component is a member of a reference set.
 fn is_member(indexes: &Indexes, set: u32, component: u32) -> bool
     requires indexes { (release : Release) × IsIndexOf indexes.now release }
     requires set { set < length indexes.now.members }
     ensures { result ≡ has (list_of indexes.now.members set) component }
 {
-    // each concept has a list of members, and 32 bits hold its number
+    // called for its contract: each concept has a list of members, and its number fits in 32 bits
     indexes.stats();
     indexes.concept_count();
     has_number(indexes.members(set), component)

@@ -12,23 +12,23 @@ use sctid::{IdFault, Part, SctId};
 use std::str::from_utf8;
 use text_parts::cut;
 
-// No line that is read has more bytes.
+// How many bytes a line has at most.
 const MOST_BYTES: usize = 65_535;
 
 const BAR: u8 = b'|';
 
-/// Why a line names no concept: the first cause, in this order, that holds of it.
+/// Why a line names no concept: the first of these causes, in their order.
 #[derive(Clone, Copy, Debug, PartialEq, Eq)]
 pub enum LineFault {
-    /// It has more than 65,535 bytes.
+    /// The line has more than 65,535 bytes.
     Long,
-    /// It is not UTF-8.
+    /// The line is not UTF-8.
     Utf8,
-    /// Its identifier is none, or not that of a concept.
+    /// The identifier in the line is none, or not that of a concept.
     Id(IdFault),
 }
 
-/// The identifier of the concept that a line names, with or without its term, or why it names none.
+/// Returns the identifier of the concept that a line names, with or without its term, or why the line names none.
 pub fn named_concept(line: &[u8]) -> Result<u64, LineFault>
     ensures sound { IfOk result (λ id. line_fault line.now ≡ None) }
     ensures named { IfOk result (λ id. id ≡ named_by line.now) }
@@ -54,7 +54,7 @@ fn is_text(bytes: &[u8]) -> bool
     from_utf8(bytes).is_ok()
 }
 
-// The identifier of a concept that a text is.
+// Reads a text as the identifier of a concept.
 fn concept_id(text: &[u8]) -> Result<u64, IdFault>
     ensures sound { IfOk result (λ id. fault_for Concept text.now ≡ None) }
     ensures id { IfOk result (λ id. id ≡ number_of text.now) }
@@ -67,7 +67,7 @@ fn concept_id(text: &[u8]) -> Result<u64, IdFault>
     }
 }
 
-// The text of the identifier in a line.
+// Returns the text of the identifier in a line.
 fn identifier(line: &[u8]) -> &[u8]
     ensures { result.now ≡ identifier_in line.now }
 {
@@ -89,7 +89,7 @@ fn has_bar_at_end(text: &[u8]) -> bool
     }
 }
 
-// A text without the blanks at its front.
+// Returns a text without the blanks at its front.
 fn without_blanks_before(text: &[u8]) -> &[u8]
     ensures { result.now ≡ behind_blanks text.now }
 {
@@ -103,7 +103,7 @@ fn without_blanks_before(text: &[u8]) -> &[u8]
     left
 }
 
-// A text without the blanks at its end.
+// Returns a text without the blanks at its end.
 fn without_blanks_behind(text: &[u8]) -> &[u8]
     ensures { result.now ≡ before_blanks text.now }
 {
@@ -124,7 +124,7 @@ fn is_blank_byte(byte: u8) -> bool
     matches!(byte, b' ' | b'\t' | b'\r')
 }
 
-/// The word for the cause for which an identifier is refused.
+/// Returns the word for the cause for which an identifier is refused.
 pub fn cause_word(fault: IdFault) -> &'static [u8]
     ensures { result.now ≡ identifier_cause fault }
 {

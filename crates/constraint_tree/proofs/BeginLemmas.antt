@@ -14,57 +14,60 @@ use Rattle.constraint_tree.proofs.PieceLemmas.{focus_byte, member_byte, operand_
 use Rattle.constraint_tree.proofs.SymbolLemmas.{other_byte}
 use Rattle.constraint_tree.proofs.Symbols.{ArePrintableParts, HasDigits, HasTwoParts, IsPrintable, IsPrintableAttribute, IsPrintableSet}
 
--- a digit begins the text of a concept
+-- the first byte of a digit run passes `test` if every digit does
 first_digit : (test : ℕ → Bool) → ((byte : ℕ) → is_ascii_digit byte ≡ true → test byte ≡ true) → (run rest : List ℕ)
     → 0 < length run → list_all is_ascii_digit run ≡ true → begins test (run ++ [] ++ rest) ≡ true
 first_digit test passes [] rest some each = absurd (omega arith)
 first_digit test passes (byte ∷ run) rest some each = passes byte (and_parts (is_ascii_digit byte) (list_all is_ascii_digit run) each).0
 
--- and so does what passes each digit
+-- the first byte of a concept's text passes `test` if every digit does
 concept_begins : (test : ℕ → Bool) → ((byte : ℕ) → is_ascii_digit byte ≡ true → test byte ≡ true) → (id : ℕ)
     → HasDigits 6 18 id → (rest : List ℕ) → begins test (decimal id ++ [] ++ rest) ≡ true
 concept_begins test passes id printable rest =
     let written = digits_written 6 id (omega arith) printable in
     first_digit test passes (decimal id) rest written.some written.each
 
--- a digit may begin a focus, its members and an operand
+-- a digit may be the first byte of a focus
 digit_is_focus : (byte : ℕ) → is_ascii_digit byte ≡ true → focus_byte byte ≡ true
 digit_is_focus byte is = rw is refl
 
+-- a digit may stand after an operator
 digit_is_member : (byte : ℕ) → is_ascii_digit byte ≡ true → member_byte byte ≡ true
 digit_is_member byte is = rw is refl
 
+-- a digit may be the first byte of an operand
 digit_is_operand : (byte : ℕ) → is_ascii_digit byte ≡ true → operand_byte byte ≡ true
 digit_is_operand byte is = rw is refl
 
--- what stands behind `^`, behind an operator, and as an operand
+-- the text of a printable tree, as it stands after `^`, begins with a byte that may begin a focus
 pub behind_caret : (tree : Tree) → IsPrintable tree → (rest : List ℕ) → begins focus_byte (placed_text (is_focus tree) (constraint_text tree) ++ rest) ≡ true
 behind_caret (concept_tree id) printable rest = concept_begins focus_byte digit_is_focus id printable rest
 behind_caret other printable rest = refl
 
+-- the text of a printable tree, as it stands after an operator, begins with a byte that may begin a focus or `^`
 pub behind_operator : (tree : Tree) → IsPrintable tree → (rest : List ℕ)
     → begins member_byte (placed_text (is_member_or_focus tree) (constraint_text tree) ++ rest) ≡ true
 behind_operator (concept_tree id) printable rest = concept_begins member_byte digit_is_member id printable rest
 behind_operator other printable rest = refl
 
--- a sign begins the text of a walk
+-- the sign of a hierarchy operator may be the first byte of an operand
 walk_begins : (operator : Operator) (operand : Tree) (rest : List ℕ)
     → begins operand_byte (placed_text true (constraint_text (walk_tree operator operand)) ++ rest) ≡ true
 walk_begins Descendants operand rest = refl
 walk_begins other operand rest = refl
 
--- the first byte of an operand
+-- the text of a printable tree, as it stands as an operand, begins with a byte that may begin an operand
 pub operand_begins : (tree : Tree) → IsPrintable tree → (rest : List ℕ) → begins operand_byte (placed_text (is_sub tree) (constraint_text tree) ++ rest) ≡ true
 operand_begins (concept_tree id) printable rest = concept_begins operand_byte digit_is_operand id printable rest
 operand_begins (walk_tree operator operand) printable rest = walk_begins operator operand rest
 operand_begins other printable rest = refl
 
--- no `{` begins an attribute set
+-- a text whose first byte passes a test does not begin with a byte that fails it
 other_begins : (test : ℕ → Bool) (other : ℕ) (text : List ℕ) → test other ≡ false → begins test text ≡ true → begins_with other text ≡ false
 other_begins test other [] fails starts = refl
 other_begins test other (byte ∷ text) fails starts = other_byte test byte other starts fails
 
--- nor one behind a cardinality
+-- a cardinality in front of a text puts no `{` at its beginning
 count_unbraced : (least : ℕ) (most : Option ℕ) (text : List ℕ) → begins_with 123 text ≡ false → begins_with 123 (count_text least most ++ text) ≡ false
 count_unbraced least None text starts = by (least == 1) refl
   where
@@ -73,16 +76,16 @@ count_unbraced least None text starts = by (least == 1) refl
     by false same = rw same refl
 count_unbraced least (Some most) text starts = refl
 
--- nor one behind `R`
+-- an `R` or nothing in front of a text puts no `{` at its beginning
 reverse_unbraced : (reverse : Bool) (text : List ℕ) → begins_with 123 text ≡ false → begins_with 123 (reverse_text reverse ++ text) ≡ false
 reverse_unbraced true text starts = refl
 reverse_unbraced false text starts = starts
 
--- the parts of a text, grouped the other way
+-- five texts in a row are one text, whether joined from the right or from the left
 pub four_parts : (one two three four rest : List ℕ) → one ++ (two ++ (three ++ (four ++ rest))) ≡ one ++ two ++ three ++ four ++ rest
 four_parts one two three four rest = simp append_assoc
 
--- no `{` begins an attribute
+-- the text of a printable attribute does not begin with `{`
 attribute_unbraced : (what : AttributeTree) → IsPrintableAttribute what → (rest : List ℕ) → begins_with 123 (attribute_text what ++ rest) ≡ false
 attribute_unbraced (attribute_tree count reverse name test) printable rest =
     let operand : List ℕ = placed_text (is_sub name) (constraint_text name) in
@@ -91,7 +94,7 @@ attribute_unbraced (attribute_tree count reverse name test) printable rest =
     (reverse_unbraced reverse (operand ++ (test_text test ++ rest)) starts) in
     subst (λ (text : List ℕ). begins_with 123 text ≡ false) (four_parts (cardinality_text count) (reverse_text reverse) operand (test_text test) rest) counted
 
--- nor the parts of a set
+-- the joined parts of a printable attribute set do not begin with `{`
 joined_unbraced : (before : List ℕ) (parts : AttributeSetTrees) → HasTwoParts parts → ArePrintableParts parts
     → (rest : List ℕ) → begins_with 123 (joined_parts before parts ++ rest) ≡ false
 joined_unbraced before no_sets two printable rest = absurd two
@@ -105,7 +108,7 @@ joined_unbraced before (set_then (one_set what) more) two printable rest =
 joined_unbraced before (set_then (and_set parts) more) two printable rest = refl
 joined_unbraced before (set_then (or_set parts) more) two printable rest = refl
 
--- nor any set
+-- the text of a printable attribute set does not begin with `{`
 pub set_unbraced : (set : AttributeSetTree) → IsPrintableSet set → (rest : List ℕ) → begins_with 123 (set_text set ++ rest) ≡ false
 set_unbraced (one_set what) printable rest = attribute_unbraced what printable.1 rest
 set_unbraced (and_set parts) printable rest = joined_unbraced _ parts printable.0 printable.1 rest

@@ -1,5 +1,5 @@
--- A tree with a form is printable and has a canonical form: one whose symbols are those that the text of the tree spells, and
--- whose brackets are never deeper than those of any form.
+-- A tree with a form is printable and has a canonical form. The symbols of the canonical form are those that the text
+-- of the tree spells, and its brackets are never deeper than those of any form of the tree.
 use Rattle.std.proofs.Common.{ℕ, ◌≡◌, ◌≤◌, ◌&&◌, ◌||◌, ◌==◌, Bool, true, false, List, [], ◌∷◌, ◌++◌, Some, map, if◌then◌else◌, refl, ap, ◌∙◌, sym, subst, arith}
 use Rattle.std.specs.Char.{to_ascii_lowercase}
 use Rattle.std.specs.List.{list_all}
@@ -19,14 +19,22 @@ use Rattle.constraint_tree.proofs.Symbols.{IsPrintable, constraint_symbols}
 use Rattle.constraint_tree.proofs.TextLemmas.{no_more}
 use Rattle.constraint_tree.specs.Tree.{Tree}
 
+-- the canonical form of a tree, with its properties
 pub record Canonical (tree : Tree) : Type 0 where
+  -- the tree is printable
   pub printable : IsPrintable tree
+  -- the canonical form
   pub form : ConstraintForm
+  -- the tree of `form` is `tree`
   pub is : constraint_tree form ≡ tree
+  -- the tokens of `form` are the symbols of the tree's text, in front of any `rest`
   pub spells : (rest : List Symbol) → constraint_tokens form rest ≡ constraint_symbols tree rest
+  -- at most 64 brackets are open at once in the symbols of the tree's text
   pub shallow : symbols_deep 0 (constraint_symbols tree []) ≡ false
+  -- the text of the tree has at most 64 brackets open at once
   pub few : levels tree ≤ 64
 
+-- the tree of a form with plain digits and at most 64 open brackets has a canonical form, if numbers read back
 pub canonical : NumbersRead → (form : ConstraintForm) → ArePlain (constraint_tokens form [])
     → symbols_deep 0 (constraint_tokens form []) ≡ false → Canonical (constraint_tree form)
 canonical numbers form bare flat =
@@ -43,12 +51,13 @@ canonical numbers form bare flat =
       few = omega (arith, shallow);
     }
 
--- the depth of tokens is that of their symbols
+-- the kind of a token's symbol is the kind of the token
 kind_of_symbol_of : (kind : TokenKind) (bytes : List ℕ) → kind_of_symbol (symbol_of (record { kind = kind; bytes = bytes })) ≡ kind
 kind_of_symbol_of Digits bytes = refl
 kind_of_symbol_of Number bytes = refl
 kind_of_symbol_of other bytes = refl
 
+-- tokens are too deep exactly if their symbols are
 pub deep_symbols : (count : ℕ) (tokens : List Spelled) → is_deep count tokens ≡ symbols_deep count (map symbol_of tokens)
 deep_symbols count [] = refl
 deep_symbols count (token ∷ tokens) =
@@ -56,11 +65,12 @@ deep_symbols count (token ∷ tokens) =
     ∙ ap (λ (kind : TokenKind). (opens kind && (count == most_open))
     || symbols_deep (open_behind count kind) (map symbol_of tokens)) (sym (kind_of_symbol_of token.kind token.bytes))
 
--- no symbol and no word is a token of digits, and digits that are read have no leading zero
+-- whether a kind of token is neither digits nor a number
 is_mark : TokenKind → Bool
 is_mark Digits = false
 is_mark other = true
 
+-- a kind found in a table passes `is_mark` if every kind of the table does
 kind_in-mark : (table : List (List ℕ × TokenKind)) (bytes : List ℕ) (kind : TokenKind)
     → list_all (λ entry. is_mark entry.1) table ≡ true → kind_in table bytes ≡ Some kind → is_mark kind ≡ true
 kind_in-mark [] bytes kind marks is = absurd (cc)
@@ -75,6 +85,7 @@ kind_in-mark (entry ∷ table) bytes kind marks is =
         sym (ap is_mark same) ∙ first
     by false first others found = others found
 
+-- a token that is neither digits nor a number, in front of plain symbols, gives plain symbols
 mark_plain : (kind : TokenKind) (bytes : List ℕ) (rest : List Symbol) → is_mark kind ≡ true → ArePlain rest
     → ArePlain (symbol_of (record { kind = kind; bytes = bytes }) ∷ rest)
 unfolding is_mark
@@ -82,6 +93,7 @@ mark_plain Digits bytes rest is bare = absurd (cc)
 mark_plain Number bytes rest is bare = bare
 mark_plain other bytes rest is bare = bare
 
+-- the digits among the symbols of pieces that are read have no leading zero
 pub read_plain : (pieces : List Piece) (rest : List ℕ) → AreRead pieces rest → ArePlain (map symbol_of (spelled_tokens pieces))
 unfolding is_mark
 read_plain [] rest read = tt
@@ -99,7 +111,7 @@ read_plain (digits_piece run ∷ pieces) rest read =
 read_plain (number_piece sign whole fraction ∷ pieces) rest read = read_plain pieces rest read.1
 read_plain (term inside ∷ pieces) rest read = read_plain pieces rest read.1
 
--- the tree of a constraint has a canonical form, which is not too deep
+-- the tree of every constraint has a canonical form
 pub constraint_canonical : (text : List ℕ) (tree : Tree) → IsConstraint text tree → Canonical tree
 constraint_canonical text tree constraint =
     let pieces = constraint.are_tokens.0 in

@@ -1,4 +1,4 @@
--- A constraint denotes concepts in force alone.
+-- A constraint denotes only concepts in force.
 use Rattle.std.proofs.Common.{ℕ, ◌≡◌, inl, inr, Bool, true}
 use Rattle.std.proofs.lemmas.Bool.{false≢true, or_cases, and_parts}
 use Rattle.rf2_rows.specs.Release.{Release}
@@ -7,7 +7,7 @@ use Rattle.constraint_tree.proofs.WalkLemmas.{tells_in_force}
 use Rattle.constraint_tree.specs.Denotation.{denotes, some_denotes, follows, is_value, DenotesConceptsInForce}
 use Rattle.constraint_tree.specs.Tree.{Tree, concept_tree, any_tree, walk_tree, member_tree, and_tree, or_tree, minus_tree, dotted_tree, refined_tree, Trees, no_trees, tree_then}
 
--- the values along names are in force where those of the set are
+-- every value that names lead to from `set` is in force if every member of `set` is
 follows_in_force : (names : Trees) (release : Release) (set : ℕ → Bool)
     → ((value : ℕ) → set value ≡ true → has_concept release value ≡ true) → (concept : ℕ)
     → follows release set names concept ≡ true → has_concept release concept ≡ true
@@ -16,8 +16,9 @@ follows_in_force (tree_then name names) release set each concept holds =
     follows_in_force names release (is_value release set (denotes release name))
     (λ value found. (and_parts (has_concept release value) _ found).0) concept holds
 
--- what a constraint denotes is in force
+-- Each concept that a tree denotes is in force.
 mutual
+  -- a concept that a tree denotes is in force
   in_force_if_denoted : (release : Release) (tree : Tree) (concept : ℕ) → denotes release tree concept ≡ true → has_concept release concept ≡ true
   in_force_if_denoted release (concept_tree number) concept holds = (and_parts (has_concept release concept) _ holds).0
   in_force_if_denoted release any_tree concept holds = holds
@@ -32,6 +33,7 @@ mutual
   in_force_if_denoted release (refined_tree focus refinement) concept holds =
       in_force_if_denoted release focus concept (and_parts (denotes release focus concept) _ holds).0
 
+  -- a concept that at least one tree of a list denotes is in force
   in_force_if_some_denotes : (release : Release) (trees : Trees) (concept : ℕ) → some_denotes release trees concept ≡ true → has_concept release concept ≡ true
   in_force_if_some_denotes release no_trees concept holds = absurd (false≢true holds)
   in_force_if_some_denotes release (tree_then first rest) concept holds = elim (or_cases (denotes release first concept) _ holds) [
@@ -39,6 +41,6 @@ mutual
     | inr later ↦ in_force_if_some_denotes release rest concept later
   ]
 
--- so it is one of the release's concepts
+-- a constraint denotes only concepts of the release
 pub denotes_concepts_in_force : DenotesConceptsInForce
 denotes_concepts_in_force release tree concept holds = (tells_in_force release concept).0 (in_force_if_denoted release tree concept holds)

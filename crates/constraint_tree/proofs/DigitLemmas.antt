@@ -26,28 +26,28 @@ use Rattle.constraint_tree.proofs.PieceLemmas.{Reads, along, bracket_close, brac
 use Rattle.constraint_tree.proofs.SymbolLemmas.{other_byte, swapped}
 use Rattle.constraint_tree.proofs.Symbols.{HasDigits, IsPrintableMost, count_symbols, most_symbols, range_symbols}
 
--- the decimal digits of a number have no leading zero
+-- `test || true` is true for every `test`
 or_true : (test : Bool) → (test || true) ≡ true
 or_true true = refl
 or_true false = refl
 
--- digits that begin with no zero are plain
+-- a digit run whose first byte is greater than `0` is plain
 plain_from : (run : List ℕ) → 48 < get_or run 0 0 → is_plain run ≡ true
 plain_from [] first = absurd (omega arith)
 plain_from (byte ∷ run) first =
     let apart : (byte == 48) ≡ false = grind (arith, nat_tests) in
     rw apart (or_true (length (byte ∷ run) == 1))
 
--- and the decimal digits of a number are
+-- the decimal digits of a number below 10^18 are plain: they have no leading zero
 decimal_plain : (number : ℕ) → number < 10 ^ 18 → is_plain (decimal number) ≡ true
 decimal_plain zero small = ap is_plain (decimal_digit 0 (omega arith))
 decimal_plain (suc number) small = plain_from (decimal (suc number)) (first_decimal (suc number) (omega arith) (omega arith))
 
--- digits in front of what is no digit
+-- no digit is a letter
 digit-not_letter : (byte : ℕ) → is_ascii_digit byte ≡ true → is_ascii_alphabetic byte ≡ false
 digit-not_letter byte is = false_from_ne_true (is_ascii_alphabetic byte) (λ letter. let none = letter-not_digit byte letter in absurd (cc))
 
--- no form that is not read begins with a digit
+-- no unsupported form begins with a digit
 digit_supported : (byte : ℕ) (rest : List ℕ) → is_ascii_digit byte ≡ true → unsupported (byte ∷ rest) ≡ None
 digit_supported byte rest is =
     let no_letter = digit-not_letter byte is in
@@ -56,30 +56,34 @@ digit_supported byte rest is =
     let no_quote = other_byte is_ascii_digit byte 34 is refl in
     rw (no_letter, no_brace, no_caret, no_quote) refl
 
--- nor with digits
+-- no unsupported form begins with a digit run
 run_supported : (run rest : List ℕ) → 0 < length run → list_all is_ascii_digit run ≡ true → unsupported (run ++ rest) ≡ None
 run_supported [] rest some each = absurd (omega arith)
 run_supported (byte ∷ run) rest some each = digit_supported byte (run ++ rest) (and_parts (is_ascii_digit byte) (list_all is_ascii_digit run) each).0
 
--- digits are bytes below 128
+-- every digit is a byte below 128
 low_digit : (byte : ℕ) → is_ascii_digit byte ≡ true → nat_lt byte 128 ≡ true
 low_digit byte is = let high = leb-true byte 57 (and_parts (nat_le 48 byte) (nat_le byte 57) is).1 in lt-ltb byte 128 (omega arith)
 
--- and so are those of a run
+-- every byte of a digit run is below 128
 low_digits : (run : List ℕ) → list_all is_ascii_digit run ≡ true → list_all (λ byte. nat_lt byte 128) run ≡ true
 low_digits [] each = refl
 low_digits (byte ∷ run) each =
     let parts = and_parts (is_ascii_digit byte) (list_all is_ascii_digit run) each in
     and_from (nat_lt byte 128) (list_all (λ other. nat_lt other 128) run) (low_digit byte parts.0) (low_digits run parts.1)
 
--- the digits that a number is written with
+-- the decimal digits of `number` are fit to be read
 pub record WritesDigits (number : ℕ) : Type 0 where
+  -- there is at least one digit
   pub some : 0 < length (decimal number)
+  -- there are at most 18 digits
   pub few : length (decimal number) ≤ 18
+  -- every byte is a digit
   pub each : list_all is_ascii_digit (decimal number) ≡ true
+  -- the digits have no leading zero
   pub plain : is_plain (decimal number) ≡ true
 
--- the digits of a number are as many as they may be, and plain
+-- the decimal digits of a number of at least one and at most 18 digits are fit to be read
 pub digits_written : (least number : ℕ) → 0 < least → HasDigits least 18 number → WritesDigits number
 digits_written least number some written =
     let tests = and_parts (nat_le least (length (decimal number)) && nat_le (length (decimal number)) 18)
@@ -91,7 +95,7 @@ digits_written least number some written =
     let below : number < 10 ^ 18 = subst (λ (n : ℕ). n < 10 ^ 18) written.value small in
     record { some = omega arith; few = few; each = tests.1; plain = decimal_plain number below }
 
--- the digits of a number are read in front of what is no digit
+-- the decimal digits of a number are read in front of a text that begins with no digit
 pub digits_read : (number : ℕ) (rest : List ℕ) (symbols : List Symbol) → WritesDigits number
     → begins is_ascii_digit rest ≡ false → Reads rest symbols → Reads (decimal number ++ rest) (digits (decimal number) ∷ symbols)
 digits_read number rest symbols written ends more =
@@ -104,19 +108,19 @@ digits_read number rest symbols written ends more =
     (λ tokens. ap (λ (run : List ℕ). digits run ∷ map symbol_of tokens) (append-nil (decimal number))) read
     (subst IsUtf8 (sym (append-nil (decimal number))) (low_bytes (decimal number) (low_digits (decimal number) written.each))) more
 
--- a point and the digits behind it, if there are any
+-- a text is a point and digits after it, or nothing
 record WritesPoint (text : List ℕ) : Type 0 where
   fraction : List ℕ
   is : (rest : List ℕ) → text ++ rest ≡ point_text fraction rest
   each : list_all is_ascii_digit fraction ≡ true
   few : length fraction ≤ 18
 
--- a point in front of some digits
+-- a point in front of a digit run is the text of a fraction
 point_then : (run rest : List ℕ) → 0 < length run → 46 ∷ run ++ rest ≡ point_text run rest
 point_then [] rest some = absurd (omega arith)
 point_then (digit ∷ run) rest some = refl
 
--- the fraction of a number is written as a point and digits, or not at all
+-- the text of a fraction below 10^18 is a point and digits, or nothing
 point_written : (fraction : ℕ) → fraction < 10 ^ 18 → WritesPoint (fraction_text fraction)
 point_written fraction small = by (fraction == 0) refl
   where
@@ -132,28 +136,30 @@ point_written fraction small = by (fraction == 0) refl
           few = written.few;
         }
 
--- what may not stand behind a number: a digit, and a point, which a digit might follow
+-- whether a byte must not follow a number: a digit, or a point, which a digit might follow
 abbrev pub number_byte : ℕ → Bool
 number_byte byte = is_ascii_digit byte || byte == 46
 
+-- a text may follow a number: it begins with no digit and no point
 abbrev pub EndsNumber : List ℕ → Type 0
 EndsNumber rest = begins number_byte rest ≡ false
 
+-- a text that may follow a number begins with no digit
 pub ends_digits : (rest : List ℕ) → EndsNumber rest → begins is_ascii_digit rest ≡ false
 ends_digits [] ends = refl
 ends_digits (byte ∷ rest) ends = (or_parts (is_ascii_digit byte) (byte == 46) ends).0
 
--- what may stand behind a number begins with no point
+-- a text that may follow a number begins with no point
 ends_point : (rest : List ℕ) → EndsNumber rest → begins_with 46 rest ≡ false
 ends_point [] ends = refl
 ends_point (byte ∷ rest) ends = (or_parts (is_ascii_digit byte) (byte == 46) ends).1
 
--- a number is read in front of what may stand behind it
+-- the fraction of a number, in front of a text that may follow a number, begins with no digit
 after_whole : (fraction rest : List ℕ) → EndsNumber rest → begins is_ascii_digit (point_text fraction rest) ≡ false
 after_whole [] rest ends = ends_digits rest ends
 after_whole (digit ∷ more) rest ends = refl
 
--- a number stands in front of what may stand behind it
+-- a number may stand in front of a text that may follow a number
 number_stands : (sign : Sign) (whole fraction rest : List ℕ) → 0 < length whole
     → list_all is_ascii_digit whole ≡ true → is_plain whole ≡ true → list_all is_ascii_digit fraction ≡ true
     → EndsNumber rest → Stands (number_piece sign whole fraction) rest
@@ -163,20 +169,20 @@ number_stands sign whole [] rest some each plain behind ends =
 number_stands sign whole (digit ∷ more) rest some each plain behind ends =
     (record { some = some; each = each; ended = refl }, plain, record { some = omega arith; each = behind; ended = ends_digits rest ends })
 
--- its bytes are UTF-8
+-- the bytes of a fraction are UTF-8
 point_utf8 : (fraction : List ℕ) → list_all is_ascii_digit fraction ≡ true → IsUtf8 (point_text fraction [])
 point_utf8 [] each = IsUtf8-nil
 point_utf8 (digit ∷ more) each =
     IsUtf8-append (46 ∷ []) ((digit ∷ more) ++ []) (low_bytes (46 ∷ []) refl)
     (subst IsUtf8 (sym (append-nil (digit ∷ more))) (low_bytes (digit ∷ more) (low_digits (digit ∷ more) each)))
 
--- and so are those of a sign
+-- a sign in front of UTF-8 bytes gives UTF-8 bytes
 sign_utf8 : (sign : Sign) (text : List ℕ) → IsUtf8 text → IsUtf8 (sign_text sign text)
 sign_utf8 unsigned text utf8 = utf8
 sign_utf8 plus text utf8 = IsUtf8-append (43 ∷ []) text (low_bytes (43 ∷ []) refl) utf8
 sign_utf8 minus text utf8 = IsUtf8-append (45 ∷ []) text (low_bytes (45 ∷ []) refl) utf8
 
--- and those of a number
+-- the bytes of a number are UTF-8
 number_utf8 : (sign : Sign) (whole fraction : List ℕ) → list_all is_ascii_digit whole ≡ true
     → list_all is_ascii_digit fraction ≡ true → IsUtf8 (bytes_of (number_piece sign whole fraction))
 number_utf8 sign whole fraction each behind =
@@ -185,7 +191,7 @@ number_utf8 sign whole fraction each behind =
     IsUtf8-append (35 ∷ []) (sign_text sign (whole ++ point_text fraction [])) (low_bytes (35 ∷ []) refl)
     (sign_utf8 sign (whole ++ point_text fraction []) unsigned_utf8)
 
--- a number with a sign is read in front of what may stand behind it
+-- a number with a sign is read in front of a text that may follow a number
 signed_reads : (sign : Sign) (number : ℕ) (rest : List ℕ) (symbols : List Symbol) → number < 10 ^ 36
     → EndsNumber rest → Reads rest symbols
     → Reads (35 ∷ sign_text sign (unsigned_text number) ++ rest)
@@ -216,7 +222,7 @@ signed_reads sign number rest symbols small ends more =
         let tests = and_parts (nat_le 1 (length run) && nat_le (length run) 18) (list_all is_ascii_digit run) is in
         leb-true (length run) 18 (and_parts (nat_le 1 (length run)) (nat_le (length run) 18) tests.0).1
 
--- the text of a value is read so
+-- the text of a value is read in front of a text that may follow a number
 pub value_reads : (value : ℤ) (rest : List ℕ) (symbols : List Symbol)
     → decimal_of (drop 1 (number_text value)) ≡ Some value → EndsNumber rest → Reads rest symbols
     → Reads (number_text value ++ rest) (decimal_symbol (number_text value) ∷ symbols)
@@ -225,13 +231,13 @@ value_reads (pos number) rest symbols written ends more =
 value_reads (negsuc below) rest symbols written ends more =
     signed_reads minus (suc below) rest symbols (number_is_small (drop 1 (number_text (negsuc below))) (negsuc below) written) ends more
 
--- a cardinality in front of what it counts
+-- the maximum of a cardinality is read in front of a text that begins with no digit
 most_reads : (most : Option ℕ) (rest : List ℕ) (symbols : List Symbol) → IsPrintableMost most
     → begins is_ascii_digit rest ≡ false → Reads rest symbols → Reads (most_text most ++ rest) (most_symbols most symbols)
 most_reads None rest symbols written ends more = wildcard rest symbols more
 most_reads (Some most) rest symbols written ends more = digits_read most rest symbols (digits_written 1 most (omega arith) written) ends more
 
--- a cardinality that is written out
+-- a cardinality that is written out is read in front of any text that is read
 range_reads : (least : ℕ) (most : Option ℕ) (rest : List ℕ) (symbols : List Symbol) → HasDigits 1 18 least
     → IsPrintableMost most → Reads rest symbols → Reads (range_text least most ++ rest) (range_symbols least most symbols)
 range_reads least most rest symbols written most_written more =
@@ -242,7 +248,7 @@ range_reads least most rest symbols written most_written more =
     regroup : (one other : List ℕ) → 91 ∷ one ++ (46 ∷ 46 ∷ other ++ 93 ∷ rest) ≡ 91 ∷ one ++ 46 ∷ 46 ∷ [] ++ other ++ 93 ∷ [] ++ rest
     regroup one other = simp append_assoc
 
--- any cardinality
+-- the text of a cardinality, which leaves `[1..*]` out, is read in front of any text that is read
 pub count_reads : (least : ℕ) (most : Option ℕ) (rest : List ℕ) (symbols : List Symbol) → HasDigits 1 18 least
     → IsPrintableMost most → Reads rest symbols → Reads (count_text least most ++ rest) (count_symbols least most symbols)
 count_reads least None rest symbols written most_written more = by (least == 1) refl

@@ -18,27 +18,30 @@ use Rattle.constraint_tree.specs.Tree.{Tree, any_tree}
 use Rattle.constraint_tree.proofs.LevelLemmas.{Brackets, IsFlat, IsWithin, round_brackets, braces, operator_flat, compare_flat, nothing_within, marked_within, then_within, bracket_within, lower_within, placed_levels, levels, list_levels, refinement_levels, item_levels, set_levels, part_levels, attribute_levels}
 use Rattle.constraint_tree.proofs.Symbols.{HasDigits, IsForward, IsPrintable, ArePrintable, IsPrintableCount, IsPrintableRefinement, ArePrintableItems, IsPrintableSet, ArePrintableParts, IsPrintableAttribute}
 
--- digits among some symbols have no leading zero
+-- no digits among the symbols have a leading zero
 abbrev pub ArePlain : List Symbol → Type 0
 ArePlain [] = Unit {0}
 ArePlain (digits run ∷ rest) = (is_plain run ≡ true) × ArePlain rest
 ArePlain (decimal_symbol text ∷ rest) = ArePlain rest
 ArePlain (mark kind ∷ rest) = ArePlain rest
 
--- the text of a number reads back
+-- every value that a text reads to is read back from the text that it is printed as
 abbrev pub NumbersRead : Type 0
 NumbersRead = (text : List ℕ) (value : ℤ) → decimal_of text ≡ Some value → decimal_of (drop 1 (number_text value)) ≡ Some value
 
--- tokens of a form in front of others: where they are plain what they write is printable, and they have no more than so many
--- brackets open at once
+-- the tokens of a form write something printable if they are plain, and they have at least `height` brackets open at
+-- once
 pub record FitsIn (Printable : Type 0) (height : ℕ) (tokens : List Symbol → List Symbol) : Type 0 where
+  -- if the tokens in front of `rest` are plain, then what they write is printable and `rest` is plain
   pub printable : (rest : List Symbol) → ArePlain (tokens rest) → Printable × ArePlain rest
+  -- the tokens have at least `height` brackets open at once
   pub within : IsWithin tokens height
 
--- nothing, a token and others behind it, some behind others, and some in brackets
+-- the empty list of tokens has `FitsIn` with height 0
 nothing_fits : FitsIn (Unit {0}) 0 (λ rest. rest)
 nothing_fits = record { printable = λ rest bare. (tt, bare); within = nothing_within }
 
+-- a token that neither opens nor closes a bracket, in front of tokens, keeps their `FitsIn`
 marked_fits : {Printable : Type 0} {height : ℕ} {tokens : List Symbol → List Symbol} (kind : TokenKind) → IsFlat kind
     → FitsIn Printable height tokens → FitsIn Printable height (λ rest. mark kind ∷ tokens rest)
 marked_fits kind flat_kind inside = record {
@@ -46,6 +49,7 @@ marked_fits kind flat_kind inside = record {
   within = marked_within kind flat_kind inside.within;
 }
 
+-- tokens in front of other tokens have `FitsIn` for both conditions, with the greater height
 then_fits : {One Other : Type 0} {height further : ℕ} {tokens more : List Symbol → List Symbol} → FitsIn One height tokens
     → FitsIn Other further more → FitsIn (One × Other) (max height further) (λ rest. tokens (more rest))
 then_fits {more} first second = record {
@@ -56,6 +60,7 @@ then_fits {more} first second = record {
   within = then_within first.within second.within;
 }
 
+-- tokens in brackets have `FitsIn` with a height greater by 1
 bracket_fits : {Printable : Type 0} {height : ℕ} {tokens : List Symbol → List Symbol} {opening closing : TokenKind} → Brackets opening closing
     → FitsIn Printable height tokens → FitsIn Printable (height + 1) (λ rest. mark opening ∷ tokens (mark closing ∷ rest))
 bracket_fits {closing} brackets inside = record {
@@ -63,13 +68,14 @@ bracket_fits {closing} brackets inside = record {
   within = bracket_within brackets inside.within;
 }
 
--- two with a token between them, and others behind
+-- two runs of tokens with a token between them and others after them have `FitsIn` for all three conditions, with the
+-- greatest height
 joined_fits : {One Two Others : Type 0} {first second more : ℕ} {one two others : List Symbol → List Symbol} (kind : TokenKind)
     → IsFlat kind → FitsIn One first one → FitsIn Two second two → FitsIn Others more others
     → FitsIn (One × (Two × Others)) (max first (max second more)) (λ rest. one (mark kind ∷ two (others rest)))
 joined_fits kind flat_kind first second more = then_fits first (marked_fits kind flat_kind (then_fits second more))
 
--- what is printable in one way is so in another, and with fewer brackets
+-- `FitsIn` follows from `FitsIn` for a stronger condition and a greater height
 printed : {One Other : Type 0} {height less : ℕ} {tokens : List Symbol → List Symbol} → (One → Other) → less ≤ height
     → FitsIn One height tokens → FitsIn Other less tokens
 printed view lower inside = record {
@@ -77,11 +83,12 @@ printed view lower inside = record {
   within = lower_within lower inside.within;
 }
 
+-- a test is true if `test || false` is
 first_of_or : (test : Bool) → (test || false) ≡ true → test ≡ true
 first_of_or true is = refl
 first_of_or false is = is
 
--- digits that begin with a zero are that zero alone
+-- plain digits that begin with a zero are that zero alone
 leading : (text : List ℕ) → 0 < length text → is_plain text ≡ true → get_or text 0 0 ≡ 48 → length text ≡ 1
 leading [] some test zero_first = absurd (omega arith)
 leading (byte ∷ text) some test zero_first =
@@ -89,6 +96,7 @@ leading (byte ∷ text) some test zero_first =
     let one : (length (byte ∷ text) == 1) ≡ true = first_of_or (length (byte ∷ text) == 1) (rw first at test) in
     eqb-true (length (byte ∷ text)) 1 one
 
+-- the number of a plain run of `least` to `most` digits has as many digits
 digits_fit : (least most : ℕ) (run : List ℕ) → is_number least most run ≡ true → is_plain run ≡ true → 0 < least
     → most ≤ 18 → HasDigits least most (number_of run)
 digits_fit least most run is bare some few =
@@ -100,28 +108,32 @@ digits_fit least most run is bare some few =
     let same : decimal (number_of run) ≡ run = decimal-digits_value numerals run tests.1 (omega arith) (leading run (omega arith) bare) (omega arith) in
     record { is = rw same is; value = ap number_of same }
 
--- two parts at the least
+-- tokens keep their `FitsIn` if a true condition is added
 two_fit : {Printable : Type 0} {height : ℕ} {tokens : List Symbol → List Symbol} → FitsIn Printable height tokens
     → FitsIn (Unit {0} × Printable) height tokens
 two_fit inside = printed (λ found. (tt, found)) (omega arith) inside
 
+-- the brackets that a text may need never lower its height
 placed_more : (stands : Bool) (height : ℕ) → height ≤ placed_levels stands height
 placed_more true height = omega arith
 placed_more false height = omega arith
 
+-- the brackets that a text may need raise its height by at most 1
 placed_less : (stands : Bool) (height : ℕ) → placed_levels stands height ≤ height + 1
 placed_less true height = omega arith
 placed_less false height = omega arith
 
--- fewer brackets are wanted behind an operator, and as an operand, than behind `^`
+-- an operand needs no more open brackets than what follows `^`
 sub_less : (tree : Tree) (height : ℕ) → placed_levels (is_sub tree) height ≤ placed_levels (is_focus tree) height
 sub_less any_tree height = omega arith
 sub_less other height = omega arith
 
+-- what follows an operator needs no more open brackets than what follows `^`
 marked_less : (tree : Tree) (height : ℕ) → placed_levels (is_member_or_focus tree) height ≤ placed_levels (is_focus tree) height
 marked_less any_tree height = omega arith
 marked_less other height = omega arith
 
+-- the tokens of a cardinality have `FitsIn` with height 0
 count_fits : (form : Option CountForm) → FitsIn (IsPrintableCount (cardinality_of form)) 0 (counted_tokens form)
 count_fits None = record {
   printable = λ rest bare. ((digits_fit 1 18 (49 ∷ []) refl refl (omega arith) (omega arith), tt), bare);
@@ -139,7 +151,8 @@ count_fits (Some (between least most is also)) = record {
   within = record { fits = λ count rest few flat. (omega arith, flat) };
 }
 
--- a name and a test behind a cardinality, and behind `R` or not
+-- the tokens of a cardinality, of `R` if `reverse` is set, and of a name and a test have `FitsIn` with the height of
+-- name and test
 attribute_fits : {Name Test : Type 0} {height : ℕ} {tokens : List Symbol → List Symbol} (times : Option CountForm) (reverse : Bool)
     → FitsIn (Name × Test) height tokens
     → FitsIn (IsPrintableCount (cardinality_of times) × Name × Test) height (λ rest. counted_tokens times (reverse_tokens reverse (tokens rest)))
@@ -147,13 +160,15 @@ attribute_fits times true inside =
     printed (λ found. (found.0, found.1.0, found.1.1)) (omega arith) (then_fits (count_fits times) (marked_fits Reverse (λ count rest. refl) inside))
 attribute_fits times false inside = printed (λ found. (found.0, found.1.0, found.1.1)) (omega arith) (then_fits (count_fits times) inside)
 
+-- an attribute in braces is not read backwards
 pair_forward : (count : Option CountForm) (pair : PairForm) → IsForward (pair_tree count false pair)
 pair_forward count (within name value) = refl
 pair_forward count other = refl
 
--- so are the tokens of a form
+-- If numbers read back, the tokens of each form have `FitsIn` for its tree, with the height of the tree's text.
 module _ (numbers : NumbersRead) where
   mutual
+    -- the tokens of a constraint form have `FitsIn` with the levels of its tree
     pub constraint_fits : (form : ConstraintForm) → FitsIn (IsPrintable (constraint_tree form)) (levels (constraint_tree form)) (constraint_tokens form)
     constraint_fits (alone sub) = printed (λ found. found) (placed_more (is_sub (sub_tree sub)) (levels (sub_tree sub))) (sub_fits sub)
     constraint_fits (refined focus refinement) = then_fits (sub_fits focus) (marked_fits Colon (λ count rest. refl) (refinement_fits refinement))
@@ -166,11 +181,13 @@ module _ (numbers : NumbersRead) where
         printed (λ found. (found.0, tt, found.1)) (omega arith)
         (joined_fits Dot (λ count rest. refl) (sub_fits start) (sub_fits name) (subs_fits Dot (λ count rest. refl) more))
 
+    -- the tokens of further operands have `FitsIn` with the levels of their list
     subs_fits : (kind : TokenKind) → IsFlat kind → (forms : SubForms)
         → FitsIn (ArePrintable (sub_trees forms)) (list_levels (sub_trees forms)) (subs_tokens kind forms)
     subs_fits kind flat_kind no_subs = nothing_fits
     subs_fits kind flat_kind (sub_then form more) = marked_fits kind flat_kind (then_fits (sub_fits form) (subs_fits kind flat_kind more))
 
+    -- the tokens of an operand have `FitsIn` with the levels of its tree as an operand
     sub_fits : (form : SubForm)
         → FitsIn (IsPrintable (sub_tree form)) (placed_levels (is_sub (sub_tree form)) (levels (sub_tree form))) (sub_tokens form)
     sub_fits (plain focus) = printed (λ found. found) (sub_less (focus_tree focus) (levels (focus_tree focus))) (focus_fits focus)
@@ -181,6 +198,7 @@ module _ (numbers : NumbersRead) where
     sub_fits (walk_member operator focus) =
         marked_fits (operator_kind operator) (operator_flat operator) (marked_fits MemberOf (λ count rest. refl) (focus_fits focus))
 
+    -- the tokens of a focus have `FitsIn` with the levels of its tree after `^`
     focus_fits : (form : FocusForm)
         → FitsIn (IsPrintable (focus_tree form)) (placed_levels (is_focus (focus_tree form)) (levels (focus_tree form))) (focus_tokens form)
     focus_fits (concept run is) = record {
@@ -196,6 +214,7 @@ module _ (numbers : NumbersRead) where
         printed (λ found. found) (placed_less (is_focus (constraint_tree inside)) (levels (constraint_tree inside)))
         (bracket_fits round_brackets (constraint_fits inside))
 
+    -- the tokens of a refinement form have `FitsIn` with the levels of its tree
     refinement_fits : (form : RefinementForm)
         → FitsIn (IsPrintableRefinement (refinement_tree form)) (refinement_levels (refinement_tree form)) (refinement_tokens form)
     refinement_fits (one_item item) = printed (λ found. found) (placed_more (is_item (item_tree item)) (refinement_levels (item_tree item))) (item_fits item)
@@ -204,11 +223,13 @@ module _ (numbers : NumbersRead) where
     refinement_fits (some_items first second more) =
         two_fit (joined_fits Or (λ count rest. refl) (item_fits first) (item_fits second) (items_fits Or (λ count rest. refl) more))
 
+    -- the tokens of further items have `FitsIn` with the levels of their list
     items_fits : (kind : TokenKind) → IsFlat kind → (forms : ItemForms)
         → FitsIn (ArePrintableItems (item_trees forms)) (item_levels (item_trees forms)) (items_tokens kind forms)
     items_fits kind flat_kind no_items = nothing_fits
     items_fits kind flat_kind (item_then form more) = marked_fits kind flat_kind (then_fits (item_fits form) (items_fits kind flat_kind more))
 
+    -- the tokens of an item have `FitsIn` with the levels of its tree as an item
     item_fits : (form : ItemForm)
         → FitsIn (IsPrintableRefinement (item_tree form)) (placed_levels (is_item (item_tree form)) (refinement_levels (item_tree form))) (item_tokens form)
     item_fits (attribute times reverse pair) = pair_fits times reverse pair
@@ -217,6 +238,7 @@ module _ (numbers : NumbersRead) where
         printed (λ found. found) (placed_less (is_item (refinement_tree inside)) (refinement_levels (refinement_tree inside)))
         (bracket_fits round_brackets (refinement_fits inside))
 
+    -- the tokens of an attribute set form have `FitsIn` with the levels of its tree
     set_fits : (form : SetForm) → FitsIn (IsPrintableSet (set_tree form)) (set_levels (set_tree form)) (set_tokens form)
     set_fits (one_part part) = printed (λ found. found) (placed_more (is_part (part_tree part)) (set_levels (part_tree part))) (part_fits part)
     set_fits (all_parts first second more) =
@@ -224,11 +246,13 @@ module _ (numbers : NumbersRead) where
     set_fits (some_parts first second more) =
         two_fit (joined_fits Or (λ count rest. refl) (part_fits first) (part_fits second) (parts_fits Or (λ count rest. refl) more))
 
+    -- the tokens of further parts have `FitsIn` with the levels of their list
     parts_fits : (kind : TokenKind) → IsFlat kind → (forms : PartForms)
         → FitsIn (ArePrintableParts (part_trees forms)) (part_levels (part_trees forms)) (parts_tokens kind forms)
     parts_fits kind flat_kind no_parts = nothing_fits
     parts_fits kind flat_kind (part_then form more) = marked_fits kind flat_kind (then_fits (part_fits form) (parts_fits kind flat_kind more))
 
+    -- the tokens of a part have `FitsIn` with the levels of its tree as a part
     part_fits : (form : PartForm)
         → FitsIn (IsPrintableSet (part_tree form)) (placed_levels (is_part (part_tree form)) (set_levels (part_tree form))) (part_tokens form)
     part_fits (counted_part times pair) = printed (λ found. (pair_forward times pair, found)) (omega arith) (pair_fits times false pair)
@@ -236,7 +260,8 @@ module _ (numbers : NumbersRead) where
         printed (λ found. found) (placed_less (is_part (set_tree inside)) (set_levels (set_tree inside)))
         (bracket_fits round_brackets (set_fits inside))
 
-    -- behind its cardinality, and behind `R` or not
+    -- the tokens of a pair, after its cardinality and after `R` if `reverse` is set, have `FitsIn` with the levels of
+    -- its attribute
     pair_fits : (times : Option CountForm) (reverse : Bool) (form : PairForm)
         → FitsIn (IsPrintableAttribute (pair_tree times reverse form)) (attribute_levels (pair_tree times reverse form))
         (λ rest. counted_tokens times (reverse_tokens reverse (pair_tokens form rest)))

@@ -1,4 +1,4 @@
--- The digits of a fraction write it, and the text of a number reads back.
+-- The digits of a fraction write its value, and the text of a number reads back.
 use Rattle.std.proofs.Common.{ℕ, ◌≡◌, ◌+◌, ◌-◌, ◌*◌, ◌/◌, ◌%◌, ◌^◌, ◌≤◌, ◌<◌, true, List, [], ◌∷◌, length, zero, suc, nat_le, refl, ap, ◌∙◌, sym, subst, arith}
 use Rattle.std.specs.Char.{is_ascii_digit}
 use Rattle.std.specs.List.{list_all}
@@ -12,7 +12,7 @@ use Rattle.numerals.specs.Numbers.{number_of}
 use Rattle.constraint_tree.specs.Text.{fraction_digits}
 use Rattle.constraint_tree.proofs.TextLemmas.{first_digit, fraction_digits-none, fraction_digits-step, unit_is_some}
 
--- digits behind a number: it moves up by a place for each of them
+-- moving a number up by a place for each further digit keeps the sum
 moved : (n digit unit rest : ℕ) → (n * 10 + digit) * unit + rest ≡ n * (unit * 10) + (digit * unit + rest)
 moved n digit unit rest =
     let apart : (n * 10 + digit) * unit ≡ n * 10 * unit + digit * unit = add-mul (n * 10) digit unit in
@@ -20,6 +20,7 @@ moved n digit unit rest =
     let turned : n * (10 * unit) ≡ n * (unit * 10) = ap (λ (m : ℕ). n * m) (mul_comm 10 unit) in
     omega (arith, apart, up, turned)
 
+-- digits read after the number `n` move `n` up by a place for each digit
 value_behind : (digits : List ℕ) (n : ℕ) → digits_value_after 10 n digits ≡ n * 10 ^ length digits + digits_value_after 10 0 digits
 value_behind [] n = omega (arith, pow-zero 10)
 value_behind (byte ∷ digits) n =
@@ -31,20 +32,26 @@ value_behind (byte ∷ digits) n =
     let longer_up : n * 10 ^ suc (length digits) ≡ n * (10 ^ length digits * 10) = ap (λ (m : ℕ). n * m) longer in
     omega (arith, here, alone, one_up, longer_up, moved n (digit_value byte) (10 ^ length digits) (digits_value_after 10 0 digits))
 
--- the digits of a fraction: they are digits, not too many, and write it
+-- `digits` write a fraction of `places` decimal places
 pub record WritesFraction (places fraction : ℕ) (digits : List ℕ) : Type 0 where
+  -- every byte is a digit
   pub each : list_all is_ascii_digit digits ≡ true
+  -- there are at most `places` digits
   pub few : length digits ≤ places
+  -- the number of the digits, moved up by the places that they leave out, is the fraction
   pub value : number_of digits * 10 ^ (places - length digits) ≡ fraction
+  -- there is at least one digit if the fraction is not zero
   pub some : (fraction ≡ 0 → ⊥) → 0 < length digits
 
+-- 48 plus a number below 10 is the byte of a digit
 is_digit : (digit : ℕ) → digit < 10 → is_ascii_digit (48 + digit) ≡ true
 is_digit digit below = and_from (nat_le 48 (48 + digit)) (nat_le (48 + digit) 57) (le-leb 48 (48 + digit) (omega arith)) (le-leb (48 + digit) 57 (omega arith))
 
+-- the value of the byte 48 plus a number below 10 is that number
 digit_is : (digit : ℕ) → digit < 10 → digit_value (48 + digit) ≡ digit
 digit_is digit below = omega (arith, digit_value_digit (48 + digit) (omega arith, omega arith))
 
--- with the first digit in front
+-- a digit in front of the digits of a fraction writes a fraction of one more place
 first_in_front : (places digit rest : ℕ) (digits : List ℕ) → digit < 10 → WritesFraction places rest digits
     → WritesFraction (suc places) (digit * 10 ^ places + rest) ((48 + digit) ∷ digits)
 first_in_front places digit rest digits below written =
@@ -71,6 +78,7 @@ first_in_front places digit rest digits below written =
     sum_is : length digits ≤ places → length digits + (places - length digits) ≡ places
     sum_is few = omega arith
 
+-- no digits write the fraction 0
 nothing_written : (places fraction : ℕ) → fraction ≡ 0 → WritesFraction places fraction []
 nothing_written places fraction none = record {
   each = refl;
@@ -79,6 +87,7 @@ nothing_written places fraction none = record {
   some = λ other. absurd (other none);
 }
 
+-- the digits of a fraction that is not zero write it, if the digits after the first write the rest
 some_written : (places fraction : ℕ) → (fraction ≡ 0 → ⊥) → fraction < 10 ^ suc places
     → WritesFraction places (fraction % 10 ^ places) (fraction_digits places (fraction % 10 ^ places))
     → WritesFraction (suc places) fraction (fraction_digits (suc places) fraction)
@@ -100,6 +109,7 @@ some_written places fraction other below rest =
         let R : ℕ → Type 0 = λ n. fraction / 10 ^ n < 10 in
         subst R less (first_digit (suc places) fraction other below)
 
+-- `fraction_digits` writes every fraction below 10^places
 pub fraction_written : (places fraction : ℕ) → fraction < 10 ^ places → WritesFraction places fraction (fraction_digits places fraction)
 fraction_written zero fraction below =
     let none : fraction ≡ 0 = omega (arith, pow-zero 10) in

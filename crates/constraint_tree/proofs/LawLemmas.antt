@@ -11,18 +11,18 @@ use Rattle.constraint_tree.proofs.PieceLemmas.{Reads, along, nothing_reads}
 use Rattle.constraint_tree.proofs.PrintLemmas.{Follows, constraint_reads}
 use Rattle.constraint_tree.proofs.Symbols.{constraint_symbols}
 
--- the end of a text may stand behind any constraint
+-- the end of a text may follow any constraint
 end_follows : (bare : Bool) → Follows bare []
 end_follows true = refl
 end_follows false = refl
 
--- the whole text is cut into the pieces of its symbols
+-- the whole text of a canonical tree is cut into the pieces of its symbols
 whole_reads : (tree : Tree) → Canonical tree → Reads (constraint_text tree) (constraint_symbols tree [])
 whole_reads tree canonical =
     along (constraint_symbols tree []) (append-nil (constraint_text tree))
     (constraint_reads tree canonical.printable [] [] (end_follows (is_sub tree)) nothing_reads)
 
--- the text of a tree with a canonical form is a constraint with that tree
+-- the text of a tree with a canonical form is a constraint with that tree, if it has at most `most_bytes` bytes
 canonical_is_read : (tree : Tree) → Canonical tree → length (constraint_text tree) ≤ most_bytes → IsConstraint (constraint_text tree) tree
 canonical_is_read tree canonical short =
     let reads = whole_reads tree canonical in
@@ -34,7 +34,7 @@ canonical_is_read tree canonical short =
       is_tree = (canonical.form, reads.spells ∙ sym (canonical.spells []), sym canonical.is);
     }
 
--- and so is the text of the tree of any constraint
+-- the text of the tree of a constraint is a constraint with that tree, if it has at most `most_bytes` bytes
 pub printed_is_read : (text : List ℕ) (tree : Tree) → IsConstraint text tree
     → length (constraint_text tree) ≤ most_bytes → IsConstraint (constraint_text tree) tree
 printed_is_read text tree constraint short = canonical_is_read tree (constraint_canonical text tree constraint) short

@@ -1,4 +1,4 @@
--- How deep a tree is beside the brackets of its text: at most five nodes stand between two of them.
+-- The depth of a tree is bounded by the brackets of its text: at most five nodes stand between two of them.
 use Rattle.std.proofs.Common.{ℕ, ◌≡◌, ◌*◌, ◌+◌, ◌≤◌, false, List, refl, arith}
 use Rattle.constraint_tree.specs.Depth.{depth_of, trees_depth, refinement_depth, refinements_depth, set_depth, sets_depth, attribute_depth, test_depth, most_deep}
 use Rattle.constraint_tree.specs.Refusal.{IsConstraint}
@@ -7,23 +7,25 @@ use Rattle.constraint_tree.specs.Tree.{Tree, concept_tree, any_tree, walk_tree, 
 use Rattle.constraint_tree.proofs.CanonLemmas.{constraint_canonical}
 use Rattle.constraint_tree.proofs.LevelLemmas.{placed_levels, levels, list_levels, refinement_levels, item_levels, set_levels, part_levels, attribute_levels, test_levels}
 
--- of a constraint alone, as an operand, behind an operator, and behind `^`
+-- the depth of a constraint is bounded by the brackets of its text: alone, as an operand, after an operator and after
+-- `^`
 record Depths (tree : Tree) : Type 0 where
   alone : depth_of tree ≤ 5 * levels tree + 6
   operand : depth_of tree ≤ 5 * placed_levels (is_sub tree) (levels tree) + 3
   behind_operator : depth_of tree ≤ 5 * placed_levels (is_member_or_focus tree) (levels tree) + 2
   behind_caret : depth_of tree ≤ 5 * placed_levels (is_focus tree) (levels tree) + 1
 
--- of a refinement alone, and as an item; of a set alone, and as a part
+-- the depth of a refinement is bounded by the brackets of its text: alone and as an item
 record RefinementDepths (tree : RefinementTree) : Type 0 where
   alone : refinement_depth tree ≤ 5 * refinement_levels tree + 5
   item : refinement_depth tree ≤ 5 * placed_levels (is_item tree) (refinement_levels tree) + 4
 
+-- the depth of an attribute set is bounded by the brackets of its text: alone and as a part
 record SetDepths (tree : AttributeSetTree) : Type 0 where
   alone : set_depth tree ≤ 5 * set_levels tree + 5
   part : set_depth tree ≤ 5 * placed_levels (is_part tree) (set_levels tree) + 4
 
--- what stands in brackets wherever it is not alone
+-- a tree that needs brackets wherever it is not alone has all four bounds, if it has the bound alone
 in_brackets : (tree : Tree) → is_sub tree ≡ false → is_member_or_focus tree ≡ false → is_focus tree ≡ false
     → depth_of tree ≤ 5 * levels tree + 6 → Depths tree
 in_brackets tree sub marked focus alone = record {
@@ -34,6 +36,7 @@ in_brackets tree sub marked focus alone = record {
 }
 
 mutual
+  -- the depth of every constraint is bounded by the brackets of its text
   depths : (tree : Tree) → Depths tree
   depths (concept_tree number) =
       record { alone = omega arith; operand = omega arith; behind_operator = omega arith; behind_caret = omega arith }
@@ -65,10 +68,12 @@ mutual
       in_brackets (refined_tree focus refinement) refl refl refl
       (omega (arith, (depths focus).operand, (refinement_depths refinement).alone))
 
+  -- the depth of a list of operands is bounded by the brackets of their texts
   list_depths : (trees : Trees) → trees_depth trees ≤ 5 * list_levels trees + 3
   list_depths no_trees = omega arith
   list_depths (tree_then first rest) = omega (arith, (depths first).operand, list_depths rest)
 
+  -- the depth of every refinement is bounded by the brackets of its text
   refinement_depths : (tree : RefinementTree) → RefinementDepths tree
   refinement_depths (one_refinement what) =
       let below = attribute_depths what in record { alone = omega (arith, below); item = omega (arith, below) }
@@ -79,10 +84,12 @@ mutual
   refinement_depths (or_refinement parts) =
       let below = item_depths parts in record { alone = omega (arith, below); item = omega (arith, below) }
 
+  -- the depth of a list of items is bounded by the brackets of their texts
   item_depths : (trees : RefinementTrees) → refinements_depth trees ≤ 5 * item_levels trees + 4
   item_depths no_refinements = omega arith
   item_depths (refinement_then first rest) = omega (arith, (refinement_depths first).item, item_depths rest)
 
+  -- the depth of every attribute set is bounded by the brackets of its text
   set_depths : (tree : AttributeSetTree) → SetDepths tree
   set_depths (one_set what) =
       let below = attribute_depths what in record { alone = omega (arith, below); part = omega (arith, below) }
@@ -91,18 +98,21 @@ mutual
   set_depths (or_set parts) =
       let below = part_depths parts in record { alone = omega (arith, below); part = omega (arith, below) }
 
+  -- the depth of a list of parts is bounded by the brackets of their texts
   part_depths : (trees : AttributeSetTrees) → sets_depth trees ≤ 5 * part_levels trees + 4
   part_depths no_sets = omega arith
   part_depths (set_then first rest) = omega (arith, (set_depths first).part, part_depths rest)
 
+  -- the depth of an attribute is bounded by the brackets of its text
   attribute_depths : (what : AttributeTree) → attribute_depth what ≤ 5 * attribute_levels what + 3
   attribute_depths (attribute_tree count reverse name test) = omega (arith, (depths name).operand, test_depths test)
 
+  -- the depth of a value test is bounded by the brackets of its text
   test_depths : (test : TestTree) → test_depth test ≤ 5 * test_levels test + 3
   test_depths (within_test operand) = (depths operand).operand
   test_depths (outside_test operand) = (depths operand).operand
   test_depths (number_test compare value) = omega arith
 
--- a constraint has no more than 64 brackets open at once
+-- the tree of a constraint has at most depth `most_deep`, because at most 64 brackets are open at once
 pub most_deep_of : (text : List ℕ) (tree : Tree) → IsConstraint text tree → depth_of tree ≤ most_deep
 most_deep_of text tree constraint = omega (arith, (depths tree).alone, (constraint_canonical text tree constraint).few)

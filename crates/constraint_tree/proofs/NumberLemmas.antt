@@ -19,6 +19,7 @@ use Rattle.constraint_tree.proofs.FitLemmas.{NumbersRead}
 use Rattle.constraint_tree.proofs.FractionLemmas.{fraction_written}
 use Rattle.constraint_tree.proofs.TextLemmas.{no_more}
 
+-- a digit is no byte below 48
 digit_other : (byte other : ℕ) → is_ascii_digit byte ≡ true → other < 48 → (byte == other) ≡ true → ⊥
 digit_other byte other digit low is =
     let bounds = and_parts (nat_le 48 byte) (nat_le byte 57) digit in
@@ -26,31 +27,38 @@ digit_other byte other digit low is =
     let same : byte ≡ other = eqb-true byte other is in
     omega arith
 
--- digits are one part, and a point ends them
+-- a digit run is a single part if it is cut at points
 one_part : (run : List ℕ) → list_all is_ascii_digit run ≡ true → parts_at 46 run ≡ run ∷ []
 one_part [] each = refl
 one_part (byte ∷ run) each =
     let tests = and_parts (is_ascii_digit byte) (list_all is_ascii_digit run) each in
     parts_onto 46 byte run (digit_other byte 46 tests.0 (omega arith)) ∙ ap (onto_first byte) (one_part run tests.1)
 
+-- a digit run, a point and more text are cut at the point
 parts_behind : (run more : List ℕ) → list_all is_ascii_digit run ≡ true → parts_at 46 (run ++ 46 ∷ more) ≡ run ∷ parts_at 46 more
 parts_behind [] more each = refl
 parts_behind (byte ∷ run) more each =
     let tests = and_parts (is_ascii_digit byte) (list_all is_ascii_digit run) each in
     parts_onto 46 byte (run ++ 46 ∷ more) (digit_other byte 46 tests.0 (omega arith)) ∙ ap (onto_first byte) (parts_behind run more tests.1)
 
+-- 1 to 18 digits are a number
 is_number_from : (text : List ℕ) → 0 < length text → length text ≤ 18 → list_all is_ascii_digit text ≡ true → is_number 1 18 text ≡ true
 is_number_from text some few each =
     and_from (nat_le 1 (length text) && nat_le (length text) 18) (list_all is_ascii_digit text)
     (and_from (nat_le 1 (length text)) (nat_le (length text) 18) (le-leb 1 (length text) (omega arith)) (le-leb (length text) 18 few)) each
 
--- a whole number is written as digits that read back
+-- the decimal digits of `number` are a number that reads back
 pub record WritesWhole (number : ℕ) : Type 0 where
+  -- every byte is a digit
   pub each : list_all is_ascii_digit (decimal number) ≡ true
+  -- there is at least one digit
   pub some : 0 < length (decimal number)
+  -- the digits are a number of 1 to 18 digits
   pub is : is_number 1 18 (decimal number) ≡ true
+  -- the number of the digits is `number`
   pub value : number_of (decimal number) ≡ number
 
+-- the decimal digits of a number below 10^18 are a number that reads back
 pub whole_written : (number : ℕ) → number < 10 ^ 18 → WritesWhole number
 whole_written number small =
     let numeral = decimal_is_IsNumeral number (omega arith) in
@@ -59,13 +67,14 @@ whole_written number small =
     let few : length (decimal number) ≤ 18 = length-decimal-le 18 number (omega arith) small (omega arith) in
     record { each = each; some = some; is = is_number_from (decimal number) some few each; value = numeral.1 }
 
--- a whole number, and one with a fraction
+-- the digits of a whole number read as that number
 whole_reads : (whole : ℕ) → WritesWhole whole → unsigned_of (decimal whole) ≡ Some (whole * 10 ^ 18)
 whole_reads whole written =
     ap number_in (one_part (decimal whole) written.each)
     ∙ ap (λ (test : Bool). if test then Some (whole_of (decimal whole)) else None) written.is
     ∙ ap (λ (number : ℕ). Some (number * 10 ^ 18)) written.value
 
+-- the digits of a whole number, a point and the digits of a fraction read as their sum
 fraction_reads : (whole fraction : ℕ) → WritesWhole whole → (fraction ≡ 0 → ⊥) → fraction < 10 ^ 18
     → unsigned_of (decimal whole ++ 46 ∷ fraction_digits 18 fraction) ≡ Some (whole * 10 ^ 18 + fraction)
 fraction_reads whole fraction written other small =
@@ -76,6 +85,7 @@ fraction_reads whole fraction written other small =
     ∙ ap (λ (number : ℕ). Some (number * 10 ^ 18 + fraction_of (fraction_digits 18 fraction))) written.value
     ∙ ap (λ (number : ℕ). Some (whole * 10 ^ 18 + number)) behind.value
 
+-- the text of a whole number and its fraction reads as their sum
 parts_read : (whole fraction : ℕ) → whole < 10 ^ 18 → fraction < 10 ^ 18
     → unsigned_of (decimal whole ++ fraction_text fraction) ≡ Some (whole * 10 ^ 18 + fraction)
 parts_read whole fraction small below = by (fraction == 0) refl
@@ -93,6 +103,7 @@ parts_read whole fraction small below = by (fraction == 0) refl
         ap (λ (empty : Bool). if empty then [] else 46 ∷ fraction_digits 18 fraction) test in
         ap (λ (text : List ℕ). unsigned_of (decimal whole ++ text)) something ∙ fraction_reads whole fraction (whole_written whole small) other below
 
+-- the text of a number below 10^36 reads back as that number
 unsigned_reads : (number : ℕ) → number < 10 ^ 36 → unsigned_of (unsigned_text number) ≡ Some number
 unsigned_reads number small =
     let whole : number / 10 ^ 18 < 10 ^ 18 = omega arith in
@@ -100,7 +111,7 @@ unsigned_reads number small =
     let sum : number / 10 ^ 18 * 10 ^ 18 + number % 10 ^ 18 ≡ number = div-add-mod' number (10 ^ 18) in
     parts_read (number / 10 ^ 18) (number % 10 ^ 18) whole below ∙ ap (λ (read : ℕ). Some read) sum
 
--- digits have no sign
+-- a text that begins with a digit has no sign
 positive_of : (run rest : List ℕ) → 0 < length run → list_all is_ascii_digit run ≡ true → decimal_of (run ++ rest) ≡ option_map pos (unsigned_of (run ++ rest))
 positive_of [] rest some each = absurd (omega arith)
 positive_of (byte ∷ run) rest some each =
@@ -115,19 +126,21 @@ positive_of (byte ∷ run) rest some each =
         let same : other ≡ byte = eqb-true other byte is in
         omega arith
 
--- how great a number is that a text writes
+-- a number of 1 to 18 digits is below 10^18
 digits_small : (text : List ℕ) → is_number 1 18 text ≡ true → number_of text < 10 ^ 18
 digits_small text is =
     let tests = and_parts (nat_le 1 (length text) && nat_le (length text) 18) (list_all is_ascii_digit text) is in
     let lengths = and_parts (nat_le 1 (length text)) (nat_le (length text) 18) tests.0 in
     digits_value_short numerals text 18 tests.1 (leb-true (length text) 18 lengths.1)
 
+-- a number that passes a test is small, if passing makes it small
 tested_small : (test : Bool) (number found : ℕ) → (test ≡ true → number < 10 ^ 36) → (if test then Some number else None) ≡ Some found → found < 10 ^ 36
 tested_small true number found small is =
     let same : number ≡ found = cc in
     subst (λ (n : ℕ). n < 10 ^ 36) same (small refl)
 tested_small false number found small is = absurd (cc)
 
+-- a number that is read from its parts is below 10^36
 number_small : (parts : List (List ℕ)) (found : ℕ) → number_in parts ≡ Some found → found < 10 ^ 36
 number_small [] found is = absurd (cc)
 number_small (whole ∷ []) found is = tested_small (is_number 1 18 whole) (whole_of whole) found (λ test. omega (arith, digits_small whole test)) is
@@ -140,20 +153,24 @@ number_small (whole ∷ behind ∷ []) found is =
         omega (arith, digits_small whole tests.0, fraction_small behind tests.1)
 number_small (whole ∷ behind ∷ another ∷ others) found is = absurd (cc)
 
+-- a number is below 10^36, apart from its sign
 abbrev pub IsSmall : ℤ → Type 0
 IsSmall (pos number) = number < 10 ^ 36
 IsSmall (negsuc below) = suc below < 10 ^ 36
 
+-- the negative of a number below 10^36 is small
 negated_small : (number : ℕ) → number < 10 ^ 36 → IsSmall (neg_ℤ (pos number))
 negated_small zero small = small
 negated_small (suc below) small = small
 
+-- a number below 10^36 that is read as positive is small
 positive_small : (found : Option ℕ) (value : ℤ) → ((number : ℕ) → found ≡ Some number → number < 10 ^ 36) → option_map pos found ≡ Some value → IsSmall value
 positive_small None value small is = absurd (cc)
 positive_small (Some number) value small is =
     let same : pos number ≡ value = cc in
     subst (λ (z : ℤ). IsSmall z) same (small number refl)
 
+-- a number below 10^36 that is read as negative is small
 negative_small : (found : Option ℕ) (value : ℤ) → ((number : ℕ) → found ≡ Some number → number < 10 ^ 36)
     → option_map (λ number. neg_ℤ (pos number)) found ≡ Some value → IsSmall value
 negative_small None value small is = absurd (cc)
@@ -161,6 +178,7 @@ negative_small (Some number) value small is =
     let same : neg_ℤ (pos number) ≡ value = cc in
     subst (λ (z : ℤ). IsSmall z) same (negated_small number (small number refl))
 
+-- a number that is read with a sign or without is small
 signed_small : (minus plus : Bool) (text : List ℕ) (value : ℤ)
     → (if minus then option_map (λ number. neg_ℤ (pos number))
     (unsigned_of (drop 1 text)) else if plus then option_map pos (unsigned_of (drop 1 text)) else option_map pos
@@ -169,6 +187,7 @@ signed_small true plus text value is = negative_small (unsigned_of (drop 1 text)
 signed_small false true text value is = positive_small (unsigned_of (drop 1 text)) value (number_small (parts_at point (drop 1 text))) is
 signed_small false false text value is = positive_small (unsigned_of text) value (number_small (parts_at point text)) is
 
+-- the text of a small number reads back as that number
 value_reads : (value : ℤ) → IsSmall value → decimal_of (drop 1 (number_text value)) ≡ Some value
 value_reads (pos number) small =
     let written = whole_written (number / 10 ^ 18) (omega arith) in
@@ -178,9 +197,10 @@ value_reads (negsuc below) small =
     negative_of (45 ∷ unsigned_text (suc below)) (omega arith) refl
     ∙ ap (option_map (λ number. neg_ℤ (pos number))) (unsigned_reads (suc below) small)
 
--- a number that is read is small
+-- every number that is read from a text is small
 pub number_is_small : (text : List ℕ) (value : ℤ) → decimal_of text ≡ Some value → IsSmall value
 number_is_small text value is = signed_small (starts_with nat_eq text (45 ∷ [])) (starts_with nat_eq text (43 ∷ [])) text value is
 
+-- every number that is read from a text is read back from the text that it is printed as
 pub numbers_read : NumbersRead
 numbers_read text value is = value_reads value (number_is_small text value is)

@@ -22,22 +22,26 @@ use Rattle.constraint_tree.specs.Grammar.{Symbol, symbol_of, mark, operator_kind
 use Rattle.constraint_tree.specs.Text.{operator_text, compare_text}
 use Rattle.constraint_tree.proofs.SymbolLemmas.{ends_before, other_byte, symbol_read, swapped}
 
--- a text is cut into pieces to its end, which spell some symbols, and it is UTF-8
+-- `text` is cut into pieces to its end, the pieces spell `symbols`, and `text` is UTF-8
 pub record Reads (text : List ℕ) (symbols : List Symbol) : Type 0 where
+  -- the pieces of the text
   pub pieces : List Piece
+  -- the text is cut into exactly `pieces`
   pub cut : IsCut text pieces []
+  -- the tokens of the pieces have the symbols `symbols`
   pub spells : map symbol_of (spelled_tokens pieces) ≡ symbols
+  -- the text is UTF-8
   pub utf8 : IsUtf8 text
 
--- the end of a text
+-- the empty text is read as no symbols
 pub nothing_reads : Reads [] []
 nothing_reads = record { pieces = []; cut = record { whole = refl; each = tt }; spells = refl; utf8 = IsUtf8-nil }
 
--- along an equation of texts
+-- a text that is equal to one that is read is read
 pub along : {text other : List ℕ} (symbols : List Symbol) → text ≡ other → Reads text symbols → Reads other symbols
 along symbols same reads = subst (λ (found : List ℕ). Reads found symbols) same reads
 
--- one more piece in front
+-- a piece in front of a text that is read is read, with its symbols in front
 pub piece_then : (piece : Piece) (rest : List ℕ) (front : List Symbol → List Symbol) (symbols : List Symbol)
     → ((tokens : List Spelled)
     → map symbol_of (with_spelled (kind_of piece) (bytes_of piece) tokens) ≡ front (map symbol_of tokens))
@@ -52,18 +56,18 @@ piece_then piece rest front symbols spelled read utf8 more = record {
   utf8 = subst IsUtf8 (sym (piece_text-bytes piece rest)) (IsUtf8-append (bytes_of piece) rest utf8 more.utf8);
 }
 
--- bytes below 128 are UTF-8
+-- bytes below 128 are ASCII
 ascii_from : (bytes : List ℕ) → list_all (λ byte. nat_lt byte 128) bytes ≡ true → IsAscii bytes
 ascii_from [] each = IsAscii-nil
 ascii_from (byte ∷ bytes) each =
     let parts = and_parts (nat_lt byte 128) (list_all (λ other. nat_lt other 128) bytes) each in
     IsAscii-cons byte bytes (ltb-true byte 128 parts.0) (ascii_from bytes parts.1)
 
--- and so are some that pass the test
+-- bytes below 128 are UTF-8
 pub low_bytes : (bytes : List ℕ) → list_all (λ byte. nat_lt byte 128) bytes ≡ true → IsUtf8 bytes
 low_bytes bytes each = IsUtf8-from_ascii bytes (ascii_from bytes each)
 
--- one more symbol in front
+-- a symbol in front of a text whose first byte ends it is read
 mark_then : (bytes : List ℕ) (kind : TokenKind) (rest : List ℕ) (symbols : List Symbol)
     → ((tokens : List Spelled)
     → map symbol_of (with_spelled (Some kind) (bytes ++ []) tokens) ≡ mark kind ∷ map symbol_of tokens)
@@ -75,55 +79,67 @@ mark_then bytes kind rest symbols spelled known ends supported low more =
     piece_then (symbol bytes kind) rest (λ found. mark kind ∷ found) symbols spelled
     (symbol_read bytes kind rest known ends supported) (low_bytes (bytes ++ []) low) more
 
--- the symbols that stand in front of any text
+-- `(` in front of a text that is read is read
 pub round_open : (rest : List ℕ) (symbols : List Symbol) → Reads rest symbols → Reads (40 ∷ rest) (mark RoundOpen ∷ symbols)
 round_open rest symbols more = mark_then (40 ∷ []) RoundOpen rest symbols (λ tokens. refl) refl (λ byte behind is. refl) refl refl more
 
+-- `)` in front of a text that is read is read
 pub round_close : (rest : List ℕ) (symbols : List Symbol) → Reads rest symbols → Reads (41 ∷ rest) (mark RoundClose ∷ symbols)
 round_close rest symbols more = mark_then (41 ∷ []) RoundClose rest symbols (λ tokens. refl) refl (λ byte behind is. refl) refl refl more
 
+-- `}` in front of a text that is read is read
 pub brace_close : (rest : List ℕ) (symbols : List Symbol) → Reads rest symbols → Reads (125 ∷ rest) (mark BraceClose ∷ symbols)
 brace_close rest symbols more = mark_then (125 ∷ []) BraceClose rest symbols (λ tokens. refl) refl (λ byte behind is. refl) refl refl more
 
+-- `[` in front of a text that is read is read
 pub bracket_open : (rest : List ℕ) (symbols : List Symbol) → Reads rest symbols → Reads (91 ∷ rest) (mark BracketOpen ∷ symbols)
 bracket_open rest symbols more = mark_then (91 ∷ []) BracketOpen rest symbols (λ tokens. refl) refl (λ byte behind is. refl) refl refl more
 
+-- `]` in front of a text that is read is read
 pub bracket_close : (rest : List ℕ) (symbols : List Symbol) → Reads rest symbols → Reads (93 ∷ rest) (mark BracketClose ∷ symbols)
 bracket_close rest symbols more = mark_then (93 ∷ []) BracketClose rest symbols (λ tokens. refl) refl (λ byte behind is. refl) refl refl more
 
+-- `*` in front of a text that is read is read
 pub wildcard : (rest : List ℕ) (symbols : List Symbol) → Reads rest symbols → Reads (42 ∷ rest) (mark Wildcard ∷ symbols)
 wildcard rest symbols more = mark_then (42 ∷ []) Wildcard rest symbols (λ tokens. refl) refl (λ byte behind is. refl) refl refl more
 
+-- `:` in front of a text that is read is read
 pub colon : (rest : List ℕ) (symbols : List Symbol) → Reads rest symbols → Reads (58 ∷ rest) (mark Colon ∷ symbols)
 colon rest symbols more = mark_then (58 ∷ []) Colon rest symbols (λ tokens. refl) refl (λ byte behind is. refl) refl refl more
 
+-- `,` in front of a text that is read is read as AND
 pub comma : (rest : List ℕ) (symbols : List Symbol) → Reads rest symbols → Reads (44 ∷ rest) (mark And ∷ symbols)
 comma rest symbols more = mark_then (44 ∷ []) And rest symbols (λ tokens. refl) refl (λ byte behind is. refl) refl refl more
 
+-- `..` in front of a text that is read is read
 pub dots : (rest : List ℕ) (symbols : List Symbol) → Reads rest symbols → Reads (46 ∷ 46 ∷ rest) (mark Dots ∷ symbols)
 dots rest symbols more = mark_then (46 ∷ 46 ∷ []) Dots rest symbols (λ tokens. refl) refl (λ byte behind is. refl) refl refl more
 
+-- `=` in front of a text that is read is read
 pub equal_sign : (rest : List ℕ) (symbols : List Symbol) → Reads rest symbols → Reads (61 ∷ rest) (mark EqualSign ∷ symbols)
 equal_sign rest symbols more = mark_then (61 ∷ []) EqualSign rest symbols (λ tokens. refl) refl (λ byte behind is. refl) refl refl more
 
+-- `!=` in front of a text that is read is read
 pub not_equal_sign : (rest : List ℕ) (symbols : List Symbol) → Reads rest symbols → Reads (33 ∷ 61 ∷ rest) (mark NotEqualSign ∷ symbols)
 not_equal_sign rest symbols more = mark_then (33 ∷ 61 ∷ []) NotEqualSign rest symbols (λ tokens. refl) refl (λ byte behind is. refl) refl refl more
 
--- the first bytes of a focus, of a focus or its members, and of an operand
+-- whether a byte may begin a focus: a digit, `*` or `(`
 abbrev pub focus_byte : ℕ → Bool
 focus_byte byte = is_ascii_digit byte || byte == 42 || byte == 40
 
+-- whether a byte may stand after an operator: a byte that may begin a focus, or `^`
 abbrev pub member_byte : ℕ → Bool
 member_byte byte = focus_byte byte || byte == 94
 
+-- whether a byte may begin an operand: a byte after an operator, or `<`, `>` or `!`
 abbrev pub operand_byte : ℕ → Bool
 operand_byte byte = member_byte byte || byte == 60 || byte == 62 || byte == 33
 
--- what passes a test begins a text
+-- the first byte of a text that begins with a passing byte passes
 first_passes : (test : ℕ → Bool) (text : List ℕ) (byte : ℕ) (behind : List ℕ) → begins test text ≡ true → text ≡ byte ∷ behind → test byte ≡ true
 first_passes test text byte behind starts is = sym (ap (λ (found : List ℕ). begins test found) is) ∙ starts
 
--- the symbols that end in front of some bytes only
+-- `<` ends in front of a byte that may follow an operator
 ends_descendant : (byte : ℕ) → member_byte byte ≡ true → ends_before (60 ∷ []) byte ≡ true
 ends_descendant byte is =
     let no_more = other_byte member_byte byte 60 is refl in
@@ -131,9 +147,11 @@ ends_descendant byte is =
     let no_equal = other_byte member_byte byte 61 is refl in
     rw (no_more, no_mark, no_equal) refl
 
+-- `<<` ends in front of a byte that may follow an operator
 ends_descendant_or_self : (byte : ℕ) → member_byte byte ≡ true → ends_before (60 ∷ 60 ∷ []) byte ≡ true
 ends_descendant_or_self byte is = let no_mark = other_byte member_byte byte 33 is refl in rw no_mark refl
 
+-- `>` ends in front of a byte that may follow an operator
 ends_ancestor : (byte : ℕ) → member_byte byte ≡ true → ends_before (62 ∷ []) byte ≡ true
 ends_ancestor byte is =
     let no_more = other_byte member_byte byte 62 is refl in
@@ -141,10 +159,11 @@ ends_ancestor byte is =
     let no_equal = other_byte member_byte byte 61 is refl in
     rw (no_more, no_mark, no_equal) refl
 
+-- `>>` ends in front of a byte that may follow an operator
 ends_ancestor_or_self : (byte : ℕ) → member_byte byte ≡ true → ends_before (62 ∷ 62 ∷ []) byte ≡ true
 ends_ancestor_or_self byte is = let no_mark = other_byte member_byte byte 33 is refl in rw no_mark refl
 
--- an operator in front of its operand
+-- the sign of an operator is read in front of a text that may follow it
 pub operator_reads : (operator : Operator) (rest : List ℕ) (symbols : List Symbol) → begins member_byte rest ≡ true
     → Reads rest symbols → Reads (operator_text operator ++ rest) (mark (operator_kind operator) ∷ symbols)
 operator_reads Descendants rest symbols starts more =
@@ -172,14 +191,16 @@ operator_reads Top rest symbols starts more =
 operator_reads Bottom rest symbols starts more =
     mark_then (33 ∷ 33 ∷ 60 ∷ []) BottomOf rest symbols (λ tokens. refl) refl (λ byte behind is. refl) refl refl more
 
--- a comparison in front of a number
+-- the first byte of a text that begins with `#` is `#`
 hash_is : (rest : List ℕ) (byte : ℕ) (behind : List ℕ) → 35 ∷ rest ≡ byte ∷ behind → byte ≡ 35
 hash_is rest byte behind is = cc
 
+-- a symbol that ends in front of `#` ends in front of every text that begins with `#`
 ends_at_hash : (bytes : List ℕ) → ends_before bytes 35 ≡ true → (rest : List ℕ) (byte : ℕ) (behind : List ℕ)
     → 35 ∷ rest ≡ byte ∷ behind → ends_before bytes byte ≡ true
 ends_at_hash bytes ends rest byte behind is = ap (ends_before bytes) (hash_is rest byte behind is) ∙ ends
 
+-- the sign of a comparison is read in front of a text that begins with `#`
 pub compare_reads : (compare : Compare) (rest : List ℕ) (symbols : List Symbol) → Reads (35 ∷ rest) symbols
     → Reads (compare_text compare ++ 35 ∷ rest) (mark (compare_kind compare) ∷ symbols)
 compare_reads Equal rest symbols more = equal_sign (35 ∷ rest) symbols more
@@ -193,7 +214,7 @@ compare_reads Greater rest symbols more =
 compare_reads GreaterOrEqual rest symbols more =
     mark_then (62 ∷ 61 ∷ []) GreaterOrEqualSign (35 ∷ rest) symbols (λ tokens. refl) refl (λ byte behind is. refl) refl refl more
 
--- `^` in front of a focus: no fields
+-- `^` in front of a text that begins with a focus has no fields
 no_fields : (rest : List ℕ) → begins focus_byte rest ≡ true → unsupported (94 ∷ rest) ≡ None
 no_fields [] starts = absurd (cc)
 no_fields (byte ∷ rest) starts =
@@ -204,33 +225,37 @@ no_fields (byte ∷ rest) starts =
     let no_bracket = other_byte focus_byte byte 91 starts refl in
     rw (no_space, no_tab, no_return, no_feed, no_bracket) refl
 
+-- `^` in front of a text that begins with a focus is read
 pub caret : (rest : List ℕ) (symbols : List Symbol) → begins focus_byte rest ≡ true → Reads rest symbols → Reads (94 ∷ rest) (mark MemberOf ∷ symbols)
 caret rest symbols starts more = mark_then (94 ∷ []) MemberOf rest symbols (λ tokens. refl) refl (λ byte behind is. refl) (no_fields rest starts) refl more
 
--- `{` in front of no other: no filter
+-- `{` in front of a text that does not begin with `{` begins no filter
 no_filter : (rest : List ℕ) → begins_with 123 rest ≡ false → unsupported (123 ∷ rest) ≡ None
 no_filter [] starts = refl
 no_filter (byte ∷ rest) starts = let apart = swapped byte 123 starts in rw apart refl
 
+-- `{` in front of a text that does not begin with `{` is read
 pub brace_open : (rest : List ℕ) (symbols : List Symbol) → begins_with 123 rest ≡ false → Reads rest symbols → Reads (123 ∷ rest) (mark BraceOpen ∷ symbols)
 brace_open rest symbols starts more =
     mark_then (123 ∷ []) BraceOpen rest symbols (λ tokens. refl) refl (λ byte behind is. refl) (no_filter rest starts) refl more
 
--- `.` in front of an operand
+-- `.` ends in front of a byte that may begin an operand
 ends_dot : (byte : ℕ) → operand_byte byte ≡ true → ends_before (46 ∷ []) byte ≡ true
 ends_dot byte is = let no_dot = other_byte operand_byte byte 46 is refl in rw no_dot refl
 
+-- `.` in front of a text that begins with an operand is read
 pub dot : (rest : List ℕ) (symbols : List Symbol) → begins operand_byte rest ≡ true → Reads rest symbols → Reads (46 ∷ rest) (mark Dot ∷ symbols)
 dot rest symbols starts more =
     mark_then (46 ∷ []) Dot rest symbols (λ tokens. refl) refl
     (λ byte behind is. ends_dot byte (first_passes operand_byte rest byte behind starts is)) refl refl more
 
--- words, with the blanks around them
+-- a blank in front of a text that is read is skipped
 space_then : (rest : List ℕ) (symbols : List Symbol) → Reads rest symbols → Reads (32 ∷ rest) symbols
 space_then rest symbols more =
     piece_then (space 32) rest (λ found. found) symbols (λ tokens. refl)
     (record { stands = refl; supported = refl; within = refl }) (low_bytes (32 ∷ []) refl) more
 
+-- ` OR ` in front of a text that is read is read
 pub or_word : (rest : List ℕ) (symbols : List Symbol) → Reads rest symbols → Reads (32 ∷ 79 ∷ 82 ∷ 32 ∷ rest) (mark Or ∷ symbols)
 or_word rest symbols more =
     space_then (79 ∷ 82 ∷ 32 ∷ rest) (mark Or ∷ symbols)
@@ -242,6 +267,7 @@ or_word rest symbols more =
     }) (low_bytes (79 ∷ 82 ∷ []) refl)
     (space_then rest symbols more))
 
+-- ` MINUS ` in front of a text that is read is read
 pub minus_word : (rest : List ℕ) (symbols : List Symbol) → Reads rest symbols → Reads (32 ∷ 77 ∷ 73 ∷ 78 ∷ 85 ∷ 83 ∷ 32 ∷ rest) (mark Minus ∷ symbols)
 minus_word rest symbols more =
     let letters : List ℕ = 77 ∷ 73 ∷ 78 ∷ 85 ∷ 83 ∷ [] in
@@ -254,6 +280,7 @@ minus_word rest symbols more =
     }) (low_bytes letters refl)
     (space_then rest symbols more))
 
+-- `R ` in front of a text that is read is read
 pub reverse_word : (rest : List ℕ) (symbols : List Symbol) → Reads rest symbols → Reads (82 ∷ 32 ∷ rest) (mark Reverse ∷ symbols)
 reverse_word rest symbols more =
     piece_then (word (82 ∷ []) Reverse) (32 ∷ rest) (λ found. mark Reverse ∷ found) symbols (λ tokens. refl)

@@ -14,22 +14,22 @@ use Rattle.constraint_tree.proofs.DigitLemmas.{EndsNumber, count_reads, digits_r
 use Rattle.constraint_tree.proofs.PieceLemmas.{Reads, along, brace_close, brace_open, caret, colon, comma, compare_reads, dot, equal_sign, minus_word, not_equal_sign, operand_byte, operator_reads, or_word, reverse_word, round_close, round_open, wildcard}
 use Rattle.constraint_tree.proofs.Symbols.{placed as placed_symbols, constraint_symbols, joined_symbols, listed_symbols, refinement_symbols, joined_item_symbols, listed_item_symbols, set_symbols, joined_part_symbols, listed_part_symbols, attribute_symbols, test_symbols, IsPrintable, ArePrintable, IsPrintableRefinement, ArePrintableItems, IsPrintableSet, ArePrintableParts, IsPrintableAttribute, IsPrintableTest}
 
--- what may stand behind a text that ends with no number of a test, and behind another
+-- a text may follow another: it begins with no digit, and if `bare` is not set, with no point either
 abbrev pub Follows : Bool → List ℕ → Type 0
 Follows true rest = begins is_ascii_digit rest ≡ false
 Follows false rest = EndsNumber rest
 
--- a text is read in front of any that may stand behind it
+-- a text is read in front of every text that may follow it
 abbrev pub ReadsBefore : Bool → List ℕ → (List Symbol → List Symbol) → Type 0
 ReadsBefore bare text front =
     (rest : List ℕ) (symbols : List Symbol) → Follows bare rest → Reads rest symbols → Reads (text ++ rest) (front symbols)
 
--- a closing bracket may stand behind any text
+-- a closing bracket may follow any text
 close_follows : (bare : Bool) (rest : List ℕ) → Follows bare (41 ∷ rest)
 close_follows true rest = refl
 close_follows false rest = refl
 
--- with the brackets that it needs
+-- a text with the brackets that it needs is read in front of every text that may follow it
 placed_reads : (stands inner outer : Bool) (text : List ℕ) (front : List Symbol → List Symbol)
     → (stands ≡ true → (rest : List ℕ) → Follows outer rest → Follows inner rest) → ReadsBefore inner text front
     → ReadsBefore outer (placed_text stands text) (placed_symbols stands front)
@@ -40,11 +40,12 @@ placed_reads false inner outer text front same reads rest symbols follows more =
     (round_open (text ++ 41 ∷ rest) (front (mark RoundClose ∷ symbols))
     (reads (41 ∷ rest) (mark RoundClose ∷ symbols) (close_follows inner rest) (round_close rest symbols more)))
 
--- what may stand behind an operand may stand behind what stands without brackets
+-- a text that may follow an operand may follow every tree that stands without brackets as an operand
 sub_follows : (stands : Bool) → stands ≡ true → (rest : List ℕ) → Follows true rest → Follows stands rest
 sub_follows true is rest follows = follows
 sub_follows false is rest follows = absurd (cc)
 
+-- a text that may follow an operand may follow every tree that stands without brackets after an operator
 member_follows : (tree : Tree) → is_member_or_focus tree ≡ true → (rest : List ℕ) → Follows true rest → Follows (is_sub tree) rest
 member_follows (concept_tree id) is rest follows = follows
 member_follows any_tree is rest follows = follows
@@ -52,6 +53,7 @@ member_follows (walk_tree operator operand) is rest follows = follows
 member_follows (member_tree operand) is rest follows = follows
 member_follows other is rest follows = absurd (cc)
 
+-- a text that may follow an operand may follow every tree that stands without brackets after `^`
 focus_follows : (tree : Tree) → is_focus tree ≡ true → (rest : List ℕ) → Follows true rest → Follows (is_sub tree) rest
 focus_follows (concept_tree id) is rest follows = follows
 focus_follows any_tree is rest follows = follows
@@ -59,64 +61,76 @@ focus_follows (walk_tree operator operand) is rest follows = follows
 focus_follows (member_tree operand) is rest follows = follows
 focus_follows other is rest follows = absurd (cc)
 
--- an operand, an item and a part, with the brackets that they need
+-- the text of an operand, with the brackets that it needs
 abbrev placed : Tree → List ℕ
 placed tree = placed_text (is_sub tree) (constraint_text tree)
 
+-- the text of an item, with the brackets that it needs
 abbrev placed_item : RefinementTree → List ℕ
 placed_item tree = placed_text (is_item tree) (refinement_text tree)
 
+-- the text of a part, with the brackets that it needs
 abbrev placed_part : AttributeSetTree → List ℕ
 placed_part tree = placed_text (is_part tree) (set_text tree)
 
+-- the text of a tree is read in front of every text that may follow it
 abbrev ReadsTree : Tree → Type 0
 ReadsTree tree = ReadsBefore (is_sub tree) (constraint_text tree) (constraint_symbols tree)
 
--- an operand is read with its brackets, and so are an item and a part
+-- an operand is read with the brackets that it needs
 operand_reads : (tree : Tree) → ReadsTree tree
     → ReadsBefore true (placed tree) (placed_symbols (is_sub tree) (constraint_symbols tree))
 operand_reads tree reads = placed_reads (is_sub tree) (is_sub tree) true (constraint_text tree) (constraint_symbols tree) (sub_follows (is_sub tree)) reads
 
+-- an item is read with the brackets that it needs
 item_reads : (tree : RefinementTree) → ReadsBefore false (refinement_text tree) (refinement_symbols tree)
     → ReadsBefore false (placed_item tree) (placed_symbols (is_item tree) (refinement_symbols tree))
 item_reads tree reads = placed_reads (is_item tree) false false (refinement_text tree) (refinement_symbols tree) (λ is rest follows. follows) reads
 
+-- a part is read with the brackets that it needs
 part_reads : (tree : AttributeSetTree) → ReadsBefore false (set_text tree) (set_symbols tree)
     → ReadsBefore false (placed_part tree) (placed_symbols (is_part tree) (set_symbols tree))
 part_reads tree reads = placed_reads (is_part tree) false false (set_text tree) (set_symbols tree) (λ is rest follows. follows) reads
 
--- what stands between the parts of a list
+-- `before` joins operands: it is read in front of an operand, and it may follow one
 record Joins (bare : Bool) (before : List ℕ) (kind : TokenKind) : Type 0 where
   joins : (rest : List ℕ) (symbols : List Symbol) → begins operand_byte rest ≡ true → Reads rest symbols → Reads (before ++ rest) (mark kind ∷ symbols)
   apart : (rest : List ℕ) → Follows bare (before ++ rest)
 
+-- `before` joins items or parts: it is read in front of any text that is read, and it may follow an item or a part
 record JoinsAll (before : List ℕ) (kind : TokenKind) : Type 0 where
   joins : (rest : List ℕ) (symbols : List Symbol) → Reads rest symbols → Reads (before ++ rest) (mark kind ∷ symbols)
   apart : (rest : List ℕ) → Follows false (before ++ rest)
 
+-- `,` joins operands
 and_joins : Joins true (codes ",") And
 and_joins = record { joins = λ rest symbols starts more. comma rest symbols more; apart = λ rest. refl }
 
+-- ` OR ` joins operands
 or_joins : Joins true (codes " OR ") Or
 or_joins = record { joins = λ rest symbols starts more. or_word rest symbols more; apart = λ rest. refl }
 
+-- `.` joins operands
 dot_joins : Joins true (codes ".") Dot
 dot_joins = record { joins = dot; apart = λ rest. refl }
 
+-- `,` joins items and parts
 and_joins_all : JoinsAll (codes ",") And
 and_joins_all = record { joins = comma; apart = λ rest. refl }
 
+-- ` OR ` joins items and parts
 or_joins_all : JoinsAll (codes " OR ") Or
 or_joins_all = record { joins = or_word; apart = λ rest. refl }
 
--- the parts of a text, grouped the other way
+-- three texts in a row are one text, whether joined from the right or from the left
 two_parts : (one two rest : List ℕ) → one ++ (two ++ rest) ≡ one ++ two ++ rest
 two_parts one two rest = sym (append_assoc one two rest)
 
+-- four texts in a row are one text, whether joined from the right or from the left
 three_parts : (one two three rest : List ℕ) → one ++ (two ++ (three ++ rest)) ≡ one ++ two ++ three ++ rest
 three_parts one two three rest = simp append_assoc
 
--- the rest of a list may stand behind a part
+-- the remaining operands of a list may follow an operand
 list_follows : (kind : TokenKind) (before : List ℕ) → Joins true before kind → (trees : Trees) (rest : List ℕ)
     → Follows true rest → Follows true (listed_text before trees ++ rest)
 list_follows kind before joint no_trees rest follows = follows
@@ -124,7 +138,7 @@ list_follows kind before joint (tree_then first more) rest follows =
     subst (λ (text : List ℕ). Follows true text) (three_parts before (placed first) (listed_text before more) rest)
     (joint.apart (placed first ++ (listed_text before more ++ rest)))
 
--- and behind an item
+-- the remaining items of a list may follow an item
 items_follow : (kind : TokenKind) (before : List ℕ) → JoinsAll before kind
     → (trees : RefinementTrees) (rest : List ℕ) → Follows false rest → Follows false (listed_items before trees ++ rest)
 items_follow kind before joint no_refinements rest follows = follows
@@ -133,7 +147,7 @@ items_follow kind before joint (refinement_then first more) rest follows =
     (three_parts before (placed_item first) (listed_items before more) rest)
     (joint.apart (placed_item first ++ (listed_items before more ++ rest)))
 
--- and behind a part
+-- the remaining parts of a list may follow a part
 parts_follow : (kind : TokenKind) (before : List ℕ) → JoinsAll before kind
     → (trees : AttributeSetTrees) (rest : List ℕ) → Follows false rest → Follows false (listed_parts before trees ++ rest)
 parts_follow kind before joint no_sets rest follows = follows
@@ -142,7 +156,7 @@ parts_follow kind before joint (set_then first more) rest follows =
     (three_parts before (placed_part first) (listed_parts before more) rest)
     (joint.apart (placed_part first ++ (listed_parts before more ++ rest)))
 
--- a test may stand behind a name
+-- a value test may follow a name
 test_follows : (test : TestTree) (rest : List ℕ) → Follows true (test_text test ++ rest)
 test_follows (within_test operand) rest = refl
 test_follows (outside_test operand) rest = refl
@@ -153,14 +167,14 @@ test_follows (number_test LessOrEqual value) rest = refl
 test_follows (number_test Greater value) rest = refl
 test_follows (number_test GreaterOrEqual value) rest = refl
 
--- `R` in front of a name
+-- `R` in front of a name is read
 reverse_reads : (reverse : Bool) (rest : List ℕ) (symbols : List Symbol) → Reads rest symbols
     → Reads (reverse_text reverse ++ rest) (reverse_tokens reverse symbols)
 reverse_reads true rest symbols more = reverse_word rest symbols more
 reverse_reads false rest symbols more = more
 
 mutual
-  -- the text of a constraint, of the parts of a list, and of those behind the first
+  -- the text of a printable constraint is read
   pub constraint_reads : (tree : Tree) → IsPrintable tree → ReadsTree tree
   constraint_reads (concept_tree id) printable rest symbols follows more =
       digits_read id rest symbols (digits_written 6 id (omega arith) printable) follows more
@@ -193,6 +207,7 @@ mutual
       let one = operand_reads focus (constraint_reads focus printable.0) _ _ refl (colon _ _ other) in
       along _ (three_parts (placed focus) (codes ":") (refinement_text refinement) rest) one
 
+  -- the text of a list of printable operands is read
   joined_reads : (kind : TokenKind) (before : List ℕ) → Joins true before kind → (trees : Trees) → ArePrintable trees
       → ReadsBefore true (joined_text before trees) (joined_symbols kind trees)
   joined_reads kind before joint no_trees printable rest symbols follows more = more
@@ -201,6 +216,7 @@ mutual
       let one = operand_reads first (constraint_reads first printable.0) _ _ (list_follows kind before joint others rest follows) behind in
       along _ (two_parts (placed first) (listed_text before others) rest) one
 
+  -- the text of printable operands, each after `before`, is read
   listed_reads : (kind : TokenKind) (before : List ℕ) → Joins true before kind → (trees : Trees) → ArePrintable trees
       → ReadsBefore true (listed_text before trees) (listed_symbols kind trees)
   listed_reads kind before joint no_trees printable rest symbols follows more = more
@@ -210,7 +226,7 @@ mutual
       along _ (three_parts before (placed first) (listed_text before others) rest)
       (joint.joins _ _ (operand_begins first printable.0 (listed_text before others ++ rest)) one)
 
-  -- the text of a refinement and of its items
+  -- the text of a printable refinement is read
   refinement_reads : (tree : RefinementTree) → IsPrintableRefinement tree → ReadsBefore false (refinement_text tree) (refinement_symbols tree)
   refinement_reads (one_refinement what) printable rest symbols follows more = attribute_reads what printable rest symbols follows more
   refinement_reads (group_refinement count set) printable rest symbols follows more =
@@ -223,6 +239,7 @@ mutual
   refinement_reads (or_refinement parts) printable rest symbols follows more =
       joined_items_read Or (codes " OR ") or_joins_all parts printable.1 rest symbols follows more
 
+  -- the text of a list of printable items is read
   joined_items_read : (kind : TokenKind) (before : List ℕ) → JoinsAll before kind → (trees : RefinementTrees)
       → ArePrintableItems trees → ReadsBefore false (joined_items before trees) (joined_item_symbols kind trees)
   joined_items_read kind before joint no_refinements printable rest symbols follows more = more
@@ -231,6 +248,7 @@ mutual
       let one = item_reads first (refinement_reads first printable.0) _ _ (items_follow kind before joint others rest follows) behind in
       along _ (two_parts (placed_item first) (listed_items before others) rest) one
 
+  -- the text of printable items, each after `before`, is read
   listed_items_read : (kind : TokenKind) (before : List ℕ) → JoinsAll before kind → (trees : RefinementTrees)
       → ArePrintableItems trees → ReadsBefore false (listed_items before trees) (listed_item_symbols kind trees)
   listed_items_read kind before joint no_refinements printable rest symbols follows more = more
@@ -239,12 +257,13 @@ mutual
       let one = item_reads first (refinement_reads first printable.0) _ _ (items_follow kind before joint others rest follows) behind in
       along _ (three_parts before (placed_item first) (listed_items before others) rest) (joint.joins _ _ one)
 
-  -- the text of an attribute set and of its parts
+  -- the text of a printable attribute set is read
   set_reads : (tree : AttributeSetTree) → IsPrintableSet tree → ReadsBefore false (set_text tree) (set_symbols tree)
   set_reads (one_set what) printable rest symbols follows more = attribute_reads what printable.1 rest symbols follows more
   set_reads (and_set parts) printable rest symbols follows more = joined_parts_read And (codes ",") and_joins_all parts printable.1 rest symbols follows more
   set_reads (or_set parts) printable rest symbols follows more = joined_parts_read Or (codes " OR ") or_joins_all parts printable.1 rest symbols follows more
 
+  -- the text of a list of printable parts is read
   joined_parts_read : (kind : TokenKind) (before : List ℕ) → JoinsAll before kind → (trees : AttributeSetTrees)
       → ArePrintableParts trees → ReadsBefore false (joined_parts before trees) (joined_part_symbols kind trees)
   joined_parts_read kind before joint no_sets printable rest symbols follows more = more
@@ -253,6 +272,7 @@ mutual
       let one = part_reads first (set_reads first printable.0) _ _ (parts_follow kind before joint others rest follows) behind in
       along _ (two_parts (placed_part first) (listed_parts before others) rest) one
 
+  -- the text of printable parts, each after `before`, is read
   listed_parts_read : (kind : TokenKind) (before : List ℕ) → JoinsAll before kind → (trees : AttributeSetTrees)
       → ArePrintableParts trees → ReadsBefore false (listed_parts before trees) (listed_part_symbols kind trees)
   listed_parts_read kind before joint no_sets printable rest symbols follows more = more
@@ -261,7 +281,7 @@ mutual
       let one = part_reads first (set_reads first printable.0) _ _ (parts_follow kind before joint others rest follows) behind in
       along _ (three_parts before (placed_part first) (listed_parts before others) rest) (joint.joins _ _ one)
 
-  -- the text of an attribute and of its test
+  -- the text of a printable attribute is read
   attribute_reads : (what : AttributeTree) → IsPrintableAttribute what → ReadsBefore false (attribute_text what) (attribute_symbols what)
   attribute_reads (attribute_tree count reverse name test) printable rest symbols follows more =
       let tested = test_reads test printable.2 rest symbols follows more in
@@ -269,6 +289,7 @@ mutual
       along _ (four_parts (cardinality_text count) (reverse_text reverse) (placed name) (test_text test) rest)
       (count_reads count.min count.max _ _ printable.0.0 printable.0.1 (reverse_reads reverse _ _ named))
 
+  -- the text of a printable value test is read
   test_reads : (test : TestTree) → IsPrintableTest test → ReadsBefore false (test_text test) (test_symbols test)
   test_reads (within_test operand) printable rest symbols follows more =
       equal_sign _ _ (operand_reads operand (constraint_reads operand printable) rest symbols (ends_digits rest follows) more)

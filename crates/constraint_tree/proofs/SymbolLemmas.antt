@@ -1,4 +1,4 @@
--- When a symbol stands in front of a text: where no longer symbol goes on with the first byte of that text.
+-- When a symbol stands in front of a text: if no longer symbol begins with it and the first byte of the text.
 use Rattle.std.proofs.Common.{ℕ, ◌≡◌, ◌==◌, ◌&&◌, ◌<◌, ◌≤◌, inl, inr, Bool, true, false, List, [], ◌∷◌, ◌++◌, None, Some, length, refl, ap, ◌∙◌, sym, subst, arith}
 use Rattle.std.specs.Prelude.{not, IsSome}
 use Rattle.std.specs.List.{list_all}
@@ -10,38 +10,39 @@ use Rattle.ecl_lexer.specs.Refusals.{IsRead, unsupported}
 use Rattle.ecl_lexer.proofs.SymbolLemmas.{bytes_eq-true, IsLongest}
 use Rattle.ecl_lexer.specs.declared.token.TokenKind.{TokenKind}
 
--- a byte that passes a test is no byte that fails it
+-- a byte that passes a test is not equal to a byte that fails it
 pub other_byte : (test : ℕ → Bool) (byte other : ℕ) → test byte ≡ true → test other ≡ false → (byte == other) ≡ false
 other_byte test byte other is not =
     false_from_ne_true (byte == other) (λ same. let equal : test byte ≡ test other = ap test (eqb-true byte other same) in absurd (cc))
 
--- two bytes that differ, the other way round
+-- two bytes that differ also differ in the other order
 pub swapped : (byte other : ℕ) → (byte == other) ≡ false → (other == byte) ≡ false
 swapped byte other apart = grind (arith, nat_tests, apart)
 
--- whether some bytes go on as others do, and then with a byte
+-- whether a text begins with `bytes` and then `byte`
 abbrev pub goes_on : List ℕ → ℕ → List ℕ → Bool
 goes_on [] byte [] = false
 goes_on [] byte (next ∷ more) = byte == next
 goes_on (first ∷ bytes) byte [] = false
 goes_on (first ∷ bytes) byte (next ∷ more) = (first == next) && goes_on bytes byte more
 
--- whether no symbol is longer than some bytes in front of a byte
+-- whether no symbol begins with `bytes` and then `byte`
 abbrev pub ends_before : List ℕ → ℕ → Bool
 ends_before bytes byte = list_all (λ entry. not (goes_on bytes byte entry.0)) symbols
 
--- a byte is itself
+-- a byte is equal to itself
 same_byte : (byte : ℕ) → (byte == byte) ≡ true
 same_byte byte = grind (arith, nat_tests)
 
--- some bytes go on as another symbol does, with the first byte of the rest
+-- `other` begins with `bytes` and then the first byte of `rest`
 record GoesOn (bytes rest other : List ℕ) : Type 0 where
   byte : ℕ
   behind : List ℕ
   is : rest ≡ byte ∷ behind
   on : goes_on bytes byte other ≡ true
 
--- what is longer and begins the same text goes on as that text does
+-- if `bytes ++ rest` is `other ++ more` and `bytes` is shorter than `other`, then `other` begins with `bytes` and the
+-- first byte of `rest`
 goes_on_from : (bytes rest other more : List ℕ) → bytes ++ rest ≡ other ++ more → length bytes < length other → GoesOn bytes rest other
 goes_on_from [] rest [] more is longer = absurd (omega arith)
 goes_on_from [] rest (next ∷ other) more is longer = record { byte = next; behind = other ++ more; is = is; on = same_byte next }
@@ -53,7 +54,7 @@ goes_on_from (first ∷ bytes) rest (next ∷ other) more is longer =
     let equal : (first == next) ≡ true = ap (λ (n : ℕ). first == n) (sym same) ∙ same_byte first in
     record { byte = found.byte; behind = found.behind; is = found.is; on = and_from (first == next) (goes_on bytes found.byte other) equal found.on }
 
--- what each entry of a table passes, the bytes that it has a kind for pass
+-- every text that has a kind in a table passes a test that all entries pass
 kind_in-passes : (test : List ℕ → Bool) (entries : List (List ℕ × TokenKind)) (bytes : List ℕ)
     → list_all (λ entry. test entry.0) entries ≡ true → IsSome (kind_in entries bytes) → test bytes ≡ true
 kind_in-passes test [] bytes each some = absurd (cc)
@@ -64,11 +65,11 @@ kind_in-passes test (entry ∷ entries) bytes each some =
       | inr other ↦ kind_in-passes test entries bytes parts.1 (rw other at some)
     ]
 
--- what is not longer is at most as long
+-- a number that is not less than another is at least as great
 at_most : (size other : ℕ) → (size < other → ⊥) → other ≤ size
 at_most size other short = omega (arith, short)
 
--- no longer symbol stands where none goes on with the next byte
+-- `bytes` is the longest symbol in front of `rest` if no symbol begins with `bytes` and the first byte of `rest`
 pub longest : (bytes rest : List ℕ) → ((byte : ℕ) (behind : List ℕ) → rest ≡ byte ∷ behind → ends_before bytes byte ≡ true) → IsLongest bytes rest
 longest bytes rest ends other more some is = at_most (length bytes) (length other) (λ longer.
     let found = goes_on_from bytes rest other more is longer in

@@ -1,5 +1,5 @@
--- The symbols that the text of a tree spells, and the forms that derive them. A tree with a form is printable: the numbers
--- in it have as many digits as the grammar asks for, and its lists have two parts at the least.
+-- The symbols that the text of a tree spells, and the forms that derive them. A tree with a form is printable: its
+-- numbers have as many digits as the grammar asks for, and its lists have at least two parts.
 use Rattle.std.proofs.Common.{ℕ, ◌≡◌, ◌==◌, Bool, true, false, if◌then◌else◌, List, ◌∷◌, Option, None, Some, drop, decimal, IsTrue}
 use Rattle.ecl_lexer.specs.declared.token.TokenKind.{TokenKind}
 use Rattle.ecl_lexer.specs.declared.token.TokenKind.TheVariants.{MemberOf, Wildcard, RoundOpen, RoundClose, BraceOpen, BraceClose, BracketOpen, BracketClose, Colon, Dot, Dots, Equal as EqualSign, NotEqual as NotEqualSign, And, Or, Minus}
@@ -10,32 +10,38 @@ use Rattle.constraint_tree.specs.Grammar.{Symbol, digits, decimal as decimal_sym
 use Rattle.constraint_tree.specs.Text.{is_focus, is_item, is_member_or_focus, is_part, is_sub, number_text}
 use Rattle.constraint_tree.specs.Tree.{Tree, concept_tree, any_tree, walk_tree, member_tree, and_tree, or_tree, minus_tree, dotted_tree, refined_tree, Trees, no_trees, tree_then, RefinementTree, one_refinement, group_refinement, and_refinement, or_refinement, RefinementTrees, no_refinements, refinement_then, AttributeSetTree, one_set, and_set, or_set, AttributeSetTrees, no_sets, set_then, AttributeTree, attribute_tree, TestTree, within_test, outside_test, number_test}
 
--- the brackets around what does not stand without, in front of the symbols that follow, and what stands in them
+-- an opening round bracket in front of `rest`, unless the text stands without brackets
 abbrev pub opened : Bool → List Symbol → List Symbol
 opened true rest = rest
 opened false rest = mark RoundOpen ∷ rest
 
+-- a closing round bracket in front of `rest`, unless the text stands without brackets
 abbrev pub closed : Bool → List Symbol → List Symbol
 closed true rest = rest
 closed false rest = mark RoundClose ∷ rest
 
+-- symbols with the brackets that they need, in front of `rest`
 abbrev pub placed : Bool → (List Symbol → List Symbol) → List Symbol → List Symbol
 placed stands symbols rest = opened stands (symbols (closed stands rest))
 
+-- the symbols of a cardinality's maximum, in front of `rest`
 abbrev pub most_symbols : Option ℕ → List Symbol → List Symbol
 most_symbols None rest = mark Wildcard ∷ rest
 most_symbols (Some most) rest = digits (decimal most) ∷ rest
 
+-- the symbols of a cardinality in square brackets, in front of `rest`
 abbrev pub range_symbols : ℕ → Option ℕ → List Symbol → List Symbol
 range_symbols least most rest =
     mark BracketOpen ∷ digits (decimal least) ∷ mark Dots ∷ most_symbols most (mark BracketClose ∷ rest)
 
+-- the symbols of a cardinality, without `[1..*]`, in front of `rest`
 abbrev pub count_symbols : ℕ → Option ℕ → List Symbol → List Symbol
 count_symbols least None rest = if least == 1 then rest else range_symbols least None rest
 count_symbols least (Some most) rest = range_symbols least (Some most) rest
 
--- the symbols of the text of a tree, and then some symbols
+-- the symbols of the text of a tree, and then `rest`
 abbrev mutual
+  -- the symbols of a constraint
   pub constraint_symbols : Tree → List Symbol → List Symbol
   constraint_symbols (concept_tree id) rest = digits (decimal id) ∷ rest
   constraint_symbols any_tree rest = mark Wildcard ∷ rest
@@ -52,16 +58,19 @@ abbrev mutual
   constraint_symbols (refined_tree focus refinement) rest =
       placed (is_sub focus) (constraint_symbols focus) (mark Colon ∷ refinement_symbols refinement rest)
 
+  -- the symbols of operands, with a token of `kind` between two of them
   pub joined_symbols : TokenKind → Trees → List Symbol → List Symbol
   joined_symbols kind no_trees rest = rest
   joined_symbols kind (tree_then first more) rest =
       placed (is_sub first) (constraint_symbols first) (listed_symbols kind more rest)
 
+  -- the symbols of operands, each after a token of `kind`
   pub listed_symbols : TokenKind → Trees → List Symbol → List Symbol
   listed_symbols kind no_trees rest = rest
   listed_symbols kind (tree_then first more) rest =
       mark kind ∷ placed (is_sub first) (constraint_symbols first) (listed_symbols kind more rest)
 
+  -- the symbols of a refinement
   pub refinement_symbols : RefinementTree → List Symbol → List Symbol
   refinement_symbols (one_refinement what) rest = attribute_symbols what rest
   refinement_symbols (group_refinement count set) rest =
@@ -69,76 +78,92 @@ abbrev mutual
   refinement_symbols (and_refinement parts) rest = joined_item_symbols And parts rest
   refinement_symbols (or_refinement parts) rest = joined_item_symbols Or parts rest
 
+  -- the symbols of items, with a token of `kind` between two of them
   pub joined_item_symbols : TokenKind → RefinementTrees → List Symbol → List Symbol
   joined_item_symbols kind no_refinements rest = rest
   joined_item_symbols kind (refinement_then first more) rest =
       placed (is_item first) (refinement_symbols first) (listed_item_symbols kind more rest)
 
+  -- the symbols of items, each after a token of `kind`
   pub listed_item_symbols : TokenKind → RefinementTrees → List Symbol → List Symbol
   listed_item_symbols kind no_refinements rest = rest
   listed_item_symbols kind (refinement_then first more) rest =
       mark kind ∷ placed (is_item first) (refinement_symbols first) (listed_item_symbols kind more rest)
 
+  -- the symbols of an attribute set
   pub set_symbols : AttributeSetTree → List Symbol → List Symbol
   set_symbols (one_set what) rest = attribute_symbols what rest
   set_symbols (and_set parts) rest = joined_part_symbols And parts rest
   set_symbols (or_set parts) rest = joined_part_symbols Or parts rest
 
+  -- the symbols of parts, with a token of `kind` between two of them
   pub joined_part_symbols : TokenKind → AttributeSetTrees → List Symbol → List Symbol
   joined_part_symbols kind no_sets rest = rest
   joined_part_symbols kind (set_then first more) rest =
       placed (is_part first) (set_symbols first) (listed_part_symbols kind more rest)
 
+  -- the symbols of parts, each after a token of `kind`
   pub listed_part_symbols : TokenKind → AttributeSetTrees → List Symbol → List Symbol
   listed_part_symbols kind no_sets rest = rest
   listed_part_symbols kind (set_then first more) rest =
       mark kind ∷ placed (is_part first) (set_symbols first) (listed_part_symbols kind more rest)
 
+  -- the symbols of an attribute
   pub attribute_symbols : AttributeTree → List Symbol → List Symbol
   attribute_symbols (attribute_tree count reverse name test) rest =
       count_symbols count.min count.max (reverse_tokens reverse
       (placed (is_sub name) (constraint_symbols name) (test_symbols test rest)))
 
+  -- the symbols of a value test
   pub test_symbols : TestTree → List Symbol → List Symbol
   test_symbols (within_test operand) rest = mark EqualSign ∷ placed (is_sub operand) (constraint_symbols operand) rest
   test_symbols (outside_test operand) rest = mark NotEqualSign ∷ placed (is_sub operand) (constraint_symbols operand) rest
   test_symbols (number_test compare value) rest = mark (compare_kind compare) ∷ decimal_symbol (number_text value) ∷ rest
 
--- a number of so many digits, which its decimal digits are
+-- the decimal digits of `written` have `least` to `most` digits and read back as `written`
 pub record HasDigits (least most written : ℕ) : Type 0 where
+  -- the decimal digits are a number of `least` to `most` digits
   pub is : IsTrue (is_number least most (decimal written))
+  -- the number of the decimal digits is `written`
   pub value : number_of (decimal written) ≡ written
 
+-- the maximum of a cardinality, if there is one, has 1 to 18 digits
 abbrev pub IsPrintableMost : Option ℕ → Type 0
 IsPrintableMost None = Unit {0}
 IsPrintableMost (Some most) = HasDigits 1 18 most
 
+-- the minimum and the maximum of a cardinality have 1 to 18 digits each
 abbrev pub IsPrintableCount : Cardinality → Type 0
 IsPrintableCount count = HasDigits 1 18 count.min × IsPrintableMost count.max
 
--- two parts at the least, and one
+-- a list has at least one part
 abbrev pub HasOne : Trees → Type 0
 HasOne no_trees = ⊥
 HasOne (tree_then first rest) = Unit {0}
 
+-- a list has at least two parts
 abbrev pub HasTwo : Trees → Type 0
 HasTwo no_trees = ⊥
 HasTwo (tree_then first rest) = HasOne rest
 
+-- a list of refinements has at least two parts
 abbrev pub HasTwoItems : RefinementTrees → Type 0
 HasTwoItems no_refinements = ⊥
 HasTwoItems (refinement_then first no_refinements) = ⊥
 HasTwoItems (refinement_then first (refinement_then second rest)) = Unit {0}
 
+-- a list of attribute sets has at least two parts
 abbrev pub HasTwoParts : AttributeSetTrees → Type 0
 HasTwoParts no_sets = ⊥
 HasTwoParts (set_then first no_sets) = ⊥
 HasTwoParts (set_then first (set_then second rest)) = Unit {0}
 
+-- an attribute is not read backwards
 abbrev pub IsForward : AttributeTree → Type 0
 IsForward (attribute_tree count reverse name test) = reverse ≡ false
 
 abbrev mutual
+  -- a constraint is printable
   pub IsPrintable : Tree → Type 0
   IsPrintable (concept_tree id) = HasDigits 6 18 id
   IsPrintable any_tree = Unit {0}
@@ -150,33 +175,40 @@ abbrev mutual
   IsPrintable (dotted_tree start names) = IsPrintable start × HasOne names × ArePrintable names
   IsPrintable (refined_tree focus refinement) = IsPrintable focus × IsPrintableRefinement refinement
 
+  -- every constraint of a list is printable
   pub ArePrintable : Trees → Type 0
   ArePrintable no_trees = Unit {0}
   ArePrintable (tree_then first rest) = IsPrintable first × ArePrintable rest
 
+  -- a refinement is printable
   pub IsPrintableRefinement : RefinementTree → Type 0
   IsPrintableRefinement (one_refinement what) = IsPrintableAttribute what
   IsPrintableRefinement (group_refinement count set) = IsPrintableCount count × IsPrintableSet set
   IsPrintableRefinement (and_refinement parts) = HasTwoItems parts × ArePrintableItems parts
   IsPrintableRefinement (or_refinement parts) = HasTwoItems parts × ArePrintableItems parts
 
+  -- every refinement of a list is printable
   pub ArePrintableItems : RefinementTrees → Type 0
   ArePrintableItems no_refinements = Unit {0}
   ArePrintableItems (refinement_then first rest) = IsPrintableRefinement first × ArePrintableItems rest
 
+  -- an attribute set is printable, and none of its attributes is read backwards
   pub IsPrintableSet : AttributeSetTree → Type 0
   IsPrintableSet (one_set what) = IsForward what × IsPrintableAttribute what
   IsPrintableSet (and_set parts) = HasTwoParts parts × ArePrintableParts parts
   IsPrintableSet (or_set parts) = HasTwoParts parts × ArePrintableParts parts
 
+  -- every attribute set of a list is printable
   pub ArePrintableParts : AttributeSetTrees → Type 0
   ArePrintableParts no_sets = Unit {0}
   ArePrintableParts (set_then first rest) = IsPrintableSet first × ArePrintableParts rest
 
+  -- an attribute is printable
   pub IsPrintableAttribute : AttributeTree → Type 0
   IsPrintableAttribute (attribute_tree count reverse name test) =
       IsPrintableCount count × IsPrintable name × IsPrintableTest test
 
+  -- a value test is printable
   pub IsPrintableTest : TestTree → Type 0
   IsPrintableTest (within_test operand) = IsPrintable operand
   IsPrintableTest (outside_test operand) = IsPrintable operand

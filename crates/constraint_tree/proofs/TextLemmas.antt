@@ -6,21 +6,24 @@ use Rattle.std.proofs.Math.Nat.{div-lt_iff_lt-mul, one-le-pow, pow-suc}
 use Rattle.constraint_tree.specs.Text.{fraction_digits, joined_items, joined_parts, joined_text, listed_items, listed_parts, listed_text}
 use Rattle.constraint_tree.specs.Tree.{Trees, RefinementTrees, AttributeSetTrees}
 
--- the rest of a list, behind a part of it or not
+-- the text of the remaining operands, after an operand or at the front
 abbrev pub rest_text : Bool → List ℕ → Trees → List ℕ
 rest_text behind between trees = if behind then listed_text between trees else joined_text between trees
 
+-- the text of the remaining items, after an item or at the front
 abbrev pub rest_items : Bool → List ℕ → RefinementTrees → List ℕ
 rest_items behind between trees = if behind then listed_items between trees else joined_items between trees
 
+-- the text of the remaining parts, after a part or at the front
 abbrev pub rest_parts : Bool → List ℕ → AttributeSetTrees → List ℕ
 rest_parts behind between trees = if behind then listed_parts between trees else joined_parts between trees
 
+-- appending an empty text changes nothing
 pub no_more : (old more : List ℕ) → more ≡ [] → old ≡ old ++ more
 no_more [] more is = sym is
 no_more (byte ∷ old) more is = ap (λ (bytes : List ℕ). byte ∷ bytes) (no_more old more is)
 
--- the digits of a fraction: none of nothing, and the first in front of the others
+-- the fraction 0 has no digits
 pub fraction_digits-none : (places fraction : ℕ) → fraction ≡ 0 → fraction_digits places fraction ≡ []
 unfolding fraction_digits
 fraction_digits-none zero fraction is = refl
@@ -28,23 +31,28 @@ fraction_digits-none (suc places) fraction is =
     let none : nat_eq fraction 0 ≡ true = grind (arith, nat_tests) in
     ap (λ (test : Bool). if test then [] else (48 + fraction / 10 ^ places) ∷ fraction_digits places (fraction % 10 ^ places)) none
 
+-- a fraction that is not zero has the digits of its first place and of the rest
 fraction_digits-suc : (places fraction : ℕ) → nat_eq fraction 0 ≡ false
     → fraction_digits (suc places) fraction ≡ (48 + fraction / 10 ^ places) ∷ fraction_digits places (fraction % 10 ^ places)
 unfolding fraction_digits
 fraction_digits-suc places fraction is =
     ap (λ (test : Bool). if test then [] else (48 + fraction / 10 ^ places) ∷ fraction_digits places (fraction % 10 ^ places)) is
 
+-- a power of ten is at least 1
 pub unit_is_some : (places : ℕ) → 0 < 10 ^ places
 unit_is_some places = omega (arith, one-le-pow places 10 (omega arith))
 
+-- a fraction that is not zero has at least one place
 pub some_places : (places fraction : ℕ) → (fraction ≡ 0 → ⊥) → fraction < 10 ^ places → (rest : ℕ) × (places ≡ suc rest)
 some_places zero fraction some fits = absurd (some (omega arith))
 some_places (suc rest) fraction some fits = (rest, refl)
 
+-- the first digit of a fraction of `rest + 1` places is below 10
 first_digit-suc : (rest fraction : ℕ) → fraction < 10 ^ suc rest → fraction / 10 ^ rest < 10
 first_digit-suc rest fraction fits =
     (div-lt_iff_lt-mul {k = 10 ^ rest} {x = fraction} {y = 10} (unit_is_some rest)).1 (omega (arith, pow-suc 10 rest))
 
+-- the first digit of a fraction that is not zero is below 10
 pub first_digit : (places fraction : ℕ) → (fraction ≡ 0 → ⊥) → fraction < 10 ^ places → fraction / 10 ^ (places - 1) < 10
 first_digit places fraction some fits =
     let found = some_places places fraction some fits in
@@ -57,6 +65,7 @@ first_digit places fraction some fits =
     ap_below : {rest : ℕ} → fraction / 10 ^ rest < 10 → places - 1 ≡ rest → fraction / 10 ^ (places - 1) < 10
     ap_below below less = rw less below
 
+-- the digits of a fraction that is not zero are its first digit and the digits of the rest
 pub fraction_digits-step : (places fraction : ℕ) → (fraction ≡ 0 → ⊥) → fraction < 10 ^ places
     → fraction_digits places fraction
     ≡ (48 + fraction / 10 ^ (places - 1)) ∷ fraction_digits (places - 1) (fraction % 10 ^ (places - 1))
@@ -67,6 +76,7 @@ fraction_digits-step places fraction some fits =
     ap (λ (count : ℕ). fraction_digits count fraction) found.1 ∙ fraction_digits-suc found.0 fraction apart
     ∙ ap (λ (count : ℕ). (48 + fraction / 10 ^ count) ∷ fraction_digits count (fraction % 10 ^ count)) (sym less)
 
+-- loop step: a pushed first digit and then the digits of the rest are the digits of the fraction
 pub places_written : (places fraction unit : ℕ) (old pushed all : List ℕ) → (fraction ≡ 0 → ⊥)
     → fraction < 10 ^ places → unit ≡ 10 ^ (places - 1) → pushed ≡ old ++ (48 + fraction / unit) ∷ []
     → all ≡ pushed ++ fraction_digits (places - 1) (fraction % unit) → all ≡ old ++ fraction_digits places fraction

@@ -1,4 +1,4 @@
--- What the tests on concepts in force and on the hierarchy tell.
+-- The meaning of the tests on concepts in force and on the hierarchy.
 use Rattle.std.proofs.Common.{◌==◌, ◌&&◌, Contains, refl, subst}
 use Rattle.std.proofs.lemmas.Bool.{and_parts, and_from, eqb-true, eq-eqb}
 use Rattle.hierarchy.specs.Hierarchy.{reaches}
@@ -6,7 +6,7 @@ use Rattle.number_lists.proofs.ListLemmas.{passing_item, some_item_passes}
 use Rattle.hierarchy.proofs.HierarchyLemmas.{tells_reaches}
 use Rattle.constraint_tree.specs.Walks.{TellsInForce, TellsBelow, TellsAbove, TellsChild}
 
--- the test of being in force
+-- `has_concept` holds exactly for the concepts of the release
 pub tells_in_force : TellsInForce
 tells_in_force release concept = (
   λ holds.
@@ -15,7 +15,7 @@ tells_in_force release concept = (
   λ contained. some_item_passes (λ item. item == concept) release.concepts concept contained (eq-eqb concept concept refl),
 )
 
--- the test of a child and a parent
+-- `is_child` holds exactly for the pairs of the is-a rows
 pub tells_child : TellsChild
 tells_child release child parent = (
   λ holds.
@@ -29,7 +29,7 @@ tells_child release child parent = (
       (and_from _ _ (eq-eqb child child refl) (eq-eqb parent parent refl)),
 )
 
--- the tests of lying below and above a set
+-- `is_below` holds exactly for concepts from which a chain of is-a rows leads to a member of the set in force
 pub tells_below : TellsBelow
 tells_below release set concept = (
   λ holds.
@@ -41,6 +41,7 @@ tells_below release set concept = (
       (and_from _ _ below.2 ((tells_reaches release.isa concept below.0).1 below.3)),
 )
 
+-- `is_above` holds exactly for concepts to which a chain of is-a rows leads from a member of the set in force
 pub tells_above : TellsAbove
 tells_above release set concept = (
   λ holds.

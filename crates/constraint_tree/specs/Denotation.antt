@@ -1,5 +1,5 @@
--- What a constraint denotes over a release: a set of concepts in force (Expression Constraint Language,
--- all of its sections on constraints). The definitions are tests that compute.
+-- The meaning of a constraint over a release: a set of concepts in force (Expression Constraint Language, all of its
+-- sections on constraints). The definitions are tests that compute.
 use Rattle.std.specs.Prelude.{ℕ, Bool, true, false, not, ◌==◌, ◌&&◌, ◌||◌, if◌then◌else◌, IsTrue, List, Contains, filter, count_by}
 use Rattle.std.specs.List.{list_any}
 use Rattle.rf2_rows.specs.Release.{Release, Value, concept_value}
@@ -9,14 +9,13 @@ use Rattle.constraint_tree.specs.Passing.{is_within, is_outside, is_number_that,
 use Rattle.constraint_tree.specs.Tree.{Tree, concept_tree, any_tree, walk_tree, member_tree, and_tree, or_tree, minus_tree, dotted_tree, refined_tree, Trees, no_trees, tree_then, RefinementTree, one_refinement, group_refinement, and_refinement, or_refinement, RefinementTrees, no_refinements, refinement_then, AttributeSetTree, one_set, and_set, or_set, AttributeSetTrees, no_sets, set_then, AttributeTree, attribute_tree, TestTree, within_test, outside_test, number_test}
 use Rattle.constraint_tree.specs.Walks.{has_concept, walks}
 
--- whether a concept in force is a component of a reference set in the set ("Simple Expression
--- Constraints", memberOf)
+-- whether a concept in force is a component of a reference set in `set` ("Simple Expression Constraints", memberOf)
 abbrev pub is_component : Release → (ℕ → Bool) → ℕ → Bool
 is_component release set concept =
     has_concept release concept && list_any (λ row. set row.0 && (row.1 == concept)) release.members
 
--- whether a concept in force is the value of an attribute whose source is in the one set and whose type
--- is in the other ("Refinements", dotted attributes)
+-- whether a concept in force is the value of an attribute row whose source is in `sources` and whose type is in
+-- `types` ("Refinements", dotted attributes)
 abbrev pub is_value : Release → (ℕ → Bool) → (ℕ → Bool) → ℕ → Bool
 is_value release sources types concept =
     has_concept release concept
@@ -24,14 +23,14 @@ is_value release sources types concept =
     (λ row. (sources row.source && types row.type_id) && value_eq row.value (concept_value concept))
     release.attributes
 
--- the pairs that an attribute outside braces counts: those of the concept, or with `R` those of the
--- rows whose value it is
+-- the pairs that an attribute outside braces counts: the concept's own pairs, or with `R` the pairs of the rows whose
+-- value is the concept
 abbrev pub counted_pairs : Release → AttributeTree → ℕ → List Pair
 counted_pairs release (attribute_tree count reverse name test) concept =
     if reverse then in_pairs release concept else out_pairs release concept
 
 abbrev mutual
-  -- whether a concept is in what a constraint denotes
+  -- whether a constraint denotes `concept`
   pub denotes : Release → Tree → ℕ → Bool
   denotes release (concept_tree number) concept = has_concept release concept && (concept == number)
   denotes release any_tree concept = has_concept release concept
@@ -49,17 +48,20 @@ abbrev mutual
   denotes release (refined_tree focus refinement) concept =
       denotes release focus concept && satisfies release refinement concept
 
+  -- whether every constraint of a list denotes `concept`
   pub all_denote : Release → Trees → ℕ → Bool
   all_denote release no_trees concept = true
   all_denote release (tree_then first rest) concept =
       denotes release first concept && all_denote release rest concept
 
+  -- whether at least one constraint of a list denotes `concept`
   pub some_denotes : Release → Trees → ℕ → Bool
   some_denotes release no_trees concept = false
   some_denotes release (tree_then first rest) concept =
       denotes release first concept || some_denotes release rest concept
 
-  -- from a set along names: the values of the attributes with the first name, then along the others
+  -- whether `concept` is reached from `set` along the names: each step goes from a set to the values of its members'
+  -- attributes with that name
   pub follows : Release → (ℕ → Bool) → Trees → ℕ → Bool
   follows release set no_trees concept = set concept
   follows release set (tree_then name names) concept =
@@ -74,32 +76,37 @@ abbrev mutual
   satisfies release (and_refinement parts) concept = satisfies_all release parts concept
   satisfies release (or_refinement parts) concept = satisfies_some release parts concept
 
+  -- whether a concept satisfies every refinement of a list
   pub satisfies_all : Release → RefinementTrees → ℕ → Bool
   satisfies_all release no_refinements concept = true
   satisfies_all release (refinement_then first rest) concept =
       satisfies release first concept && satisfies_all release rest concept
 
+  -- whether a concept satisfies at least one refinement of a list
   pub satisfies_some : Release → RefinementTrees → ℕ → Bool
   satisfies_some release no_refinements concept = false
   satisfies_some release (refinement_then first rest) concept =
       satisfies release first concept || satisfies_some release rest concept
 
-  -- whether a group, a list of distinct pairs, has what an attribute set asks. No attribute of a set is
-  -- read backwards
+  -- whether a group, given as a list of distinct pairs, satisfies an attribute set. No attribute of a set is read
+  -- backwards
   pub has_set : Release → AttributeSetTree → List Pair → Bool
   has_set release (one_set attribute) pairs = has_attribute release attribute pairs
   has_set release (and_set parts) pairs = has_all release parts pairs
   has_set release (or_set parts) pairs = has_some release parts pairs
 
+  -- whether a group satisfies every attribute set of a list
   pub has_all : Release → AttributeSetTrees → List Pair → Bool
   has_all release no_sets pairs = true
   has_all release (set_then first rest) pairs = has_set release first pairs && has_all release rest pairs
 
+  -- whether a group satisfies at least one attribute set of a list
   pub has_some : Release → AttributeSetTrees → List Pair → Bool
   has_some release no_sets pairs = false
   has_some release (set_then first rest) pairs = has_set release first pairs || has_some release rest pairs
 
-  -- whether as many of the pairs pass as the cardinality asks: the type in the name, the value by the test
+  -- whether the number of pairs that pass lies in the cardinality. A pair passes if `name` denotes its type and its
+  -- value passes the test
   pub has_attribute : Release → AttributeTree → List Pair → Bool
   has_attribute release (attribute_tree count reverse name test) pairs =
       lies_in count
@@ -115,7 +122,7 @@ abbrev mutual
 abbrev pub denotation : Release → Tree → List ℕ
 denotation release tree = filter (denotes release tree) release.concepts
 
--- no constraint denotes anything but concepts in force
+-- a constraint denotes only concepts in force
 abbrev pub DenotesConceptsInForce : Type 0
 DenotesConceptsInForce =
     (release : Release) (tree : Tree) (concept : ℕ) →

@@ -13,14 +13,14 @@ use Rattle.constraint_tree.specs.Tree.{Tree}
 abbrev pub most_open : ℕ
 most_open = 64
 
--- whether a token opens a bracket, round or a brace
+-- whether a token opens a round bracket or a brace
 abbrev pub opens : TokenKind → Bool
 opens RoundOpen = true
 opens BraceOpen = true
 opens other = false
 
--- how many brackets are open behind a token, of which a closing one closes one, if any is open, whether it is round or
--- a brace
+-- how many brackets are open after a token. A closing bracket closes one if any is open, whether it is round or a
+-- brace
 abbrev pub open_behind : ℕ → TokenKind → ℕ
 open_behind count RoundOpen = count + 1
 open_behind count BraceOpen = count + 1
@@ -28,32 +28,39 @@ open_behind count RoundClose = count - 1
 open_behind count BraceClose = count - 1
 open_behind count other = count
 
--- whether more brackets are open at once than may be, where so many are already
+-- whether more than `most_open` brackets are open at once, if `count` are open before the tokens
 abbrev pub is_deep : ℕ → List Spelled → Bool
 is_deep count [] = false
 is_deep count (token ∷ tokens) =
     (opens token.kind && (count == most_open)) || is_deep (open_behind count token.kind) tokens
 
--- a text is a constraint with this tree: it is cut into tokens, its brackets are not too deep, and the tokens derive
--- from a constraint with this tree
+-- `text` is a constraint with this tree: the lexer cuts it into tokens, its brackets are not too deep, and the tokens
+-- derive from a form with this tree
 pub record IsConstraint (text : List ℕ) (tree : Tree) : Type 0 where
+  -- the lexer can read the text
   pub readable : IsReadable text
+  -- the tokens of the text
   pub tokens : List Spelled
+  -- the text is cut into exactly `tokens`
   pub are_tokens : AreTokensOf text tokens
+  -- at no place are more than `most_open` brackets open
   pub shallow : is_deep 0 tokens ≡ false
+  -- some form derives `tokens`, and its tree is `tree`
   pub is_tree : IsTreeOf tokens tree
 
--- a text is refused for the depth of its brackets, and for its syntax: it is cut into tokens, and they are too deep;
--- they are not, and there is no tree of them
+-- a text is refused for the depth of its brackets: the lexer cuts it into tokens, and more than `most_open` brackets
+-- are open at once
 abbrev pub IsTooDeep : List ℕ → Type 0
 IsTooDeep text = IsReadable text × (tokens : List Spelled) × AreTokensOf text tokens × (is_deep 0 tokens ≡ true)
 
+-- a text is refused for its syntax: the lexer cuts it into tokens, its brackets are not too deep, and the tokens have
+-- no tree
 abbrev pub HasNoTree : List ℕ → Type 0
 HasNoTree text =
     IsReadable text × (tokens : List Spelled) × AreTokensOf text tokens × (is_deep 0 tokens ≡ false)
     × ((tree : Tree) → ¬ IsTreeOf tokens tree)
 
--- the first refusal of a text
+-- `text` is refused for this reason: the depth of its brackets, its syntax, or a fault that the lexer finds
 abbrev pub IsRefusalOf : List ℕ → QueryFault → Type 0
 IsRefusalOf text Depth = IsTooDeep text
 IsRefusalOf text Syntax = HasNoTree text

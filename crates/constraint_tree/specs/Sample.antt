@@ -1,9 +1,9 @@
--- A small release, on which the definitions are shown. Its rows are those in force.
+-- A small release on which the definitions are shown. All its rows are in force.
 use Rattle.std.specs.Prelude.{ℕ, pos, List, [], ◌∷◌, codes}
 use Rattle.rf2_rows.specs.Release.{Release, Attribute, Name, Value, concept_value, number_value}
 
--- its concepts: three findings below Alpha, where Delta lies below both Beta and Gamma; two types of
--- attribute; two values, where Y lies below X; a reference set; and the root
+-- The concepts: three findings below Alpha, of which Delta lies below both Beta and Gamma; two types of attribute;
+-- two values, of which Y lies below X; a reference set; and the root
 abbrev pub alpha : ℕ
 alpha = 100005
 
@@ -70,7 +70,7 @@ sample_attributes =
     ∷ attribute_row delta type_u (concept_value value_y) 2
     ∷ []
 
--- a name in English
+-- a description in English, by its identifier, concept and term
 abbrev pub english_name : ℕ → ℕ → List ℕ → Name
 english_name id concept term = record { id = id; concept = concept; language = codes "en"; term = term }
 

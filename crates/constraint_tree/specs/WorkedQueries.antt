@@ -1,5 +1,5 @@
--- Queries on the sample release, each with its text, with numbers in place of names, and the concepts that it denotes
--- there: facts that follow by computing.
+-- Queries on the sample release. Each has its text, in which identifiers replace names, its tree, and the concepts
+-- that it denotes there. Each fact follows by computing.
 use Rattle.std.specs.Prelude.{ℕ, ℤ, pos, ◌≡◌, false, true, Some, None, List, [], ◌∷◌, codes}
 use Rattle.constraint_tree.specs.declared.operator.Cardinality.{Cardinality}
 use Rattle.constraint_tree.specs.declared.operator.Compare.{Compare}
@@ -10,9 +10,11 @@ use Rattle.constraint_tree.specs.Denotation.{denotation}
 use Rattle.constraint_tree.specs.Refusal.{IsConstraint}
 use Rattle.constraint_tree.specs.Sample.{sample, sample_concepts, alpha, beta, gamma, delta, type_t, type_u, value_x, value_y, reference_set, root}
 
--- a text is this query, which denotes these concepts in the sample release
+-- `text` is the constraint `query`, which denotes exactly the concepts of `answer` in the sample release
 pub record Gives (text : List ℕ) (query : Tree) (answer : List ℕ) : Type 0 where
+  -- the text is a constraint with this tree
   pub is_query : IsConstraint text query
+  -- the tree denotes exactly the concepts of `answer` in the sample release
   pub denotes : denotation sample query ≡ answer
 
 -- Words to write queries with: `<`, `<<`, `AND`, `OR` and a dot.
@@ -32,24 +34,27 @@ some_of trees = or_tree (trees_from trees)
 abbrev pub values_along : Tree → List Tree → Tree
 values_along start names = dotted_tree start (trees_from names)
 
--- `<` and `<<` of Alpha
+-- `<` of Alpha
 abbrev pub below_alpha : Tree
 below_alpha = descendants_of alpha
 
+-- `<<` of Alpha
 abbrev pub alpha_or_below : Tree
 alpha_or_below = self_or_descendants_of alpha
 
--- `[least..*]` and `[least..most]`
+-- the cardinality `[least..*]`
 abbrev pub at_least : ℕ → Cardinality
 at_least least = record { min = least; max = None }
 
+-- the cardinality `[least..most]`
 abbrev pub between : ℕ → ℕ → Cardinality
 between least most = record { min = least; max = Some most }
 
--- an attribute of a type that passes a test, so many times or at least once
+-- an attribute of type `type_id` whose value passes `test`, with the cardinality `count`
 abbrev pub counted : Cardinality → ℕ → TestTree → AttributeTree
 counted count type_id test = attribute_tree count false (concept_tree type_id) test
 
+-- an attribute of type `type_id` whose value passes `test`, at least once
 abbrev pub has : ℕ → TestTree → AttributeTree
 has type_id test = counted (at_least 1) type_id test
 
@@ -57,30 +62,35 @@ has type_id test = counted (at_least 1) type_id test
 abbrev pub any_concept : TestTree
 any_concept = within_test any_tree
 
--- `focus : attribute` and `focus : count { set }`
+-- `focus : attribute`
 abbrev pub with_attribute : Tree → AttributeTree → Tree
 with_attribute focus attribute = refined_tree focus (one_refinement attribute)
 
+-- `focus : count { set }`
 abbrev pub with_braces : Tree → Cardinality → AttributeSetTree → Tree
 with_braces focus count set = refined_tree focus (group_refinement count set)
 
--- 104001=<<106004 and 105000=*
+-- 104001=<<106004
 abbrev pub finds_x : AttributeTree
 finds_x = has type_t (within_test (self_or_descendants_of value_x))
 
+-- 105000=*
 abbrev pub finds_u : AttributeTree
 finds_u = has type_u any_concept
 
--- 2, 2.5, 2.6 and 3, as so many times 10^-18
+-- the number 2, as a multiple of 10^-18
 abbrev pub two : ℤ
 two = pos 2000000000000000000
 
+-- the number 2.5, as a multiple of 10^-18
 abbrev pub two_and_a_half : ℤ
 two_and_a_half = pos 2500000000000000000
 
+-- the number 2.6, as a multiple of 10^-18
 abbrev pub two_point_six : ℤ
 two_point_six = pos 2600000000000000000
 
+-- the number 3, as a multiple of 10^-18
 abbrev pub three : ℤ
 three = pos 3000000000000000000
 
@@ -92,14 +102,15 @@ GivesEverything = Gives (codes "*") any_tree sample_concepts
 abbrev pub GivesDescendants : Type 0
 GivesDescendants = Gives (codes "<100005") below_alpha (beta ∷ gamma ∷ delta ∷ [])
 
--- both attributes, for one group
+-- `finds_x` and `finds_u` in one group
 abbrev pub finds_both : AttributeSetTree
 finds_both = and_set (sets_from (one_set finds_x ∷ one_set finds_u ∷ []))
 
--- both attributes in one group, and both wherever
+-- a concept below Alpha that has both attributes in one group
 abbrev pub braces_query : Tree
 braces_query = with_braces below_alpha (at_least 1) finds_both
 
+-- a concept below Alpha that has both attributes, in one group or in several
 abbrev pub no_braces_query : Tree
 no_braces_query =
     refined_tree below_alpha
@@ -110,14 +121,15 @@ GivesBraces =
     Gives (codes "<100005:{104001=<<106004,105000=*}") braces_query (beta ∷ [])
     × Gives (codes "<100005:104001=<<106004,105000=*") no_braces_query (beta ∷ gamma ∷ delta ∷ [])
 
--- a number is no concept, and the pair that Delta has in two groups counts once
+-- two pairs of type U with a concept as the value. Gamma's number is no concept, and the pair that Delta has in two
+-- groups counts once
 abbrev pub two_of_u_query : Tree
 two_of_u_query = with_attribute below_alpha (counted (at_least 2) type_u any_concept)
 
 abbrev pub GivesDistinctPairs : Type 0
 GivesDistinctPairs = Gives (codes "<100005:[2..*]105000=*") two_of_u_query []
 
--- so many groups
+-- at least two groups with one of the two attributes
 abbrev pub two_groups_query : Tree
 two_groups_query =
     with_braces below_alpha (at_least 2)
@@ -129,23 +141,27 @@ GivesBraceCounts =
     × Gives (codes "<100005:[1..1]{105000=*}") (with_braces below_alpha (between 1 1) (one_set finds_u)) (beta ∷ gamma ∷ [])
     × Gives (codes "<100005:[2..*]{105000=*}") (with_braces below_alpha (at_least 2) (one_set finds_u)) (delta ∷ [])
 
--- some group without the attribute; a concept without it; no group with it
+-- the attribute U with the cardinality `[0..0]`
 abbrev pub none_of_u : AttributeTree
 none_of_u = counted (between 0 0) type_u any_concept
 
+-- a concept below Alpha with a group that has no attribute U
 abbrev pub none_in_braces_query : Tree
 none_in_braces_query = with_braces below_alpha (at_least 1) (one_set none_of_u)
 
+-- `[0..0]` in braces asks for a group without the attribute, outside braces for a concept without it, and before
+-- braces for no group with it
 abbrev pub GivesNoneInBraces : Type 0
 GivesNoneInBraces =
     Gives (codes "<100005:{[0..0]105000=*}") none_in_braces_query (gamma ∷ delta ∷ [])
     × Gives (codes "<<100005:[0..0]105000=*") (with_attribute alpha_or_below none_of_u) (alpha ∷ [])
     × Gives (codes "<<100005:[0..0]{105000=*}") (with_braces alpha_or_below (between 0 0) (one_set finds_u)) (alpha ∷ [])
 
--- Delta counts once as a source
+-- exactly three sources below Alpha whose attribute U has the concept as its value. Delta counts once as a source
 abbrev pub three_sources : AttributeTree
 three_sources = attribute_tree (between 3 3) true (concept_tree type_u) (within_test below_alpha)
 
+-- Value X or a descendant of it that three sources below Alpha point to
 abbrev pub reverse_query : Tree
 reverse_query = with_attribute (self_or_descendants_of value_x) three_sources
 
@@ -157,10 +173,11 @@ GivesDotted =
     Gives (codes "<100005.104001") (values_along below_alpha (concept_tree type_t ∷ [])) (value_x ∷ value_y ∷ [])
     × Gives (codes "<100005 . 104001 . 105000") (values_along below_alpha (concept_tree type_t ∷ concept_tree type_u ∷ [])) []
 
--- a value that is not equal, which is not the same as no value that is equal
+-- a value of U that is not 3, which differs from no value that is 3
 abbrev pub not_three_query : Tree
 not_three_query = with_attribute below_alpha (has type_u (number_test NotEqual three))
 
+-- a value of T that is a concept other than X
 abbrev pub not_x_query : Tree
 not_x_query = with_attribute below_alpha (has type_t (outside_test (concept_tree value_x)))
 
@@ -178,7 +195,7 @@ GivesRowsInForce =
     × Gives (codes "<<100005:104001=*") (with_attribute alpha_or_below (has type_t any_concept)) (beta ∷ gamma ∷ delta ∷ [])
     × Gives (codes "<<100005:105000=*") (with_attribute alpha_or_below finds_u) (beta ∷ gamma ∷ delta ∷ [])
 
--- the concepts that have such a number
+-- the concepts that have a value of U that compares with `number` as `compare` says
 abbrev pub with_number : Compare → ℤ → Tree
 with_number compare number = with_attribute any_tree (has type_u (number_test compare number))
 
@@ -188,7 +205,7 @@ GivesNumbers =
     × Gives (codes "*:105000=#2.50") (with_number Equal two_and_a_half) (gamma ∷ [])
     × Gives (codes "*:105000<#+2.6") (with_number Less two_point_six) (gamma ∷ [])
 
--- a bound that is met, and one that is not
+-- each comparison on a bound that it meets, and on one that it does not meet
 abbrev pub GivesBounds : Type 0
 GivesBounds =
     Gives (codes "*:105000<=#2.5") (with_number LessOrEqual two_and_a_half) (gamma ∷ [])
@@ -196,14 +213,14 @@ GivesBounds =
     × Gives (codes "*:105000>=#2.5") (with_number GreaterOrEqual two_and_a_half) (gamma ∷ delta ∷ [])
     × Gives (codes "*:105000>=#2.6") (with_number GreaterOrEqual two_point_six) (delta ∷ [])
 
--- what is in the first and not in the second
+-- `MINUS` gives the concepts of the first operand that are not in the second
 abbrev pub GivesDifferences : Type 0
 GivesDifferences =
     Gives (codes "<<100005 MINUS 101009") (minus_tree alpha_or_below (concept_tree beta)) (alpha ∷ gamma ∷ delta ∷ [])
     × Gives (codes "<<100005 MINUS <<101009") (minus_tree alpha_or_below (self_or_descendants_of beta)) (alpha ∷ gamma ∷ [])
     × Gives (codes "101009 MINUS <<100005") (minus_tree (concept_tree beta) alpha_or_below) []
 
--- either of two attributes is enough, and both are not asked for
+-- a concept below Alpha that has at least one of two attributes
 abbrev pub either_of : AttributeTree → AttributeTree → Tree
 either_of first second =
     refined_tree below_alpha (or_refinement (refinements_from (one_refinement first ∷ one_refinement second ∷ [])))
@@ -255,11 +272,11 @@ GivesOperands =
     × Gives (codes "<<101009 AND <<102002") and_of_walks_query (delta ∷ [])
     × Gives (codes "< 100005 AND 101009") (all_of (below_alpha ∷ concept_tree beta ∷ [])) (beta ∷ [])
 
--- what is below Alpha and has so many of Type U
+-- a concept below Alpha whose number of pairs of type U lies in `count`
 abbrev pub with_u_counted : Cardinality → Tree
 with_u_counted count = with_attribute below_alpha (counted count type_u any_concept)
 
--- neither number is a concept in force, and three at least and one at most is never satisfied
+-- neither number is a concept in force, and no count is both at least three and at most one
 abbrev pub GivesEmptyAnswers : Type 0
 GivesEmptyAnswers =
     Gives (codes "109006") (concept_tree 109006) []

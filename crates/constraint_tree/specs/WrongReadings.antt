@@ -1,5 +1,5 @@
--- Readings of a query that look right and are wrong, each with a query on which it gives another answer
--- than the definition. Above each query stands its text.
+-- Wrong readings of queries that look right. Each comes with a query on which its answer differs from the
+-- definition's. The comment above a query gives its text.
 use Rattle.std.specs.Prelude.{ℕ, zero, suc, ◌≡◌, ◌≢◌, ◌==◌, ◌&&◌, ◌||◌, Bool, false, not, List, [], ◌∷◌, map, filter, count_by, nat_eq}
 use Rattle.std.specs.List.{list_any}
 use Rattle.rf2_rows.specs.Release.{Release}
@@ -15,17 +15,17 @@ use Rattle.constraint_tree.specs.Tree.{Tree, group_refinement, one_refinement, A
 use Rattle.constraint_tree.specs.Sample.{sample, alpha, beta, gamma, delta, type_u, root}
 use Rattle.constraint_tree.specs.WorkedQueries.{below_alpha, braces_query, finds_x, finds_u, finds_both, any_concept, at_least, counted, has, two_of_u_query, none_of_u, none_in_braces_query, not_three_query, three, alpha_or_delta, top_query, ancestors_query, parents_query, self_or_descendants_of, walk_of_and_query, all_of}
 
--- The definition gives the first list, and a reading, as the test whether a concept is in the answer,
--- the second, which is another.
+-- The definition gives the list `right` for `query`, and `reading`, the test whether a concept is in the answer,
+-- gives another list, `wrong`.
 abbrev pub Misreads : Tree → (ℕ → Bool) → List ℕ → List ℕ → Type 0
 Misreads query reading right wrong =
     (denotation sample query ≡ right) × (filter reading sample.concepts ≡ wrong) × (right ≢ wrong)
 
--- the descendants of Alpha of which a reading of a refinement holds
+-- whether a concept is a descendant of Alpha for which `reading` holds
 abbrev pub below_alpha_that : (ℕ → Bool) → ℕ → Bool
 below_alpha_that reading concept = denotes sample below_alpha concept && reading concept
 
--- `{ a , b }` read as `{ a } , { b }`: each attribute in some group
+-- `{ a , b }` misread as `{ a } , { b }`: each attribute in some group
 abbrev pub has_apart : Release → AttributeTree → AttributeTree → ℕ → Bool
 has_apart release one other concept =
     satisfies release (group_refinement (at_least 1) (one_set one)) concept
@@ -38,7 +38,7 @@ MisreadsSplitBraces =
     (below_alpha_that (has_apart sample finds_x finds_u))
     (beta ∷ []) (beta ∷ gamma ∷ delta ∷ [])
 
--- `a != v` read as the denial of `a = v`
+-- `a != v` misread as the negation of `a = v`
 abbrev pub denies : Release → AttributeTree → ℕ → Bool
 denies release attribute concept = not (satisfies release (one_refinement attribute) concept)
 
@@ -49,7 +49,7 @@ MisreadsNotEqual =
     (below_alpha_that (denies sample (has type_u (number_test Equal three))))
     (gamma ∷ []) (beta ∷ gamma ∷ [])
 
--- an attribute inside braces read of the whole concept
+-- an attribute inside braces misread as an attribute of the whole concept
 abbrev pub has_wherever : Release → AttributeTree → ℕ → Bool
 has_wherever release attribute concept = satisfies release (one_refinement attribute) concept
 
@@ -60,11 +60,13 @@ MisreadsNoneInBraces =
     (below_alpha_that (has_wherever sample none_of_u))
     (gamma ∷ delta ∷ []) []
 
--- group 0 read as a group like the others
+-- the groups of a concept if group 0 is misread as a group like the others
 abbrev pub groups_with_zero : Release → ℕ → List (List Pair)
 groups_with_zero release concept =
     map (pairs_in release concept) (distinct nat_eq (map (λ row. row.group) (rows_of release concept)))
 
+-- whether the number of groups, with group 0 misread as one of them, that satisfy an attribute set lies in the
+-- cardinality
 abbrev pub has_group_with_zero : Release → Cardinality → AttributeSetTree → ℕ → Bool
 has_group_with_zero release count set concept =
     lies_in count (count_by (has_set release set) (groups_with_zero release concept))
@@ -76,7 +78,7 @@ MisreadsGroupZero =
     (below_alpha_that (has_group_with_zero sample (at_least 1) finds_both))
     (beta ∷ []) (beta ∷ delta ∷ [])
 
--- rows counted in place of distinct pairs
+-- a cardinality misread as a count of rows, not of distinct pairs
 abbrev pub has_rows : Release → AttributeTree → ℕ → Bool
 has_rows release attribute concept = has_attribute release attribute (map pair_of (rows_of release concept))
 
@@ -87,7 +89,7 @@ MisreadsRows =
     (below_alpha_that (has_rows sample (counted (at_least 2) type_u any_concept)))
     [] (delta ∷ [])
 
--- `!!>` read of parents alone
+-- `!!>` misread as the members that have no parent in the set
 abbrev pub has_no_parent_in : Release → (ℕ → Bool) → ℕ → Bool
 has_no_parent_in release set concept = set concept && not (is_just_below release set concept)
 
@@ -98,7 +100,7 @@ MisreadsTop =
     (has_no_parent_in sample (denotes sample alpha_or_delta))
     (alpha ∷ []) (alpha ∷ delta ∷ [])
 
--- ancestors at most so many rows away
+-- whether `to` is an ancestor of `from` that is at most `most` is-a rows away
 abbrev pub reaches_within : ℕ → List (ℕ × ℕ) → ℕ → ℕ → Bool
 reaches_within zero rows from to = false
 reaches_within (suc most) rows from to =
@@ -111,7 +113,7 @@ MisreadsDepth =
     (reaches_within 2 sample.isa delta)
     (alpha ∷ beta ∷ gamma ∷ root ∷ []) (alpha ∷ beta ∷ gamma ∷ [])
 
--- the first parent of each concept alone
+-- the first is-a row of each concept alone, as if concepts had one parent
 abbrev pub first_parents : List (ℕ × ℕ) → List (ℕ × ℕ)
 first_parents rows = distinct (λ one other. one.0 == other.0) rows
 
@@ -122,8 +124,7 @@ MisreadsSecondParent =
     (reaches_within 1 (first_parents sample.isa) delta)
     (beta ∷ gamma ∷ []) (beta ∷ [])
 
--- `<<(a AND b)` read as `<<a AND <<b`
--- <<(101009 AND 102002)
+-- <<(101009 AND 102002), with `<<(a AND b)` misread as `<<a AND <<b`
 abbrev pub MisreadsWalkOfAnd : Type 0
 MisreadsWalkOfAnd =
     Misreads walk_of_and_query

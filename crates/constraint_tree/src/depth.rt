@@ -6,9 +6,9 @@ ghost use Rattle.constraint_tree.specs.Tree.{tree_of, trees_of, refinement_tree_
 use crate::tree::{Attribute, AttributeSet, Constraint, Refinement, Test};
 
 impl Constraint {
-    /// The number of nodes on the longest way from the root, where each constraint, refinement and attribute
-    /// set is a node: `*` has 1, `<<100005` has 2. A number above `u64::MAX` is given as that. It takes no
-    /// memory.
+    /// The number of nodes on the longest path from the root. Constraints, refinements and attribute sets are
+    /// nodes: `*` has 1, `<<100005` has 2. A number above `u64::MAX` is returned as `u64::MAX`. The function
+    /// allocates nothing.
     #[cycle(depth)]
     #[tactic(auto, using(crate::proofs::TreeLemmas::trees_of_items))]
     pub fn depth(&self) -> u64
@@ -67,7 +67,7 @@ impl AttributeSet {
 }
 
 impl Attribute {
-    // An attribute is no node: it is as deep as the deeper of its constraints.
+    // An attribute is no node: it is as deep as the deeper of its name and its test.
     #[cycle(depth)]
     fn depth(&self) -> u64
         ensures { result ≡ min (attribute_depth (attribute_tree_of self.now)) (2 ^ 64 - 1) }
@@ -88,7 +88,7 @@ impl Test {
     }
 }
 
-// The depth of the deepest, or 0 where there is none.
+// Returns the depth of the deepest constraint in `parts`, or 0 if `parts` is empty.
 #[cycle(depth)]
 fn deepest_constraint(parts: &[Constraint]) -> u64
     ensures { result ≡ min (trees_depth (trees_of parts.now)) (2 ^ 64 - 1) }

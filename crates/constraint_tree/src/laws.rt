@@ -9,8 +9,8 @@ ghost use Rattle.constraint_tree.specs.Tree.{Tree};
 ghost use Rattle.constraint_tree.specs.Walks.{TellsInForce, TellsChild, TellsBelow, TellsAbove};
 ghost use Rattle.constraint_tree.specs.WrongReadings.{MisreadsSplitBraces, MisreadsNotEqual, MisreadsNoneInBraces, MisreadsGroupZero, MisreadsRows, MisreadsTop, MisreadsDepth, MisreadsSecondParent, MisreadsWalkOfAnd};
 
-/// The tests that operators are made of say what they are named for: that a concept is one of the release's,
-/// that there is an is-a row, and that a chain of is-a rows leads to a member of the set or from one.
+/// The tests that define the operators mean what their names say: a concept is one of the release's, an is-a
+/// row exists, and a chain of is-a rows leads to a member of the set or from one.
 pub fn walks_tell_chains()
     ensures in_force { TellsInForce }
     ensures child { TellsChild }
@@ -18,23 +18,23 @@ pub fn walks_tell_chains()
     ensures above { TellsAbove }
 {}
 
-/// A constraint denotes concepts of the release alone, whatever the release and the constraint are.
+/// A constraint denotes only concepts in force, for every release and every constraint.
 pub fn constraints_denote_concepts_in_force()
     ensures { DenotesConceptsInForce }
 {}
 
-/// What a constraint is printed as is a constraint again, with the same tree, unless it is too long.
+/// The printed text of a constraint is a constraint with the same tree, unless it is longer than `most_bytes`.
 pub fn print_is_read()
     ensures { (text : List ℕ) (tree : Tree) → IsConstraint text tree → length (constraint_text tree) ≤ most_bytes
         → IsConstraint (constraint_text tree) tree }
 {}
 
-/// No constraint has a tree deeper than 326, since no more than 64 of its brackets are open at once.
+/// No constraint has a tree deeper than 326, because at most 64 of its brackets are open at once.
 pub fn constraints_are_not_deep()
     ensures { (text : List ℕ) (tree : Tree) → IsConstraint text tree → depth_of tree ≤ most_deep }
 {}
 
-/// What wrong readings of a query give on that release: each something else.
+/// Each wrong reading gives on the sample release another answer to its query than the definition gives.
 pub fn wrong_readings_differ()
     ensures split_braces { MisreadsSplitBraces }
     ensures not_equal { MisreadsNotEqual }

@@ -1,6 +1,6 @@
 //! The operators, comparisons and cardinalities of a constraint.
 
-/// A way to go through the hierarchy (Expression Constraint Language, "Simple Expression Constraints").
+/// A hierarchy operator (Expression Constraint Language, "Simple Expression Constraints").
 #[derive(Clone, Copy, Debug, PartialEq, Eq)]
 pub enum Operator {
     /// `<`
@@ -42,12 +42,12 @@ pub enum Compare {
     GreaterOrEqual,
 }
 
-/// How many there may be (Expression Constraint Language, "Cardinality"). A minimum above the maximum is
-/// never satisfied.
+/// How many pairs or groups there may be (Expression Constraint Language, "Cardinality"). A minimum above the
+/// maximum is never satisfied.
 #[derive(Clone, Copy, Debug, PartialEq, Eq)]
 pub struct Cardinality {
-    /// At least so many.
+    /// The least count.
     pub min: u64,
-    /// At most so many, or `None` for `*`.
+    /// The greatest count, or `None` for `*`.
     pub max: Option<u64>,
 }

@@ -8,14 +8,14 @@ use crate::tree::{Attribute, AttributeSet, Constraint, Refinement, Test};
 use numerals::Decimal;
 use std::alloc::{AllocError, Global};
 
-/// How many 10^-18 are one.
+/// How many units of 10^-18 make 1.
 const ONE: u128 = 1_000_000_000_000_000_000;
 
 impl Constraint {
-    /// Appends the constraint in the brief syntax (Expression Constraint Language, 5.1), with round brackets only
-    /// where the grammar needs them, and no blanks but around `OR` and `MINUS` and behind `R`. Where memory is
-    /// refused `output` is unchanged. A list of no parts, which no text has, is written as nothing, and a list of
-    /// one as that part.
+    /// Appends the constraint in the brief syntax (Expression Constraint Language, 5.1). It writes round
+    /// brackets only if the grammar needs them, and blanks only around `OR` and `MINUS` and after `R`. If
+    /// memory is refused, `output` is unchanged. An empty list of parts, which no text has, is written as
+    /// nothing, and a list of one part as that part.
     pub fn print(&self, alloc: Global, output: &mut Vec<u8>) -> Result<(), AllocError>
         ensures ok { OnOk result (output.new.items ≡ output.old.items ++ constraint_text (tree_of self.now)) }
         ensures err { OnErr result (output.new.items ≡ output.old.items) }
@@ -60,7 +60,7 @@ impl Constraint {
         }
     }
 
-    // The constraint as an operand.
+    // Appends the constraint as an operand, in brackets unless it stands without them.
     #[cycle(print)]
     fn write_operand(&self, output: &mut Vec<u8>) -> Result<(), AllocError>
         ensures { let tree = tree_of self.now in OnOk result (output.new.items ≡ output.old.items ++ placed_text (is_sub tree) (constraint_text tree)) }
@@ -68,7 +68,7 @@ impl Constraint {
         self.write_placed(self.stands_as_operand(), output)
     }
 
-    // The constraint with brackets around it, unless it stands without.
+    // Appends the constraint, in brackets unless `stands` is set.
     #[cycle(print)]
     fn write_placed(&self, stands: bool, output: &mut Vec<u8>) -> Result<(), AllocError>
         ensures { OnOk result (output.new.items ≡ output.old.items ++ placed_text stands (constraint_text (tree_of self.now))) }
@@ -192,7 +192,7 @@ impl Test {
     }
 }
 
-// A set of attributes in braces, behind its cardinality.
+// Appends the cardinality and the attribute set in braces.
 #[cycle(print)]
 fn write_group(
     count: Cardinality,
@@ -207,7 +207,8 @@ fn write_group(
     output.extend_from_slice(b"}")
 }
 
-// Operands with a text between them, and where something stands before them, before the first as well.
+// Appends the operands of `parts` with `between` between two of them, and also before the first if `behind` is
+// set.
 #[cycle(print)]
 fn write_operands(
     behind: bool,
@@ -270,7 +271,7 @@ fn separate(has_front: bool, between: &[u8], output: &mut Vec<u8>) -> Result<(),
     }
 }
 
-// The bracket in front of what does not stand without.
+// Appends the opening bracket of a text that does not stand without brackets.
 fn open(stands: bool, output: &mut Vec<u8>) -> Result<(), AllocError>
     ensures { OnOk result (output.new.items ≡ output.old.items ++ opening stands) }
 {
@@ -336,8 +337,9 @@ fn write_number(number: u64, output: &mut Vec<u8>) -> Result<(), AllocError>
     output.extend_from_slice(digits.format(number).as_bytes())
 }
 
-/// Appends a number of 10^-18 as a constraint writes it: behind `#`, with its sign, without closing zeros (Expression
-/// Constraint Language 2.2, "5.1 Brief syntax", numericValue). `AllocError` is answered where memory is refused.
+/// Appends a number of 10^-18 as a constraint writes it: `#`, the sign of a negative number, and the digits
+/// without trailing zeros (Expression Constraint Language 2.2, "5.1 Brief syntax", numericValue). Returns
+/// `AllocError` if memory is refused.
 pub fn print_decimal(value: Decimal, output: &mut Vec<u8>) -> Result<(), AllocError>
     ensures { OnOk result (output.new.items ≡ output.old.items ++ number_text value.0) }
 {
@@ -370,7 +372,7 @@ fn write_fraction(fraction: u64, output: &mut Vec<u8>) -> Result<(), AllocError>
     }
 }
 
-// The digits of a fraction of so many places, without closing zeros.
+// Appends the digits of a fraction with `places` decimal places, without trailing zeros.
 fn write_places(places: u32, fraction: u64, output: &mut Vec<u8>) -> Result<(), AllocError>
     requires few { places ≤ 18 }
     requires fits { fraction < 10 ^ places }

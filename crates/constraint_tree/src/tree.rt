@@ -11,37 +11,38 @@ pub enum Constraint {
     Concept(u64),
     /// `*`: each concept.
     Any,
-    /// The concepts that the operator leads to from the members of the operand.
+    /// The concepts that the operator reaches from the members of the operand.
     Walk(Operator, Box<Constraint>),
     /// `^`: the components of the reference sets in the operand.
     MemberOf(Box<Constraint>),
     /// The concepts in all parts.
     And(Vec<Constraint>),
-    /// The concepts in some part.
+    /// The concepts in at least one part.
     Or(Vec<Constraint>),
     /// The concepts in the first and not in the second.
     Minus(Box<Constraint>, Box<Constraint>),
-    /// `A . b . c`: the values of the attributes b of A, then of the attributes c of those.
+    /// `A . b . c`: the values of the attributes b of A, then the values of the attributes c of those values.
     Dotted(Box<Constraint>, Vec<Constraint>),
     /// `A : r`: the members of A that satisfy r.
     Refined(Box<Constraint>, Box<Refinement>),
 }
 
-/// What a concept must satisfy (Expression Constraint Language, "Refinements", eclRefinement).
+/// The condition that a concept must satisfy (Expression Constraint Language, "Refinements", eclRefinement).
 #[cycle(tree)]
 #[derive(Drop, Debug, PartialEq)]
 pub enum Refinement {
     /// An attribute of the whole concept.
     One(Attribute),
-    /// `{ .. }`: so many groups satisfy the set.
+    /// `{ .. }`: the number of groups that satisfy the set lies in the cardinality.
     Group(Cardinality, AttributeSet),
     /// All parts hold.
     And(Vec<Refinement>),
-    /// Some part holds.
+    /// At least one part holds.
     Or(Vec<Refinement>),
 }
 
-/// What a group of a concept must satisfy (Expression Constraint Language, "Refinements", eclAttributeSet).
+/// The condition that a group of a concept must satisfy (Expression Constraint Language, "Refinements",
+/// eclAttributeSet).
 #[cycle(tree)]
 #[derive(Drop, Debug, PartialEq)]
 pub enum AttributeSet {
@@ -49,26 +50,26 @@ pub enum AttributeSet {
     One(Attribute),
     /// All parts hold.
     And(Vec<AttributeSet>),
-    /// Some part holds.
+    /// At least one part holds.
     Or(Vec<AttributeSet>),
 }
 
-/// So many pairs with a type in the name and a value that passes the test (Expression Constraint Language,
-/// "Refinements", eclAttribute).
+/// A condition on pairs: the number of pairs with a type in `name` and a value that passes `test` lies in
+/// `count` (Expression Constraint Language, "Refinements", eclAttribute).
 #[cycle(tree)]
 #[derive(Drop, Debug, PartialEq)]
 pub struct Attribute {
     /// How many pairs must pass. A text without a cardinality has `[1..*]`.
     pub count: Cardinality,
-    /// `R`: the rows are read backwards. Never inside braces.
+    /// `R`: the rows are read backwards, from value to source. Never inside braces.
     pub reverse: bool,
     /// The concepts that the type may be.
     pub name: Constraint,
-    /// What the value must pass.
+    /// The test that the value must pass.
     pub test: Test,
 }
 
-/// What the value of an attribute must pass.
+/// The test that the value of an attribute must pass.
 #[cycle(tree)]
 #[derive(Drop, Debug, PartialEq)]
 pub enum Test {
@@ -76,6 +77,6 @@ pub enum Test {
     Within(Box<Constraint>),
     /// `!=`: a concept that is not in the constraint.
     Outside(Box<Constraint>),
-    /// A number that compares so.
+    /// A number that compares with this one as the comparison says.
     Number(Compare, Decimal),
 }

@@ -1,4 +1,4 @@
--- Which bytes are which.
+-- Letters, digits and blanks are different bytes.
 use Rattle.std.proofs.Common.{ℕ, ◌≡◌, ◌<◌, ◌≤◌, ◌==◌, ◌&&◌, ◌||◌, ◌⊎◌, inl, inr, true, false, arith}
 use Rattle.std.specs.Prelude.{nat_le}
 use Rattle.std.specs.Char.{is_ascii_alphabetic, is_ascii_digit}
@@ -19,20 +19,20 @@ letter_range byte is = elim (cases_Bool (nat_le 65 byte && nat_le byte 90)) [
       omega arith
 ]
 
--- a letter is no digit
+-- a letter is not a digit
 pub letter-not_digit : (byte : ℕ) → is_ascii_alphabetic byte ≡ true → is_ascii_digit byte ≡ false
 letter-not_digit byte is = false_from_ne_true (is_ascii_digit byte) (λ digit.
     let low = letter_range byte is in
     let high = digit_range byte digit in
     omega (arith, high.1))
 
--- a digit is no byte below `0`
+-- a digit is not a byte below `0`
 pub digit-not : (byte other : ℕ) → is_ascii_digit byte ≡ true → other < 48 → (byte == other) ≡ false
 digit-not byte other is low = false_from_ne_true (byte == other) (λ same.
     let high = digit_range byte is in
     omega (arith, high.0, eqb-true byte other same))
 
--- a blank of one byte is one of four
+-- a byte that `is_space` accepts is a space, a tab, CR or LF
 pub space_cases : (byte : ℕ) → is_space byte ≡ true → (byte ≡ 32) ⊎ ((byte ≡ 9) ⊎ ((byte ≡ 13) ⊎ (byte ≡ 10)))
 space_cases byte is = elim (cases_Bool (byte == 32)) [
   | inl space ↦ inl (eqb-true byte 32 space)

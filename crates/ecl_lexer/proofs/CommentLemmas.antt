@@ -7,17 +7,17 @@ use Rattle.ecl_lexer.specs.Bytes.{begins_with}
 use Rattle.ecl_lexer.specs.Pieces.{has_close}
 use Rattle.ecl_lexer.specs.Reading.{close_place}
 
--- an option that a function made, taken apart
+-- an option that `option_map f` makes is `Some y` only if the given one is `Some x` with `f x ≡ y`
 pub option_map-Some : {A B : Type 0} (f : A → B) (o : Option A) (y : B) → option_map f o ≡ Some y → (x : A) × (o ≡ Some x) × (f x ≡ y)
 option_map-Some f None y is = absurd cc
 option_map-Some f (Some x) y is = (x, refl, cc)
 
--- the byte behind the last of some bytes is not theirs
+-- whether bytes begin with `/` does not change if a `*` and more follow them
 begins_with-front : (inside rest : List ℕ) → begins_with 47 (inside ++ 42 ∷ rest) ≡ begins_with 47 inside
 begins_with-front [] rest = refl
 begins_with-front (x ∷ inside) rest = refl
 
--- a close behind bytes without one is the first
+-- a close after bytes without a close is the first one
 pub close_place-read : (inside rest : List ℕ) → has_close inside ≡ false → close_place (inside ++ 42 ∷ 47 ∷ rest) ≡ Some (length inside)
 close_place-read [] rest without = refl
 close_place-read (x ∷ inside) rest without =
@@ -28,15 +28,20 @@ close_place-read (x ∷ inside) rest without =
     let one : 1 + length inside ≡ suc (length inside) = omega arith in
     rw (here, more) (ap (λ (n : ℕ). Some n) one)
 
--- what is told of a text whose first close is at a place
+-- the first close of a text is at `place`
 pub record Closes (text : List ℕ) (place : ℕ) : Type 0 where
+  -- the bytes before the close
   pub inside : List ℕ
+  -- the bytes after the close
   pub rest : List ℕ
+  -- the text is the bytes before the close, the close, and the bytes after it
   pub is : text ≡ inside ++ 42 ∷ 47 ∷ rest
+  -- the bytes before the close have no close
   pub without : has_close inside ≡ false
+  -- the number of bytes before the close is `place`
   pub size : length inside ≡ place
 
--- a text that begins with `*/`
+-- a text whose first bytes are a `*` and a `/` begins with a close
 close_here : (x : ℕ) (text : List ℕ) → (x == 42 && begins_with 47 text) ≡ true → (rest : List ℕ) × (x ∷ text ≡ 42 ∷ 47 ∷ rest)
 close_here x [] here = absurd (let none = (and_parts (x == 42) false here).1 in cc)
 close_here x (y ∷ rest) here =
@@ -45,6 +50,7 @@ close_here x (y ∷ rest) here =
     let second = eqb-true y 47 parts.1 in
     (rest, cc)
 
+-- the first close of a text is at the place that `close_place` finds
 pub close_place-found : (text : List ℕ) (place : ℕ) → close_place text ≡ Some place → Closes text place
 close_place-found [] place found = absurd cc
 close_place-found (x ∷ text) place found = elim (cases_Bool (x == 42 && begins_with 47 text)) [
@@ -68,7 +74,7 @@ close_place-found (x ∷ text) place found = elim (cases_Bool (x == 42 && begins
       }
 ]
 
--- the two bytes of a close
+-- the two bytes of a close, `*/`
 abbrev pub close : List ℕ
 close = 42 ∷ 47 ∷ []
 
@@ -97,7 +103,7 @@ occurs-here text = record {
   reads (suc zero) within = refl
   reads (suc (suc j)) within = absurd (omega arith)
 
--- the first close is one
+-- a close occurs at the place that `close_place` finds
 close_place-occurs : (text : List ℕ) (place : ℕ) → close_place text ≡ Some place → OccursAt text close place
 close_place-occurs [] place found = absurd cc
 close_place-occurs (x ∷ text) place found = elim (cases_Bool (x == 42 && begins_with 47 text)) [
@@ -113,7 +119,7 @@ close_place-occurs (x ∷ text) place found = elim (cases_Bool (x == 42 && begin
       subst (OccursAt (x ∷ text) close) same (occurs-cons x text more.0 (close_place-occurs text more.0 more.1))
 ]
 
--- a close that stands somewhere is the first or behind it
+-- `close_place` finds a place at or before each place at which a close occurs
 occurs-place : (text : List ℕ) (place : ℕ) → OccursAt text close place → (n : ℕ) × (close_place text ≡ Some n) × (n ≤ place)
 occurs-place [] place occurs = absurd (omega (arith, occurs.fits))
 occurs-place (x ∷ text) zero occurs = begins-close x text occurs
@@ -131,7 +137,7 @@ occurs-place (x ∷ text) (suc place) occurs =
       | inr other ↦ (1 + more.0, rw (other, more.1) refl, omega (arith, more.2))
     ]
 
--- the place that a search finds is that of the first close
+-- a search for the first `*/` finds what `close_place` finds
 pub close_place-is : (text : List ℕ) (found : Option ℕ) → FindsNeedle text close 0 found → found ≡ close_place text
 close_place-is text None none = elim (first (close_place text) refl) [
   | inl without ↦ sym without

@@ -14,14 +14,18 @@ use Rattle.ecl_lexer.specs.Tokens.{AreRead, IsCut, IsRefusedAt, Placed, Spelled,
 use Rattle.ecl_lexer.proofs.ReadLemmas.{reading-read, reading-Ok, reading-Err, reading-refused, length-piece_text, drop-piece_text, take-piece_text, some_bytes}
 use Rattle.ecl_lexer.proofs.RunLemmas.{prefix_len-drop}
 
--- a text is cut up to an offset, and these are the tokens so far
+-- a text is cut up to the offset `at`, and `spelled` and `placed` are the tokens among its pieces
 pub record CutSoFar (text : List ℕ) (at : ℕ) (spelled : List Spelled) (placed : List Placed) : Type 0 where
+  -- the pieces up to the offset
   pub pieces : List Piece
+  -- the text is cut into the pieces and the text after the offset
   pub cut : IsCut text pieces (drop at text)
+  -- `spelled` are the tokens among the pieces
   pub spelling : spelled ≡ spelled_tokens pieces
+  -- `placed` are the tokens among the pieces, with their places
   pub places : placed ≡ placed_tokens 0 pieces
 
--- one piece more
+-- adding one piece to a cut
 
 pieces_text-push : (pieces : List Piece) (piece : Piece) (rest : List ℕ) → pieces_text (pieces ++ piece ∷ []) rest ≡ pieces_text pieces (piece_text piece rest)
 pieces_text-push [] piece rest = refl
@@ -56,7 +60,7 @@ spelled_tokens-push (first ∷ pieces) piece =
     ap (with_spelled (kind_of first) (bytes_of first)) (spelled_tokens-push pieces piece)
     ∙ with_spelled-append (kind_of first) (bytes_of first) (spelled_tokens pieces) (with_spelled (kind_of piece) (bytes_of piece) [])
 
--- how many bytes some pieces have
+-- the number of bytes of the pieces
 abbrev pieces_length : List Piece → ℕ
 pieces_length [] = 0
 pieces_length (piece ∷ pieces) = length (bytes_of piece) + pieces_length pieces
@@ -76,14 +80,19 @@ placed_tokens-push start (first ∷ pieces) piece =
     ∙ with_placed-append (kind_of first) (bytes_of first) start (placed_tokens next pieces) last
     ∙ ap (λ (n : ℕ). with_placed (kind_of first) (bytes_of first) start (placed_tokens next pieces) ++ with_placed (kind_of piece) (bytes_of piece) n []) same
 
--- what a step of the cut does
+-- the cut goes on from the offset `at` over one more piece
 pub record StepsOn (text : List ℕ) (at : ℕ) (spelled : List Spelled) (placed : List Placed) (piece : Piece) : Type 0 where
+  -- the piece ends within the text
   pub within : at + length (bytes_of piece) ≤ length text
+  -- the piece has at least one byte
   pub some : 0 < length (bytes_of piece)
+  -- the bytes of the piece are the bytes of the text at the offset
   pub slice : take (length (bytes_of piece)) (drop at text) ≡ bytes_of piece
+  -- the text is cut up to the end of the piece, with the piece's token, if it is one, added
   pub so_far : CutSoFar text (at + length (bytes_of piece))
       (spelled ++ with_spelled (kind_of piece) (bytes_of piece) []) (placed ++ with_placed (kind_of piece) (bytes_of piece) at [])
 
+-- the cut of a text up to an offset goes on over the piece that is read there
 pub next_piece : (text : List ℕ) (at : ℕ) (spelled : List Spelled) (placed : List Placed) (piece : Piece) → at ≤ length text
     → CutSoFar text at spelled placed → reading at (drop at text) ≡ Ok piece → StepsOn text at spelled placed piece
 next_piece text at spelled placed piece within so_far found =
@@ -114,7 +123,7 @@ next_piece text at spelled placed piece within so_far found =
     zero_add : (k : ℕ) → k ≡ 0 + k
     zero_add k = omega arith
 
--- an answer is no refusal, and answers and refusals are the same where their results are
+-- an answer of a piece is not a refusal
 no_fault : (x : Found) (fault : QueryFault) → ◌≡◌ {A = Result Found QueryFault} (Ok x) (Err fault) → ⊥
 no_fault x fault is = cc
 
@@ -124,7 +133,7 @@ same_answer x y is = cc
 same_refusal : (one other : QueryFault) → ◌≡◌ {A = Result Found QueryFault} (Err one) (Err other) → one ≡ other
 same_refusal one other is = cc
 
--- what the code has read is a step of the cut
+-- the cut of a text up to an offset goes on over the piece that the code has read there
 pub steps_on : (text : List ℕ) (at : ℕ) (spelled : List Spelled) (placed : List Placed) (x : Found) → at ≤ length text → CutSoFar text at spelled placed
     → Ok x ≡ found_of (reading at (take (length text - at) (drop at text))) → (piece : Piece) × (found piece ≡ x) × StepsOn text at spelled placed piece
 steps_on text at spelled placed x within so_far read =
@@ -136,7 +145,7 @@ steps_on text at spelled placed x within so_far read =
     by_result (Ok piece) is read =
         (piece, sym (same_answer x (found piece) read), next_piece text at spelled placed piece within so_far is)
 
--- and what it has refused is refused there
+-- the refusal that the code returns at an offset is a refusal of the text there
 pub refused_at : (text : List ℕ) (at : ℕ) (spelled : List Spelled) (placed : List Placed) (fault : QueryFault)
     → at < length text → CutSoFar text at spelled placed
     → Err fault ≡ found_of (reading at (take (length text - at) (drop at text))) → (cause : Cause) × IsRefusedAt text at cause × (fault ≡ fault_at at cause)
@@ -153,12 +162,13 @@ refused_at text at spelled placed fault within so_far read =
         let same = same_refusal fault other read ∙ refused.is in
         (refused.cause, (so_far.pieces, drop at text, so_far.cut, place, refused.refuses), same)
 
--- one token more
+-- a piece with a kind adds one token, with its bytes
 pub with_spelled-Some : (piece : Piece) (kind : TokenKind) (bytes : List ℕ) → kind_of piece ≡ Some kind → bytes ≡ bytes_of piece
     → record { kind = kind; bytes = bytes } ∷ [] ≡ with_spelled (kind_of piece) (bytes_of piece) []
 with_spelled-Some piece kind bytes is same =
     ap (λ (text : List ℕ). with_spelled (Some kind) text []) same ∙ ap (λ (o : Option TokenKind). with_spelled o (bytes_of piece) []) (sym is)
 
+-- a piece with a kind adds one placed token, with its bytes and its offsets
 pub with_placed-Some : (piece : Piece) (kind : TokenKind) (bytes : List ℕ) (start end : ℕ)
     → kind_of piece ≡ Some kind → bytes ≡ bytes_of piece → end ≡ start + length (bytes_of piece)
     → record { token = record { kind = kind; bytes = bytes }; start = start; end = end } ∷ [] ≡ with_placed (kind_of piece) (bytes_of piece) start []
@@ -167,7 +177,7 @@ with_placed-Some piece kind bytes start end is same ends =
     ∙ ap (λ (text : List ℕ). record { token = record { kind = kind; bytes = text }; start = start; end = start + length (bytes_of piece) } ∷ []) same
     ∙ ap (λ (o : Option TokenKind). with_placed o (bytes_of piece) start []) (sym is)
 
--- inside of a run its end is known
+-- at an offset within a run of letters, digits and `-` the run ends where it ended before
 pub run_on : (text : List ℕ) (at n end : ℕ) → end ≡ at + prefix_len is_code_byte (drop at text) → at + n < end
     → prefix_len is_code_byte (drop (at + n) text) + (at + n) ≡ end
 run_on text at n end is inside =
@@ -176,7 +186,7 @@ run_on text at n end is inside =
     ap (prefix_len is_code_byte) (drop-drop n at text) in
     omega (arith, more, same)
 
--- the empty text has no pieces
+-- a cut of the empty text has no tokens
 pub CutSoFar-empty : (text : List ℕ) (at : ℕ) (spelled : List Spelled) (placed : List Placed) → text ≡ [] → CutSoFar text at spelled placed → spelled ≡ []
 CutSoFar-empty text at spelled placed empty so_far = so_far.spelling ∙ none so_far.pieces so_far.cut
   where
@@ -186,21 +196,24 @@ CutSoFar-empty text at spelled placed empty so_far = so_far.spelling ∙ none so
         let behind : List ℕ = pieces_text pieces (drop at text) in
         absurd (omega (arith, ap length cut.whole, ap length empty, length-piece_text piece behind, some_bytes piece behind cut.each.0.stands))
 
--- what a token's kind puts in front is a token
+-- a list of tokens to which a piece with a kind is added is not empty
 pub has_token : (piece : Piece) (kind : TokenKind) (tokens : List Spelled) → kind_of piece ≡ Some kind
     → 0 < length (tokens ++ with_spelled (kind_of piece) (bytes_of piece) [])
 has_token piece kind tokens is =
     let one : length (with_spelled (kind_of piece) (bytes_of piece) []) ≡ 1 = rw is refl in
     omega (arith, one, length-append tokens (with_spelled (kind_of piece) (bytes_of piece) []))
 
--- what the code knows of a piece that it has read
+-- the length and the kind that the code has of a piece
 
+-- the length that the code has of a piece is the number of its bytes
 pub size_of : (piece : Piece) (x : Found) → found piece ≡ x → x.length ≡ length (bytes_of piece)
 size_of piece x is = ap (λ (x : Found). x.length) (sym is)
 
+-- the kind that the code has of a piece is its kind
 pub kind_is : (piece : Piece) (x : Found) (kind : TokenKind) → found piece ≡ x → x.kind ≡ Some kind → kind_of piece ≡ Some kind
 kind_is piece x kind is some = ap (λ (x : Found). x.kind) is ∙ some
 
+-- a piece for which the code has no kind has none
 pub no_kind : (piece : Piece) (x : Found) → found piece ≡ x → x.kind ≡ None → kind_of piece ≡ None
 no_kind piece x is none = ap (λ (x : Found). x.kind) is ∙ none
 
@@ -208,15 +221,16 @@ append-nil : {A : Type 0} (xs : List A) → xs ++ [] ≡ xs
 append-nil [] = refl
 append-nil (x ∷ xs) = ap (λ (more : List _). x ∷ more) (append-nil xs)
 
--- a blank is no token
+-- a blank adds no token
 pub no_spelled : (piece : Piece) (tokens : List Spelled) → kind_of piece ≡ None → tokens ++ with_spelled (kind_of piece) (bytes_of piece) [] ≡ tokens
 no_spelled piece tokens none = ap (λ (o : Option TokenKind). tokens ++ with_spelled o (bytes_of piece) []) none ∙ append-nil tokens
 
+-- a blank adds no placed token
 pub no_placed : (piece : Piece) (start : ℕ) (tokens : List Placed) → kind_of piece ≡ None
     → tokens ++ with_placed (kind_of piece) (bytes_of piece) start [] ≡ tokens
 no_placed piece start tokens none = ap (λ (o : Option TokenKind). tokens ++ with_placed o (bytes_of piece) start []) none ∙ append-nil tokens
 
--- what is kept so far, told in other words
+-- a cut up to an offset stays one if its size and its tokens are replaced by equal ones
 pub so_far_is : (text : List ℕ) (at : ℕ) (size other_size : ℕ) (spelled other_spelled : List Spelled) (placed other_placed : List Placed)
     → size ≡ other_size → other_spelled ≡ spelled → other_placed ≡ placed
     → CutSoFar text (at + other_size) other_spelled other_placed → CutSoFar text (at + size) spelled placed
@@ -227,15 +241,17 @@ so_far_is text at size other_size spelled other_spelled placed other_placed size
   places = sym places ∙ so_far.places;
 }
 
--- no text has two cuts
+-- no text has two different cuts
 
 -- nothing is read where a text begins
 abbrev pub Ends : List ℕ → Type 0
 Ends text = (piece : Piece) → reading 0 text ≡ Ok piece → ⊥
 
+-- nothing is read where the empty text begins
 pub Ends-nil : Ends []
 Ends-nil piece found = absurd cc
 
+-- nothing is read where a text that is refused begins
 pub Ends-refused : (text : List ℕ) (cause : Cause) → Refuses text cause → Ends text
 Ends-refused text cause refuses piece found = let refused = reading-refused 0 text cause refuses in absurd cc
 
@@ -254,6 +270,7 @@ same_pieces (p ∷ ps) (q ∷ qs) r s same first second r_ends s_ends =
     let more = same_pieces ps qs r s behind first.1 second.1 r_ends s_ends in
     (cc, more.1)
 
+-- two cuts of a text up to places at which nothing is read have the same pieces and the same rest
 pub same_cut : (text : List ℕ) (ps qs : List Piece) (r s : List ℕ) → IsCut text ps r → IsCut text qs s → Ends r → Ends s → (ps ≡ qs) × (r ≡ s)
 same_cut text ps qs r s first second r_ends s_ends =
     same_pieces ps qs r s (sym first.whole ∙ second.whole) first.each second.each r_ends s_ends

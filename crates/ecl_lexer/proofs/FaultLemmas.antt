@@ -1,4 +1,4 @@
--- The refusals of a text: it has one at the most, and none where it has tokens.
+-- The refusals of a text: a text has at most one, and a text with tokens has none.
 use Rattle.std.proofs.Common.{ℕ, ◌≡◌, ◌<◌, ◌≤◌, ◌∙◌, ◌⊎◌, inl, inr, List, [], length, refl, sym, ap, arith}
 use Rattle.std.specs.Prelude.{Err}
 use Rattle.std.specs.Str.{IsUtf8}
@@ -10,18 +10,23 @@ use Rattle.ecl_lexer.specs.Tokens.{AreTokensOf, IsFaultOf, IsReadable, IsRefused
 use Rattle.ecl_lexer.proofs.CutLemmas.{same_cut, Ends-nil, Ends-refused}
 use Rattle.ecl_lexer.proofs.ReadLemmas.{reading-refused, refused_some}
 
--- a refusal at an offset is the text's
+-- a refusal at an offset of a readable text is a fault of the text
 pub IsFaultOf-at : (text : List ℕ) (offset : ℕ) (cause : Cause) → IsReadable text → IsRefusedAt text offset cause → IsFaultOf text (fault_at offset cause)
 IsFaultOf-at text offset (form feature) readable refused = (readable, refused)
 IsFaultOf-at text offset nothing readable refused = (readable, refused)
 IsFaultOf-at text offset limit readable refused = (readable, refused)
 
--- a refusal for one of the three causes
+-- `fault` is the fault of one of the three causes at some offset of a readable text
 pub record IsRefusal (text : List ℕ) (fault : QueryFault) : Type 0 where
+  -- the text is at most `most_bytes` long and UTF-8
   pub readable : IsReadable text
+  -- the offset at which nothing is read
   pub offset : ℕ
+  -- why nothing is read there
   pub cause : Cause
+  -- the text is cut up to the offset, and nothing is read there for the cause
   pub refused : IsRefusedAt text offset cause
+  -- `fault` is the fault of the cause at the offset
   pub is : fault ≡ fault_at offset cause
 
 fault_cases : (text : List ℕ) (fault : QueryFault) → IsFaultOf text fault
@@ -45,6 +50,7 @@ same_refusal text first second cause other (ps, r, cut, place, refuses) (qs, s, 
     let alike : reading first r ≡ reading second s = ap (λ (n : ℕ). reading n r) offsets ∙ ap (reading second) same.1 in
     cc
 
+-- a text has at most one fault
 pub same_fault : (text : List ℕ) (one other : QueryFault) → IsFaultOf text one → IsFaultOf text other → one ≡ other
 same_fault text one other first second = elim (fault_cases text one first) [
   | inl (is_long, long) ↦ elim (fault_cases text other second) [
@@ -67,6 +73,7 @@ same_fault text one other first second = elim (fault_cases text one first) [
   ]
 ]
 
+-- a readable text that has tokens has no fault
 pub tokens_no_fault : (text : List ℕ) (tokens : List Spelled) (fault : QueryFault) → IsReadable text → AreTokensOf text tokens → IsFaultOf text fault → ⊥
 tokens_no_fault text tokens fault readable (pieces, cut, is) faulty = elim (fault_cases text fault faulty) [
   | inl (_, long) ↦ absurd (omega (arith, long, readable.0))
@@ -77,7 +84,7 @@ tokens_no_fault text tokens fault readable (pieces, cut, is) faulty = elim (faul
       absurd (omega (arith, refused_some rest refusal.cause refuses, ap length same.1))
 ]
 
--- one text has one list of tokens
+-- a text has at most one list of tokens
 pub same_tokens : (text : List ℕ) (one other : List Spelled) → AreTokensOf text one → AreTokensOf text other → one ≡ other
 same_tokens text one other (ps, cut, is) (qs, next_cut, next_is) =
     let same = (same_cut text ps qs [] [] cut next_cut Ends-nil Ends-nil).0 in cc

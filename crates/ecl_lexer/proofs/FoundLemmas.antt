@@ -1,4 +1,4 @@
--- Whatever piece is found where a text begins stands there.
+-- Each piece that `piece_at` finds where a text begins stands there.
 use Rattle.std.proofs.Common.{ℕ, suc, ◌≡◌, ◌+◌, ◌<◌, ◌++◌, ◌==◌, ◌&&◌, ◌∙◌, inl, inr, List, [], ◌∷◌, Bool, true, false, length, take, drop, Option, None, Some, refl, sym, ap, subst, arith}
 use Rattle.std.specs.Prelude.{nat_eq, nat_lt, is_some, codes}
 use Rattle.std.specs.Char.{is_ascii_alphabetic, is_ascii_digit}
@@ -18,20 +18,27 @@ use Rattle.ecl_lexer.proofs.SymbolLemmas.{symbol_at-found}
 
 -- a piece stands where a text begins
 pub record StandsIn (text : List ℕ) (piece : Piece) : Type 0 where
+  -- the text after the piece
   pub rest : List ℕ
+  -- the text is the bytes of the piece and then the rest
   pub is : text ≡ piece_text piece rest
+  -- the piece stands before the rest
   pub stands : Stands piece rest
 
--- the run that is taken from the front of a text, if there is one
+-- the bytes that pass a test at the front of a text are a run, if there is at least one
 pub take_while-IsRun : (test : ℕ → Bool) (text : List ℕ) → 0 < length (take_while test text)
     → IsRun test (take_while test text) (drop (prefix_len test text) text)
 take_while-IsRun test text some = record { some = some; each = prefix_len-each test text; ended = prefix_len-ended test text }
 
--- digits without a leading zero that are found
+-- a text begins with the digits `run`, which have no leading zero, and no digit follows them
 pub record IsPlainRun (text run : List ℕ) : Type 0 where
+  -- the text after the digits
   pub rest : List ℕ
+  -- the text is the digits and then the rest
   pub is : text ≡ run ++ rest
+  -- the digits are a run: the rest does not begin with a digit
   pub maximal : IsRun is_ascii_digit run rest
+  -- the digits have no leading zero
   pub plain : is_plain run ≡ true
 
 plain_at-IsPlainRun : (text run : List ℕ) → plain_at text ≡ Some run → IsPlainRun text run
@@ -58,7 +65,7 @@ digits_at-stands text piece found =
     let here : StandsIn text (digits made.0) = record { rest = run.rest; is = run.is; stands = (run.maximal, run.plain) } in
     subst (StandsIn text) made.2 here
 
--- the comment that is found
+-- a text begins with the comment of which `comment_inside` counts the bytes inside
 comment_inside-is : (text : List ℕ) (inside : ℕ) → comment_inside text ≡ Some inside → StandsIn text (comment (take inside (drop 2 text)))
 comment_inside-is text inside found = elim (cases_Bool (starts_with nat_eq text (codes "/*"))) [
   | inr other ↦ let none : None ≡ Some inside = rw other at found in absurd cc
@@ -113,7 +120,7 @@ word_at-stands text piece some found =
     word_before-stands text (take n text) (drop n text) piece (sym (take-append-drop n text)) (take_while-IsRun is_ascii_alphabetic text some)
     (word_kind (take n text)) refl found
 
--- the sign that is read stands there
+-- a text is the sign that `sign_at` finds and then the rest
 sign_at-is : (text : List ℕ) → text ≡ sign_text (sign_at text) (drop (sign_length (sign_at text)) text)
 sign_at-is [] = refl
 sign_at-is (x ∷ text) = elim (cases_Bool (x == 43)) [
@@ -124,7 +131,7 @@ sign_at-is (x ∷ text) = elim (cases_Bool (x == 43)) [
   ]
 ]
 
--- what is told of a fraction that is read
+-- a text begins with the fraction `fraction`, which may be empty
 record IsFraction (text fraction : List ℕ) : Type 0 where
   rest : List ℕ
   is : text ≡ fraction_text fraction rest
@@ -216,6 +223,7 @@ symbol_at-stands text piece found =
     let here : StandsIn text (symbol made.bytes made.kind) = record { rest = made.rest; is = made.is; stands = (made.known, made.longest) } in
     subst (StandsIn text) made.same here
 
+-- the piece that `piece_at` finds stands where the text begins
 pub piece_at-stands : (text : List ℕ) (piece : Piece) → piece_at text ≡ Some piece → StandsIn text piece
 piece_at-stands [] piece found = absurd cc
 piece_at-stands (first ∷ behind) piece found = elim (cases_Bool (is_ascii_digit first)) [

@@ -1,4 +1,4 @@
--- Each text is cut to its end, or up to a refusal.
+-- Each text has a cut to its end, or up to a refusal.
 use Rattle.std.proofs.Common.{ℕ, zero, suc, ◌≡◌, ◌+◌, ◌≤◌, ◌∙◌, ◌⊎◌, inl, inr, List, [], ◌∷◌, length, refl, ap, subst, arith}
 use Rattle.std.specs.Prelude.{Result, Ok, Err}
 use Rattle.ecl_lexer.specs.declared.fault.QueryFault.{QueryFault}
@@ -9,7 +9,7 @@ use Rattle.ecl_lexer.specs.Tokens.{AreTokensOf, IsCut, IsFaultOf, IsReadable, Sp
 use Rattle.ecl_lexer.proofs.FaultLemmas.{IsFaultOf-at}
 use Rattle.ecl_lexer.proofs.ReadLemmas.{length-piece_text, reading-Err, reading-Ok, some_bytes}
 
--- a cut of a text up to where nothing is read
+-- a cut of a text up to a place at which nothing is read
 record Ended (text : List ℕ) : Type 0 where
   pieces : List Piece
   rest : List ℕ
@@ -49,6 +49,7 @@ ended (suc most) (byte ∷ behind) few = by_result (λ (rest : List ℕ) (fewer 
           end = behind.end;
         }
 
+-- each readable text has tokens or a fault
 pub each_text : (text : List ℕ) → IsReadable text → ((tokens : List Spelled) × AreTokensOf text tokens) ⊎ ((fault : QueryFault) × IsFaultOf text fault)
 each_text text readable =
     let all = ended (length text) text (omega arith) in

@@ -1,4 +1,4 @@
--- The number behind a `#`.
+-- The number after a `#`.
 use Rattle.std.proofs.Common.{ℕ, ◌≡◌, ◌+◌, ◌<◌, ◌++◌, ◌&&◌, ◌∙◌, ◌⊎◌, inl, inr, List, [], ◌∷◌, Bool, length, drop, Option, Some, sym, ap, arith}
 use Rattle.std.specs.Prelude.{nat_le, option_map}
 use Rattle.std.proofs.lemmas.List.{length-append}
@@ -8,7 +8,7 @@ use Rattle.ecl_lexer.specs.Pieces.{Sign, unsigned, plus, minus, number, fraction
 use Rattle.ecl_lexer.specs.Reading.{found, fraction_at, number_at, number_piece, plain_at, sign_at, sign_length}
 use Rattle.ecl_lexer.proofs.CommentLemmas.{option_map-Some}
 
--- how many bytes the point in front of a fraction has
+-- the number of bytes of the point before a fraction: 1, or 0 if there is no fraction
 abbrev pub point_length : List ℕ → ℕ
 point_length [] = 0
 point_length (digit ∷ more) = 1
@@ -22,6 +22,7 @@ length-sign_text unsigned rest = omega arith
 length-sign_text plus rest = omega arith
 length-sign_text minus rest = omega arith
 
+-- the length of a number is that of its `#`, its sign, its digits, its point and its fraction
 pub length-number : (sign : Sign) (whole fraction : List ℕ)
     → length (bytes_of (number sign whole fraction)) ≡ 1 + sign_length sign + length whole + point_length fraction + length fraction
 length-number sign whole fraction =
@@ -35,11 +36,11 @@ point_is [] count point is (inr (none, zero_is)) = zero_is
 point_is (digit ∷ more) count point is (inl (some, one)) = one
 point_is (digit ∷ more) count point is (inr (none, zero_is)) = absurd (omega (arith, none))
 
--- a number as the code finds it
+-- a number as the code returns it
 abbrev number_found : ℕ → Bool → Option Found
 number_found size within = Some (record { kind = Some Number; length = size; is_within_limit = within })
 
--- the parts that the code counts are those of the number
+-- the lengths that the code counts give the number that `number_at` finds
 pub number_is : (text : List ℕ) (sign whole point fraction : ℕ) (within : Bool)
     → sign ≡ sign_length (sign_at text)
     → Some whole ≡ option_map length (plain_at (drop sign text))

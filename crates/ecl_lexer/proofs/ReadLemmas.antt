@@ -1,4 +1,4 @@
--- What is read where a text begins, and why nothing is.
+-- The piece that `reading` returns, and the reasons why it returns none.
 use Rattle.std.proofs.Common.{ℕ, ◌≡◌, ◌+◌, ◌<◌, ◌++◌, ◌∙◌, List, [], ◌∷◌, length, take, drop, Option, None, Some, inl, inr, refl, sym, ap, subst, arith}
 use Rattle.std.specs.Prelude.{Ok, Err}
 use Rattle.std.proofs.lemmas.Bool.{cases_Bool}
@@ -14,7 +14,7 @@ use Rattle.ecl_lexer.proofs.FoundLemmas.{piece_at-stands}
 use Rattle.ecl_lexer.proofs.SymbolLemmas.{symbol_some}
 use Rattle.ecl_lexer.proofs.StandsLemmas.{piece_at-read}
 
--- a piece is its bytes, and then the rest
+-- the text of a piece and a rest
 
 sign_text-append : (sign : Sign) (a b : List ℕ) → sign_text sign (a ++ b) ≡ sign_text sign a ++ b
 sign_text-append unsigned a b = refl
@@ -38,19 +38,23 @@ piece_text-append (number sign whole fraction) a b =
     ∙ sign_text-append sign (whole ++ fraction_text fraction a) b)
 piece_text-append (term inside) a b = ap (λ (text : List ℕ). 124 ∷ text) (sym (append_assoc inside (124 ∷ a) b))
 
+-- the text of a piece and `rest` is the bytes of the piece and then `rest`
 pub piece_text-bytes : (piece : Piece) (rest : List ℕ) → piece_text piece rest ≡ bytes_of piece ++ rest
 piece_text-bytes piece rest = piece_text-append piece [] rest
 
+-- the text of a piece and `rest` is as long as the bytes of the piece and `rest` together
 pub length-piece_text : (piece : Piece) (rest : List ℕ) → length (piece_text piece rest) ≡ length (bytes_of piece) + length rest
 length-piece_text piece rest = ap length (piece_text-bytes piece rest) ∙ length-append (bytes_of piece) rest
 
+-- the text of a piece and `rest` without the bytes of the piece is `rest`
 pub drop-piece_text : (piece : Piece) (rest : List ℕ) → drop (length (bytes_of piece)) (piece_text piece rest) ≡ rest
 drop-piece_text piece rest = ap (drop (length (bytes_of piece))) (piece_text-bytes piece rest) ∙ drop_at (bytes_of piece) rest (length (bytes_of piece)) refl
 
+-- the text of a piece and `rest` begins with the bytes of the piece
 pub take-piece_text : (piece : Piece) (rest : List ℕ) → take (length (bytes_of piece)) (piece_text piece rest) ≡ bytes_of piece
 take-piece_text piece rest = ap (take (length (bytes_of piece))) (piece_text-bytes piece rest) ∙ take_at (bytes_of piece) rest (length (bytes_of piece)) refl
 
--- a piece that stands has a byte at the least
+-- a piece that stands somewhere has at least one byte
 pub some_bytes : (piece : Piece) (rest : List ℕ) → Stands piece rest → 0 < length (bytes_of piece)
 some_bytes (space byte) rest stands = omega arith
 some_bytes (comment inside) rest stands = omega arith
@@ -63,8 +67,9 @@ some_bytes (digits run) rest stands = omega (arith, stands.0.some, length-append
 some_bytes (number sign whole fraction) rest stands = omega arith
 some_bytes (term inside) rest stands = omega arith
 
--- what is read
+-- pieces that are read
 
+-- `reading` returns the piece that is read where a text begins
 pub reading-read : (offset : ℕ) (piece : Piece) (rest : List ℕ) → IsRead piece rest → reading offset (piece_text piece rest) ≡ Ok piece
 reading-read offset piece rest is =
     ap (λ (o : Option Feature). supported offset o (piece_at (piece_text piece rest))) is.supported
@@ -73,10 +78,14 @@ reading-read offset piece rest is =
 
 -- a piece is read where a text begins
 pub record ReadIn (text : List ℕ) (piece : Piece) : Type 0 where
+  -- the text after the piece
   pub rest : List ℕ
+  -- the text is the bytes of the piece and then the rest
   pub is : text ≡ piece_text piece rest
+  -- the piece is read before the rest
   pub read : IsRead piece rest
 
+-- a piece that `reading` returns is read where the text begins
 pub reading-Ok : (offset : ℕ) (text : List ℕ) (piece : Piece) → reading offset text ≡ Ok piece → ReadIn text piece
 reading-Ok offset text piece found = by_form (unsupported text) refl found
   where
@@ -99,8 +108,9 @@ reading-Ok offset text piece found = by_form (unsupported text) refl found
     by_form (Some feature) is found = absurd cc
     by_form None is found = by_piece is (piece_at text) refl found
 
--- why nothing is read
+-- refusals
 
+-- `reading` returns the fault of the cause for which a text is refused
 pub reading-refused : (offset : ℕ) (text : List ℕ) (cause : Cause) → Refuses text cause → reading offset text ≡ Err (fault_at offset cause)
 reading-refused offset text (form feature) refuses = ap (λ (o : Option Feature). supported offset o (piece_at text)) refuses
 reading-refused offset text nothing refuses =
@@ -115,12 +125,16 @@ reading-refused offset text limit (supports, piece, rest, is, stands, many) =
     ∙ ap (within_limit offset) (piece_at-read piece rest stands)
     ∙ rw many refl
 
--- a text is refused for some cause, whose fault is this one
+-- a text is refused for some cause, and `fault` is the fault of that cause
 pub record RefusedFor (offset : ℕ) (text : List ℕ) (fault : QueryFault) : Type 0 where
+  -- the cause for which the text is refused
   pub cause : Cause
+  -- nothing is read where the text begins, for the cause
   pub refuses : Refuses text cause
+  -- `fault` is the fault of the cause at the offset
   pub is : fault ≡ fault_at offset cause
 
+-- a text for which `reading` returns a fault is refused for a cause with that fault
 pub reading-Err : (offset : ℕ) (text : List ℕ) (fault : QueryFault) → 0 < length text → reading offset text ≡ Err fault → RefusedFor offset text fault
 reading-Err offset text fault some found = by_form (unsupported text) refl found
   where
@@ -147,7 +161,7 @@ reading-Err offset text fault some found = by_form (unsupported text) refl found
     by_form (Some feature) is found = record { cause = form feature; refuses = is; is = cc }
     by_form None is found = by_piece is (piece_at text) refl found
 
--- only some text is refused
+-- a text that is refused has at least one byte
 pub refused_some : (text : List ℕ) (cause : Cause) → Refuses text cause → 0 < length text
 refused_some [] (form feature) refuses = absurd (none-some feature refuses)
 refused_some (byte ∷ text) (form feature) _ = omega arith

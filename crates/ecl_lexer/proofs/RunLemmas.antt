@@ -4,7 +4,7 @@ use Rattle.std.specs.List.{list_all, prefix_len}
 use Rattle.std.proofs.lemmas.Bool.{cases_Bool, and_from, and_parts}
 use Rattle.ecl_lexer.specs.Bytes.{begins}
 
--- where bytes that pass a test stand before a text that does not begin with one, they are counted
+-- `prefix_len` counts the bytes of a run that passes a test, if the rest does not begin with another such byte
 pub prefix_len-run : (test : ℕ → Bool) (run rest : List ℕ) → list_all test run ≡ true → begins test rest ≡ false → prefix_len test (run ++ rest) ≡ length run
 prefix_len-run test [] [] each ended = refl
 prefix_len-run test [] (x ∷ rest) each ended = rw ended refl
@@ -14,7 +14,7 @@ prefix_len-run test (x ∷ run) rest each ended =
     let more = prefix_len-run test run rest parts.1 ended in
     rw (here, more) (omega arith)
 
--- what is counted passes the test
+-- each byte that `prefix_len` counts passes the test
 pub prefix_len-each : (test : ℕ → Bool) (text : List ℕ) → list_all test (take (prefix_len test text) text) ≡ true
 prefix_len-each test [] = refl
 prefix_len-each test (x ∷ text) = elim (cases_Bool (test x)) [
@@ -24,7 +24,7 @@ prefix_len-each test (x ∷ text) = elim (cases_Bool (test x)) [
   | inr fails ↦ rw fails refl
 ]
 
--- and what follows it does not begin with another such byte
+-- the text after the bytes that `prefix_len` counts does not begin with a byte that passes the test
 pub prefix_len-ended : (test : ℕ → Bool) (text : List ℕ) → begins test (drop (prefix_len test text) text) ≡ false
 prefix_len-ended test [] = refl
 prefix_len-ended test (x ∷ text) = elim (cases_Bool (test x)) [
@@ -34,7 +34,7 @@ prefix_len-ended test (x ∷ text) = elim (cases_Bool (test x)) [
   | inr fails ↦ rw fails fails
 ]
 
--- behind some bytes of a run stands the rest of it
+-- dropping the first `n` bytes of a run shortens the run by `n`
 pub prefix_len-drop : (test : ℕ → Bool) (n : ℕ) (text : List ℕ) → n ≤ prefix_len test text → prefix_len test (drop n text) + n ≡ prefix_len test text
 prefix_len-drop test zero text within = omega arith
 prefix_len-drop test (suc n) [] within = absurd (omega arith)

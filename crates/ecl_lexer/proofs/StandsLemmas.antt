@@ -1,4 +1,4 @@
--- Whatever piece stands where a text begins is the one that is found.
+-- `piece_at` finds each piece that stands where a text begins.
 use Rattle.std.proofs.Common.{ℕ, ◌≡◌, ◌+◌, ◌<◌, ◌++◌, ◌==◌, ◌&&◌, ◌∙◌, inl, inr, List, [], ◌∷◌, Bool, true, false, length, take, drop, Option, None, Some, cond, refl, sym, ap, subst, arith}
 use Rattle.std.specs.Prelude.{nat_lt, option_map, is_some}
 use Rattle.std.specs.Char.{is_ascii_alphabetic, is_ascii_digit}
@@ -15,10 +15,11 @@ use Rattle.ecl_lexer.proofs.CommentLemmas.{close_place-read}
 use Rattle.ecl_lexer.proofs.RunLemmas.{prefix_len-run}
 use Rattle.ecl_lexer.proofs.SymbolLemmas.{piece_at-symbol, symbol_at-read}
 
--- a run at the front of a text is what is taken
+-- `take_while` takes a run that passes the test, if the rest does not begin with another such byte
 pub take_while-run : (test : ℕ → Bool) (run rest : List ℕ) → list_all test run ≡ true → begins test rest ≡ false → take_while test (run ++ rest) ≡ run
 take_while-run test run rest each ended = take_at run rest (prefix_len test (run ++ rest)) (sym (prefix_len-run test run rest each ended))
 
+-- dropping the bytes that `prefix_len` counts leaves the text after a run that passes the test
 pub drop_while-run : (test : ℕ → Bool) (run rest : List ℕ) → list_all test run ≡ true → begins test rest ≡ false
     → drop (prefix_len test (run ++ rest)) (run ++ rest) ≡ rest
 drop_while-run test run rest each ended = drop_at run rest (prefix_len test (run ++ rest)) (sym (prefix_len-run test run rest each ended))
@@ -39,7 +40,7 @@ comment-found inside rest stands =
     ap (option_map (λ (n : ℕ). comment (take n behind))) (close_place-read inside rest stands)
     ∙ ap (λ (front : List ℕ). Some (comment front)) (take_at inside (42 ∷ 47 ∷ rest) (length inside) refl)
 
--- a close somewhere is found
+-- `close_place` finds a place in a text that has a close
 close_place-some : (inside rest : List ℕ) → is_some (close_place (inside ++ 42 ∷ 47 ∷ rest)) ≡ true
 close_place-some [] rest = refl
 close_place-some (x ∷ inside) rest = elim (cases_Bool (x == 42 && begins_with 47 (inside ++ 42 ∷ 47 ∷ rest))) [
@@ -50,6 +51,7 @@ close_place-some (x ∷ inside) rest = elim (cases_Bool (x == 42 && begins_with 
   mapped None some = some
   mapped (Some n) some = some
 
+-- `begins_blank` holds of a text that begins with a blank
 pub begins_blank-true : (text : List ℕ) → BeginsBlank text → begins_blank text ≡ true
 begins_blank-true text (inl blank) = rw blank refl
 begins_blank-true text (inr (inside, rest, is)) =
@@ -76,6 +78,7 @@ word-found (first ∷ more) rest kind stands =
     ∙ ap (word_before letters rest) stands.1
     ∙ ap (λ (b : Bool). cond b (Some (word letters kind)) None) (follows_word-true kind rest stands.2)
 
+-- `plain_at` finds a run of digits without a leading zero that begins a text
 pub plain_at-found : (run rest : List ℕ) → IsRun is_ascii_digit run rest → is_plain run ≡ true → plain_at (run ++ rest) ≡ Some run
 plain_at-found run rest is plain =
     let front = take_while-run is_ascii_digit run rest is.each is.ended in
@@ -89,7 +92,7 @@ digits-found (first ∷ more) rest stands =
     let here : piece_at ((first ∷ more) ++ rest) ≡ digits_at ((first ∷ more) ++ rest) = cond-true (is_ascii_digit first) _ _ digit in
     here ∙ ap (option_map digits) (plain_at-found (first ∷ more) rest stands.0 stands.1)
 
--- what is no sign is read as none
+-- `sign_at` finds the sign before digits, and `unsigned` if digits begin the text
 sign_at-found : (sign : Sign) (whole behind : List ℕ) → 0 < length whole → list_all is_ascii_digit whole ≡ true
     → sign_at (sign_text sign (whole ++ behind)) ≡ sign
 sign_at-found plus whole behind some each = refl
@@ -140,6 +143,7 @@ term-found inside rest stands =
     ap (λ (n : ℕ). cond (nat_lt n (length text)) (Some (term (take n text))) None) count
     ∙ rw fits (ap (λ (front : List ℕ). Some (term front)) (take_at inside (124 ∷ rest) (length inside) refl))
 
+-- `piece_at` finds the piece that stands where a text begins
 pub piece_at-read : (piece : Piece) (rest : List ℕ) → Stands piece rest → piece_at (piece_text piece rest) ≡ Some piece
 piece_at-read (space byte) rest stands = space-found byte rest stands
 piece_at-read (comment inside) rest stands = comment-found inside rest stands

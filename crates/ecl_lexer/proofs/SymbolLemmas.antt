@@ -12,7 +12,7 @@ use Rattle.ecl_lexer.specs.Bytes.{is_space, begins}
 use Rattle.ecl_lexer.specs.Pieces.{Piece, symbol, kind_in, symbols, symbol_kind}
 use Rattle.ecl_lexer.specs.Reading.{found, piece_at, piece_by, sized_kind, sized_symbol, symbol_at, symbol_or}
 
--- bytes that compare alike are the same
+-- two lists of bytes are equal if `bytes_eq` holds of them
 pub bytes_eq-true : (xs ys : List ℕ) → bytes_eq xs ys ≡ true → xs ≡ ys
 bytes_eq-true [] [] same = refl
 bytes_eq-true [] (y ∷ ys) same = absurd cc
@@ -23,7 +23,7 @@ bytes_eq-true (x ∷ xs) (y ∷ ys) same =
     let more = bytes_eq-true xs ys parts.1 in
     cc
 
--- what each entry of a table passes, the bytes that it has a kind for pass
+-- bytes that have a kind in a table pass each test that all bytes of the table pass
 kind_in-passes : (test : List ℕ → Bool) (entries : List (List ℕ × TokenKind)) (bytes : List ℕ) (kind : TokenKind)
     → list_all (λ (entry : List ℕ × TokenKind). test entry.0) entries ≡ true → kind_in entries bytes ≡ Some kind → test bytes ≡ true
 kind_in-passes test [] bytes kind each is = absurd cc
@@ -34,27 +34,28 @@ kind_in-passes test (entry ∷ entries) bytes kind each is =
       | inr other ↦ kind_in-passes test entries bytes kind parts.1 (rw other at is)
     ]
 
--- a byte that nothing but a symbol begins with
+-- whether no piece but a symbol can begin with a byte
 abbrev opens_symbol : ℕ → Bool
 opens_symbol byte =
     not (is_ascii_digit byte) && (not (is_ascii_alphabetic byte) && (not (byte == 35) && (not (byte == 124) && (not (byte == 47) && not (is_space byte)))))
 
--- what the bytes of a symbol are like
+-- whether bytes begin with a byte that only a symbol can begin with, and are at most three
 abbrev is_symbol_like : List ℕ → Bool
 is_symbol_like bytes = begins opens_symbol bytes && nat_le (length bytes) 3
 
 symbol_like : (bytes : List ℕ) (kind : TokenKind) → symbol_kind bytes ≡ Some kind → is_symbol_like bytes ≡ true
 symbol_like bytes kind is = kind_in-passes is_symbol_like symbols bytes kind refl is
 
+-- a symbol has at most three bytes
 pub symbol_few : (bytes : List ℕ) (kind : TokenKind) → symbol_kind bytes ≡ Some kind → length bytes ≤ 3
 symbol_few bytes kind is = leb-true (length bytes) 3 (and_parts (begins opens_symbol bytes) _ (symbol_like bytes kind is)).1
 
--- a symbol has a byte at the least
+-- a symbol has at least one byte
 pub symbol_some : (bytes : List ℕ) (kind : TokenKind) → symbol_kind bytes ≡ Some kind → 0 < length bytes
 symbol_some [] kind is = absurd (none-some kind is)
 symbol_some (byte ∷ more) kind _ = omega arith
 
--- where such a byte stands, a symbol is looked for
+-- `piece_by` looks for a symbol at a byte that only a symbol can begin with
 piece_by-symbol : (first : ℕ) (behind : List ℕ) → opens_symbol first ≡ true → piece_by first behind ≡ symbol_at (first ∷ behind)
 piece_by-symbol first behind opens =
     let digit = and_parts (not (is_ascii_digit first)) _ opens in
@@ -70,6 +71,7 @@ piece_by-symbol first behind opens =
     let no_space = not-true (is_space first) slash.1 in
     rw (no_digit, no_letter, no_hash, no_bar, no_slash, no_space) refl
 
+-- `piece_at` looks for a symbol in a text that begins with one
 pub piece_at-symbol : (bytes rest : List ℕ) (kind : TokenKind) → symbol_kind bytes ≡ Some kind → piece_at (bytes ++ rest) ≡ symbol_at (bytes ++ rest)
 piece_at-symbol bytes rest kind is = by_first bytes (and_parts (begins opens_symbol bytes) _ (symbol_like bytes kind is)).0
   where
@@ -77,7 +79,7 @@ piece_at-symbol bytes rest kind is = by_first bytes (and_parts (begins opens_sym
     by_first [] opens = absurd (false≢true opens)
     by_first (first ∷ more) opens = piece_by-symbol first (more ++ rest) opens
 
--- no symbol that begins a text is longer than these bytes
+-- no symbol that begins the text `bytes ++ rest` is longer than `bytes`
 abbrev pub IsLongest : List ℕ → List ℕ → Type 0
 IsLongest bytes rest = (other more : List ℕ) → IsSome (symbol_kind other) → bytes ++ rest ≡ other ++ more → length other ≤ length bytes
 
@@ -96,7 +98,7 @@ sized_kind-cases size text = elim (cases_Bool (nat_le size (length text))) [
   by_kind fits None is = inl (rw fits is)
   by_kind fits (Some kind) is = inr (kind, leb-true size (length text) fits, is, rw fits is)
 
--- no symbol of more bytes is found
+-- `sized_symbol` finds no symbol of `size` bytes if `size` is more than the longest symbol there has
 sized_symbol-longer : (size : ℕ) (bytes rest : List ℕ) (other : Option Piece) → IsLongest bytes rest → length bytes < size
     → sized_symbol size (bytes ++ rest) other ≡ other
 sized_symbol-longer size bytes rest other longest more = elim (sized_kind-cases size (bytes ++ rest)) [
@@ -107,7 +109,7 @@ sized_symbol-longer size bytes rest other longest more = elim (sized_kind-cases 
       absurd (omega (arith, few, length-take-le size (bytes ++ rest) fits))
 ]
 
--- a symbol of so many bytes is found
+-- `sized_symbol` finds a symbol of `size` bytes that begins a text
 sized_symbol-here : (size : ℕ) (bytes rest : List ℕ) (kind : TokenKind) (other : Option Piece) → symbol_kind bytes ≡ Some kind → length bytes ≡ size
     → sized_symbol size (bytes ++ rest) other ≡ Some (symbol bytes kind)
 sized_symbol-here size bytes rest kind other is sized =
@@ -117,7 +119,7 @@ sized_symbol-here size bytes rest kind other is sized =
     let found : sized_kind size (bytes ++ rest) ≡ Some kind = rw fits (ap symbol_kind front ∙ is) in
     ap (λ (o : Option TokenKind). symbol_or size (bytes ++ rest) o other) found ∙ ap (λ (front : List ℕ). Some (symbol front kind)) front
 
--- a symbol is found where no longer one stands
+-- `symbol_at` finds a symbol that begins a text, if no longer one does
 pub symbol_at-read : (bytes rest : List ℕ) (kind : TokenKind) → symbol_kind bytes ≡ Some kind → IsLongest bytes rest
     → symbol_at (bytes ++ rest) ≡ Some (symbol bytes kind)
 symbol_at-read bytes rest kind is longest =
@@ -138,14 +140,21 @@ symbol_at-read bytes rest kind is longest =
           ]
     ]
 
--- what is told of a symbol that is found
+-- `piece` is the longest symbol that begins a text
 pub record IsSymbol (text : List ℕ) (piece : Piece) : Type 0 where
+  -- the bytes of the symbol
   pub bytes : List ℕ
+  -- the text after the symbol
   pub rest : List ℕ
+  -- the kind of the symbol
   pub kind : TokenKind
+  -- the text is the bytes of the symbol and then the rest
   pub is : text ≡ bytes ++ rest
+  -- the bytes are a symbol of that kind
   pub known : symbol_kind bytes ≡ Some kind
+  -- no symbol that begins the text is longer
   pub longest : IsLongest bytes rest
+  -- the symbol of `bytes` and `kind` is `piece`
   pub same : symbol bytes kind ≡ piece
 
 -- no symbol of `size` bytes begins a text
@@ -161,7 +170,7 @@ sized_none size text none other more some is sized =
     let nothing_of_other : symbol_kind other ≡ None = ap symbol_kind (sym front) ∙ nothing in
     false≢true (subst (λ (o : Option TokenKind). IsSome o) nothing_of_other some)
 
--- what is found of so many bytes, where no symbol has more
+-- the symbol of the first `size` bytes of a text is the longest, if no symbol that begins the text has more
 symbol_of : (size : ℕ) (text : List ℕ) (kind : TokenKind) (piece : Piece) → size ≤ length text → symbol_kind (take size text) ≡ Some kind
     → ((other more : List ℕ) → IsSome (symbol_kind other) → text ≡ other ++ more → length other ≤ size)
     → symbol (take size text) kind ≡ piece → IsSymbol text piece
@@ -186,6 +195,7 @@ few_bytes other some = by_kind (symbol_kind other) refl some
     by_kind None _ some = absurd (false≢true some)
     by_kind (Some kind) is some = symbol_few other kind is
 
+-- the piece that `symbol_at` finds is the longest symbol that begins the text
 pub symbol_at-found : (text : List ℕ) (piece : Piece) → symbol_at text ≡ Some piece → IsSymbol text piece
 symbol_at-found text piece found = elim (sized_kind-cases 3 text) [
   | inr (kind, fits, known, is) ↦
@@ -213,15 +223,16 @@ symbol_at-found text piece found = elim (sized_kind-cases 3 text) [
   below : (n m : ℕ) → m ≤ n + 1 → (m ≡ n + 1 → ⊥) → m ≤ n
   below n m most not = omega (arith, not)
 
--- the kind of the first bytes of a text, where it has so many, and none where it has fewer
+-- `sized_kind` is the kind of the first `size` bytes of a text that is at least that long
 pub sized_kind-fits : (size : ℕ) (text bytes : List ℕ) → size ≤ length text → bytes ≡ take size text
     → sized_kind size text ≡ symbol_kind bytes
 sized_kind-fits size text bytes fits is = rw (le-leb size (length text) fits) (ap symbol_kind (sym is))
 
+-- `sized_kind` finds no kind in a text of fewer than `size` bytes
 pub sized_kind-short : (size : ℕ) (text : List ℕ) → length text < size → sized_kind size text ≡ None
 sized_kind-short size text short = rw (lt-leb size (length text) short) refl
 
--- the first bytes of a text
+-- the first three bytes of a text are its bytes at 0, 1 and 2
 pub front_three : (text : List ℕ) → 3 ≤ length text
     → get_or text 0 0 ∷ get_or text 1 0 ∷ get_or text 2 0 ∷ [] ≡ take 3 text
 front_three [] fits = absurd (omega arith)
@@ -229,12 +240,13 @@ front_three (a ∷ []) fits = absurd (omega arith)
 front_three (a ∷ b ∷ []) fits = absurd (omega arith)
 front_three (a ∷ b ∷ d ∷ text) fits = refl
 
+-- the first two bytes of a text are its bytes at 0 and 1
 pub front_two : (text : List ℕ) → 2 ≤ length text → get_or text 0 0 ∷ get_or text 1 0 ∷ [] ≡ take 2 text
 front_two [] fits = absurd (omega arith)
 front_two (a ∷ []) fits = absurd (omega arith)
 front_two (a ∷ b ∷ text) fits = refl
 
--- what the code hands on of a symbol of so many bytes, or else of what is found instead of it
+-- the code returns a token of `size` bytes if the first `size` bytes of a text are a symbol
 pub handed_here : (size : ℕ) (text : List ℕ) (kind : TokenKind) (other : Option Piece)
     → size ≤ length text → sized_kind size text ≡ Some kind
     → option_map found (sized_symbol size text other)
@@ -245,6 +257,7 @@ handed_here size text kind other fits is =
     ap (λ (o : Option TokenKind). option_map found (symbol_or size text o other)) is
     ∙ ap (λ (n : ℕ). Some (record { kind = Some kind; length = n; is_within_limit = true })) long
 
+-- the code returns the piece `other` if the first `size` bytes of a text are not a symbol
 pub handed_other : (size : ℕ) (text : List ℕ) (other : Option Piece) → sized_kind size text ≡ None
     → option_map found (sized_symbol size text other) ≡ option_map found other
 handed_other size text other none = ap (λ (o : Option TokenKind). option_map found (symbol_or size text o other)) none

@@ -1,18 +1,18 @@
--- The bytes of a constraint by what they are to it, and runs of them (Expression Constraint Language 2.2,
--- 5.1 "Brief syntax": ws, digit, alpha).
+-- Classes of bytes in a constraint, and runs of such bytes (Expression Constraint Language 2.2, 5.1 "Brief syntax": ws,
+-- digit, alpha).
 use Rattle.std.specs.Prelude.{◌≡◌, ℕ, ◌<◌, ◌||◌, ◌==◌, not, Bool, true, false, List, [], ◌∷◌, length, drop}
 use Rattle.std.specs.Char.{is_ascii_alphabetic, is_ascii_digit}
 use Rattle.std.specs.List.{list_all, prefix_len}
 
--- a space, a tab, CR or LF
+-- whether a byte is a space, a tab, CR or LF
 abbrev pub is_space : ℕ → Bool
 is_space byte = byte == 32 || byte == 9 || byte == 13 || byte == 10
 
--- a letter, a digit or `-`
+-- whether a byte is a letter, a digit or `-`
 abbrev pub is_code_byte : ℕ → Bool
 is_code_byte byte = is_ascii_alphabetic byte || is_ascii_digit byte || byte == 45
 
--- whether a byte is no `|`
+-- whether a byte is not `|`
 abbrev pub is_term_byte : ℕ → Bool
 is_term_byte byte = not (byte == 124)
 
@@ -21,16 +21,19 @@ abbrev pub begins : (ℕ → Bool) → List ℕ → Bool
 begins test [] = false
 begins test (byte ∷ text) = test byte
 
--- whether a text begins with a byte
+-- whether a text begins with the byte `byte`
 abbrev pub begins_with : ℕ → List ℕ → Bool
 begins_with byte text = begins (λ first. first == byte) text
 
--- what follows the bytes at the front of a text that pass a test
+-- the text after all bytes at its front that pass a test
 abbrev pub after_run : (ℕ → Bool) → List ℕ → List ℕ
 after_run test text = drop (prefix_len test text) text
 
--- a run of bytes that pass a test, one at the least, and no more of them in front of the rest
+-- `run` has at least one byte, all of its bytes pass `test`, and `rest` does not begin with another such byte
 pub record IsRun (test : ℕ → Bool) (run rest : List ℕ) : Type 0 where
+  -- the run has at least one byte
   pub some : 0 < length run
+  -- each byte of the run passes the test
   pub each : list_all test run ≡ true
+  -- the rest does not begin with a byte that passes the test
   pub ended : begins test rest ≡ false

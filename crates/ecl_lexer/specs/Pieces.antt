@@ -43,16 +43,16 @@ symbols =
 abbrev pub words : List (List ℕ × TokenKind)
 words = (codes "and", And) ∷ (codes "or", Or) ∷ (codes "minus", Minus) ∷ (codes "r", Reverse) ∷ []
 
--- the kind that a table has beside some bytes
+-- the kind of `bytes` in a table of spellings, or `None` if the table does not have them
 abbrev pub kind_in : List (List ℕ × TokenKind) → List ℕ → Option TokenKind
 kind_in [] bytes = None
 kind_in (entry ∷ entries) bytes = if bytes_eq entry.0 bytes then Some entry.1 else kind_in entries bytes
 
--- the kind of a symbol
+-- the kind of the symbol `bytes`, or `None` if they are not a symbol
 abbrev pub symbol_kind : List ℕ → Option TokenKind
 symbol_kind bytes = kind_in symbols bytes
 
--- the kind of a word, in capitals or not
+-- the kind of the word `letters`, in capitals or not, or `None` if they are not a word of the language
 abbrev pub word_kind : List ℕ → Option TokenKind
 word_kind letters = kind_in words (map to_ascii_lowercase letters)
 
@@ -61,7 +61,7 @@ abbrev pub has_close : List ℕ → Bool
 has_close [] = false
 has_close (byte ∷ text) = (byte == 42 && begins_with 47 text) || has_close text
 
--- digits without a leading zero, unless the zero is alone
+-- whether digits have no leading zero, or are one zero alone
 abbrev pub is_plain : List ℕ → Bool
 is_plain digits = length digits == 1 || not (begins_with 48 digits)
 
@@ -71,9 +71,8 @@ pub data Sign : Type 0 where
   plus : Sign
   minus : Sign
 
--- a piece of a text: a space, tab, CR or LF; a comment, by what stands inside it; a symbol or a word, by its
--- bytes and its kind; digits; a number, by its sign, its digits and those behind its point, if any; a term, by
--- what stands inside it
+-- a piece of a text. `space` has a space, tab, CR or LF; `comment` and `term` have the bytes inside; `symbol` and
+-- `word` have their bytes and kind; `number` has its sign, its digits, and the digits after its point, if any
 pub data Piece : Type 0 where
   space : ℕ → Piece
   comment : List ℕ → Piece
@@ -83,18 +82,18 @@ pub data Piece : Type 0 where
   number : Sign → List ℕ → List ℕ → Piece
   term : List ℕ → Piece
 
--- a sign, and then a text
+-- the bytes of a sign, and then `rest`
 abbrev pub sign_text : Sign → List ℕ → List ℕ
 sign_text unsigned rest = rest
 sign_text plus rest = 43 ∷ rest
 sign_text minus rest = 45 ∷ rest
 
--- a point and the digits behind it, if there are any, and then a text
+-- a point and the digits after it, if there are any, and then `rest`
 abbrev pub fraction_text : List ℕ → List ℕ → List ℕ
 fraction_text [] rest = rest
 fraction_text (digit ∷ more) rest = 46 ∷ digit ∷ more ++ rest
 
--- the bytes of a piece, and then a text
+-- the bytes of a piece, and then `rest`
 abbrev pub piece_text : Piece → List ℕ → List ℕ
 piece_text (space byte) rest = byte ∷ rest
 piece_text (comment inside) rest = 47 ∷ 42 ∷ inside ++ 42 ∷ 47 ∷ rest
@@ -108,7 +107,7 @@ piece_text (term inside) rest = 124 ∷ inside ++ 124 ∷ rest
 abbrev pub bytes_of : Piece → List ℕ
 bytes_of piece = piece_text piece []
 
--- the kind of token that a piece is; blanks are none
+-- the kind of token that a piece is, or `None` for a blank
 abbrev pub kind_of : Piece → Option TokenKind
 kind_of (space byte) = None
 kind_of (comment inside) = None
@@ -118,28 +117,28 @@ kind_of (digits run) = Some Digits
 kind_of (number sign whole fraction) = Some Number
 kind_of (term inside) = Some Term
 
--- a comment that is closed begins a text
+-- a text begins with a closed comment
 abbrev pub BeginsComment : List ℕ → Type 0
 BeginsComment text = (inside : List ℕ) × (rest : List ℕ) × (text ≡ piece_text (comment inside) rest)
 
--- a blank begins a text
+-- a text begins with a blank: a space, tab, CR or LF, or a closed comment
 abbrev pub BeginsBlank : List ℕ → Type 0
 BeginsBlank text = IsTrue (begins is_space text) ⊎ BeginsComment text
 
--- what a word asks of the text behind it: `AND`, `OR` and `MINUS` a blank, `R` nothing
+-- `rest` may follow a word: after `AND`, `OR` and `MINUS` it begins with a blank, and after `R` it may be any text
 abbrev pub FollowsWord : TokenKind → List ℕ → Type 0
 FollowsWord Reverse rest = Unit {0}
 FollowsWord kind rest = BeginsBlank rest
 
--- what a number asks of the text behind its digits: those behind its point are a run, and where it has none, no
--- point that a digit follows
+-- `rest` may follow a number: digits after its point are a whole run. If it has no point, `rest` does not begin with
+-- a point and a digit
 abbrev pub FollowsWhole : List ℕ → List ℕ → Type 0
 FollowsWhole [] rest = (begins_with 46 rest && begins is_ascii_digit (drop 1 rest)) ≡ false
 FollowsWhole (digit ∷ more) rest = IsRun is_ascii_digit (digit ∷ more) rest
 
--- A piece stands in front of the rest of a text: it is spelled so, and nothing longer is. A comment ends at the first
--- `*/` behind its `/*`, and a term at the first `|` behind its own. No other symbol that begins there is longer. A word
--- has all letters that stand there, and digits are all that stand there.
+-- A piece stands before `rest` if nothing longer does. A comment ends at the first `*/` after its `/*`, and a term at
+-- the first `|` after its own. No symbol that begins there is longer than a symbol that stands. A word takes all
+-- letters there, and digits take all digits there.
 abbrev pub Stands : Piece → List ℕ → Type 0
 Stands (space byte) rest = is_space byte ≡ true
 Stands (comment inside) rest = has_close inside ≡ false

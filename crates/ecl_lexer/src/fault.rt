@@ -1,4 +1,4 @@
-//! Why a text is no expression constraint.
+//! The faults of a text that is not an expression constraint.
 ghost use Rattle.std.specs.Prelude.{◌≡◌, codes};
 
 use std::alloc::{AllocError, AllocFailed};
@@ -39,8 +39,8 @@ impl Feature {
     }
 }
 
-/// The first refusal of a text, in the order of the numbers; among those of number 3 it is the one at
-/// the least offset. An offset counts bytes, from 0.
+/// The first refusal of a text, in the order of the numbers. Among the faults with number 3 the one at the least
+/// offset is first. An offset counts bytes, from 0.
 #[derive(Clone, Copy, Debug, PartialEq, Eq, Error)]
 pub enum QueryFault {
     /// More than 65,535 bytes.
@@ -55,13 +55,13 @@ pub enum QueryFault {
     /// A form of the language that is not read begins at the offset.
     #[error("at byte {0} a form begins that is not read: {name}", name = .1.name())]
     Unsupported(usize, Feature),
-    /// A run of more than 18 digits begins at the offset, or a number that has one.
+    /// Digits or a number with a run of more than 18 digits begin at the offset.
     #[error("more than 18 digits at byte {0}")]
     Limit(usize),
     /// More than 64 brackets are open at once.
     #[error("more than 64 brackets are open at once")]
     Depth,
-    /// The tokens are no constraint.
+    /// The tokens do not form a constraint.
     #[error("the text is no expression constraint")]
     Syntax,
     /// Memory ran out.

@@ -1,11 +1,11 @@
-//! Laws of the definitions. The functions do nothing: their contracts are the laws.
+//! Laws about the definitions: functions that do nothing. Their contracts are the laws.
 ghost use Rattle.std.specs.Prelude.{◌≡◌, ◌⊎◌, ℕ, List, [], Some};
 ghost use Rattle.ecl_lexer.specs.Pieces.{Piece, Stands, piece_text};
 ghost use Rattle.ecl_lexer.specs.Reading.{piece_at};
 ghost use Rattle.ecl_lexer.specs.Tokens.{AreTokensOf, IsCut, IsFaultOf, IsReadable, Spelled};
 ghost use Rattle.ecl_lexer.specs.declared.fault.QueryFault.{QueryFault};
 
-/// A text that is not too long and UTF-8 has tokens or a refusal, never both, and one of them alone.
+/// A readable text has either tokens or a refusal, never both, and at most one list of tokens or one refusal.
 pub fn one_cut()
     ensures cut { (text : List ℕ) (one other : List Piece) → IsCut text one [] → IsCut text other [] → one ≡ other }
     ensures tokens { (text : List ℕ) (one other : List Spelled) → AreTokensOf text one → AreTokensOf text other → one ≡ other }
@@ -16,7 +16,7 @@ pub fn one_cut()
         → ((tokens : List Spelled) × AreTokensOf text tokens) ⊎ ((fault : QueryFault) × IsFaultOf text fault) }
 {}
 
-/// One piece at the most stands where a text begins, and it is the one that is found there byte by byte.
+/// At most one piece stands where a text begins. The search of `specs/Reading.antt` finds exactly this piece.
 pub fn found_pieces_stand()
     ensures found { (piece : Piece) (rest : List ℕ) → Stands piece rest → piece_at (piece_text piece rest) ≡ Some piece }
     ensures stands { (text : List ℕ) (piece : Piece) → piece_at text ≡ Some piece

@@ -1,4 +1,4 @@
-//! Cutting a text into tokens.
+//! Cuts a text into tokens.
 ghost use Rattle.std.specs.Prelude.{◌≡◌, ◌⊎◌, ◌↔◌, ℕ, ◌+◌, ◌<◌, ◌≤◌, List, [], map, length, Err, IsOk, IfOk, IfErr, IsOkAnd, OnOk};
 ghost use Rattle.std.specs.List.{prefix_len};
 ghost use Rattle.ecl_lexer.specs.Bytes.{is_code_byte};
@@ -15,21 +15,21 @@ use crate::unsupported::unsupported;
 use std::alloc::Global;
 use std::str::from_utf8;
 
-// No text that is read has more bytes.
+// The length of the longest text that is read.
 const MOST_BYTES: usize = 65_535;
 
-/// The tokens of a text in their order, or its first refusal before the grammar is asked for
-/// (Expression Constraint Language 2.2, 5.1 "Brief syntax"): `Long`, `Utf8`, or else `Unsupported`,
-/// `Token` or `Limit` at the least offset, at one offset in this order. `Memory` is answered where it
-/// runs out; a text without a token takes none. `Depth` and `Syntax` are never answered.
+/// Returns the tokens of a text in their order, or its first refusal before the grammar is looked at (Expression
+/// Constraint Language 2.2, 5.1 "Brief syntax"): `Long`, `Utf8`, or else `Unsupported`, `Token` or `Limit` at the
+/// least offset, at one offset in this order. Returns `Memory` if memory runs out; a text without a token takes no
+/// memory. It never returns `Depth` or `Syntax`.
 pub fn lex(alloc: Global, text: &[u8]) -> Result<Vec<Token<'_>>, QueryFault>
-    // The tokens, as the grammar sees them and with their places.
+    // The result has the tokens of the text, as the grammar sees them and with their places.
     ensures found { IfOk result (λ tokens. AreTokensOf text.now (map spelled tokens.items)) }
     ensures places { IfOk result (λ tokens. ArePlacedIn text.now (map placed tokens.items)) }
     ensures spans { IfOk result (λ tokens. FollowOn text.now 0 (map placed tokens.items)) }
     ensures readable { OnOk result (IsReadable text.now) }
 
-    // A refusal is the text's. Where the text has a refusal, or tokens, no other answer comes.
+    // A refusal is a fault of the text. If the text has a fault, or tokens, the only other answer is `Memory`.
     ensures fault { IfErr result (λ fault. (fault ≡ Memory) ⊎ IsFaultOf text.now fault) }
     ensures only { (fault : QueryFault) → IsFaultOf text.now fault → (result ≡ Err fault) ⊎ (result ≡ Err Memory) }
     ensures whole { (tokens : List Spelled) → IsReadable text.now → AreTokensOf text.now tokens
@@ -37,7 +37,7 @@ pub fn lex(alloc: Global, text: &[u8]) -> Result<Vec<Token<'_>>, QueryFault>
     ensures long { (result ≡ Err Long) ↔ IsFaultOf text.now Long }
     ensures utf8 { (result ≡ Err Utf8) ↔ IsFaultOf text.now Utf8 }
 
-    // Memory is taken for tokens alone.
+    // Only tokens take memory.
     ensures memory { result ≡ Err Memory → BeginsWithToken text.now }
     ensures empty { text.now ≡ [] → IsOkAnd result (λ tokens. tokens.items ≡ []) }
 {
@@ -50,7 +50,7 @@ pub fn lex(alloc: Global, text: &[u8]) -> Result<Vec<Token<'_>>, QueryFault>
     cut(alloc, text)
 }
 
-// The tokens of a text that is not too long and UTF-8.
+// Cuts a text that is UTF-8 and not too long into tokens.
 fn cut(alloc: Global, text: &[u8]) -> Result<Vec<Token<'_>>, QueryFault>
     requires { IsReadable text.now }
     ensures found { IfOk result (λ tokens. AreTokensOf text.now (map spelled tokens.items)) }
@@ -81,7 +81,8 @@ fn cut(alloc: Global, text: &[u8]) -> Result<Vec<Token<'_>>, QueryFault>
     Ok(tokens)
 }
 
-// The piece that stands where the rest of a text begins, which stands at an offset, or the refusal there.
+// Reads the piece that begins `rest`, or returns the fault there. `rest` begins at `offset` of the text;
+// `code_count` is the number of letters, digits and `-` that begin `rest`.
 fn read(rest: &[u8], code_count: usize, offset: usize) -> Result<Piece, QueryFault>
     requires { code_count ≡ prefix_len is_code_byte rest.now }
     ensures { result ≡ found_of (reading offset rest.now) }

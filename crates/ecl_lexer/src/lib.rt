@@ -1,7 +1,7 @@
 //! The tokens of an expression constraint (Expression Constraint Language 2.2, brief syntax).
 //!
-//! `lex` cuts a text without gaps into blanks and tokens, each the longest that stands at its place,
-//! or answers the first refusal of the text. `specs/` says what is cut, and what is refused where.
+//! `lex` cuts a text without gaps into blanks and tokens, each the longest that stands at its place, or returns the
+//! first refusal of the text. `specs/` defines the pieces of a text, and the refusals and their places.
 #![tactic(auto)]
 
 mod fault;

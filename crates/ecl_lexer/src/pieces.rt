@@ -1,4 +1,4 @@
-//! The piece that stands where a text begins.
+//! Finds the piece that stands where a text begins.
 ghost use Rattle.std.specs.Prelude.{◌≡◌, ◌+◌, ◌<◌, ◌≤◌, Some, true, length, option_map, IfSome};
 ghost use Rattle.ecl_lexer.specs.Reading.{comment_at, close_place as place_of_close, comment_inside as inside_of_comment, digits_at, found, fraction_at, number_at, piece_at, plain_at, sign_at, sign_length as length_of_sign, term_at, word_at, begins_blank as begins_with_blank, follows_word as may_follow};
 ghost use Rattle.ecl_lexer.specs.Pieces.{word_kind as kind_of_word};
@@ -13,19 +13,19 @@ use bstr::ByteSlice;
 pub struct Piece {
     /// The kind of token, or none for a blank.
     pub kind: Option<TokenKind>,
-    /// How many bytes it has.
+    /// How many bytes the piece has.
     pub length: usize,
-    /// Whether it has no run of more than 18 digits.
+    /// Whether the piece has no run of more than 18 digits.
     pub is_within_limit: bool,
 }
 
-// A run that is a token has no more digits.
+// The most digits that a run of digits in a token may have.
 const MOST_DIGITS: usize = 18;
 
 impl Piece {
     ghost use Rattle.std.specs.Prelude.{None};
 
-    /// A token, of so many bytes.
+    /// Makes a token of the kind `kind` and of `length` bytes.
     pub fn token(kind: TokenKind, length: usize) -> Piece
         ensures { result ≡ record { kind = Some kind; length = length; is_within_limit = true } }
     {
@@ -36,7 +36,7 @@ impl Piece {
         }
     }
 
-    /// A blank, of so many bytes.
+    /// Makes a blank of `length` bytes.
     pub fn blank(length: usize) -> Piece
         ensures { result ≡ record { kind = None; length = length; is_within_limit = true } }
     {
@@ -48,7 +48,7 @@ impl Piece {
     }
 }
 
-/// The piece that stands where a text begins, the longest that does, or `None` where none stands.
+/// Returns the longest piece that stands where a text begins, or `None` if no piece does.
 pub fn first_piece(text: &[u8]) -> Option<Piece>
     ensures { result ≡ option_map found (piece_at text.now) }
 {
@@ -89,7 +89,7 @@ fn digits(text: &[u8]) -> Option<Piece>
     }
 }
 
-// How many digits a text begins with, if there is one and none is a leading zero.
+// How many digits begin a text, or `None` if there are none or they have a leading zero.
 fn plain_digits(text: &[u8]) -> Option<usize>
     ensures digits { result ≡ option_map length (plain_at text.now) }
     ensures within { IfSome result (λ count. count ≤ length text.now) }
@@ -102,7 +102,7 @@ fn plain_digits(text: &[u8]) -> Option<usize>
     }
 }
 
-// The word that begins a text, all letters that stand there.
+// Reads the word that begins a text. It takes all letters at the front.
 fn word(text: &[u8]) -> Option<Piece>
     ensures { result ≡ option_map found (word_at text.now) }
 {
@@ -130,7 +130,7 @@ fn word_kind(letters: &[u8]) -> Option<TokenKind>
     }
 }
 
-// Whether the rest of a text may stand behind a word of this kind.
+// Whether `rest` may follow a word of the kind `kind`.
 fn follows_word(kind: TokenKind, rest: &[u8]) -> bool
     ensures { result ≡ may_follow kind rest.now }
 {
@@ -158,7 +158,7 @@ fn comment(text: &[u8]) -> Option<Piece>
     }
 }
 
-// How many bytes stand inside the comment that begins a text, up to its first close.
+// Counts the bytes inside the comment that begins a text, before its first close, if a closed comment begins it.
 fn comment_inside(text: &[u8]) -> Option<usize>
     ensures inside { result ≡ inside_of_comment text.now }
     ensures within { IfSome result (λ inside. inside + 4 ≤ length text.now) }
@@ -170,7 +170,7 @@ fn comment_inside(text: &[u8]) -> Option<usize>
     }
 }
 
-// How many bytes stand in a text before its first `*/`.
+// Counts the bytes of a text before its first `*/`, or returns `None` if it has none.
 fn close_place(text: &[u8]) -> Option<usize>
     ensures place { result ≡ place_of_close text.now }
     ensures within { IfSome result (λ place. place + 2 ≤ length text.now) }
@@ -178,7 +178,7 @@ fn close_place(text: &[u8]) -> Option<usize>
     text.find(b"*/")
 }
 
-// The number whose `#` stands in front of a text.
+// Reads the number whose `#` stands directly before a text, if there is one.
 fn number(text: &[u8]) -> Option<Piece>
     ensures { result ≡ option_map found (number_at text.now) }
 {
@@ -206,7 +206,7 @@ fn sign_length(text: &[u8]) -> usize
     }
 }
 
-// How many digits stand behind the point that begins a text.
+// Counts the digits after the point that begins a text, or returns 0 if it begins with no point.
 fn fraction_count(text: &[u8]) -> usize
     ensures count { result ≡ length (fraction_at text.now) }
     ensures within { result ≤ length text.now }
@@ -218,7 +218,7 @@ fn fraction_count(text: &[u8]) -> usize
     }
 }
 
-// The term whose first `|` stands in front of a text.
+// Reads the term whose first `|` stands directly before a text, if it is closed.
 fn term(text: &[u8]) -> Option<Piece>
     ensures { result ≡ option_map found (term_at text.now) }
 {

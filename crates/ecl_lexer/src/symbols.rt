@@ -6,7 +6,7 @@ ghost use Rattle.ecl_lexer.specs.Reading.{found, symbol_at};
 use crate::pieces::Piece;
 use crate::token::TokenKind;
 
-/// The longest symbol that begins a text.
+/// Returns the longest symbol that begins a text, or `None` if no symbol does.
 pub fn symbol(text: &[u8]) -> Option<Piece>
     ensures { result ≡ option_map found (symbol_at text.now) }
 {
@@ -29,7 +29,7 @@ pub fn symbol(text: &[u8]) -> Option<Piece>
     }
 }
 
-// The symbol that is three bytes.
+// The kind of the symbol of three bytes, or `None` if they are not one.
 fn three_bytes(first: u8, second: u8, third: u8) -> Option<TokenKind>
     ensures { result ≡ symbol_kind (first ∷ second ∷ third ∷ []) }
 {
@@ -42,7 +42,7 @@ fn three_bytes(first: u8, second: u8, third: u8) -> Option<TokenKind>
     }
 }
 
-// The symbol that is two bytes.
+// The kind of the symbol of two bytes, or `None` if they are not one.
 fn two_bytes(first: u8, second: u8) -> Option<TokenKind>
     ensures { result ≡ symbol_kind (first ∷ second ∷ []) }
 {
@@ -59,7 +59,7 @@ fn two_bytes(first: u8, second: u8) -> Option<TokenKind>
     }
 }
 
-// The symbol that is one byte.
+// The kind of the symbol of one byte, or `None` if it is not one.
 fn one_byte(byte: u8) -> Option<TokenKind>
     ensures { result ≡ symbol_kind (byte ∷ []) }
 {

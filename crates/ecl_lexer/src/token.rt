@@ -60,12 +60,12 @@ pub enum TokenKind {
     Or,
     /// The word `MINUS`.
     Minus,
-    /// `R` or `r`: an attribute is read backwards.
+    /// `R` or `r`: the attribute is read backwards.
     Reverse,
-    /// 1 to 18 digits, of which the first is not 0 unless it is alone.
+    /// 1 to 18 digits. The first digit is 0 only if it is alone.
     Digits,
-    /// `#`, a sign or none, digits as above and, where they are followed by `.` and a digit, the point
-    /// and 1 to 18 digits more.
+    /// `#`, a sign or none, and 1 to 18 digits, of which the first is 0 only if it is alone. If `.` and a digit
+    /// follow, the number also has the point and 1 to 18 digits after it.
     Number,
     /// A term between two `|`.
     Term,
@@ -74,10 +74,10 @@ pub enum TokenKind {
 /// A token of a text.
 #[derive(Clone, Copy, Debug, PartialEq, Eq)]
 pub struct Token<'a> {
-    /// What it is.
+    /// The kind of the token.
     pub kind: TokenKind,
-    /// Where it stands: the offsets, in bytes from 0, of its first byte and behind its last.
+    /// The place of the token: the offsets, in bytes from 0, of its first byte and after its last.
     pub span: (usize, usize),
-    /// The bytes of the text that stand there.
+    /// The bytes of the token in the text.
     pub text: &'a [u8],
 }

@@ -1,4 +1,4 @@
-//! The forms of the language that are not read.
+//! Finds forms of the language that are not read.
 ghost use Rattle.std.specs.Prelude.{◌≡◌, ◌∷◌, Some, None, if◌then◌else◌};
 ghost use Rattle.std.specs.List.{prefix_len};
 ghost use Rattle.ecl_lexer.specs.Bytes.{after_run, begins_with as begins_with_byte, is_code_byte, is_space as is_space_byte};
@@ -7,8 +7,8 @@ ghost use Rattle.ecl_lexer.specs.Refusals.{boolean_form, braces_form, fields_for
 use crate::fault::Feature;
 use crate::runs::{letter_count, space_count};
 
-/// The form that begins a text and is not read. `code_count` is the number of letters, digits and `-` that
-/// the text begins with: inside of such a run it is known from the run's beginning.
+/// Returns the form that begins a text and is not read, if there is one. `code_count` is the number of letters,
+/// digits and `-` at the front of the text. The caller counts a run once and passes on what is left of it.
 pub fn unsupported(text: &[u8], code_count: usize) -> Option<Feature>
     requires { code_count ≡ prefix_len is_code_byte text.now }
     ensures { result ≡ unsupported_form text.now }
@@ -35,7 +35,7 @@ pub fn unsupported(text: &[u8], code_count: usize) -> Option<Feature>
     boolean(text)
 }
 
-// The form that stands behind `{{`.
+// The form after `{{`: a history supplement or a filter.
 fn braces(behind: &[u8]) -> Feature
     ensures { result ≡ braces_form behind.now }
 {
@@ -46,7 +46,7 @@ fn braces(behind: &[u8]) -> Feature
     }
 }
 
-// The form that stands behind `^`.
+// The form after `^`: fields of a reference set, or none.
 fn fields(behind: &[u8]) -> Option<Feature>
     ensures { result ≡ fields_form behind.now }
 {
@@ -57,7 +57,7 @@ fn fields(behind: &[u8]) -> Option<Feature>
     }
 }
 
-// The form whose word begins a text.
+// The form of a text that begins with `true` or `false`, or none.
 fn boolean(text: &[u8]) -> Option<Feature>
     ensures { result ≡ boolean_form text.now }
 {

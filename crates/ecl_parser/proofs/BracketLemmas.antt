@@ -1,5 +1,5 @@
--- Matching brackets token after token: the brackets of each form of the grammar match, and as many are open as the
--- refusal of depth counts.
+-- The brackets of each form of the grammar match, token after token, and as many are open as the refusal for depth
+-- counts.
 use Rattle.std.proofs.Common.{◌≡◌, ◌<◌, ◌+◌, ◌-◌, ◌==◌, ◌&&◌, ◌||◌, ℕ, Bool, true, false, List, [], ◌∷◌, length, refl, ap, sym, ◌∙◌, arith}
 use Rattle.std.specs.Prelude.{map}
 use Rattle.std.proofs.lemmas.Bool.Decides.{nat_tests}
@@ -15,7 +15,7 @@ use Rattle.ecl_parser.specs.declared.brackets.OpenBracket.{OpenBracket}
 use Rattle.ecl_parser.specs.inside.Brackets.{Matching, agree, bracket_closed, bracket_opened, closed_by, token_matched}
 use Rattle.ecl_parser.proofs.Forms.{HoldsOfForms, constraint_holds, is_bracket}
 
--- tokens one after another, from a place on
+-- the brackets after `tokens`, which begin at `place`
 abbrev pub all_matched : ℕ → List Symbol → Matching → Matching
 all_matched place [] old = old
 all_matched place (symbol ∷ rest) old = all_matched (place + 1) rest (token_matched place (kind_of_symbol symbol) old)
@@ -29,7 +29,7 @@ no_bracket_matched token.BraceOpen none place old = absurd (cc)
 no_bracket_matched token.BraceClose none place old = absurd (cc)
 no_bracket_matched other none place old = refl
 
--- The brackets of the tokens of a form match: behind them those are open that were, and what was matched still is.
+-- reading `tokens` from `place` on reaches `rest` with the open brackets of `old` and with `are_matched` unchanged
 record GoesBehind (place : ℕ) (old : Matching) (tokens rest : List Symbol) : Type 0 where
   further : ℕ
   new : Matching
@@ -37,10 +37,12 @@ record GoesBehind (place : ℕ) (old : Matching) (tokens rest : List Symbol) : T
   unclosed : new.unclosed ≡ old.unclosed
   are_matched : new.are_matched ≡ old.are_matched
 
+-- the brackets of `tokens` match: reading them in front of any rest leaves the open brackets and `are_matched`
+-- unchanged
 record IsMatched (tokens : List Symbol → List Symbol) : Type 0 where
   matches : (place : ℕ) (old : Matching) (rest : List Symbol) → GoesBehind place old (tokens rest) rest
 
--- a token that changes nothing, and what follows it
+-- a token that is no bracket may be put in front of tokens that leave the brackets unchanged
 behind_token : (symbol : Symbol) → is_bracket (kind_of_symbol symbol) ≡ false
     → (place : ℕ) (old : Matching) (tokens rest : List Symbol)
     → GoesBehind (place + 1) old tokens rest → GoesBehind place old (symbol ∷ tokens) rest
@@ -52,6 +54,7 @@ behind_token symbol none place old tokens rest goes = record {
   are_matched = goes.are_matched;
 }
 
+-- two lists of tokens in a row leave the brackets unchanged, if each list does
 behind_both : (place : ℕ) (old : Matching) (tokens more rest : List Symbol) → (first : GoesBehind place old tokens more)
     → GoesBehind first.further first.new more rest → GoesBehind place old tokens rest
 behind_both place old tokens more rest first second = record {
@@ -62,18 +65,21 @@ behind_both place old tokens more rest first second = record {
   are_matched = second.are_matched ∙ first.are_matched;
 }
 
--- two tokens that open and close a bracket of one kind
+-- two kinds of token that open and close a bracket of one kind
 record Pairs (opening closing : TokenKind) (is_round : Bool) : Type 0 where
   opened : (place : ℕ) (old : Matching) → token_matched place opening old ≡ bracket_opened place is_round old
   closed : (place : ℕ) (old : Matching) → token_matched place closing old ≡ bracket_closed place is_round old
   agrees : agree is_round is_round ≡ true
 
+-- `(` and `)` open and close a round bracket
 round_pair : Pairs token.RoundOpen token.RoundClose true
 round_pair = record { opened = λ place old. refl; closed = λ place old. refl; agrees = refl }
 
+-- `{` and `}` open and close a brace
 brace_pair : Pairs token.BraceOpen token.BraceClose false
 brace_pair = record { opened = λ place old. refl; closed = λ place old. refl; agrees = refl }
 
+-- tokens in brackets leave the brackets unchanged, if the tokens inside do
 behind_bracket : {opening closing : TokenKind} {is_round : Bool} → Pairs opening closing is_round
     → (place : ℕ) (old : Matching)
     → (tokens rest : List Symbol)
@@ -92,6 +98,7 @@ behind_bracket {opening} {closing} {is_round} pair place old tokens rest goes =
           ∙ ap (λ (b : Bool). b && new.are_matched) pair.agrees ∙ goes.are_matched;
     }
 
+-- the brackets of every form's tokens match
 forms_matched : HoldsOfForms (λ depth tokens. IsMatched tokens)
 forms_matched = record {
   nothing = record {
@@ -130,12 +137,13 @@ tree_matches tokens tree start (form, same, tree_is) =
       ap (λ (m : Matching). m.are_matched) ends ∙ goes.are_matched,
     )
 
--- How deep it goes: so many brackets are open behind a token as the refusal of depth counts.
+-- closing a bracket leaves one open bracket less
 closed_length : (list : List OpenBracket) (place : ℕ) (is_round : Bool) (old : Matching)
     → length (closed_by list place is_round old).unclosed ≡ length list - 1
 closed_length [] place is_round old = refl
 closed_length (opened ∷ outer) place is_round old = omega arith
 
+-- after a token as many brackets are open as the refusal for depth counts
 open_length : (kind : TokenKind) (place : ℕ) (old : Matching)
     → open_behind (length old.unclosed) kind ≡ length (token_matched place kind old).unclosed
 open_length token.RoundOpen place old = omega arith
@@ -144,11 +152,12 @@ open_length token.RoundClose place old = sym (closed_length old.unclosed place t
 open_length token.BraceClose place old = sym (closed_length old.unclosed place false old)
 open_length other place old = refl
 
+-- a bracket that opens with fewer than 64 open is not too deep
 not_full : (opened : Bool) (count : ℕ) → (opened ≡ true → count < 64) → (opened && (count == most_open)) ≡ false
 not_full false count few = refl
 not_full true count few = let fewer = few refl in grind (arith, nat_tests)
 
--- where one more may be open, the tokens behind a token say how deep they are with it
+-- if one more bracket may be open, tokens are too deep exactly if the tokens after the first are
 pub deep_behind : (symbol : Symbol) (rest : List Symbol) (place : ℕ) (old : Matching)
     → (opens (kind_of_symbol symbol) ≡ true → length old.unclosed < 64)
     → symbols_deep (length old.unclosed) (symbol ∷ rest)
@@ -159,19 +168,20 @@ deep_behind symbol rest place old few =
     ap (λ (full : Bool). full || symbols_deep (open_behind count kind) rest) (not_full (opens kind) count few)
     ∙ ap (λ (n : ℕ). symbols_deep n rest) (open_length kind place old)
 
--- where no more may be open, one that opens a bracket is too deep
+-- if 64 brackets are open, a token that opens one is too deep
 pub too_deep : (symbol : Symbol) (rest : List Symbol) (count : ℕ) → opens (kind_of_symbol symbol) ≡ true → count ≡ 64
     → symbols_deep count (symbol ∷ rest) ≡ true
 too_deep symbol rest count is full =
     ap (λ (n : ℕ). symbols_deep n (symbol ∷ rest)) full
     ∙ ap (λ (found : Bool). (found && true) || symbols_deep (open_behind 64 (kind_of_symbol symbol)) rest) is
 
--- there are as many ends as before
+-- closing a bracket keeps the number of ends
 closed_long : (list : List OpenBracket) (place : ℕ) (is_round : Bool) (old : Matching)
     → length (closed_by list place is_round old).ends ≡ length old.ends
 closed_long [] place is_round old = refl
 closed_long (opened ∷ outer) place is_round old = length-set old.ends opened.place (place + 1)
 
+-- reading a token keeps the number of ends
 pub as_long : (kind : TokenKind) (place : ℕ) (old : Matching)
     → length (token_matched place kind old).ends ≡ length old.ends
 as_long token.RoundOpen place old = refl

@@ -1,4 +1,4 @@
--- Reading finds the tree of each form, in front of what may follow it.
+-- Reading finds the tree of each form, in front of tokens that may follow it.
 use Rattle.std.proofs.Common.{◌≡◌, ◌≤◌, ℕ, zero, suc, Bool, true, false, List, [], ◌∷◌, length, Option, None, Some, cond, option_map, refl, ap, ◌∙◌, arith}
 use Rattle.std.specs.Prelude.{is_some}
 use Rattle.constraint_tree.specs.declared.operator.Compare.{Compare}
@@ -14,77 +14,100 @@ use Rattle.ecl_parser.specs.declared.tokens.Mark.TheVariants as marks
 use Rattle.ecl_parser.proofs.MarkLemmas.{compare_back, kind_of, operator_back, read_is_no_mark}
 use Rattle.ecl_parser.proofs.Forms.{constraint_depth, subs_depth, sub_depth, focus_depth, refinement_depth, items_depth, item_depth, set_depth, parts_depth, part_depth, pair_depth, constraint_holds, sub_holds, refinement_holds, item_holds, set_holds, part_holds, IsClosed, forms_closed}
 
--- what may follow a form: no term behind a Sub; behind an item no comparison either; behind a whole form no joint
+-- `rest` may follow an item: it begins with no term and no comparison
 pub record AfterItem (rest : List Symbol) : Type 0 where
+  -- no term stands in front
   pub term : behind marks.Term rest ≡ None
+  -- no comparison stands in front
   pub compare : compare_at rest ≡ None
 
+-- `rest` may follow a whole form: it may follow an item, and it begins with no token that joins forms
 pub record AfterWhole (rest : List Symbol) : Type 0 where
+  -- `rest` may follow an item
   pub item : AfterItem rest
+  -- no AND stands in front
   pub joins_and : behind marks.And rest ≡ None
+  -- no OR stands in front
   pub joins_or : behind marks.Or rest ≡ None
+  -- no dot stands in front
   pub joins_dot : behind marks.Dot rest ≡ None
+  -- no colon stands in front
   pub colon : behind marks.Colon rest ≡ None
+  -- no MINUS stands in front
   pub minus : behind marks.Minus rest ≡ None
 
+-- the end of the tokens may follow a whole form
 pub at_end : AfterWhole []
 at_end = record { item = record { term = refl; compare = refl }; joins_and = refl; joins_or = refl; joins_dot = refl; colon = refl; minus = refl }
 
+-- `)` may follow a whole form
 before_round : (rest : List Symbol) → AfterWhole (mark token.RoundClose ∷ rest)
 before_round rest = record { item = record { term = refl; compare = refl }; joins_and = refl; joins_or = refl; joins_dot = refl; colon = refl; minus = refl }
 
+-- `}` may follow a whole form
 before_brace : (rest : List Symbol) → AfterWhole (mark token.BraceClose ∷ rest)
 before_brace rest = record { item = record { term = refl; compare = refl }; joins_and = refl; joins_or = refl; joins_dot = refl; colon = refl; minus = refl }
 
 -- a mark that joins forms
 pub record Joins (wanted : Mark) : Type 0 where
+  -- a token of the mark's kind is that mark
   pub is : is_mark wanted (kind_of wanted) ≡ true
+  -- the mark is no term
   pub no_term : is_mark marks.Term (kind_of wanted) ≡ false
+  -- the mark is no comparison
   pub no_compare : compare_of (kind_of wanted) ≡ None
 
+-- the mark AND joins forms
 by_and : Joins marks.And
 by_and = record { is = refl; no_term = refl; no_compare = refl }
 
+-- the mark OR joins forms
 by_or : Joins marks.Or
 by_or = record { is = refl; no_term = refl; no_compare = refl }
 
+-- the mark of a dot joins forms
 by_dot : Joins marks.Dot
 by_dot = record { is = refl; no_term = refl; no_compare = refl }
 
--- its token may stand behind each
+-- a token that joins forms may follow an item
 before_joint : {wanted : Mark} → Joins wanted → (rest : List Symbol) → AfterItem (mark (kind_of wanted) ∷ rest)
 before_joint joint rest = record {
   term = ap (λ (b : Bool). cond b (Some rest) None) joint.no_term;
   compare = ap (λ (c : Option Compare). option_map (λ compare. (compare, rest)) c) joint.no_compare;
 }
 
--- The token of an operator, and of a comparison, is no mark that is neither.
+-- the token of an operator is not read as a mark whose kind is no operator
 no_operator : (wanted : Mark) → operator_of (kind_of wanted) ≡ None → (o : Operator) → is_mark wanted (operator_kind o) ≡ false
 no_operator wanted none o = read_is_no_mark operator_of (operator_kind o) o (operator_back o) wanted none
 
+-- the token of a comparison is not read as a mark whose kind is no comparison
 no_compare : (wanted : Mark) → compare_of (kind_of wanted) ≡ None → (c : Compare) → is_mark wanted (compare_kind c) ≡ false
 no_compare wanted none c = read_is_no_mark compare_of (compare_kind c) c (compare_back c) wanted none
 
--- a mark that no Sub begins with
+-- a mark with which no Sub begins
 record BeginsNoSub (wanted : Mark) : Type 0 where
   any : is_mark wanted token.Wildcard ≡ false
   round : is_mark wanted token.RoundOpen ≡ false
   member : is_mark wanted token.MemberOf ≡ false
   walk : operator_of (kind_of wanted) ≡ None
 
+-- no Sub begins with `{`
 no_brace : BeginsNoSub marks.BraceOpen
 no_brace = record { any = refl; round = refl; member = refl; walk = refl }
 
+-- no Sub begins with `[`
 no_bracket : BeginsNoSub marks.BracketOpen
 no_bracket = record { any = refl; round = refl; member = refl; walk = refl }
 
+-- no Sub begins with `R`
 no_reverse : BeginsNoSub marks.Reverse
 no_reverse = record { any = refl; round = refl; member = refl; walk = refl }
 
--- it does not stand in front of a Sub, and so not of a pair
+-- tokens that begin with a token of another kind do not begin with the mark `wanted`
 behind_other : (wanted : Mark) (kind : TokenKind) (rest : List Symbol) → is_mark wanted kind ≡ false → behind wanted (mark kind ∷ rest) ≡ None
 behind_other wanted kind rest other = ap (λ (b : Bool). cond b (Some rest) None) other
 
+-- the tokens of a Sub do not begin with a mark with which no Sub begins
 sub_begins : (wanted : Mark) → BeginsNoSub wanted → (form : SubForm) (rest : List Symbol) → behind wanted (sub_tokens form rest) ≡ None
 sub_begins wanted free (plain (concept run is)) rest = refl
 sub_begins wanted free (plain (concept_term run is)) rest = refl
@@ -97,16 +120,18 @@ sub_begins wanted free (walk o focus) rest =
 sub_begins wanted free (walk_member o focus) rest =
     behind_other wanted (operator_kind o) (mark token.MemberOf ∷ focus_tokens focus rest) (no_operator wanted free.walk o)
 
+-- the tokens of a pair do not begin with a mark with which no Sub begins
 pair_begins : (wanted : Mark) → BeginsNoSub wanted → (form : PairForm) (rest : List Symbol) → behind wanted (pair_tokens form rest) ≡ None
 pair_begins wanted free (within name value) rest = sub_begins wanted free name (mark token.Equal ∷ sub_tokens value rest)
 pair_begins wanted free (outside name value) rest = sub_begins wanted free name (mark token.NotEqual ∷ sub_tokens value rest)
 pair_begins wanted free (number name c text value is) rest = sub_begins wanted free name (mark (compare_kind c) ∷ decimal text ∷ rest)
 
+-- the tokens of a Sub do not begin with a number
 sub_no_number : (form : SubForm) (rest : List Symbol) → number_at (sub_tokens form rest) ≡ None
 sub_no_number (plain any) rest = refl
 sub_no_number other rest = refl
 
--- brackets with a comparison behind them are the name of an attribute
+-- a Sub with a comparison after it is not read as brackets around a refinement or set
 name_no_brackets : (form : SubForm) (c : Compare) (rest : List Symbol) → bracketed_at (sub_tokens form (mark (compare_kind c) ∷ rest)) ≡ None
 name_no_brackets (plain (concept run is)) c rest = refl
 name_no_brackets (plain (concept_term run is)) c rest = refl
@@ -129,12 +154,13 @@ name_no_brackets (walk_member o focus) c rest =
     (λ left. cond (is_some {T = Compare × List Symbol} (compare_at (behind_close 0 left))) None (Some left)))
     (no_operator marks.RoundOpen refl o)
 
+-- the tokens of a pair are not read as brackets around a refinement or set
 pair_no_brackets : (form : PairForm) (rest : List Symbol) → bracketed_at (pair_tokens form rest) ≡ None
 pair_no_brackets (within name value) rest = name_no_brackets name compare.Equal (sub_tokens value rest)
 pair_no_brackets (outside name value) rest = name_no_brackets name compare.NotEqual (sub_tokens value rest)
 pair_no_brackets (number name c text value is) rest = name_no_brackets name c (decimal text ∷ rest)
 
--- a cardinality, or none in front of what begins with no bracket
+-- the tokens of an optional cardinality are read as that cardinality, if no `[` follows them
 count_complete : (count : Option CountForm) (rest : List Symbol) → behind marks.BracketOpen rest ≡ None
     → count_at (counted_tokens count rest) ≡ Some (cardinality_of count, rest)
 unfolding bounds_at
@@ -142,19 +168,20 @@ count_complete None rest none = rw none refl
 count_complete (Some (at_least least is)) rest none = rw is refl
 count_complete (Some (between least most is also)) rest none = rw (is, also) refl
 
--- several forms are read, each behind a token
+-- the reader reads `tokens` as forms with the trees `trees`, each after a token, up to `rest`
 record AreRead {Tree Trees : Type 0} (reader : List Symbol → Found Tree) (from : List Tree → Trees) (wanted : Mark)
     (tokens rest : List Symbol) (trees : Trees) : Type 0 where
   found : List Tree
   read : (turns : ℕ) → length tokens ≤ turns → many reader wanted turns tokens ≡ Some (found, rest)
   are : from found ≡ trees
 
+-- forms that are read one after another are read by `all_behind`
 all_read : {Tree Trees : Type 0} {reader : List Symbol → Found Tree} {from : List Tree → Trees} {wanted : Mark}
     {tokens rest : List Symbol} {trees : Trees} (forms : AreRead reader from wanted tokens rest trees)
     → all_behind reader wanted tokens ≡ Some (forms.found, rest)
 all_read {tokens} forms = forms.read (length tokens) (omega arith)
 
--- none where the token does not stand
+-- no form is read if no token that joins stands in front
 none_read : {Tree Trees : Type 0} (reader : List Symbol → Found Tree) (from : List Tree → Trees) (wanted : Mark) (rest : List Symbol)
     → behind wanted rest ≡ None → AreRead reader from wanted rest rest (from [])
 unfolding many
@@ -164,7 +191,7 @@ none_read {Tree} reader from wanted rest none = record { found = []; read = λ t
     by zero = refl
     by (suc turns) = rw none refl
 
--- and one behind its token, with others behind it
+-- a form after a token, with forms after it that are read, is read in front of them
 one_read : {Tree Trees : Type 0} {reader : List Symbol → Found Tree} {from : List Tree → Trees} {wanted : Mark} {item : Tree}
     {tokens_of : List Symbol → List Symbol} {after rest : List Symbol} {trees : Trees} → Joins wanted → (next : Trees → Trees)
     → ((items : List Tree) → from (item ∷ items) ≡ next (from items)) → IsClosed tokens_of → reader (tokens_of after) ≡ Some (item, after)
@@ -181,26 +208,29 @@ one_read {reader} {wanted} {item} {tokens_of} {after} {rest} joint next goes_on 
     by zero enough = absurd (omega arith)
     by (suc turns) enough = rw (joint.is, first, others.read turns (omega (arith, closed.longer after))) refl
 
--- a focus stands alone where no operator and no `^` is before it
+-- the tokens of a focus are read as a Sub without an operator
 sub_plain : (inner : Readers) (form : FocusForm) (rest : List Symbol) → sub_in inner (focus_tokens form rest) ≡ member_in inner (focus_tokens form rest)
 unfolding sub_in
 sub_plain inner any rest = refl
 sub_plain inner other rest = refl
 
+-- the tokens of a focus are read as an operand without `^`
 member_plain : (inner : Readers) (form : FocusForm) (rest : List Symbol) → member_in inner (focus_tokens form rest) ≡ focus_in inner (focus_tokens form rest)
 unfolding member_in
 member_plain inner any rest = refl
 member_plain inner other rest = refl
 
+-- a cardinality is not read as brackets around a refinement or set
 count_no_brackets : (count : CountForm) (rest : List Symbol) → bracketed_at (count_tokens count rest) ≡ None
 count_no_brackets (at_least least is) rest = refl
 count_no_brackets (between least most is also) rest = refl
 
--- forms are read in front of what may follow them, where the brackets in them may be opened
+-- Each form is read as its tree, if the brackets in it may be opened and the tokens after it may follow it.
 mutual
   unfolding constraint_in constraint_behind sub_in member_in focus_in readers refinement_in refinement_behind item_in
       item_behind set_in set_behind part_in pair_in test_in
 
+  -- a constraint form is read as its tree, if at most `most` brackets are open in it and the rest may follow it
   pub constraint_complete : (most : ℕ) (form : ConstraintForm) (rest : List Symbol) → constraint_depth form ≤ most → AfterWhole rest
       → constraint_in (readers most) (constraint_tokens form rest) ≡ Some (constraint_tree form, rest)
   constraint_complete most (alone sub) rest fits after =
@@ -231,6 +261,7 @@ mutual
       (subs_complete most by_dot more rest (omega arith) after.joins_dot after.item.term) in
       rw (sub_complete most start (subs_tokens token.Dot (sub_then name more) rest) (omega arith) refl, all_read others, others.are) refl
 
+  -- further operands are read as their trees, if at most `most` brackets are open in them
   subs_complete : (most : ℕ) {wanted : Mark} → Joins wanted → (forms : SubForms) (rest : List Symbol) → subs_depth forms ≤ most
       → behind wanted rest ≡ None → behind marks.Term rest ≡ None
       → AreRead (sub_in (readers most)) trees_from wanted (subs_tokens (kind_of wanted) forms rest) rest (sub_trees forms)
@@ -240,11 +271,13 @@ mutual
       (sub_complete most sub (subs_tokens (kind_of wanted) more rest) (omega arith) (subs_term joint more rest term))
       (subs_complete most joint more rest (omega arith) none term)
 
+  -- further operands do not begin with a term, if the tokens after them do not
   subs_term : {wanted : Mark} → Joins wanted → (forms : SubForms) (rest : List Symbol)
       → behind marks.Term rest ≡ None → behind marks.Term (subs_tokens (kind_of wanted) forms rest) ≡ None
   subs_term joint no_subs rest term = term
   subs_term {wanted} joint (sub_then sub more) rest term = (before_joint joint (sub_tokens sub (subs_tokens (kind_of wanted) more rest))).term
 
+  -- an operand is read as its tree, if at most `most` brackets are open in it and no term follows it
   sub_complete : (most : ℕ) (form : SubForm) (rest : List Symbol) → sub_depth form ≤ most → behind marks.Term rest ≡ None
       → sub_in (readers most) (sub_tokens form rest) ≡ Some (sub_tree form, rest)
   sub_complete most (plain focus) rest fits term = sub_plain (readers most) focus rest
@@ -253,6 +286,7 @@ mutual
   sub_complete most (walk o focus) rest fits term = rw (operator_back o, member_plain (readers most) focus rest, focus_complete most focus rest fits term) refl
   sub_complete most (walk_member o focus) rest fits term = rw (operator_back o, focus_complete most focus rest fits term) refl
 
+  -- a focus is read as its tree, if at most `most` brackets are open in it and no term follows it
   focus_complete : (most : ℕ) (form : FocusForm) (rest : List Symbol) → focus_depth form ≤ most → behind marks.Term rest ≡ None
       → focus_in (readers most) (focus_tokens form rest) ≡ Some (focus_tree form, rest)
   focus_complete most (concept run is) rest fits term = rw (is, term) refl
@@ -262,6 +296,7 @@ mutual
   focus_complete (suc most) (round constraint) rest fits term =
       rw (constraint_complete most constraint (mark token.RoundClose ∷ rest) (omega arith) (before_round rest)) refl
 
+  -- a refinement form is read as its tree, if at most `most` brackets are open in it and the rest may follow it
   refinement_complete : (most : ℕ) (form : RefinementForm) (rest : List Symbol) → refinement_depth form ≤ most → AfterWhole rest
       → refinement_in (readers most) (refinement_tokens form rest) ≡ Some (refinement_tree form, rest)
   refinement_complete most (one_item item) rest fits after =
@@ -287,6 +322,7 @@ mutual
         others.are,
       ) refl
 
+  -- further items are read as their trees, if at most `most` brackets are open in them
   items_complete : (most : ℕ) {wanted : Mark} → Joins wanted → (forms : ItemForms) (rest : List Symbol) → items_depth forms ≤ most
       → behind wanted rest ≡ None → AfterItem rest
       → AreRead (item_in (readers most)) refinements_from wanted (items_tokens (kind_of wanted) forms rest) rest (item_trees forms)
@@ -296,11 +332,13 @@ mutual
       (item_complete most item (items_tokens (kind_of wanted) more rest) (omega arith) (items_after joint more rest after))
       (items_complete most joint more rest (omega arith) none after)
 
+  -- further items may follow an item, if the tokens after them may
   items_after : {wanted : Mark} → Joins wanted → (forms : ItemForms) (rest : List Symbol)
       → AfterItem rest → AfterItem (items_tokens (kind_of wanted) forms rest)
   items_after joint no_items rest after = after
   items_after {wanted} joint (item_then item more) rest after = before_joint joint (item_tokens item (items_tokens (kind_of wanted) more rest))
 
+  -- an item is read as its tree, if at most `most` brackets are open in it and the rest may follow it
   item_complete : (most : ℕ) (form : ItemForm) (rest : List Symbol) → item_depth form ≤ most → AfterItem rest
       → item_in (readers most) (item_tokens form rest) ≡ Some (item_tree form, rest)
   item_complete most (attribute None false pair) rest fits after =
@@ -343,6 +381,7 @@ mutual
         refinement_complete most refinement (mark token.RoundClose ∷ rest) (omega arith) (before_round rest),
       ) refl
 
+  -- an attribute set form is read as its tree, if at most `most` brackets are open in it and the rest may follow it
   set_complete : (most : ℕ) (form : SetForm) (rest : List Symbol) → set_depth form ≤ most → AfterWhole rest
       → set_in (readers most) (set_tokens form rest) ≡ Some (set_tree form, rest)
   set_complete most (one_part part) rest fits after =
@@ -368,6 +407,7 @@ mutual
         others.are,
       ) refl
 
+  -- further parts are read as their trees, if at most `most` brackets are open in them
   parts_complete : (most : ℕ) {wanted : Mark} → Joins wanted → (forms : PartForms) (rest : List Symbol) → parts_depth forms ≤ most
       → behind wanted rest ≡ None → AfterItem rest
       → AreRead (part_in (readers most)) sets_from wanted (parts_tokens (kind_of wanted) forms rest) rest (part_trees forms)
@@ -377,11 +417,13 @@ mutual
       (part_complete most part (parts_tokens (kind_of wanted) more rest) (omega arith) (parts_after joint more rest after))
       (parts_complete most joint more rest (omega arith) none after)
 
+  -- further parts may follow a part, if the tokens after them may
   parts_after : {wanted : Mark} → Joins wanted → (forms : PartForms) (rest : List Symbol)
       → AfterItem rest → AfterItem (parts_tokens (kind_of wanted) forms rest)
   parts_after joint no_parts rest after = after
   parts_after {wanted} joint (part_then part more) rest after = before_joint joint (part_tokens part (parts_tokens (kind_of wanted) more rest))
 
+  -- a part is read as its tree, if at most `most` brackets are open in it and the rest may follow it
   part_complete : (most : ℕ) (form : PartForm) (rest : List Symbol) → part_depth form ≤ most → AfterItem rest
       → part_in (readers most) (part_tokens form rest) ≡ Some (part_tree form, rest)
   part_complete most (counted_part None pair) rest fits after =
@@ -400,6 +442,7 @@ mutual
         set_complete most set (mark token.RoundClose ∷ rest) (omega arith) (before_round rest),
       ) refl
 
+  -- a pair is read as its tree, if at most `most` brackets are open in it and no term follows it
   pair_complete : (most : ℕ) (count : Option CountForm) (reverse : Bool) (form : PairForm) (rest : List Symbol)
       → pair_depth form ≤ most → behind marks.Term rest ≡ None
       → pair_in (readers most) (cardinality_of count) reverse (pair_tokens form rest) ≡ Some (pair_tree count reverse form, rest)

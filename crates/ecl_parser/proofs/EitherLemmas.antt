@@ -14,7 +14,7 @@ use Rattle.ecl_parser.specs.inside.Reading.{Found, constraint_in, readers}
 use Rattle.ecl_parser.proofs.ParseLemmas.{refusal_of_text, tokens_read}
 use Rattle.ecl_parser.proofs.Sound.{constraint_derives}
 
--- tokens that are not too deep have a tree or none: what is read of them to their end, where something is
+-- tokens that are not too deep have a tree or have none, depending on whether reading reaches their end
 tree_or_none : (tokens : List Spelled) → is_deep 0 tokens ≡ false → ((tree : Tree) × IsTreeOf tokens tree) ⊎ ((tree : Tree) → ¬ IsTreeOf tokens tree)
 tree_or_none tokens shallow = by_read (constraint_in (readers 64) (map symbol_of tokens)) refl
   where
@@ -32,7 +32,7 @@ tree_or_none tokens shallow = by_read (constraint_in (readers 64) (map symbol_of
     by_read None is = inr (λ tree there. let read = tokens_read tokens tree shallow there in (cc))
     by_read (Some found) is = by_rest found.0 found.1 is
 
--- so are the tokens of a text: too deep, or with a tree, or with none
+-- a readable text is a constraint or is refused, according to its tokens
 of_tokens : (text : List ℕ) (tokens : List Spelled) → IsReadable text → AreTokensOf text tokens
     → ((tree : Tree) × IsConstraint text tree) ⊎ ((fault : QueryFault) × IsRefusalOf text fault)
 of_tokens text tokens readable are = elim (cases_Bool (is_deep 0 tokens)) [
@@ -44,6 +44,7 @@ of_tokens text tokens readable are = elim (cases_Bool (is_deep 0 tokens)) [
   ]
 ]
 
+-- a readable text is a constraint or is refused
 of_readable : (text : List ℕ) → IsReadable text
     → ((tree : Tree) × IsConstraint text tree) ⊎ ((fault : QueryFault) × IsRefusalOf text fault)
 of_readable text readable = elim (each_text text readable) [
@@ -51,6 +52,7 @@ of_readable text readable = elim (each_text text readable) [
   | inr (fault, is) ↦ inr (fault, refusal_of_text text fault is)
 ]
 
+-- every text is a constraint or is refused
 pub tree_or_refusal : (text : List ℕ)
     → ((tree : Tree) × IsConstraint text tree) ⊎ ((fault : QueryFault) × IsRefusalOf text fault)
 tree_or_refusal text = elim (cases_lt most_bytes (length text)) [

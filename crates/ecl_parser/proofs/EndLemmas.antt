@@ -1,5 +1,5 @@
--- Token after token the brackets that were closed have their ends, and for those that are open it is known what is
--- behind the brackets that will close them.
+-- Token after token, the brackets that were closed have their ends, and for each open bracket the tokens after the
+-- bracket that will close it are known.
 use Rattle.std.proofs.Common.{◌≡◌, ◌⊎◌, inl, inr, ◌<◌, ◌+◌, ℕ, zero, suc, Bool, true, false, List, [], ◌∷◌, length, drop, refl, ap, sym, ◌∙◌, subst, arith, get_or-set_other, get_or-set_same}
 use Rattle.std.specs.Prelude.{◌&&◌, slice_index, slice_set}
 use Rattle.std.proofs.lemmas.Bool.{cases_eq, false≢true}
@@ -14,7 +14,7 @@ use Rattle.ecl_parser.specs.inside.Brackets.{AreEnds, Matching, agree, bracket_o
 use Rattle.ecl_parser.specs.inside.Reading.{behind_close, stands}
 use Rattle.ecl_parser.proofs.BracketLemmas.{all_matched}
 
--- a token stands only at a place of the tokens, and the tokens behind one are those from the next place on
+-- a token stands only at a place of the tokens
 pub stands_within : (wanted : Mark) (tokens : List Symbol) (place : ℕ) → stands wanted (drop place tokens) ≡ true
     → place < length tokens
 stands_within wanted [] zero is = absurd (false≢true is)
@@ -22,6 +22,7 @@ stands_within wanted [] (suc place) is = absurd (false≢true is)
 stands_within wanted (symbol ∷ tokens) zero is = omega arith
 stands_within wanted (symbol ∷ tokens) (suc place) is = let within = stands_within wanted tokens place is in omega arith
 
+-- the tokens after a token are the tokens from the next place on
 next_ahead : (tokens : List Symbol) (at : ℕ) (symbol : Symbol) (rest : List Symbol) → drop at tokens ≡ symbol ∷ rest
     → drop (at + 1) tokens ≡ rest
 next_ahead [] zero symbol rest is = absurd (cc)
@@ -34,6 +35,7 @@ next_ahead (first ∷ tokens) (suc at) symbol rest is =
     let next : suc at + 1 ≡ suc (at + 1) = omega arith in
     ap (λ (n : ℕ). drop n (first ∷ tokens)) next ∙ next_ahead tokens at symbol rest is
 
+-- if the tokens end before `at`, every place lies before `at`
 none_ahead : (tokens : List Symbol) (at : ℕ) → drop at tokens ≡ [] → (place : ℕ) → place < length tokens → place < at
 none_ahead [] at is place within = absurd (omega arith)
 none_ahead (first ∷ tokens) zero is place within = absurd (cc)
@@ -41,6 +43,7 @@ none_ahead (first ∷ tokens) (suc at) is zero within = omega arith
 none_ahead (first ∷ tokens) (suc at) is (suc place) within =
     let before = none_ahead tokens at is place (omega arith) in omega arith
 
+-- a place at which a token stands is a place of the tokens
 within_ahead : (tokens : List Symbol) (at : ℕ) (symbol : Symbol) (rest : List Symbol)
     → drop at tokens ≡ symbol ∷ rest → at < length tokens
 within_ahead [] zero symbol rest is = absurd (cc)
@@ -49,40 +52,46 @@ within_ahead (first ∷ tokens) zero symbol rest is = omega arith
 within_ahead (first ∷ tokens) (suc at) symbol rest is =
     let within = within_ahead tokens at symbol rest is in omega arith
 
--- the level of a text behind so many round brackets that open at a level
+-- the level of a text after `further` more round brackets have opened
 abbrev more : ℕ → ℕ → ℕ
 more zero level = level
 more (suc further) level = more further (suc level)
 
+-- a level raised by one is one more after `further` more round brackets
 more-suc : (further level : ℕ) → more further (suc level) ≡ suc (more further level)
 more-suc zero level = refl
 more-suc (suc further) level = more-suc further (suc level)
 
+-- the level outside a bracket: one more for a round bracket, the same for a brace
 abbrev level_outside : Bool → ℕ → ℕ
 level_outside true level = suc level
 level_outside false level = level
 
--- behind the brackets that close those that are open, the innermost first, stands the same before and after a token
+-- the tokens after the `)` that closes an outer `(` are equal, whether counted from `before` at level `from` or from
+-- `after` at level `to`
 abbrev Keeps : List Symbol → ℕ → List Symbol → ℕ → Type 0
 Keeps before from after to =
     (further : ℕ) → behind_close (more further from) before ≡ behind_close (more further to) after
 
+-- `Keeps` holds one bracket further out
 keeps_outside : (is_round : Bool) (before : List Symbol) (from : ℕ) (after : List Symbol) (to : ℕ)
     → Keeps before from after to → Keeps before (level_outside is_round from) after (level_outside is_round to)
 keeps_outside true before from after to keeps = λ further. keeps (suc further)
 keeps_outside false before from after to keeps = keeps
 
--- of an open bracket: whether it is a `(`, and if so, what stands behind the one that will close it
+-- an open bracket: whether it is `(`, and if so, the tokens after the bracket that will close it
 record IsOpen (tokens ahead : List Symbol) (level : ℕ) (opened : OpenBracket) : Type 0 where
   within : opened.place < length tokens
   kind : stands marks.RoundOpen (drop opened.place tokens) ≡ opened.is_round
   closes : opened.is_round ≡ true → behind_close 0 (drop (opened.place + 1) tokens) ≡ behind_close level ahead
 
+-- every bracket of a list is open, each outside the one in front of it
 abbrev AreOpen : List Symbol → List Symbol → ℕ → List OpenBracket → Type 0
 AreOpen tokens ahead level [] = Unit {0}
 AreOpen tokens ahead level (opened ∷ outer) =
     IsOpen tokens ahead level opened × AreOpen tokens ahead (level_outside opened.is_round level) outer
 
+-- open brackets stay open from `before` to `after`, if `Keeps` holds for the two
 are_open_behind : (tokens before : List Symbol) (from : ℕ) (after : List Symbol) (to : ℕ) (list : List OpenBracket)
     → Keeps before from after to
     → AreOpen tokens before from list → AreOpen tokens after to list
@@ -93,51 +102,56 @@ are_open_behind tokens before from after to (opened ∷ outer) keeps (here, othe
       (keeps_outside opened.is_round before from after to keeps) others,
 )
 
+-- both sides of a true conjunction are true
 both_true : (one other : Bool) → (one && other) ≡ true → (one ≡ true) × (other ≡ true)
 both_true true other is = (refl, is)
 both_true false other is = absurd (false≢true is)
 
+-- two brackets that agree are of one kind
 agree_same : (one other : Bool) → agree one other ≡ true → one ≡ other
 agree_same true true is = refl
 agree_same false false is = refl
 agree_same true false is = absurd (false≢true is)
 agree_same false true is = absurd (false≢true is)
 
--- a place is that of one of some open brackets
+-- a place is the place of one of the open brackets
 abbrev IsAmong : ℕ → List OpenBracket → Type 0
 IsAmong place [] = ⊥
 IsAmong place (opened ∷ outer) = (opened.place ≡ place) ⊎ IsAmong place outer
 
--- a `(` has its end, if one stands at a place
+-- a `(` stands at the place
 abbrev IsRound : List Symbol → ℕ → Type 0
 IsRound tokens place = stands marks.RoundOpen (drop place tokens) ≡ true
 
+-- the end of the `(` at the place is the place after the `)` that closes it
 abbrev HasEnd : List Symbol → List ℕ → ℕ → Type 0
 HasEnd tokens ends place = drop (slice_index ends place) tokens ≡ behind_close 0 (drop (place + 1) tokens)
 
+-- the `(` at the place has its end, if one stands there
 abbrev HasEndIfRound : List Symbol → List ℕ → ℕ → Type 0
 HasEndIfRound tokens ends place = IsRound tokens place → HasEnd tokens ends place
 
--- it has its end, or it is open
+-- the `(` at the place has its end, or is open
 abbrev EndsOrIsOpen : List Symbol → List ℕ → List OpenBracket → ℕ → Type 0
 EndsOrIsOpen tokens ends list place = HasEnd tokens ends place ⊎ IsAmong place list
 
--- what is known where the tokens from a place on are ahead: each `(` before it is open or has its end
+-- with the tokens from `at` on ahead, every `(` before `at` is open or has its end
 record AreRight (tokens : List Symbol) (at : ℕ) (ahead : List Symbol) (found : Matching) : Type 0 where
   long : length found.ends ≡ length tokens
   unclosed : AreOpen tokens ahead 0 found.unclosed
   closed : (place : ℕ) → place < at → IsRound tokens place → EndsOrIsOpen tokens found.ends found.unclosed place
 
--- as long as the brackets match
+-- if the brackets match so far, `AreRight` holds
 abbrev AreRightIfMatched : List Symbol → ℕ → List Symbol → Matching → Type 0
 AreRightIfMatched tokens at ahead found = found.are_matched ≡ true → AreRight tokens at ahead found
 
+-- one more bracket outside, counted first or last, gives the same level
 more-outside : (is_round : Bool) (further : ℕ)
     → more further (level_outside is_round 0) ≡ level_outside is_round (more further 0)
 more-outside true further = more-suc further 0
 more-outside false further = refl
 
--- what holds of the places of `(` before a place, and of the place itself, holds of those before the next one
+-- a property of the `(` before `at`, and of the `(` at `at`, holds of the `(` before `at + 1`
 before_next : (Is : ℕ → Type 0) (tokens : List Symbol) (at : ℕ)
     → ((place : ℕ) → place < at → IsRound tokens place → Is place) → (IsRound tokens at → Is at)
     → (place : ℕ) → place < at + 1 → IsRound tokens place → Is place
@@ -148,13 +162,14 @@ before_next Is tokens at before here place within round = elim (cases_eq place a
   | inr apart ↦ before place (omega arith) round
 ]
 
--- A token, and those behind it.
+-- One token and the tokens after it.
 module _ (tokens : List Symbol) (at : ℕ) (symbol : Symbol) (rest : List Symbol)
     (ahead : drop at tokens ≡ symbol ∷ rest) where
+  -- a token that is no `(` makes no `(` at its place
   no_round_here : stands marks.RoundOpen (symbol ∷ rest) ≡ false → IsRound tokens at → ⊥
   no_round_here none round = false≢true (sym none ∙ ap (stands marks.RoundOpen) (sym ahead) ∙ round)
 
-  -- one that opens and closes nothing
+  -- a token that is no bracket keeps `AreRight`
   right_behind_other : (found : Matching) → stands marks.RoundOpen (symbol ∷ rest) ≡ false
       → ((level : ℕ) → behind_close level (symbol ∷ rest) ≡ behind_close level rest)
       → AreRight tokens at (symbol ∷ rest) found → AreRight tokens (at + 1) rest found
@@ -166,7 +181,7 @@ module _ (tokens : List Symbol) (at : ℕ) (symbol : Symbol) (rest : List Symbol
         (λ round. absurd (no_round_here none round));
   }
 
-  -- one that opens a bracket
+  -- a token that opens a bracket keeps `AreRight`
   right_behind_opening : (found : Matching) (is_round : Bool) → stands marks.RoundOpen (symbol ∷ rest) ≡ is_round
       → ((level : ℕ) → behind_close level (symbol ∷ rest) ≡ behind_close (level_outside is_round level) rest)
       → AreRight tokens at (symbol ∷ rest) found → AreRight tokens (at + 1) rest (bracket_opened at is_round found)
@@ -192,11 +207,13 @@ module _ (tokens : List Symbol) (at : ℕ) (symbol : Symbol) (rest : List Symbol
             (λ round. inr (inl refl));
       }
 
-  -- A bracket is closed by the token: the ends have its end too.
+  -- The token closes the bracket `opened`, which gets its end.
   module _ (ends : List ℕ) (opened : OpenBracket) where
+    -- the ends with the end of the bracket that is closed
     abbrev with_end : List ℕ
     with_end = slice_set ends opened.place (at + 1)
 
+    -- the closed bracket has its end
     end_here : length ends ≡ length tokens → IsOpen tokens (symbol ∷ rest) 0 opened
         → (opened.is_round ≡ true → behind_close 0 (symbol ∷ rest) ≡ rest)
         → HasEndIfRound tokens with_end opened.place
@@ -206,10 +223,12 @@ module _ (tokens : List Symbol) (at : ℕ) (symbol : Symbol) (rest : List Symbol
         ap (λ (n : ℕ). drop n tokens) (get_or-set_same ends opened.place (at + 1) 0 within)
         ∙ next_ahead tokens at symbol rest ahead ∙ sym (closes is_round) ∙ sym (is_open.closes is_round)
 
+    -- other brackets keep their ends
     end_beside : (place : ℕ) → (place ≡ opened.place → ⊥) → HasEnd tokens ends place → HasEnd tokens with_end place
     end_beside place apart ended =
         ap (λ (n : ℕ). drop n tokens) (get_or-set_other ends opened.place place (at + 1) 0 apart) ∙ ended
 
+    -- each `(` is open or has its end after a bracket was closed
     ends_behind : (outer : List OpenBracket) → HasEndIfRound tokens with_end opened.place → (place : ℕ)
         → IsRound tokens place → EndsOrIsOpen tokens ends (opened ∷ outer) place
         → EndsOrIsOpen tokens with_end outer place
@@ -224,10 +243,11 @@ module _ (tokens : List Symbol) (at : ℕ) (symbol : Symbol) (rest : List Symbol
         inl (subst P same here round)
     ends_behind outer here place round (inr (inr among)) = inr among
 
-  -- One that closes a bracket of its kind, whatever is open there.
+  -- The token closes a bracket of its kind, whatever is open there.
   module _ (is_round : Bool) (none : stands marks.RoundOpen (symbol ∷ rest) ≡ false)
       (closes : (level : ℕ) → behind_close (level_outside is_round level) (symbol ∷ rest) ≡ behind_close level rest)
       (here : is_round ≡ true → behind_close 0 (symbol ∷ rest) ≡ rest) where
+    -- a token that closes a bracket of its kind keeps `AreRight`
     right_behind_closing : (found : Matching) → AreRight tokens at (symbol ∷ rest) found → (opened : OpenBracket)
         → (outer : List OpenBracket) → found.unclosed ≡ opened ∷ outer → opened.is_round ≡ is_round → (matched : Bool)
         → AreRight tokens (at + 1) rest
@@ -249,6 +269,7 @@ module _ (tokens : List Symbol) (at : ℕ) (symbol : Symbol) (rest : List Symbol
               (λ round. absurd (no_round_here none round));
         }
 
+    -- a closing token keeps `AreRight`, as long as the brackets match
     right_behind_close : (found : Matching) → AreRightIfMatched tokens at (symbol ∷ rest) found
         → (list : List OpenBracket) → found.unclosed ≡ list
         → AreRightIfMatched tokens (at + 1) rest (closed_by list at is_round found)
@@ -258,7 +279,7 @@ module _ (tokens : List Symbol) (at : ℕ) (symbol : Symbol) (rest : List Symbol
         right_behind_closing found (right parts.1) opened outer is (agree_same opened.is_round is_round parts.0)
         (agree opened.is_round is_round && found.are_matched)
 
--- a token, whatever it is
+-- every token keeps `AreRight`, as long as the brackets match
 right_behind : (tokens : List Symbol) (at : ℕ) (symbol : Symbol) (rest : List Symbol) (found : Matching)
     → drop at tokens ≡ symbol ∷ rest → AreRightIfMatched tokens at (symbol ∷ rest) found
     → AreRightIfMatched tokens (at + 1) rest (token_matched at (kind_of_symbol symbol) found)
@@ -279,7 +300,7 @@ right_behind tokens at (mark token.BraceClose) rest found ahead right =
 right_behind tokens at (mark other) rest found ahead right =
     λ matched. right_behind_other tokens at (mark other) rest ahead found refl (λ level. refl) (right matched)
 
--- all tokens from a place on
+-- the tokens from a place on keep `AreRight`, as long as the brackets match
 right_at_end : (tokens : List Symbol) (at : ℕ) (ahead : List Symbol) (found : Matching) → drop at tokens ≡ ahead
     → AreRightIfMatched tokens at ahead found
     → AreRightIfMatched tokens (length tokens) [] (all_matched at ahead found)
@@ -294,7 +315,7 @@ right_at_end tokens at (symbol ∷ rest) found is right =
     right_at_end tokens (at + 1) rest (token_matched at (kind_of_symbol symbol) found)
     (next_ahead tokens at symbol rest is) (right_behind tokens at symbol rest found is right)
 
--- where all brackets match, and none is open at the end, each has its end
+-- if all brackets match and none is open at the end, each `(` has its end
 pub ends_found : (tokens : List Symbol) (found : Matching)
     → found ≡ all_matched 0 tokens (nothing_matched (length tokens))
     → found.are_matched ≡ true → found.unclosed ≡ [] → AreEnds tokens found.ends

@@ -17,26 +17,32 @@ use Rattle.ecl_parser.proofs.EndLemmas.{ends_found}
 use Rattle.ecl_parser.proofs.ParseLemmas.{drop_all, symbols-spelled}
 use Rattle.ecl_parser.proofs.TokenLemmas.{at_place}
 
+-- the symbol of a token has the token's kind
 kind_seen : (kind : TokenKind) (bytes : List ℕ)
     → kind_of_symbol (symbol_of (record { kind = kind; bytes = bytes })) ≡ kind
 kind_seen Digits bytes = refl
 kind_seen Number bytes = refl
 kind_seen other bytes = refl
 
+-- tokens are too deep exactly if their symbols are
 deep_seen : (tokens : List Token) → is_deep 0 (map spelled tokens) ≡ symbols_deep 0 (symbols tokens)
 deep_seen tokens = deep_symbols 0 (map spelled tokens) ∙ ap (symbols_deep 0) (sym (symbols-spelled tokens))
 
+-- no tokens are left if the place is past the last
 none_left : (tokens : List Token) (place : ℕ) → length tokens ≤ place → symbols_from tokens place ≡ []
 none_left tokens place enough =
     drop_all (symbols tokens) place (omega (arith, length-map tokens (λ token. symbol_of (spelled token))))
 
--- a token of a kind is ahead
+-- a token of `kind` is ahead at `place`
 pub record IsAhead (tokens : List Token) (place : ℕ) (kind : TokenKind) : Type 0 where
+  -- the symbol of the token
   pub symbol : Symbol
+  -- the symbol has the kind `kind`
   pub seen : kind_of_symbol symbol ≡ kind
+  -- the symbol is the first of the symbols from `place` on
   pub ahead : symbols_from tokens place ≡ symbol ∷ symbols_from tokens (place + 1)
 
--- the one that is read at a place, whatever is read where there is none
+-- the token at a place of the tokens is ahead, whatever default a read past the end would give
 pub read_ahead : (tokens : List Token) (place : ℕ) (none : Token) → place < length tokens
     → IsAhead tokens place (get_or tokens place none).kind
 read_ahead tokens place none within =
@@ -47,12 +53,14 @@ read_ahead tokens place none within =
       ahead = at_place tokens place none within;
     }
 
--- It is taken: what is matched of all tokens, and how deep they are, is said by those that are left.
+-- The token at `place` is read: the brackets of all tokens are known from the tokens after it.
 module _ (tokens : List Token) (place : ℕ) (kind : TokenKind) (old new : Matching)
     (is : IsAhead tokens place kind) where
+  -- the new brackets are those of the symbol, if they are those of its kind
   taken : new ≡ token_matched place kind old → new ≡ token_matched place (kind_of_symbol is.symbol) old
   taken made = made ∙ ap (λ (k : TokenKind). token_matched place k old) (sym is.seen)
 
+  -- the depth of the brackets is the depth of the tokens after the token, if one more bracket may be open
   pub deep_next : new ≡ token_matched place kind old → (opens kind ≡ true → length old.unclosed < 64)
       → (whole : Bool) → symbols_deep (length old.unclosed) (symbols_from tokens place) ≡ whole
       → symbols_deep (length new.unclosed) (symbols_from tokens (place + 1)) ≡ whole
@@ -62,6 +70,7 @@ module _ (tokens : List Token) (place : ℕ) (kind : TokenKind) (old new : Match
       (λ opened. few (ap opens (sym is.seen) ∙ opened)))
       ∙ ap (symbols_deep (length old.unclosed)) (sym is.ahead) ∙ before
 
+  -- the brackets of all tokens are the brackets of the tokens after the token
   pub matched_next : new ≡ token_matched place kind old → (whole : Matching)
       → all_matched place (symbols_from tokens place) old ≡ whole
       → all_matched (place + 1) (symbols_from tokens (place + 1)) new ≡ whole
@@ -69,10 +78,11 @@ module _ (tokens : List Token) (place : ℕ) (kind : TokenKind) (old new : Match
       ap (all_matched (place + 1) (symbols_from tokens (place + 1))) (taken made)
       ∙ ap (λ (left : List Symbol). all_matched place left old) (sym is.ahead) ∙ before
 
+  -- reading a token keeps the number of ends
   pub long_next : new ≡ token_matched place kind old → length new.ends ≡ length old.ends
   long_next made = ap (λ (m : Matching). length m.ends) made ∙ as_long kind place old
 
--- a bracket too many
+-- tokens in which 64 brackets are open and one more opens are too deep
 pub deep_fault : (tokens : List Token) (place : ℕ) (kind : TokenKind) (old : Matching) → IsAhead tokens place kind
     → opens kind ≡ true → length old.unclosed ≡ 64
     → symbols_deep (length old.unclosed) (symbols_from tokens place) ≡ symbols_deep 0 (symbols tokens)
@@ -81,20 +91,22 @@ deep_fault tokens place kind old is opened full before =
     deep_seen tokens ∙ sym before ∙ ap (symbols_deep (length old.unclosed)) is.ahead
     ∙ too_deep is.symbol (symbols_from tokens (place + 1)) (length old.unclosed) (ap opens is.seen ∙ opened) full
 
--- All tokens are taken.
+-- All tokens are read.
 module _ (tokens : List Token) (place : ℕ) (found : Matching) (enough : length tokens ≤ place) where
+  -- tokens that are read to the end are not too deep
   pub all_shallow : symbols_deep (length found.unclosed) (symbols_from tokens place) ≡ symbols_deep 0 (symbols tokens)
       → is_deep 0 (map spelled tokens) ≡ false
   all_shallow before =
       deep_seen tokens ∙ sym before ∙ ap (symbols_deep (length found.unclosed)) (none_left tokens place enough)
 
+  -- the brackets at the end are the brackets of all tokens
   all_taken : (whole : Matching) → all_matched place (symbols_from tokens place) found ≡ whole → found ≡ whole
   all_taken whole before =
       ap (λ (left : List Symbol). all_matched place left found) (sym (none_left tokens place enough)) ∙ before
 
   module _ (matched : all_matched place (symbols_from tokens place) found
       ≡ all_matched 0 (symbols tokens) (nothing_matched (length tokens))) where
-    -- each bracket has its end where all match
+    -- if all brackets match and none is open, each bracket has its end
     pub all_ended : found.are_matched ≡ true → found.unclosed ≡ [] → AreEnds (symbols tokens) found.ends
     all_ended match none =
         let long : length (symbols tokens) ≡ length tokens = length-map tokens (λ token. symbol_of (spelled token)) in
@@ -102,7 +114,7 @@ module _ (tokens : List Token) (place : ℕ) (found : Matching) (enough : length
         (all_taken (all_matched 0 (symbols tokens) (nothing_matched (length tokens))) matched
         ∙ ap (λ (count : ℕ). all_matched 0 (symbols tokens) (nothing_matched count)) (sym long)) match none
 
-    -- a text in which not all brackets match has no tree
+    -- a text whose brackets do not all match has no tree
     pub no_tree : (found.are_matched ≡ true → found.unclosed ≡ [] → ⊥) → (tree : Tree)
         → IsTreeOf (map spelled tokens) tree → ⊥
     no_tree unmatched tree is =

@@ -1,4 +1,4 @@
--- Steps of reading: a list, one thing more; and what stands in brackets.
+-- Steps of reading: lists, one item at a time, and forms in brackets.
 use Rattle.std.proofs.Common.{◌≡◌, ◌<◌, ◌-◌, ◌+◌, ℕ, zero, suc, true, false, List, [], ◌∷◌, ◌++◌, length, length-drop, map, None, Some, refl, ap, sym, ◌∙◌, arith, append_assoc}
 use Rattle.std.proofs.lemmas.List.{append-nil, length-map, map_push}
 use Rattle.ecl_lexer.specs.declared.fault.QueryFault.{QueryFault}
@@ -16,13 +16,13 @@ use Rattle.ecl_parser.specs.declared.tokens.Mark.{Mark}
 use Rattle.ecl_parser.specs.declared.tokens.Mark.TheVariants as marks
 
 module _ {T : Type 0} (reader : List Symbol → Found T) (wanted : Mark) where
-  -- what is read behind one thing more, and then put behind others
+  -- an item read in front of a list may as well be put at the end of `front`
   with_more : (front : List T) (item : T) (found : Found (List T))
       → with_front front (found >>= λ more end. Some (item ∷ more, end)) ≡ with_front (front ++ item ∷ []) found
   with_more front item None = refl
   with_more front item (Some more) = ap (λ (items : List T). Some (items, more.1)) (sym (append_assoc front (item ∷ []) more.0))
 
-  -- one thing more
+  -- one turn of `many` reads one item more and puts it at the end of the items in front
   pub many_more : (turns left : ℕ) (front : List T) (item : T) (tokens rest after : List Symbol) → turns ≡ suc left
       → behind wanted tokens ≡ Some rest → reader rest ≡ Some (item, after)
       → with_front (front ++ item ∷ []) (many reader wanted left after) ≡ with_front front (many reader wanted turns tokens)
@@ -30,7 +30,7 @@ module _ {T : Type 0} (reader : List Symbol → Found T) (wanted : Mark) where
   many_more turns left front item tokens rest after is found read =
       rw (is, found, read) (sym (with_more front item (many reader wanted left after)))
 
-  -- before the first turn: there are as many turns as tokens from a place on
+  -- with as many turns as tokens are left, `many` reads all items
   pub no_turn : (tokens : List Token) (at end : ℕ) (front : List T) → end ≡ length tokens
       → with_front front (many reader wanted (end - at) (symbols_from tokens at))
       ≡ with_front front (all_behind reader wanted (symbols_from tokens at))
@@ -40,7 +40,7 @@ module _ {T : Type 0} (reader : List Symbol → Found T) (wanted : Mark) where
       length-drop at (symbols tokens) ∙ ap (λ (count : ℕ). count - at) (counted ∙ sym whole) in
       ap (λ (turns : ℕ). with_front front (many reader wanted turns (symbols_from tokens at))) (sym left)
 
-  -- one more turn, where what is read is put behind the things that stand for what was read before
+  -- loop step: one item more is read and put after the items that are kept as `things`
   pub turn_read : {Thing : Type 0} (view : Thing → T) (things pushed : List Thing) (thing : Thing) (turn end : ℕ)
       (tokens rest after : List Symbol) (whole : Found (List T)) → turn < end → pushed ≡ things ++ thing ∷ []
       → behind wanted tokens ≡ Some rest → reader rest ≡ Some (view thing, after)
@@ -52,27 +52,27 @@ module _ {T : Type 0} (reader : List Symbol → Found T) (wanted : Mark) where
       ∙ many_more (end - turn) (end - (turn + 1)) (map view things) (view thing) tokens rest after (omega arith) found read
       ∙ before
 
-  -- no more turns
+  -- no more turns are left: the items in front are read
   pub many_done : (turns : ℕ) (front : List T) (tokens : List Symbol) → turns ≡ 0
       → with_front front (many reader wanted turns tokens) ≡ Some (front, tokens)
   unfolding many
   many_done turns front tokens is = rw is (ap (λ (items : List T). Some (items, tokens)) (append-nil front))
 
-  -- none more
+  -- no token that joins is ahead: the items in front are read
   pub many_end : (turns : ℕ) (front : List T) (tokens : List Symbol) → behind wanted tokens ≡ None
       → with_front front (many reader wanted turns tokens) ≡ Some (front, tokens)
   unfolding many
   many_end zero front tokens none = ap (λ (items : List T). Some (items, tokens)) (append-nil front)
   many_end (suc turns) front tokens none = rw none (ap (λ (items : List T). Some (items, tokens)) (append-nil front))
 
-  -- one that can't be read
+  -- nothing is read if the item after a token cannot be read
   pub many_fault : (turns left : ℕ) (front : List T) (tokens rest : List Symbol) → turns ≡ suc left
       → behind wanted tokens ≡ Some rest → reader rest ≡ None
       → with_front front (many reader wanted turns tokens) ≡ None
   unfolding many
   many_fault turns left front tokens rest is found read = rw (is, found, read) refl
 
-  -- and what is answered then
+  -- reading fails with the fault of the item after a token that cannot be read
   pub many_fails : (fault : QueryFault) (turn end : ℕ) (front : List T) (tokens rest : List Symbol) (whole : Found (List T)) → turn < end
       → behind wanted tokens ≡ Some rest → Fails fault (reader rest)
       → with_front front (many reader wanted (end - turn) tokens) ≡ whole → Fails fault whole
@@ -81,7 +81,7 @@ module _ {T : Type 0} (reader : List Symbol → Found T) (wanted : Mark) where
       sym same ∙ many_fault (end - turn) (end - (turn + 1)) front tokens rest (omega arith) found fails
   many_fails other turn end front tokens rest whole within found fails same = fails
 
--- what stands in brackets is read by readers that allow one bracket less
+-- the readers for `depth` brackets read the forms in brackets with the readers for `depth - 1`
 readers_inside : (depth : ℕ) → 0 < depth → readers depth ≡ record {
   constraint = constraint_in (readers (depth - 1));
   refinement = refinement_in (readers (depth - 1));
@@ -91,7 +91,7 @@ unfolding readers
 readers_inside zero more = absurd (omega arith)
 readers_inside (suc depth) more = let inner : suc depth - 1 ≡ depth = omega arith in rw inner refl
 
--- a constraint, a refinement and a set in brackets, and a set in braces
+-- a constraint in brackets is read as a focus
 pub focus_in_brackets : (depth : ℕ) (tree : Tree) (tokens rest after last : List Symbol) → 0 < depth
     → digits_at 6 tokens ≡ None → behind marks.Wildcard tokens ≡ None → behind marks.RoundOpen tokens ≡ Some rest
     → constraint_in (readers (depth - 1)) rest ≡ Some (tree, after) → behind marks.RoundClose after ≡ Some last
@@ -100,25 +100,28 @@ unfolding focus_in
 focus_in_brackets depth tree tokens rest after last more no_digits no_star found read close =
     rw (readers_inside depth more, no_digits, no_star, found, read, close) refl
 
+-- a refinement in brackets is read as an item
 pub item_in_brackets : (depth : ℕ) (tree : RefinementTree) (tokens rest after last : List Symbol) → 0 < depth
     → bracketed_at tokens ≡ Some rest → refinement_in (readers (depth - 1)) rest ≡ Some (tree, after)
     → behind marks.RoundClose after ≡ Some last → item_in (readers depth) tokens ≡ Some (tree, last)
 unfolding item_in
 item_in_brackets depth tree tokens rest after last more found read close = rw (readers_inside depth more, found, read, close) refl
 
+-- an attribute set in brackets is read as a part
 pub part_in_brackets : (depth : ℕ) (tree : AttributeSetTree) (tokens rest after last : List Symbol) → 0 < depth
     → bracketed_at tokens ≡ Some rest → set_in (readers (depth - 1)) rest ≡ Some (tree, after)
     → behind marks.RoundClose after ≡ Some last → part_in (readers depth) tokens ≡ Some (tree, last)
 unfolding part_in
 part_in_brackets depth tree tokens rest after last more found read close = rw (readers_inside depth more, found, read, close) refl
 
+-- an attribute set in braces is read as an item
 pub group_in_braces : (depth : ℕ) (count : Cardinality) (tree : AttributeSetTree) (tokens rest after last : List Symbol) → 0 < depth
     → behind marks.BraceOpen tokens ≡ Some rest → set_in (readers (depth - 1)) rest ≡ Some (tree, after)
     → behind marks.BraceClose after ≡ Some last → item_behind (readers depth) count tokens ≡ Some (group_refinement count tree, last)
 unfolding item_behind
 group_in_braces depth count tree tokens rest after last more found read close = rw (readers_inside depth more, found, read, close) refl
 
--- what has no closing bracket behind it is not read
+-- a constraint without a `)` after it is not read as a focus
 pub focus_not_closed : (depth : ℕ) (tree : Tree) (tokens rest after : List Symbol) → 0 < depth
     → digits_at 6 tokens ≡ None → behind marks.Wildcard tokens ≡ None → behind marks.RoundOpen tokens ≡ Some rest
     → constraint_in (readers (depth - 1)) rest ≡ Some (tree, after) → behind marks.RoundClose after ≡ None
@@ -127,6 +130,7 @@ unfolding focus_in
 focus_not_closed depth tree tokens rest after more no_digits no_star found read unclosed =
     rw (readers_inside depth more, no_digits, no_star, found, read, unclosed) refl
 
+-- a refinement without a `)` after it is not read as an item
 pub item_not_closed : (depth : ℕ) (tree : RefinementTree) (tokens rest after : List Symbol) → 0 < depth
     → bracketed_at tokens ≡ Some rest → refinement_in (readers (depth - 1)) rest ≡ Some (tree, after)
     → behind marks.RoundClose after ≡ None → item_in (readers depth) tokens ≡ None
@@ -134,6 +138,7 @@ unfolding item_in
 item_not_closed depth tree tokens rest after more found read unclosed =
     rw (readers_inside depth more, found, read, unclosed) refl
 
+-- an attribute set without a `)` after it is not read as a part
 pub part_not_closed : (depth : ℕ) (tree : AttributeSetTree) (tokens rest after : List Symbol) → 0 < depth
     → bracketed_at tokens ≡ Some rest → set_in (readers (depth - 1)) rest ≡ Some (tree, after)
     → behind marks.RoundClose after ≡ None → part_in (readers depth) tokens ≡ None
@@ -141,6 +146,7 @@ unfolding part_in
 part_not_closed depth tree tokens rest after more found read unclosed =
     rw (readers_inside depth more, found, read, unclosed) refl
 
+-- an attribute set without a `}` after it is not read as an item
 pub group_not_closed : (depth : ℕ) (count : Cardinality) (tree : AttributeSetTree) (tokens rest after : List Symbol)
     → 0 < depth
     → behind marks.BraceOpen tokens ≡ Some rest → set_in (readers (depth - 1)) rest ≡ Some (tree, after)
@@ -149,20 +155,22 @@ unfolding item_behind
 group_not_closed depth count tree tokens rest after more found read unclosed =
     rw (readers_inside depth more, found, read, unclosed) refl
 
--- nor is what begins with a bracket too many
+-- a `(` in front of a part is not read if no bracket may be opened
 pub part_too_deep : (depth : ℕ) (tokens rest : List Symbol) → depth ≡ 0 → bracketed_at tokens ≡ Some rest
     → part_in (readers depth) tokens ≡ None
 unfolding part_in readers
 part_too_deep depth tokens rest is found = rw (is, found) refl
 
+-- a `{` in front of an item is not read if no bracket may be opened
 pub group_too_deep : (depth : ℕ) (count : Cardinality) (tokens rest : List Symbol) → depth ≡ 0
     → behind marks.BraceOpen tokens ≡ Some rest
     → item_behind (readers depth) count tokens ≡ None
 unfolding item_behind readers
 group_too_deep depth count tokens rest is found = rw (is, found) refl
 
--- what is read where there are no brackets, one form of the grammar from its parts
+-- Each form of the grammar without brackets is read from its parts.
 module _ (inner : Readers) where
+  -- a cardinality and a pair are read as a part, if no bracket stands in front
   pub part_read : (count : Cardinality) (pair : AttributeTree) (tokens after rest : List Symbol)
       → bracketed_at tokens ≡ None
       → count_at tokens ≡ Some (count, after) → pair_in inner count false after ≡ Some (pair, rest)
@@ -170,6 +178,7 @@ module _ (inner : Readers) where
   unfolding part_in
   part_read count pair tokens after rest none counted read = rw (none, counted, read) refl
 
+  -- a pair is read as an item, if no brace and no `R` stands in front
   pub pair_read : (count : Cardinality) (pair : AttributeTree) (tokens rest : List Symbol)
       → behind marks.BraceOpen tokens ≡ None
       → behind marks.Reverse tokens ≡ None → pair_in inner count false tokens ≡ Some (pair, rest)
@@ -177,6 +186,7 @@ module _ (inner : Readers) where
   unfolding item_behind
   pair_read count pair tokens rest no_brace no_reverse read = rw (no_brace, no_reverse, read) refl
 
+  -- a pair after `R` is read as an item
   pub reverse_read : (count : Cardinality) (pair : AttributeTree) (tokens after rest : List Symbol)
       → behind marks.BraceOpen tokens ≡ None
       → behind marks.Reverse tokens ≡ Some after → pair_in inner count true after ≡ Some (pair, rest)
@@ -184,26 +194,30 @@ module _ (inner : Readers) where
   unfolding item_behind
   reverse_read count pair tokens after rest no_brace reverse read = rw (no_brace, reverse, read) refl
 
+  -- a focus after `^` is read as the members of its reference sets
   pub member_read : (sets : Tree) (tokens after rest : List Symbol) → behind marks.MemberOf tokens ≡ Some after
       → focus_in inner after ≡ Some (sets, rest) → member_in inner tokens ≡ Some (member_tree sets, rest)
   unfolding member_in
   member_read sets tokens after rest found read = rw (found, read) refl
 
+  -- a Sub after `=` is read as the value of the comparison
   pub within_read : (c : Compare) (value : Tree) (tokens rest : List Symbol) → c ≡ compare.Equal
       → number_at tokens ≡ None
       → sub_in inner tokens ≡ Some (value, rest) → test_in inner c tokens ≡ Some (within_test value, rest)
   unfolding test_in
   within_read c value tokens rest is none read = rw (is, none, read) refl
 
-  -- an item, and what is behind it
+  -- An item is read, and `after` are the tokens after it.
   module _ (first : RefinementTree) (tokens after : List Symbol)
       (read : item_in inner tokens ≡ Some (first, after)) where
+    -- items joined by AND are read as a conjunction
     pub all_items_read : (trees : List RefinementTree) (rest : List Symbol) → stands marks.And after ≡ true
         → with_front (first ∷ []) (all_behind (item_in inner) marks.And after) ≡ Some (trees, rest)
         → refinement_in inner tokens ≡ Some (and_refinement (refinements_from trees), rest)
     unfolding refinement_in refinement_behind
     all_items_read trees rest is_and others = rw (read, is_and, others) refl
 
+    -- items joined by OR are read as a disjunction
     pub some_items_read : (trees : List RefinementTree) (rest : List Symbol) → stands marks.And after ≡ false
         → stands marks.Or after ≡ true
         → with_front (first ∷ []) (all_behind (item_in inner) marks.Or after) ≡ Some (trees, rest)
@@ -211,15 +225,17 @@ module _ (inner : Readers) where
     unfolding refinement_in refinement_behind
     some_items_read trees rest no_and is_or others = rw (read, no_and, is_or, others) refl
 
-  -- a part, and what is behind it
+  -- A part is read, and `after` are the tokens after it.
   module _ (first : AttributeSetTree) (tokens after : List Symbol)
       (read : part_in inner tokens ≡ Some (first, after)) where
+    -- parts joined by AND are read as a conjunction
     pub all_parts_read : (trees : List AttributeSetTree) (rest : List Symbol) → stands marks.And after ≡ true
         → with_front (first ∷ []) (all_behind (part_in inner) marks.And after) ≡ Some (trees, rest)
         → set_in inner tokens ≡ Some (and_set (sets_from trees), rest)
     unfolding set_in set_behind
     all_parts_read trees rest is_and others = rw (read, is_and, others) refl
 
+    -- parts joined by OR are read as a disjunction
     pub some_parts_read : (trees : List AttributeSetTree) (rest : List Symbol) → stands marks.And after ≡ false
         → stands marks.Or after ≡ true
         → with_front (first ∷ []) (all_behind (part_in inner) marks.Or after) ≡ Some (trees, rest)

@@ -1,4 +1,4 @@
--- Where the brackets of the tokens are not too deep, those of a form that derives them are not.
+-- If the brackets of tokens are not too deep, the brackets of a form that derives them are not too deep.
 use Rattle.std.proofs.Common.{◌≡◌, ◌≤◌, ℕ, ◌∷◌, false, List, [], map, refl, ap, sym, ◌∙◌, arith}
 use Rattle.ecl_lexer.specs.declared.token.TokenKind.{TokenKind}
 use Rattle.ecl_lexer.specs.declared.token.TokenKind.TheVariants as token
@@ -18,13 +18,14 @@ no_bracket_flat token.BraceOpen none count rest = absurd (cc)
 no_bracket_flat token.BraceClose none count rest = absurd (cc)
 no_bracket_flat other none count rest = refl
 
+-- a token that is no bracket in front of tokens keeps `IsWithin`
 token_within : {depth : ℕ} {tokens : List Symbol → List Symbol} (symbol : Symbol) → is_bracket (kind_of_symbol symbol) ≡ false
     → IsWithin tokens depth → IsWithin (λ rest. symbol ∷ tokens rest) depth
 token_within (digits run) none inside = record { fits = λ count rest few flat. inside.fits count rest few flat }
 token_within (decimal text) none inside = record { fits = λ count rest few flat. inside.fits count rest few flat }
 token_within (mark kind) none inside = marked_within kind (no_bracket_flat kind none) inside
 
--- a form has no more brackets open at once than it is deep
+-- the tokens of each form have at least as many brackets open at once as its depth
 forms_within : HoldsOfForms (λ depth tokens. IsWithin tokens depth)
 forms_within = record {
   nothing = nothing_within;
@@ -35,7 +36,7 @@ forms_within = record {
   lower = λ less inside. lower_within less inside;
 }
 
--- the form of tokens that are not too deep may be read
+-- a form that derives tokens that are not too deep has at most 64 brackets open at once
 pub fits_most : (form : ConstraintForm) (tokens : List Spelled) → map symbol_of tokens ≡ constraint_tokens form []
     → is_deep 0 tokens ≡ false → constraint_depth form ≤ 64
 fits_most form tokens same shallow =

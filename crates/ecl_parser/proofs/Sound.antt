@@ -1,4 +1,4 @@
--- What reading finds is the tree of a form in front of the tokens that are left.
+-- The tree that reading finds is the tree of a form that derives the tokens up to the tokens that are left.
 use Rattle.std.proofs.Common.{◌≡◌, ◌⊎◌, inl, inr, ℕ, zero, suc, ℤ, Bool, true, false, cond, List, [], ◌∷◌, drop, Option, None, Some, refl, ap, sym, ◌∙◌, subst}
 use Rattle.std.specs.Prelude.{IsTrue}
 use Rattle.std.proofs.lemmas.Option.{none-some}
@@ -15,6 +15,7 @@ use Rattle.ecl_parser.specs.declared.tokens.Mark.TheVariants as marks
 use Rattle.ecl_parser.proofs.SoundParts.{AreSound, Derives, IsSound, behind_is, bind_some, bracketed_is, closed_some, compare_is, conjunctions, count_sound, digits_is, disjunctions, either_some, forms_sound, joined_refinements, joined_sets, joined_sound, joints_sound, made, number_is, operator_is, otherwise_some, several_items, several_parts, several_subs, some_is}
 
 module _ (inner : Readers) (sound : AreSound inner) where
+  -- `focus_in` reads only the tokens of a focus form, and finds its tree
   focus_sound : IsSound focus_tokens focus_tree (focus_in inner)
   unfolding focus_in
   focus_sound tokens rest tree is =
@@ -55,7 +56,7 @@ module _ (inner : Readers) (sound : AreSound inner) where
             termed run.0 run.1 tokens read.1 rest tree run.2 (ap (λ (p : Tree × List Symbol). p.1) same) tree_is
       ]
     where
-      -- with a term behind the digits, or without one
+      -- digits with an optional term after them are the tokens of a concept form
       termed : (run : List ℕ) → IsTrue (is_number 6 18 run) → (tokens left rest : List Symbol) (tree : Tree)
           → tokens ≡ digits run ∷ left → behind_term left ≡ rest → tree ≡ concept_tree (number_of run)
           → Derives focus_tokens focus_tree tokens tree rest
@@ -71,7 +72,7 @@ module _ (inner : Readers) (sound : AreSound inner) where
             tree_is,
           )
 
-  -- a focus with `^` before it, or without
+  -- `member_in` reads only the tokens of a focus form with an optional `^` in front, and finds its tree
   member_sound : (tokens rest : List Symbol) (tree : Tree) → member_in inner tokens ≡ Some (tree, rest)
       → (Derives focus_tokens focus_tree tokens tree rest)
       ⊎ ((left : List Symbol) × (operand : Tree) × (tokens ≡ mark token.MemberOf ∷ left)
@@ -94,6 +95,7 @@ module _ (inner : Readers) (sound : AreSound inner) where
             )
       ]
 
+  -- `sub_in` reads only the tokens of an operand form, and finds its tree
   sub_sound : IsSound sub_tokens sub_tree (sub_in inner)
   unfolding sub_in
   sub_sound tokens rest tree is =
@@ -124,7 +126,7 @@ module _ (inner : Readers) (sound : AreSound inner) where
             ]
       ]
 
-  -- what the value of a pair is compared with
+  -- `test_in` reads only the tokens of a number, or of a Sub after `=` or `!=`, and finds its test
   test_sound : (c : Compare) (tokens rest : List Symbol) (test : TestTree) → test_in inner c tokens ≡ Some (test, rest)
       → ((text : List ℕ) × (value : ℤ) × (decimal_of (drop 1 text) ≡ Some value) × (tokens ≡ decimal text ∷ rest) × (test ≡ number_test c value))
       ⊎ (((c ≡ compare.Equal) × ((value : SubForm) × (tokens ≡ sub_tokens value rest) × (test ≡ within_test (sub_tree value))))
@@ -164,6 +166,7 @@ module _ (inner : Readers) (sound : AreSound inner) where
       by compare.Greater read = absurd (none-some (test, rest) read)
       by compare.GreaterOrEqual read = absurd (none-some (test, rest) read)
 
+  -- `pair_in` reads only the tokens of a pair form, and finds its tree
   pair_sound : (count : Option CountForm) (reverse : Bool) (tokens rest : List Symbol) (tree : AttributeTree)
       → pair_in inner (cardinality_of count) reverse tokens ≡ Some (tree, rest)
       → (form : PairForm) × (tokens ≡ pair_tokens form rest) × (tree ≡ pair_tree count reverse form)
@@ -207,7 +210,7 @@ module _ (inner : Readers) (sound : AreSound inner) where
         )
       ]
 
-  -- a cardinality and a pair
+  -- a result made of the pair that `pair_in` reads is made of the tree of a pair form
   counted_sound : {Tree : Type 0} (make : AttributeTree → Tree) (count : Option CountForm) (reverse : Bool) (tokens rest : List Symbol) (tree : Tree)
       → made make (pair_in inner (cardinality_of count) reverse tokens) ≡ Some (tree, rest)
       → (form : PairForm) × (tokens ≡ pair_tokens form rest) × (tree ≡ make (pair_tree count reverse form))
@@ -217,6 +220,7 @@ module _ (inner : Readers) (sound : AreSound inner) where
       let form = pair_sound count reverse tokens rest read.0.0 (read.1 ∙ ap (λ (p : Tree × List Symbol). Some (read.0.0, p.1)) same) in
       (form.0, form.1, sym (ap (λ (p : Tree × List Symbol). p.0) same) ∙ ap make form.2)
 
+  -- `part_in` reads only the tokens of a part form, and finds its tree
   part_sound : IsSound part_tokens part_tree (part_in inner)
   unfolding part_in
   part_sound tokens rest tree is =
@@ -241,6 +245,7 @@ module _ (inner : Readers) (sound : AreSound inner) where
             )
       ]
 
+  -- `item_in` reads only the tokens of an item form, and finds its tree
   item_sound : IsSound item_tokens item_tree (item_in inner)
   unfolding item_in item_behind
   item_sound tokens rest tree is =
@@ -264,6 +269,7 @@ module _ (inner : Readers) (sound : AreSound inner) where
             )
       ]
     where
+      -- `item_behind` reads after a cardinality only the tokens of an item form, and finds its tree
       behind_count : (count : Option CountForm) (tokens left : List Symbol) → tokens ≡ counted_tokens count left
           → item_behind inner (cardinality_of count) left ≡ Some (tree, rest)
           → Derives item_tokens item_tree tokens tree rest
@@ -304,15 +310,17 @@ module _ (inner : Readers) (sound : AreSound inner) where
                 )
           ]
 
+  -- `set_in` reads only the tokens of an attribute set form, and finds its tree
   set_sound : IsSound set_tokens set_tree (set_in inner)
   unfolding set_in set_behind
   set_sound = forms_sound several_parts (part_in inner) part_sound joined_sets
 
+  -- `refinement_in` reads only the tokens of a refinement form, and finds its tree
   refinement_sound : IsSound refinement_tokens refinement_tree (refinement_in inner)
   unfolding refinement_in refinement_behind
   refinement_sound = forms_sound several_items (item_in inner) item_sound joined_refinements
 
-  -- a Sub, and what is read behind it
+  -- `constraint_behind` reads after an operand only the tokens of a constraint form, and finds its tree
   behind_sound : (tokens tail rest : List Symbol) (first tree : Tree) → Derives sub_tokens sub_tree tokens first tail
       → constraint_behind inner first tail ≡ Some (tree, rest) → Derives constraint_tokens constraint_tree tokens tree rest
   unfolding constraint_behind
@@ -380,13 +388,14 @@ module _ (inner : Readers) (sound : AreSound inner) where
             ]
       ]
 
+  -- `constraint_in` reads only the tokens of a constraint form, and finds its tree, if the inner readers are sound
   constraint_sound : IsSound constraint_tokens constraint_tree (constraint_in inner)
   unfolding constraint_in
   constraint_sound tokens rest tree is =
       let first = bind_some (sub_in inner tokens) (constraint_behind inner) (tree, rest) is in
       behind_sound tokens first.0.1 rest first.0.0 tree (sub_sound tokens first.0.1 first.0.0 first.1) first.2
 
--- so is what stands in brackets, however many are open
+-- the readers of forms in brackets are sound, however many brackets may be open
 readers_sound : (most : ℕ) → AreSound (readers most)
 unfolding readers
 readers_sound zero = record {
@@ -400,7 +409,8 @@ readers_sound (suc most) = record {
   set = set_sound (readers most) (readers_sound most);
 }
 
--- a constraint that is read derives the tokens
+-- a constraint that is read with at most `most` open brackets is the tree of a form, which derives the tokens up to
+-- `rest`
 pub constraint_derives : (most : ℕ) (tokens rest : List Symbol) (tree : Tree) → constraint_in (readers most) tokens ≡ Some (tree, rest)
     → (form : ConstraintForm) × (tokens ≡ constraint_tokens form rest) × (tree ≡ constraint_tree form)
 constraint_derives most tokens rest tree is = constraint_sound (readers most) (readers_sound most) tokens rest tree is

@@ -1,4 +1,4 @@
--- What the readers of marks, of lists and of joined forms find, for `Sound`.
+-- Which answers the readers of marks, lists and joined forms give, as needed by `Sound`.
 use Rattle.std.proofs.Common.{◌≡◌, ◌⊎◌, inl, inr, ℕ, zero, suc, ℤ, Bool, true, false, cond, List, [], ◌∷◌, ◌++◌, length}
 use Rattle.std.proofs.Common.{drop, Option, None, Some, option_map, refl, ap, sym, ◌∙◌}
 use Rattle.std.specs.Prelude.{IsTrue, is_some}
@@ -26,37 +26,42 @@ use Rattle.ecl_parser.specs.declared.tokens.Mark.TheVariants as marks
 use Rattle.ecl_parser.proofs.MarkLemmas.{kind_of, mark_kind}
 use Rattle.std.proofs.lemmas.Bool.{false≢true}
 
--- what two equal options have is equal
+-- if two options with an item are equal, their items are equal
 pub some_is : {A : Type 0} {one other : A} → Some one ≡ Some other → one ≡ other
 some_is same = (cc)
 
--- how an answer came about
+-- the answer of `>>=` comes from an item that was read and the tokens after it
 pub bind_some : {S T : Type 0} (found : Found S) (next : S → List Symbol → Option T) (answer : T) → (found >>= next) ≡ Some answer
     → (read : S × List Symbol) × (found ≡ Some read) × (next read.0 read.1 ≡ Some answer)
 bind_some None next answer is = (cc)
 bind_some (Some read) next answer is = (read, refl, is)
 
+-- the answer of `otherwise` comes from the absent or the present case
 pub otherwise_some : {A B : Type 0} (item : Option A) (absent : Option B) (present : A → Option B) (answer : B)
     → otherwise item absent present ≡ Some answer
     → ((item ≡ None) × (absent ≡ Some answer)) ⊎ ((found : A) × (item ≡ Some found) × (present found ≡ Some answer))
 otherwise_some None absent present answer is = inl (refl, is)
 otherwise_some (Some found) absent present answer is = inr (found, refl, is)
 
+-- the answer of `option_map` comes from an item of the option
 map_some : {A B : Type 0} (f : A → B) (item : Option A) (answer : B) → option_map f item ≡ Some answer
     → (found : A) × (item ≡ Some found) × (f found ≡ answer)
 map_some f None answer is = (cc)
 map_some f (Some found) answer is = (found, refl, (cc))
 
+-- an item that is read with the same tokens after it is the item of the option
 front_some : {A : Type 0} (item : Option A) (answer : A) (more rest : List Symbol)
     → option_map {U = A × List Symbol} (λ found. (found, more)) item ≡ Some (answer, rest) → (item ≡ Some answer) × (more ≡ rest)
 front_some {A} item answer more rest is =
     let found = map_some (λ (found : A). (found, more)) item (answer, rest) is in
     (found.1 ∙ ap (λ x. Some x) (ap (λ (p : A × List Symbol). p.0) found.2), ap (λ (p : A × List Symbol). p.1) found.2)
 
+-- a conditional that has an item passed its test
 if_some : {A : Type 0} (test : Bool) (found : A) (answer : A) → cond test (Some found) None ≡ Some answer → (test ≡ true) × (found ≡ answer)
 if_some true found answer is = (refl, (cc))
 if_some false found answer is = (cc)
 
+-- if `closed` gives an item and `rest`, the item was read, and the token `wanted` and `rest` follow it
 pub closed_some : {T : Type 0} (wanted : Mark) (found : Found T) (item : T) (rest : List Symbol) → closed wanted found ≡ Some (item, rest)
     → (left : List Symbol) × (found ≡ Some (item, left)) × (behind wanted left ≡ Some rest)
 closed_some wanted None item rest is = (cc)
@@ -68,13 +73,14 @@ closed_some wanted (Some read) item rest is =
           ∙ ap (λ left. Some left) (ap (λ (p : _ × List Symbol). p.1) close.2),
     )
 
--- what stands in front, where it is read
+-- if `rest` follows the mark `wanted`, the tokens are the mark's token in front of `rest`
 pub behind_is : (wanted : Mark) (tokens rest : List Symbol) → behind wanted tokens ≡ Some rest → tokens ≡ mark (kind_of wanted) ∷ rest
 behind_is wanted (mark kind ∷ more) rest is =
     let found = if_some (is_mark wanted kind) more rest is in
     ap (λ k. mark k ∷ more) (mark_kind wanted kind found.0) ∙ ap (λ left. mark (kind_of wanted) ∷ left) found.1
 behind_is wanted other rest is = (cc)
 
+-- the kind of token that reads as an operator is the operator's kind
 operator_kind_is : (kind : TokenKind) (o : Operator) → operator_of kind ≡ Some o → kind ≡ operator_kind o
 operator_kind_is token.DescendantOf o is = let same : operator.Descendants ≡ o = (cc) in ap operator_kind same
 operator_kind_is token.DescendantOrSelfOf o is = let same : operator.DescendantsOrSelf ≡ o = (cc) in ap operator_kind same
@@ -88,12 +94,14 @@ operator_kind_is token.Top o is = let same : operator.Top ≡ o = (cc) in ap ope
 operator_kind_is token.Bottom o is = let same : operator.Bottom ≡ o = (cc) in ap operator_kind same
 operator_kind_is kind o is = (cc)
 
+-- an operator in front is the operator's token
 pub operator_is : (tokens rest : List Symbol) (o : Operator) → operator_at tokens ≡ Some (o, rest) → tokens ≡ mark (operator_kind o) ∷ rest
 operator_is (mark kind ∷ more) rest o is =
     let found = front_some (operator_of kind) o more rest is in
     ap (λ k. mark k ∷ more) (operator_kind_is kind o found.0) ∙ ap (λ left. mark (operator_kind o) ∷ left) found.1
 operator_is other rest o is = (cc)
 
+-- the kind of token that reads as a comparison is the comparison's kind
 compare_kind_is : (kind : TokenKind) (c : Compare) → compare_of kind ≡ Some c → kind ≡ compare_kind c
 compare_kind_is token.Equal c is = let same : compare.Equal ≡ c = (cc) in ap compare_kind same
 compare_kind_is token.NotEqual c is = let same : compare.NotEqual ≡ c = (cc) in ap compare_kind same
@@ -103,12 +111,14 @@ compare_kind_is token.AncestorOf c is = let same : compare.Greater ≡ c = (cc) 
 compare_kind_is token.GreaterOrEqual c is = let same : compare.GreaterOrEqual ≡ c = (cc) in ap compare_kind same
 compare_kind_is kind c is = (cc)
 
+-- a comparison in front is the comparison's token
 pub compare_is : (tokens rest : List Symbol) (c : Compare) → compare_at tokens ≡ Some (c, rest) → tokens ≡ mark (compare_kind c) ∷ rest
 compare_is (mark kind ∷ more) rest c is =
     let found = front_some (compare_of kind) c more rest is in
     ap (λ k. mark k ∷ more) (compare_kind_is kind c found.0) ∙ ap (λ left. mark (compare_kind c) ∷ left) found.1
 compare_is other rest c is = (cc)
 
+-- digits in front are the digits of a run whose number is read
 pub digits_is : (least : ℕ) (tokens rest : List Symbol) (n : ℕ) → digits_at least tokens ≡ Some (n, rest)
     → (run : List ℕ) × (IsTrue (is_number least 18 run)) × (tokens ≡ digits run ∷ rest) × (n ≡ number_of run)
 digits_is least (digits run ∷ more) rest n is =
@@ -116,6 +126,7 @@ digits_is least (digits run ∷ more) rest n is =
     (run, found.0, ap (λ left. digits run ∷ left) (ap (λ (p : ℕ × List Symbol). p.1) found.1), sym (ap (λ (p : ℕ × List Symbol). p.0) found.1))
 digits_is least other rest n is = (cc)
 
+-- a number in front is the text of a value that is read
 pub number_is : (tokens rest : List Symbol) (value : ℤ) → number_at tokens ≡ Some (value, rest)
     → (text : List ℕ) × (decimal_of (drop 1 text) ≡ Some value) × (tokens ≡ decimal text ∷ rest)
 number_is (decimal text ∷ more) rest value is =
@@ -123,31 +134,44 @@ number_is (decimal text ∷ more) rest value is =
     (text, found.0, ap (λ left. decimal text ∷ left) found.1)
 number_is other rest value is = (cc)
 
--- tokens and a tree are those of a form in front of others
+-- `tokens` with the tree `tree` are those of a form, in front of `rest`
 abbrev pub Derives : {Form Tree : Type 0} → (Form → List Symbol → List Symbol) → (Form → Tree) → List Symbol → Tree → List Symbol → Type 0
 Derives {Form} tokens_of tree_of tokens tree rest = (form : Form) × (tokens ≡ tokens_of form rest) × (tree ≡ tree_of form)
 
+-- a reader is sound: what it reads derives from a form of the tree
 abbrev pub IsSound : {Form Tree : Type 0} → (Form → List Symbol → List Symbol) → (Form → Tree) → (List Symbol → Found Tree) → Type 0
 IsSound {Form} {Tree} tokens_of tree_of reader = (tokens rest : List Symbol) (tree : Tree)
     → reader tokens ≡ Some (tree, rest) → Derives tokens_of tree_of tokens tree rest
 
+-- the readers of forms in brackets are sound
 pub record AreSound (inner : Readers) : Type 0 where
+  -- the reader of constraints is sound
   pub constraint : IsSound constraint_tokens constraint_tree inner.constraint
+  -- the reader of refinements is sound
   pub refinement : IsSound refinement_tokens refinement_tree inner.refinement
+  -- the reader of attribute sets is sound
   pub set : IsSound set_tokens set_tree inner.set
 
--- Several forms of the grammar, each behind a token: none, and one in front of others, with their tokens and their trees.
+-- lists of forms of one kind, each after a token, with their tokens and trees: the empty list, or a form in front of
+-- a list
 pub record Several {Form Forms Tree Trees : Type 0} (tokens_of : Form → List Symbol → List Symbol) (tree_of : Form → Tree)
     (list_tokens : TokenKind → Forms → List Symbol → List Symbol) (list_trees : Forms → Trees) (from : List Tree → Trees) : Type 0 where
+  -- the empty list of forms
   pub none : Forms
+  -- a form in front of forms
   pub next : Form → Forms → Forms
+  -- the empty list of forms has no tokens
   pub none_tokens : (kind : TokenKind) (rest : List Symbol) → rest ≡ list_tokens kind none rest
+  -- a form in front of forms has its token, its tokens and the tokens of the forms
   pub next_tokens : (kind : TokenKind) (form : Form) (forms : Forms) (rest : List Symbol)
       → mark kind ∷ tokens_of form (list_tokens kind forms rest) ≡ list_tokens kind (next form forms) rest
+  -- the empty list of forms has no trees
   pub none_trees : from [] ≡ list_trees none
+  -- a form in front of forms has its tree in front of theirs
   pub next_trees : (form : Form) (forms : Forms) (trees : List Tree) → from trees ≡ list_trees forms
       → from (tree_of form ∷ trees) ≡ list_trees (next form forms)
 
+-- the further operands of a constraint, as forms in a row
 abbrev pub several_subs : Several sub_tokens sub_tree subs_tokens sub_trees trees_from
 several_subs = record {
   none = no_subs;
@@ -158,6 +182,7 @@ several_subs = record {
   next_trees = λ form forms trees same. ap (tree_then (sub_tree form)) same;
 }
 
+-- the further items of a refinement, as forms in a row
 abbrev pub several_items : Several item_tokens item_tree items_tokens item_trees refinements_from
 several_items = record {
   none = no_items;
@@ -168,6 +193,7 @@ several_items = record {
   next_trees = λ form forms trees same. ap (refinement_then (item_tree form)) same;
 }
 
+-- the further parts of an attribute set, as forms in a row
 abbrev pub several_parts : Several part_tokens part_tree parts_tokens part_trees sets_from
 several_parts = record {
   none = no_parts;
@@ -178,7 +204,7 @@ several_parts = record {
   next_trees = λ form forms trees same. ap (set_then (part_tree form)) same;
 }
 
--- a cardinality by its bounds, of which the second may be open
+-- a minimum, `..`, a maximum and `]` are the tokens of a cardinality form
 bounds_are : (run : List ℕ) → IsTrue (is_number 1 18 run) → (tokens left after rest : List Symbol) (most : Option ℕ) (found : Cardinality)
     → tokens ≡ digits run ∷ mark token.Dots ∷ left → most_at left ≡ Some (most, after) → after ≡ mark token.BracketClose ∷ rest
     → found ≡ record { min = number_of run; max = most }
@@ -207,6 +233,7 @@ bounds_are run holds tokens left after rest most found front read close whole =
           )
     ]
 
+-- bounds that are read are those of a cardinality form, up to its closing bracket
 bounds_sound : (tokens rest : List Symbol) (found : Cardinality) → bounds_at tokens ≡ Some (found, rest)
     → (count : CountForm) × (mark token.BracketOpen ∷ tokens ≡ counted_tokens (Some count) rest) × (found ≡ cardinality_of (Some count))
 unfolding bounds_at
@@ -225,7 +252,7 @@ bounds_sound tokens rest found is =
     (behind_is marks.BracketClose close.0 second.0.1 close.2 ∙ ap (λ (p : Cardinality × List Symbol). mark token.BracketClose ∷ p.1) same)
     (sym (ap (λ (p : Cardinality × List Symbol). p.0) same) ∙ ap (λ n. record { min = n; max = second.0.0 }) least.3)
 
--- a cardinality, or none
+-- an optional cardinality that is read is that of an optional cardinality form
 pub count_sound : (tokens rest : List Symbol) (found : Cardinality) → count_at tokens ≡ Some (found, rest)
     → (count : Option CountForm) × (tokens ≡ counted_tokens count rest) × (found ≡ cardinality_of count)
 count_sound tokens rest found is =
@@ -238,7 +265,7 @@ count_sound tokens rest found is =
           (Some bounds.0, behind_is marks.BracketOpen tokens left open_is ∙ bounds.1, bounds.2)
     ]
 
--- the tokens behind one that stands in front
+-- if a mark stands in front, there are tokens after it
 stands_some : (wanted : Mark) (tokens : List Symbol) → stands wanted tokens ≡ true → (left : List Symbol) × (behind wanted tokens ≡ Some left)
 stands_some wanted tokens is = by (behind wanted tokens) refl is
   where
@@ -251,15 +278,17 @@ module _ {Form Forms Tree Trees : Type 0} {tokens_of : Form → List Symbol → 
     {list_tokens : TokenKind → Forms → List Symbol → List Symbol} {list_trees : Forms → Trees} {from : List Tree → Trees}
     (several : Several tokens_of tree_of list_tokens list_trees from) (reader : List Symbol → Found Tree)
     (sound : IsSound tokens_of tree_of reader) (wanted : Mark) where
-  -- what is read of several forms, and of one and several more
+  -- `tokens` with the trees `trees` are those of a list of forms, in front of `rest`
   abbrev AreDerived : List Symbol → List Tree → List Symbol → Type 0
   AreDerived tokens trees rest = Derives (list_tokens (kind_of wanted)) list_trees tokens (from trees) rest
 
+  -- `tokens` with the trees `trees` are those of a list of at least one form, in front of `rest`
   abbrev FirstDerived : List Symbol → List Tree → List Symbol → Type 0
   FirstDerived tokens trees rest =
       (first : Form) × (more : Forms) × (tokens ≡ list_tokens (kind_of wanted) (several.next first more) rest)
       × (from trees ≡ list_trees (several.next first more))
 
+  -- if no form is read, the tokens are those of the empty list of forms
   none_derived : (tokens rest : List Symbol) (trees : List Tree)
       → ◌≡◌ {A = Found (List Tree)} (Some ([], tokens)) (Some (trees, rest)) → AreDerived tokens trees rest
   none_derived tokens rest trees is =
@@ -269,6 +298,7 @@ module _ {Form Forms Tree Trees : Type 0} {tokens_of : Form → List Symbol → 
         ap (λ (p : List Tree × List Symbol). from p.0) (sym same) ∙ several.none_trees,
       )
 
+  -- a form read after `wanted` and the forms read after it make a list of at least one form
   first_derived : (turns : ℕ) → ((tokens rest : List Symbol) (trees : List Tree) → many reader wanted turns tokens ≡ Some (trees, rest)
       → AreDerived tokens trees rest)
       → (tokens left rest : List Symbol) (trees : List Tree) → behind wanted tokens ≡ Some left
@@ -291,6 +321,7 @@ module _ {Form Forms Tree Trees : Type 0} {tokens_of : Form → List Symbol → 
             ∙ several.next_trees form.0 forms.0 more.0.0 forms.2,
       )
 
+  -- what `many` reads are the tokens and trees of a list of forms
   many_derived : (turns : ℕ) (tokens rest : List Symbol) (trees : List Tree) → many reader wanted turns tokens ≡ Some (trees, rest)
       → AreDerived tokens trees rest
   unfolding many
@@ -305,12 +336,13 @@ module _ {Form Forms Tree Trees : Type 0} {tokens_of : Form → List Symbol → 
             (several.next first.0 first.1, first.2, first.3)
       ]
 
+  -- if `wanted` stands in front, what `many` reads are the tokens and trees of at least one form
   stood_derived : (turns : ℕ) (tokens left rest : List Symbol) (trees : List Tree) → behind wanted tokens ≡ Some left
       → many reader wanted (suc turns) tokens ≡ Some (trees, rest) → FirstDerived tokens trees rest
   unfolding many
   stood_derived turns tokens left rest trees found is = first_derived turns (many_derived turns) tokens left rest trees found (rw found at is)
 
-  -- what is made of the trees of those that are read behind some, where the token stands in front
+  -- a whole made of `front` and the trees read after it is made of `front` and the trees of at least one form
   pub joined_sound : {Whole : Type 0} (make : List Tree → Whole) (front : List Tree) (tokens rest : List Symbol) (whole : Whole)
       → stands wanted tokens ≡ true
       → ◌>>=◌ {T = Whole × List Symbol} (with_front front (all_behind reader wanted tokens)) (λ parts left. Some (make parts, left)) ≡ Some (whole, rest)
@@ -330,36 +362,43 @@ module _ {Form Forms Tree Trees : Type 0} {tokens_of : Form → List Symbol → 
         sym (ap (λ (p : Whole × List Symbol). p.0) same) ∙ ap (λ (p : List Tree × List Symbol). make p.0) (sym same'),
       )
 
--- one of two, by a test
+-- the answer of a conditional comes from the case that its test selects
 pub either_some : {A : Type 0} (test : Bool) (one other : Option A) (answer : A) → cond test one other ≡ Some answer
     → ((test ≡ true) × (one ≡ Some answer)) ⊎ ((test ≡ false) × (other ≡ Some answer))
 either_some true one other answer is = inl (refl, is)
 either_some false one other answer is = inr (refl, is)
 
--- How a form is made of parts that a token joins: of the first two and the others, with their tokens, and the tree that is
--- made of their trees.
+-- a form of parts joined by a token of `kind`, with the tokens and the tree of the first two and the others
 pub record Joint {Part Parts Form Tree Trees : Type 0} {part_tokens : Part → List Symbol → List Symbol} {part_tree : Part → Tree}
     {parts_tokens : TokenKind → Parts → List Symbol → List Symbol} {part_trees : Parts → Trees} {from : List Tree → Trees}
     (several : Several part_tokens part_tree parts_tokens part_trees from)
     (form_tokens : Form → List Symbol → List Symbol) (form_tree : Form → Tree) (kind : TokenKind) (make : Trees → Tree) : Type 0 where
+  -- the form of two parts and the others
   pub form : Part → Part → Parts → Form
+  -- the tokens of that form are those of its parts, joined by the token
   pub tokens : (first second : Part) (more : Parts) (rest : List Symbol)
       → part_tokens first (parts_tokens kind (several.next second more) rest) ≡ form_tokens (form first second more) rest
+  -- the tree of that form is made of the trees of its parts
   pub tree : (first second : Part) (more : Parts)
       → make (part_trees (several.next first (several.next second more))) ≡ form_tree (form first second more)
 
--- forms of one part, or of parts that are joined by AND, or by OR
+-- the forms of one part, or of parts that are joined by AND or by OR
 pub record Joined {Part Parts Form Tree Trees : Type 0} {part_tokens : Part → List Symbol → List Symbol} {part_tree : Part → Tree}
     {parts_tokens : TokenKind → Parts → List Symbol → List Symbol} {part_trees : Parts → Trees} {from : List Tree → Trees}
     (several : Several part_tokens part_tree parts_tokens part_trees from)
     (form_tokens : Form → List Symbol → List Symbol) (form_tree : Form → Tree) (make_and make_or : Trees → Tree) : Type 0 where
+  -- the form of one part
   pub one : Part → Form
+  -- the tokens of the form of one part are those of the part
   pub one_tokens : (part : Part) (rest : List Symbol) → part_tokens part rest ≡ form_tokens (one part) rest
+  -- the tree of the form of one part is the tree of the part
   pub one_tree : (part : Part) → part_tree part ≡ form_tree (one part)
+  -- parts that are joined by AND
   pub all : Joint several form_tokens form_tree token.And make_and
+  -- parts that are joined by OR
   pub some : Joint several form_tokens form_tree token.Or make_or
 
--- what is read behind a first part: more parts where the token stands that joins them, and else something other
+-- what is read after a first part: the parts that `wanted` joins if it stands there, or `other`
 abbrev joined_by : {Tree : Type 0} → (List Symbol → Found Tree) → Mark → (List Tree → Tree) → Tree → List Symbol → Found Tree → Found Tree
 joined_by reader wanted make first tail other =
     cond (stands wanted tail) (with_front (first ∷ []) (all_behind reader wanted tail) >>= λ parts left. Some (make parts, left)) other
@@ -369,7 +408,7 @@ module _ {Part Parts Form Tree Trees : Type 0} {part_tokens : Part → List Symb
     {form_tokens : Form → List Symbol → List Symbol} {form_tree : Form → Tree}
     (several : Several part_tokens part_tree parts_tokens part_trees from) (reader : List Symbol → Found Tree)
     (sound : IsSound part_tokens part_tree reader) where
-  -- more parts that are read so are those of such a form
+  -- if `wanted` joins the parts that are read, they make a joined form; otherwise the answer is that of `other`
   joint_sound : (wanted : Mark) {make : Trees → Tree} → Joint several form_tokens form_tree (kind_of wanted) make
       → (tokens tail rest : List Symbol) (first tree : Tree) (other : Found Tree) → Derives part_tokens part_tree tokens first tail
       → joined_by reader wanted (λ parts. make (from parts)) first tail other ≡ Some (tree, rest)
@@ -389,7 +428,7 @@ module _ {Part Parts Form Tree Trees : Type 0} {part_tokens : Part → List Symb
         | inr (none, read) ↦ inr read
       ]
 
-  -- by AND, or by OR
+  -- if AND or OR joins the parts that are read, they make a joined form; otherwise the answer is that of `other`
   pub joints_sound : {make_and make_or : Trees → Tree} → Joint several form_tokens form_tree token.And make_and
       → Joint several form_tokens form_tree token.Or make_or → (tokens tail rest : List Symbol) (first tree : Tree) (other : Found Tree)
       → Derives part_tokens part_tree tokens first tail
@@ -402,6 +441,7 @@ module _ {Part Parts Form Tree Trees : Type 0} {part_tokens : Part → List Symb
         | inr next ↦ joint_sound marks.Or some tokens tail rest first tree other part next
       ]
 
+  -- a reader of a part, and of parts that AND or OR joins, is sound
   pub forms_sound : {make_and make_or : Trees → Tree} → Joined several form_tokens form_tree make_and make_or
       → IsSound form_tokens form_tree (λ tokens. reader tokens >>= λ first tail. joined_by reader marks.And (λ parts. make_and (from parts)) first tail
       (joined_by reader marks.Or (λ parts. make_or (from parts)) first tail (Some (first, tail))))
@@ -419,6 +459,7 @@ module _ {Part Parts Form Tree Trees : Type 0} {part_tokens : Part → List Symb
             )
       ]
 
+-- attribute sets are parts joined by AND or OR
 pub joined_sets : Joined several_parts set_tokens set_tree and_set or_set
 joined_sets = record {
   one = one_part;
@@ -428,6 +469,7 @@ joined_sets = record {
   some = record { form = some_parts; tokens = λ first second more rest. refl; tree = λ first second more. refl };
 }
 
+-- refinements are items joined by AND or OR
 pub joined_refinements : Joined several_items refinement_tokens refinement_tree and_refinement or_refinement
 joined_refinements = record {
   one = one_item;
@@ -437,17 +479,19 @@ joined_refinements = record {
   some = record { form = some_items; tokens = λ first second more rest. refl; tree = λ first second more. refl };
 }
 
+-- conjunctions are operands joined by AND
 pub conjunctions : Joint several_subs constraint_tokens constraint_tree token.And and_tree
 conjunctions = record { form = conjunction; tokens = λ first second more rest. refl; tree = λ first second more. refl }
 
+-- disjunctions are operands joined by OR
 pub disjunctions : Joint several_subs constraint_tokens constraint_tree token.Or or_tree
 disjunctions = record { form = disjunction; tokens = λ first second more rest. refl; tree = λ first second more. refl }
 
--- what is made of a pair that is read
+-- the result that `make` makes of a pair that is read
 abbrev pub made : {Tree : Type 0} → (AttributeTree → Tree) → Found AttributeTree → Found Tree
 made make found = found >>= λ pair left. Some (make pair, left)
 
--- brackets that are not the name of an attribute
+-- if `bracketed_at` gives `rest`, the tokens are a `(` in front of `rest`
 pub bracketed_is : (tokens rest : List Symbol) → bracketed_at tokens ≡ Some rest → tokens ≡ mark token.RoundOpen ∷ rest
 bracketed_is tokens rest is =
     elim (otherwise_some (behind marks.RoundOpen tokens) None

@@ -1,4 +1,4 @@
--- The tree of a text, by computing: the text is cut into pieces, and the tree of its tokens is read.
+-- The tree of a text, computed: the text is cut into pieces, and the tree of its tokens is read.
 use Rattle.std.proofs.Common.{◌≡◌, ◌∙◌, ℕ, zero, suc, Bool, true, false, ◌&&◌, List, [], ◌∷◌, length, drop, map, Option, None, Some, option_map, if◌then◌else◌, refl, sym, ap, subst}
 use Rattle.std.specs.Prelude.{Result, Ok, Err, nat_le, nat_lt, option_and_then}
 use Rattle.std.specs.List.{list_all}
@@ -21,17 +21,18 @@ use Rattle.ecl_parser.specs.inside.Reading.{Found, bounds_at, constraint_behind,
 use Rattle.ecl_parser.proofs.Sound.{constraint_derives}
 use Rattle.ecl_parser.proofs.SoundParts.{some_is}
 
--- the pieces of a text that is read to its end in so many turns
+-- a piece in front of the pieces of the rest of a text
 abbrev piece_then : (List ℕ → Option (List Piece)) → List ℕ → Result Piece QueryFault → Option (List Piece)
 piece_then more text (Err fault) = None
 piece_then more text (Ok piece) = option_map (λ pieces. piece ∷ pieces) (more (drop (length (bytes_of piece)) text))
 
+-- the pieces of a text, if at most `turns` pieces read it to its end
 abbrev pieces_in : ℕ → List ℕ → Option (List Piece)
 pieces_in turns [] = Some []
 pieces_in zero (byte ∷ behind) = None
 pieces_in (suc turns) (byte ∷ behind) = piece_then (λ rest. pieces_in turns rest) (byte ∷ behind) (reading 0 (byte ∷ behind))
 
--- a piece that is read in front of pieces is one of the cut
+-- a piece that is read, in front of pieces that are read, gives the pieces of the text
 piece_cut : (text : List ℕ) (piece : Piece) (pieces : List Piece) → reading 0 text ≡ Ok piece
     → IsCut (drop (length (bytes_of piece)) text) pieces [] → IsCut text (piece ∷ pieces) []
 piece_cut text piece pieces is cut =
@@ -43,7 +44,7 @@ piece_cut text piece pieces is cut =
       each = (subst (IsRead piece) (behind ∙ cut.whole) here.read, cut.each);
     }
 
--- such pieces are a cut of the text
+-- pieces that are read to the end of a text are a cut of it
 cut_in : (turns : ℕ) (text : List ℕ) (pieces : List Piece) → pieces_in turns text ≡ Some pieces → IsCut text pieces []
 cut_in turns [] pieces is =
     let none : [] ≡ pieces = some_is is in
@@ -71,37 +72,39 @@ cut_in (suc turns) (byte ∷ behind) pieces is =
         let rest = drop (length (bytes_of piece)) (byte ∷ behind) in
         by_more piece read (λ more same. cuts rest more same) (pieces_in turns rest) refl found
 
--- what is read, if nothing is left behind it
+-- the tree that is read, if no token is left after it
 abbrev whole : Found Tree → Option Tree
 whole None = None
 whole (Some (tree, [])) = Some tree
 whole (Some (tree, symbol ∷ rest)) = None
 
--- the tree of the tokens among some pieces that have at most one bracket open at once
+-- the tree of the tokens among pieces, if at most one bracket is open at once
 abbrev tree_among : List Piece → Option Tree
 tree_among pieces =
     if is_deep 0 (spelled_tokens pieces) then None
     else whole (constraint_in (readers 1) (map symbol_of (spelled_tokens pieces)))
 
--- whether a text is not too long and ASCII
+-- whether a text is ASCII and short enough to be read
 abbrev is_plain_text : List ℕ → Bool
 is_plain_text text = list_all (λ byte. nat_lt byte 128) text && nat_le (length text) most_bytes
 
--- the tree of such a text
+-- the tree of a plain text, if it has one
 abbrev tree_in : List ℕ → Option Tree
 tree_in text = if is_plain_text text then option_and_then tree_among (pieces_in (length text) text) else None
 
--- the same, where it is to be computed
+-- the tree of a plain text, computed
 unfoldable pub text_tree : List ℕ → Option Tree
 unfolding readers constraint_in constraint_behind sub_in member_in focus_in many bounds_at test_in pair_in part_in
     set_in set_behind item_in item_behind refinement_in refinement_behind
 text_tree text = tree_in text
 
+-- `whole` gives a tree only if the tree was read and no token is left
 whole_is : (found : Found Tree) (tree : Tree) → whole found ≡ Some tree → found ≡ Some (tree, [])
 whole_is None tree is = absurd (cc)
 whole_is (Some (other, [])) tree is = let same : other ≡ tree = (cc) in ap (λ (t : Tree). Some (t, [])) same
 whole_is (Some (other, symbol ∷ rest)) tree is = absurd (cc)
 
+-- pieces of a text with a tree among them make the text a constraint
 tree_among-is : (text : List ℕ) (pieces : List Piece) (tree : Tree) → IsReadable text → IsCut text pieces []
     → tree_among pieces ≡ Some tree → IsConstraint text tree
 tree_among-is text pieces tree readable cut is = by_depth (is_deep 0 (spelled_tokens pieces)) refl is
@@ -119,6 +122,7 @@ tree_among-is text pieces tree readable cut is = by_depth (is_deep 0 (spelled_to
           (whole_is (constraint_in (readers 1) (map symbol_of (spelled_tokens pieces))) tree found);
     }
 
+-- a text with a computed tree is a constraint
 tree_in-is : (text : List ℕ) (tree : Tree) → tree_in text ≡ Some tree → IsConstraint text tree
 tree_in-is text tree is = by_plain (is_plain_text text) refl is
   where
@@ -136,11 +140,12 @@ tree_in-is text tree is = by_plain (is_plain_text text) refl is
         let parts = and_parts (list_all (λ byte. nat_lt byte 128) text) (nat_le (length text) most_bytes) same in
         by_pieces (leb-true (length text) most_bytes parts.1, low_bytes text parts.0) (pieces_in (length text) text) refl read
 
+-- if `text_tree` computes a tree, the text is a constraint with this tree
 pub text_tree-is : (text : List ℕ) (tree : Tree) → text_tree text ≡ Some tree → IsConstraint text tree
 unfolding text_tree
 text_tree-is text tree is = tree_in-is text tree is
 
--- a text whose tree is this query, which denotes these concepts
+-- a text whose computed tree is `query`, which denotes `answer` in the sample release, is a worked query
 pub gives : {text : List ℕ} {query : Tree} {answer : List ℕ} → text_tree text ≡ Some query
     → denotation sample query ≡ answer → Gives text query answer
 gives {text = text} {query = query} is found = record { is_query = text_tree-is text query is; denotes = found }

@@ -1,4 +1,4 @@
--- Definitions that private functions alone need: no contract of a public call names one.
+-- Definitions that only private functions need: no contract of a public function names one.
 pub mod Answers
 pub mod Brackets
 pub mod BracketsInside

@@ -12,22 +12,22 @@ use ecl_lexer::{QueryFault, Token, TokenKind};
 use std::alloc::{AllocError, Global};
 use std::marker::Model;
 
-/// So many brackets may be open at once.
+/// How many brackets may be open at once.
 pub const MOST_OPEN: usize = 64;
 
-/// A bracket that is open: where it stands, and whether it is round or a brace.
+/// An open bracket: its place among the tokens, and whether it is round or a brace.
 #[derive(Clone, Copy, Default)]
 pub struct OpenBracket {
     pub place: usize,
     pub is_round: bool,
 }
 
-/// The brackets of the tokens so far. Contracts see those that are open, the innermost first, the ends, and whether
-/// each closing bracket closed one of its kind.
+/// The brackets of the tokens read so far. Contracts see the open brackets, the innermost first, the ends, and
+/// whether each closing bracket closed one of its kind.
 #[derive(Drop)]
 struct Brackets {
     unclosed: ArrayVec<OpenBracket, MOST_OPEN>,
-    // for the place of each bracket the place behind the one that closed it
+    // for the place of each bracket, the place after the bracket that closed it
     ends: Vec<usize>,
     are_matched: bool,
 }
@@ -45,7 +45,7 @@ impl Model for Brackets {
 }
 
 impl Brackets {
-    // No bracket, of so many tokens.
+    // Creates the brackets of `count` tokens, none of which is read yet.
     fn new(alloc: Global, count: usize) -> Result<Brackets, AllocError>
         ensures { IfOk result (λ brackets. brackets ≡ nothing_matched count) }
     {
@@ -57,7 +57,7 @@ impl Brackets {
         })
     }
 
-    // Takes the token at a place. The fault is `Depth`, where it opens a bracket too many.
+    // Reads the token at `place`. Returns `Depth` if it opens a bracket and `MOST_OPEN` are open already.
     fn take(&mut self, place: usize, kind: TokenKind) -> Result<(), QueryFault>
         requires { place < length self.old.ends }
         ensures ok { OnOk result (self.new ≡ token_matched place kind self.old) }
@@ -79,7 +79,7 @@ impl Brackets {
         }
     }
 
-    // Opens a bracket, if one more may be open.
+    // Opens a bracket at `place`. Returns `Depth` if `MOST_OPEN` are open already.
     fn open_bracket(&mut self, place: usize, is_round: bool) -> Result<(), QueryFault>
         requires { place < length self.old.ends }
         ensures ok { OnOk result (self.new ≡ bracket_opened place is_round self.old) }
@@ -92,7 +92,7 @@ impl Brackets {
         }
     }
 
-    // Closes the innermost bracket, if one is open, of whatever kind.
+    // Closes the innermost open bracket, whatever its kind; notes it if the kinds differ or none is open.
     fn close_bracket(&mut self, place: usize, is_round: bool)
         requires { place < length self.old.ends }
         ensures { self.new ≡ bracket_closed place is_round self.old }
@@ -106,7 +106,7 @@ impl Brackets {
         }
     }
 
-    // The ends, if all brackets match and none is open.
+    // Returns the ends, or `None` if a bracket is open or a closing bracket closed none of its kind.
     fn ends(self) -> Option<Vec<usize>>
         ensures ends { IfSome result (λ ends. ends.items ≡ self.ends) }
         ensures matched { OnSome result ((self.are_matched ≡ true) × (self.unclosed ≡ [])) }
@@ -124,9 +124,10 @@ impl Brackets {
     }
 }
 
-/// For each token that opens a bracket the place behind the bracket that closes it. `Depth` where more brackets are
-/// open at once than may be: a closing one closes the innermost that is open, whether it is round or a brace.
-/// `Syntax` where the kinds of brackets don't match, or one is not closed or not opened: then there is no tree.
+/// Returns for each token that opens a bracket the place after the bracket that closes it. Returns `Depth` if
+/// more than `MOST_OPEN` brackets are open at once: a closing bracket closes the innermost open one, whether it
+/// is round or a brace. Returns `Syntax` if the kinds of two brackets do not match, or a bracket is not closed
+/// or not opened; such tokens have no tree.
 pub fn bracket_ends(alloc: Global, tokens: &[Token<'_>]) -> Result<Vec<usize>, QueryFault>
     ensures shallow { IfOk result (λ _. is_deep 0 (map spelled tokens.now) ≡ false) }
     ensures ends { IfOk result (λ ends. AreEnds (symbols tokens.now) ends.items) }

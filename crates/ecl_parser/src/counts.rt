@@ -7,7 +7,7 @@ use crate::tokens::{Mark, Tokens, take, take_digits};
 use constraint_tree::Cardinality;
 use ecl_lexer::QueryFault;
 
-/// Count: the cardinality at a place, or `[1..*]` where none stands there.
+/// Reads Count: the cardinality at `at`, or `[1..*]` if none stands there.
 pub fn count(tokens: &Tokens<'_>, at: &mut usize) -> Result<Cardinality, QueryFault>
     ensures { Gives (λ found. (found, symbols_from tokens.now at.new)) result (count_at (symbols_from tokens.now at.old)) }
 {
@@ -20,7 +20,7 @@ pub fn count(tokens: &Tokens<'_>, at: &mut usize) -> Result<Cardinality, QueryFa
     }
 }
 
-// The bounds of a cardinality, and the bracket that closes it.
+// Reads the bounds of a cardinality and the bracket that closes it.
 #[tactic(auto, unfolding(crate::specs::inside::Reading::bounds_at))]
 fn bounds(tokens: &Tokens<'_>, at: &mut usize) -> Option<Cardinality>
     ensures some { IfSome result (λ found. bounds_at (symbols_from tokens.now at.old) ≡ Some (found, symbols_from tokens.now at.new)) }
@@ -37,7 +37,7 @@ fn bounds(tokens: &Tokens<'_>, at: &mut usize) -> Option<Cardinality>
     Some(Cardinality { min, max })
 }
 
-// The maximum of a cardinality: `*` is none.
+// Reads the maximum of a cardinality; `*` means no maximum.
 fn most(tokens: &Tokens<'_>, at: &mut usize) -> Option<Option<u64>>
     ensures some { IfSome result (λ found. most_at (symbols_from tokens.now at.old) ≡ Some (found, symbols_from tokens.now at.new)) }
     ensures none { result ≡ None → most_at (symbols_from tokens.now at.old) ≡ None }

@@ -6,8 +6,7 @@ ghost use Rattle.constraint_tree.specs.Refusal.{IsConstraint, IsRefusalOf};
 ghost use Rattle.constraint_tree.specs.Tree.{Tree};
 ghost use Rattle.constraint_tree.specs.WorkedQueries.{GivesEverything, GivesDescendants, GivesBraces, GivesDistinctPairs, GivesBraceCounts, GivesNoneInBraces, GivesReverse, GivesDotted, GivesNotEqual, GivesRowsInForce, GivesNumbers, GivesBounds, GivesDifferences, GivesEither, GivesWalks, GivesOperands, GivesEmptyAnswers};
 
-/// No list of tokens has two trees, and no text; no text has two refusals, and none has both a tree and
-/// a refusal. Each text has one of them.
+/// Each text either has exactly one tree or has exactly one refusal. No list of tokens has two trees.
 pub fn one_reading()
     ensures tokens { HaveOneTree }
     ensures tree { (text : List ℕ) (one other : Tree) → IsConstraint text one → IsConstraint text other → one ≡ other }
@@ -16,7 +15,8 @@ pub fn one_reading()
     ensures either { (text : List ℕ) → ((tree : Tree) × IsConstraint text tree) ⊎ ((fault : QueryFault) × IsRefusalOf text fault) }
 {}
 
-/// Of worked queries: that a text is the query, and what that denotes on a small release.
+/// The text of each worked query is the query's constraint, and the query denotes the stated concepts on the
+/// sample release.
 pub fn worked_queries_hold()
     ensures everything { GivesEverything }
     ensures descendants { GivesDescendants }

@@ -1,8 +1,8 @@
 //! Reads expression constraints (Expression Constraint Language 2.2, brief syntax).
 //!
-//! `parse` answers the one tree of a text, or the first refusal of the text. What a text means stands in
-//! `constraint_tree`: the grammar and the refusals that the contract of `parse` speaks of. `read_again` says that
-//! what is printed of a constraint is read as that constraint.
+//! `parse` returns the one tree of a text, or the text's first refusal. The crate `constraint_tree` defines the
+//! meaning of a text: the grammar and the refusals that the contract of `parse` names. The contract of
+//! `read_again` says that the printed text of a constraint is read as that constraint.
 #![tactic(auto)]
 
 mod brackets;

@@ -1,6 +1,6 @@
-//! The descent over the tokens. Each function reads one form of the grammar from a place on, answers
-//! its tree, and leaves the place behind it. `depth` says how many more brackets may be opened: it falls
-//! at each, so the descent ends.
+//! The recursive descent over the tokens. Each function reads one form of the grammar from the place `at`,
+//! returns its tree, and moves `at` after the form. `depth` is the number of brackets that may still be opened:
+//! it falls with each one, so the descent ends.
 ghost use Rattle.std.specs.Prelude.{◌≡◌, ◌∷◌, [], IfOk, map};
 ghost use Rattle.constraint_tree.specs.Tree.{attribute_tree_of, refinement_tree_of, set_tree_of, test_tree_of, tree_of};
 ghost use Rattle.ecl_parser.specs.inside.Gives.{Gives, symbols_from};
@@ -17,7 +17,7 @@ use constraint_tree::{
 use ecl_lexer::QueryFault;
 use std::alloc::{AllocError, Global};
 
-/// Constraint: a Sub, alone or joined with others, refined, or dotted.
+/// Reads Constraint: a Sub, alone, joined with other Subs, refined, or dotted.
 #[cycle(parser)]
 #[tactic(auto, unfolding(crate::specs::inside::Reading::constraint_in))]
 pub fn constraint(
@@ -32,7 +32,8 @@ pub fn constraint(
     constraint_behind(alloc, first, tokens, at, depth)
 }
 
-// What a Sub is joined with, refined by, or dotted with, or the Sub alone.
+// Reads the rest of a constraint after its first Sub: the Subs joined with it, the names after dots, the
+// refinement, or the Sub after `MINUS`. Returns `first` alone if none of them follows.
 #[cycle(parser)]
 #[tactic(auto, unfolding(crate::specs::inside::Reading::constraint_behind))]
 fn constraint_behind(
@@ -64,7 +65,7 @@ fn constraint_behind(
     Ok(first)
 }
 
-// A Sub, and those that are joined with it.
+// Reads the Subs that follow `first`, each after the token `joint`. Returns them with `first` in front.
 #[cycle(parser)]
 fn joined(
     alloc: Global,
@@ -81,7 +82,7 @@ fn joined(
     subs(alloc, parts, joint, tokens, at, depth)
 }
 
-// A Sub with the names behind it.
+// Reads the names that follow `start`, each after a dot, and returns the dotted constraint.
 #[cycle(parser)]
 fn dotted(
     alloc: Global,
@@ -97,7 +98,7 @@ fn dotted(
     Ok(Constraint::Dotted(start, names))
 }
 
-// A Sub with the refinement behind it.
+// Reads the refinement of `focus` and returns the refined constraint.
 #[cycle(parser)]
 fn refined(
     alloc: Global,
@@ -114,7 +115,7 @@ fn refined(
     Ok(Constraint::Refined(focus, what))
 }
 
-// A Sub without the Sub behind it.
+// Reads the Sub after `MINUS` and returns the difference of `first` and that Sub.
 #[cycle(parser)]
 fn subtracted(
     alloc: Global,
@@ -131,7 +132,7 @@ fn subtracted(
     Ok(Constraint::Minus(first, second))
 }
 
-// Subs, each behind a token, added to those that stand before them.
+// Reads Subs, each after the token `joint`, and appends them to `parts`.
 #[cycle(parser)]
 fn subs(
     alloc: Global,
@@ -157,7 +158,7 @@ fn subs(
     Ok(parts)
 }
 
-// Sub: an operator or none, and its operand.
+// Reads Sub: an optional operator and its operand.
 #[cycle(parser)]
 #[tactic(auto, unfolding(crate::specs::inside::Reading::sub_in))]
 fn sub(
@@ -178,7 +179,7 @@ fn sub(
     }
 }
 
-// A focus, behind `^` or not.
+// Reads a focus with an optional `^` in front.
 #[cycle(parser)]
 #[tactic(auto, unfolding(crate::specs::inside::Reading::member_in))]
 fn member(
@@ -197,7 +198,7 @@ fn member(
     focus(alloc, tokens, at, depth)
 }
 
-// Focus: a concept, `*`, or a constraint in brackets.
+// Reads Focus: a concept, `*`, or a constraint in brackets.
 #[cycle(parser)]
 #[tactic(auto, unfolding(crate::specs::inside::Reading::focus_in, crate::specs::inside::Reading::readers))]
 fn focus(
@@ -225,7 +226,7 @@ fn focus(
     Ok(found)
 }
 
-// Refinement: items, joined by AND or by OR.
+// Reads Refinement: items joined by AND or by OR.
 #[cycle(parser)]
 #[tactic(auto, using(constraint_tree::proofs::TreeLemmas::trees_of_items), unfolding(crate::specs::inside::Reading::refinement_in, crate::specs::inside::Reading::refinement_behind))]
 fn refinement(
@@ -250,7 +251,7 @@ fn refinement(
     Ok(first)
 }
 
-// Items, each behind a token, added to those that stand before them.
+// Reads items, each after the token `joint`, and appends them to `parts`.
 #[cycle(parser)]
 fn items(
     alloc: Global,
@@ -276,7 +277,7 @@ fn items(
     Ok(parts)
 }
 
-// Item: a refinement in brackets, or an attribute or a group of attributes, behind its cardinality.
+// Reads Item: a refinement in brackets, or a cardinality and an attribute or a group of attributes.
 #[cycle(parser)]
 #[tactic(auto, unfolding(crate::specs::inside::Reading::item_in, crate::specs::inside::Reading::readers))]
 fn item(
@@ -301,7 +302,7 @@ fn item(
     counted_item(alloc, cardinality, tokens, at, depth)
 }
 
-// An attribute, or a group of attributes in braces.
+// Reads an attribute, or a group of attributes in braces, after its cardinality.
 #[cycle(parser)]
 #[tactic(auto, unfolding(crate::specs::inside::Reading::item_behind, crate::specs::inside::Reading::readers))]
 fn counted_item(
@@ -331,7 +332,7 @@ fn counted_item(
     Ok(Refinement::One(found))
 }
 
-// Set: parts, joined by AND or by OR.
+// Reads Set: parts joined by AND or by OR.
 #[cycle(parser)]
 #[tactic(auto, using(constraint_tree::proofs::TreeLemmas::trees_of_items), unfolding(crate::specs::inside::Reading::set_in, crate::specs::inside::Reading::set_behind))]
 fn set(
@@ -356,7 +357,7 @@ fn set(
     Ok(first)
 }
 
-// Parts, each behind a token, added to those that stand before them.
+// Reads parts, each after the token `joint`, and appends them to `list`.
 #[cycle(parser)]
 fn parts(
     alloc: Global,
@@ -382,7 +383,7 @@ fn parts(
     Ok(list)
 }
 
-// Part: a set in brackets, or an attribute behind its cardinality.
+// Reads Part: a set in brackets, or a cardinality and an attribute.
 #[cycle(parser)]
 #[tactic(auto, unfolding(crate::specs::inside::Reading::part_in, crate::specs::inside::Reading::readers))]
 fn part(
@@ -408,7 +409,7 @@ fn part(
     Ok(AttributeSet::One(found))
 }
 
-// Pair: a name, a comparison, and what the value is compared with.
+// Reads Pair: a name, a comparison, and the value that it compares with.
 #[cycle(parser)]
 #[tactic(auto, unfolding(crate::specs::inside::Reading::pair_in))]
 fn pair(
@@ -434,7 +435,7 @@ fn pair(
     })
 }
 
-// What a value is compared with: a number, or by `=` and `!=` a Sub.
+// Reads the value of a comparison: a number, or a Sub after `=` and `!=`.
 #[cycle(parser)]
 #[tactic(auto, unfolding(crate::specs::inside::Reading::test_in))]
 fn test(
@@ -464,7 +465,7 @@ fn test(
     }
 }
 
-// A list of one part.
+// Returns a list with the one part `first`.
 fn single<T: Drop>(alloc: Global, first: T) -> Result<Vec<T>, AllocError>
     ensures { IfOk result (λ parts. parts.items ≡ first ∷ []) }
 {

@@ -16,21 +16,21 @@ use constraint_tree::Constraint;
 use ecl_lexer::{QueryFault, Token, lex};
 use std::alloc::Global;
 
-/// The constraint that a text is (Expression Constraint Language 2.2, 5.1 "Brief syntax"), or its first
-/// refusal: `Long` above 65,535 bytes; `Utf8`; at the least offset the first of `Unsupported`, `Token`
-/// and `Limit`; `Depth` where more than 64 brackets are open at once; `Syntax` where the grammar has no
-/// tree. `Memory` is answered where it runs out; the empty text takes none.
+/// Reads a constraint (Expression Constraint Language 2.2, 5.1 "Brief syntax"), or returns the text's first
+/// refusal: `Long` above 65,535 bytes; `Utf8`; at the least offset the first of `Unsupported`, `Token` and
+/// `Limit`; `Depth` if more than 64 brackets are open at once; `Syntax` if the grammar has no tree. Returns
+/// `Memory` if memory runs out; the empty text takes none.
 pub fn parse(alloc: Global, text: &[u8]) -> Result<Constraint, QueryFault>
-    // What is answered is the constraint that the text is, or its refusal.
+    // The result is the constraint that the text is, or its refusal.
     ensures found { IfOk result (λ found. IsConstraint text.now (tree_of found)) }
     ensures fault { IfErr result (λ fault. (fault ≡ Memory) ⊎ IsRefusalOf text.now fault) }
 
-    // Where the text is a constraint, or has a refusal, no other answer comes.
+    // A text that is a constraint, or has a refusal, gets no other result than that or `Memory`.
     ensures whole { (tree : Tree) → IsConstraint text.now tree → MatchResult result (λ found. tree_of found ≡ tree) (λ fault. fault ≡ Memory) }
     ensures only { (fault : QueryFault) → IsRefusalOf text.now fault → (result ≡ Err fault) ⊎ (result ≡ Err Memory) }
     ensures empty { text.now ≡ [] → result ≡ Err Syntax }
 
-    // Memory is taken for tokens alone.
+    // Refusals for length and UTF-8 need no memory; only a text that begins with a token can run out of it.
     ensures long { (result ≡ Err Long) ↔ IsFaultOf text.now Long }
     ensures utf8 { (result ≡ Err Utf8) ↔ IsFaultOf text.now Utf8 }
     ensures memory { result ≡ Err Memory → BeginsWithToken text.now }
@@ -42,15 +42,15 @@ pub fn parse(alloc: Global, text: &[u8]) -> Result<Constraint, QueryFault>
     tree(alloc, tokens.as_slice())
 }
 
-/// A constraint, printed and read again: the same constraint, if it was read from some text and its own text
-/// is no longer than 65,535 bytes.
+/// Prints a constraint and reads it again. The result is the same constraint if the constraint was read from
+/// some text and its printed text has at most 65,535 bytes.
 pub fn read_again(alloc: Global, constraint: &Constraint) -> Result<Constraint, QueryFault>
-    // What was read from a text is printed and read as it is, unless memory is refused.
+    // A constraint that was read from a text is read again as it is, unless memory is refused.
     ensures same { (text : List ℕ) → IsConstraint text (tree_of constraint.now)
         → length (constraint_text (tree_of constraint.now)) ≤ most_bytes
         → MatchResult result (λ found. tree_of found ≡ tree_of constraint.now) (λ fault. fault ≡ Memory) }
 
-    // A longer text is refused for its length.
+    // A printed text longer than 65,535 bytes is refused for its length.
     ensures long { most_bytes < length (constraint_text (tree_of constraint.now)) → (result ≡ Err Long) ⊎ (result ≡ Err Memory) }
 {
     let mut text = Vec::new(alloc);
@@ -58,7 +58,7 @@ pub fn read_again(alloc: Global, constraint: &Constraint) -> Result<Constraint, 
     parse(alloc, text.as_slice())
 }
 
-// The constraint that the tokens of a text are.
+// Returns the constraint of the tokens of a text.
 fn tree(alloc: Global, tokens: &[Token<'_>]) -> Result<Constraint, QueryFault>
     ensures shallow { IfOk result (λ _. is_deep_at 0 (map spelled tokens.now) ≡ false) }
     ensures found { IfOk result (λ found. IsTreeOf (map spelled tokens.now) (tree_of found)) }

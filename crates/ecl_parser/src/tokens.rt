@@ -1,5 +1,5 @@
-//! The tokens of a text one after another, from a place on. The end of each bracket is known, so that what stands
-//! behind it is not searched for.
+//! The tokens of a text, read from a place on. The end of each bracket is known, so nothing searches for the
+//! token after it.
 ghost use Rattle.std.specs.Prelude.{◌≡◌, ◌+◌, ◌<◌, ◌^◌, ◌∷◌, [], false, true, None, Some, IfSome, drop, length, option_map};
 ghost use Rattle.numerals.specs.Decimals.{decimal_of};
 ghost use Rattle.ecl_lexer.specs.Tokens.{spelled};
@@ -18,7 +18,7 @@ use std::marker::Model;
 #[derive(Drop)]
 pub struct Tokens<'a> {
     tokens: &'a [Token<'a>],
-    // for each `(` the place behind the `)` that closes it
+    // for each `(` the place after the `)` that closes it
     ends: &'a [usize],
 }
 
@@ -36,7 +36,7 @@ impl<'a> Model for Tokens<'a> {
 }
 
 impl<'a> Tokens<'a> {
-    /// Tokens with the ends of their brackets.
+    /// Creates tokens with the ends of their brackets.
     pub fn new(tokens: &'a [Token<'a>], ends: &'a [usize]) -> Tokens<'a>
         requires { AreEnds (symbols tokens.now) ends.now }
         ensures { result ≡ tokens.now }
@@ -44,14 +44,14 @@ impl<'a> Tokens<'a> {
         Tokens { tokens, ends }
     }
 
-    /// How many there are.
+    /// The number of tokens.
     pub fn len(&self) -> usize
         ensures { result ≡ length self.now }
     {
         self.tokens.len()
     }
 
-    // The place behind the bracket that closes the round one at a place.
+    // The place after the bracket that closes the round bracket at `place`.
     fn behind_close(&self, place: usize) -> usize
         requires { stands marks.RoundOpen (symbols_from self.now place) ≡ true }
         ensures { symbols_from self.now result ≡ behind_close_of 0 (symbols_from self.now (place + 1)) }
@@ -61,7 +61,7 @@ impl<'a> Tokens<'a> {
     }
 }
 
-/// The kinds of token that say nothing but where they stand.
+/// A kind of token that carries nothing but its place.
 #[derive(Clone, Copy)]
 pub enum Mark {
     And,
@@ -82,7 +82,7 @@ pub enum Mark {
     Term,
 }
 
-// Whether a token is of a kind.
+// Whether `kind` is the kind of the mark `wanted`.
 fn is_mark(wanted: Mark, kind: TokenKind) -> bool
     ensures { result ≡ is_marked wanted kind }
 {
@@ -106,7 +106,7 @@ fn is_mark(wanted: Mark, kind: TokenKind) -> bool
     }
 }
 
-// The operator that a token is.
+// Returns the operator of a token of `kind`, or `None` if the kind is no operator.
 fn operator_of(kind: TokenKind) -> Option<Operator>
     ensures { result ≡ walk_of kind }
 {
@@ -125,7 +125,7 @@ fn operator_of(kind: TokenKind) -> Option<Operator>
     }
 }
 
-// The comparison that a token is.
+// Returns the comparison of a token of `kind`, or `None` if the kind is no comparison.
 fn compare_of(kind: TokenKind) -> Option<Compare>
     ensures { result ≡ comparison_of kind }
 {
@@ -140,7 +140,7 @@ fn compare_of(kind: TokenKind) -> Option<Compare>
     }
 }
 
-/// The token at a place, if the tokens go so far.
+/// The token at `at`, or `None` if the tokens end before it.
 pub fn token_at<'a>(tokens: &Tokens<'a>, at: usize) -> Option<Token<'a>>
     ensures front { IfSome result (λ token. symbols_from tokens.now at ≡ symbol_of (spelled token) ∷ symbols_from tokens.now (at + 1)) }
     ensures within { IfSome result (λ token. at < length tokens.now) }
@@ -153,7 +153,7 @@ pub fn token_at<'a>(tokens: &Tokens<'a>, at: usize) -> Option<Token<'a>>
     }
 }
 
-/// Whether a token of a kind stands at a place.
+/// Whether a token of the kind `wanted` stands at `at`.
 #[tactic(auto, using(crate::proofs::TokenLemmas::behind_symbol))]
 pub fn is_ahead(wanted: Mark, tokens: &Tokens<'_>, at: usize) -> bool
     ensures kind { result ≡ stands wanted (symbols_from tokens.now at) }
@@ -167,7 +167,7 @@ pub fn is_ahead(wanted: Mark, tokens: &Tokens<'_>, at: usize) -> bool
     }
 }
 
-/// Goes on behind a token of a kind, if one stands there.
+/// Moves `at` after a token of the kind `wanted`. Returns false if none stands there.
 pub fn take(wanted: Mark, tokens: &Tokens<'_>, at: &mut usize) -> bool
     ensures taken { result ≡ true → behind wanted (symbols_from tokens.now at.old) ≡ Some (symbols_from tokens.now at.new) }
     ensures left { result ≡ false → behind wanted (symbols_from tokens.now at.old) ≡ None }
@@ -181,7 +181,7 @@ pub fn take(wanted: Mark, tokens: &Tokens<'_>, at: &mut usize) -> bool
     false
 }
 
-/// Goes on behind an operator, if one stands there.
+/// Moves `at` after an operator and returns it, or returns `None` if none stands there.
 #[tactic(auto, using(crate::proofs::TokenLemmas::operator_symbol))]
 pub fn take_operator(tokens: &Tokens<'_>, at: &mut usize) -> Option<Operator>
     ensures taken { IfSome result (λ operator. operator_at (symbols_from tokens.now at.old) ≡ Some (operator, symbols_from tokens.now at.new)) }
@@ -195,7 +195,7 @@ pub fn take_operator(tokens: &Tokens<'_>, at: &mut usize) -> Option<Operator>
     Some(operator)
 }
 
-/// Goes on behind a comparison, if one stands there.
+/// Moves `at` after a comparison and returns it, or returns `None` if none stands there.
 #[tactic(auto, using(crate::proofs::TokenLemmas::compare_symbol))]
 pub fn take_compare(tokens: &Tokens<'_>, at: &mut usize) -> Option<Compare>
     ensures taken { IfSome result (λ compare. compare_at (symbols_from tokens.now at.old) ≡ Some (compare, symbols_from tokens.now at.new)) }
@@ -208,7 +208,7 @@ pub fn take_compare(tokens: &Tokens<'_>, at: &mut usize) -> Option<Compare>
     Some(compare)
 }
 
-/// Goes on behind digits, 18 at the most and no fewer than `least`, if they stand there: their number.
+/// Moves `at` after `least` to 18 digits and returns their number, or returns `None` if none stand there.
 pub fn take_digits(least: usize, tokens: &Tokens<'_>, at: &mut usize) -> Option<u64>
     ensures taken { IfSome result (λ number. digits_at least (symbols_from tokens.now at.old) ≡ Some (number, symbols_from tokens.now at.new)) }
     ensures left { result ≡ None → digits_at least (symbols_from tokens.now at.old) ≡ None }
@@ -226,7 +226,7 @@ pub fn take_digits(least: usize, tokens: &Tokens<'_>, at: &mut usize) -> Option<
     }
 }
 
-/// Goes on behind a number, if one stands there.
+/// Moves `at` after a number and returns it, or returns `None` if none stands there.
 pub fn take_number(tokens: &Tokens<'_>, at: &mut usize) -> Option<Decimal>
     ensures taken { IfSome result (λ number. number_at (symbols_from tokens.now at.old) ≡ Some (number.0, symbols_from tokens.now at.new)) }
     ensures left { result ≡ None → number_at (symbols_from tokens.now at.old) ≡ None }
@@ -244,7 +244,7 @@ pub fn take_number(tokens: &Tokens<'_>, at: &mut usize) -> Option<Decimal>
     }
 }
 
-// The number that a token is, behind its `#`.
+// Returns the number of a token's text, whose first byte is `#`.
 fn number(text: &[u8]) -> Option<Decimal>
     ensures { option_map (λ found. found.0) result ≡ decimal_of (drop 1 text.now) }
 {
@@ -254,8 +254,8 @@ fn number(text: &[u8]) -> Option<Decimal>
     }
 }
 
-/// Goes on behind a `(` that does not begin the name of an attribute, if one stands there: no
-/// comparison follows the brackets.
+/// Moves `at` after a `(` that does not begin the name of an attribute, because no comparison follows its `)`.
+/// Returns false if none stands there.
 pub fn take_bracket(tokens: &Tokens<'_>, at: &mut usize) -> bool
     ensures taken { result ≡ true → bracketed_at (symbols_from tokens.now at.old) ≡ Some (symbols_from tokens.now at.new) }
     ensures left { result ≡ false → bracketed_at (symbols_from tokens.now at.old) ≡ None }

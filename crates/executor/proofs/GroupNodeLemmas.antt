@@ -21,11 +21,11 @@ module _ (release : Release) where
   abbrev all : List ConceptGroup
   all = all_groups release
 
-  -- whether the group with a number is in a set
+  -- whether a set of pairs contains the pairs of the group with a number
   abbrev pub by_number : (List Pair → Bool) → ℕ → Bool
   by_number set n = some_group_in release set (slice_get all n)
 
-  -- each group
+  -- the numbers of all groups are those of the groups whose pairs are in the set of all
   pub each_where : range_with_len 0 (length all) ≡ groups_where release (λ pairs. true)
   each_where = sym (numbers_where-all (length all))
       ∙ numbers_where-agree (length all) (λ n. true) (by_number (λ pairs. true))
@@ -36,15 +36,18 @@ module _ (release : Release) where
       at n within None is = absurd (none_within all n within is)
       at n within (Some group) is = refl
 
+  -- equal plans of groups mean equal sets
   meant : (plan other : PlanOfUnits) → plan ≡ other → groups_where release (unit_means release other)
       ≡ groups_where release (unit_means release plan)
   meant plan other is = ap (λ (p : PlanOfUnits). groups_where release (unit_means release p)) (sym is)
 
   module _ (plan : PlanOfUnits) (found : List ℕ) where
+    -- the numbers of all groups are what a plan of every group means
     pub every_node : plan ≡ every_unit → found ≡ range_with_len 0 (length all) → found
         ≡ groups_where release (unit_means release plan)
     every_node is found_is = found_is ∙ each_where ∙ meant plan every_unit is
 
+    -- the groups that all parts mean are what their conjunction means
     pub and_node : (parts : List UnitPlan) → plan ≡ and_units (logical_units_list_of parts)
         → found ≡ groups_where release (λ pairs. list_all (λ part. unit_means release (logical_units_of part) pairs)
         parts)
@@ -60,6 +63,7 @@ module _ (release : Release) where
         all_listed (part ∷ some) pairs = ap (λ (b : Bool). unit_means release (logical_units_of part) pairs && b)
             (all_listed some pairs)
 
+    -- the groups that at least one part means are what their disjunction means
     pub or_node : (parts : List UnitPlan) → plan ≡ or_units (logical_units_list_of parts)
         → found ≡ groups_where release (λ pairs. list_any (λ part. unit_means release (logical_units_of part) pairs)
         parts)
@@ -75,6 +79,8 @@ module _ (release : Release) where
         some_listed (part ∷ some) pairs = ap (λ (b : Bool). unit_means release (logical_units_of part) pairs || b)
             (some_listed some pairs)
 
+    -- the groups whose number of pairs with types of `items` and passing values lies in `count` are what the leaf
+    -- means
     pub pairs_node : (count : Cardinality) (types : Plan) (test : TestPlan) (concepts items : List ℕ) → plan
         ≡ pairs_units count types test
         → concepts ≡ release.concepts → items ≡ numbers_in release (means release types)

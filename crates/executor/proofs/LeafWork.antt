@@ -34,7 +34,7 @@ use Rattle.pair_sets.specs.declared.tested.Tested.{Tested}
 use Rattle.pair_sets.proofs.LeafLemmas.{count_by_keys, types_apart}
 use Rattle.pair_sets.proofs.RoomLemmas.{all_pass, rows_few, type_rows_few}
 
--- the rows of the types that pass are no more than the rows of which it is so
+-- the rows of the types that pass `one` are the rows whose type passes it
 kept_rows : (indexed : Indexed) (one : ℕ → Bool)
     → sum_by (type_row_count indexed) (filter one (types_of indexed.rows))
     ≡ count_by (λ (row : Attribute). (has (types_of indexed.rows) row.type_id && one row.type_id) && true) indexed.rows
@@ -47,7 +47,7 @@ kept_rows indexed one =
     ∙ sym (all_pass (flat_map own (filter one types)))
     ∙ count_by_keys (λ (row : Attribute). row.type_id) one (λ row. true) rows types (types_apart rows)
 
--- of one type its own rows, of none none
+-- the rows of the types that pass `one`, if only the type `id` may pass, are at most the rows of `id`
 rows_of_one : (indexed : Indexed) (one : ℕ → Bool) (id : ℕ) → ((other : ℕ) → one other ≡ true → (other == id) ≡ true)
     → sum_by (type_row_count indexed) (filter one (types_of indexed.rows)) ≤ type_row_count indexed id
 rows_of_one indexed one id alone =
@@ -67,10 +67,11 @@ rows_of_one indexed one id alone =
 module _ (release : Release) (indexed : Indexed) (index : IsIndexOf indexed release)
     (rising : IsStrictlyIncreasing release.concepts)
     (items : List ℕ) (size : ℕ) (few : length items ≤ size) where
+  -- the items of the types found are at most `size` and all rows
   of_any : type_items indexed items ≤ size + length indexed.rows
   of_any = omega (arith, few, type_rows_few indexed (is_one_of indexed.concepts items))
 
-  -- what one concept's number stands for is that concept
+  -- if the items are the number of a concept `id`, each concept among them is `id`
   one_alone : (id : ℕ) (number : Option ℕ) → concept_number release.concepts id ≡ number → items ≡ as_list number
       → (other : ℕ) → is_one_of indexed.concepts items other ≡ true → (other == id) ≡ true
   one_alone id None at is other told =
@@ -83,6 +84,7 @@ module _ (release : Release) (indexed : Indexed) (index : IsIndexOf indexed rele
       ∙ ap (λ (xs : List ℕ). is_one_of indexed.concepts xs other) (sym is) ∙ told in
       eq-eqb other id (sym (eqb-true (get_or indexed.concepts n 0) other same) ∙ named)
 
+  -- reading the types that a plan has found, and their rows, takes at most `size` and the rows of the plan
   pub types_read : (plan : Physical) → items ≡ numbers_in release (means release (logical plan))
       → type_items indexed items ≤ size + type_rows indexed plan
   types_read (physical_one id) is =
@@ -117,18 +119,21 @@ module _ (release : Release) (indexed : Indexed) (index : IsIndexOf indexed rele
   types_read (physical_pairs back count types test choice) is = of_any
   types_read (physical_units count units) is = of_any
 
-  -- ---- by value: the values that are found, and their rows
+  -- ---- by value: the values found, and their rows
   module _ (back : Bool) (below : IsRisingBelow (length release.concepts) items) where
+    -- the rows of the values found are at most all rows
     rows_of_any : sum_by (row_count_of indexed back) items ≤ length indexed.rows
     rows_of_any =
         rows_few indexed (subst IsStrictlyIncreasing (sym index.concepts) rising) items
         (subst (λ (ids : List ℕ). IsRisingBelow (length ids) items) (sym index.concepts) below) back
 
+    -- the rows of at most one value are at most those of its number
     rows_of_number : (number : Option ℕ) → sum_by (row_count_of indexed back) (as_list number)
         ≤ counted (row_count_of indexed back) number
     rows_of_number None = omega arith
     rows_of_number (Some n) = omega (arith, sum_by-cons (row_count_of indexed back) n [])
 
+    -- the rows of the values that a plan has found are at most the rows that the plan leaves
     pub values_read : (plan : Physical) → items ≡ numbers_in release (means release (logical plan))
         → sum_by (row_count_of indexed back) items ≤ rows_left (value_row_count indexed back) (length indexed.rows) plan
     values_read (physical_one id) is =
@@ -150,7 +155,8 @@ module _ (release : Release) (indexed : Indexed) (index : IsIndexOf indexed rele
     values_read (physical_pairs other count types test choice) is = rows_of_any
     values_read (physical_units count units) is = rows_of_any
 
--- ---- a leaf as a whole has room for its choice, by what its types and its test have found
+-- ---- the bound of a leaf has room for what its choice reads
+-- what a leaf reads under a choice is at most its bound, by what its types and its test have found
 pub leaf_room : (release : Release) (indexed : Indexed) → IsIndexOf indexed release
     → IsStrictlyIncreasing release.concepts
     → {S : Type 0} (items_of : S → List ℕ) (all : ℕ) (back : Bool) (count : Cardinality) (types : Physical)

@@ -19,7 +19,7 @@ use Rattle.candidates.proofs.Normal.{as_list, one_in}
 use Rattle.walks.specs.Families.{items_in}
 use Rattle.walks.proofs.ReadLemmas.{items_of_some}
 
--- those of one concept, or of none
+-- reading at most one concept and its components takes at most 1 and the number of its components
 of_one : (indexed : Indexed) (number : Option ℕ)
     → length (as_list number) + items_in indexed.members (as_list number)
     ≤ 1 + counted (λ n. length (list_of indexed.members n)) number
@@ -31,13 +31,14 @@ module _ (release : Release) (indexed : Indexed) (index : IsIndexOf indexed rele
     (lists : length indexed.members ≡ length indexed.concepts) (items : List ℕ)
     (below : IsRisingBelow (length release.concepts) items)
     (size : ℕ) (few : length items ≤ size) where
-  -- those of any
+  -- reading a set of concepts and their components takes at most its size and all components
   of_any : length items + items_in indexed.members items ≤ size + length (concat indexed.members)
   of_any =
       let rises : IsRisingBelow (length indexed.members) items =
       subst (λ (n : ℕ). IsRisingBelow n items) (sym (lists ∙ ap (λ (xs : List ℕ). length xs) index.concepts)) below in
       omega (arith, few, items_of_some indexed.members items rises)
 
+  -- reading what a plan has found and the components of its reference sets takes at most the bound of the node
   pub members_read : (plan : Physical) → items ≡ numbers_in release (means release (logical plan))
       → length items + items_in indexed.members items ≤ members_bound indexed (one_of plan) size
   members_read (physical_one id) is =

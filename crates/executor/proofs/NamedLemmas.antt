@@ -13,7 +13,8 @@ use Rattle.candidates.proofs.Normal.{as_list, one_in}
 use Rattle.executor.specs.inside.Logical.{logical_of}
 use Rattle.executor.specs.inside.Named.{AddsNamed, HasNamed}
 
--- the rows of the one concept in force with the identifier, if there is one, are those that are added
+-- if the rows of the concept in force with identifier `id` are added, if there is one, then `AddsNamed` holds of the
+-- plan that names `id`
 pub adds_named : (release : Release) → IsStrictlyIncreasing release.concepts → (id : ℕ) (number : Option ℕ)
     → concept_number release.concepts id ≡ number → (early late : Tally) → Adds (as_list number) early late
     → (plan : Plan) → plan ≡ one_plan id → AddsNamed release plan early late
@@ -21,13 +22,13 @@ adds_named release rising id number at early late adds plan is =
     subst (λ (plan : Plan). AddsNamed release plan early late) (sym is)
     (subst (λ (values : List ℕ). Adds values early late) (one_in release rising id number at) adds)
 
--- where rows are added as a plan that names one concept has them, they are the rows of that concept
+-- if `AddsNamed` holds of the plan that names `id`, the rows of that concept are added
 pub named_adds : (release : Release) (id : ℕ) (early late : Tally) (plan : Plan) → plan
     ≡ one_plan id → AddsNamed release plan early late
     → Adds (numbers_in release (λ concept. has_concept release concept && (concept == id))) early late
 named_adds release id early late plan is = subst (λ (plan : Plan). AddsNamed release plan early late) is
 
--- what is known of a name is so of a name that is equal to it, whatever their choices
+-- a name that is equal to another has the meaning that is known of that one, whatever the choices of both
 pub named_again : (release : Release) (before name : ConceptPlan) {items : List ℕ} {bound : ℕ}
     → plan_of before ≡ plan_of name → HasNamed release (logical_of before) items bound
     → HasNamed release (logical_of name) items bound

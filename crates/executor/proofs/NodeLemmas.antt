@@ -1,4 +1,4 @@
--- What each kind of plan means, from what its parts mean.
+-- What each kind of plan of concepts means, from what its parts mean.
 use Rattle.std.proofs.Common.{ℕ, zero, suc, ◌≡◌, ◌<◌, arith, ◌∙◌, ◌∷◌, [], Bool, true, ◌==◌, ◌&&◌, ◌||◌, List, length}
 use Rattle.std.proofs.Common.{get_or, take, ◌+◌, refl, sym, ap}
 use Rattle.std.proofs.lemmas.Bool.{and_parts}
@@ -25,20 +25,24 @@ use Rattle.candidates.proofs.Normal.{each_in_force, in_force_kept, numbers_in-ag
 use Rattle.walks.proofs.StepLemmas.{led_is}
 use Rattle.executor.specs.inside.Logical.{logical_of, logicals_of}
 
+-- equal plans mean equal sets
 meant : (release : Release) (plan other : Plan) → plan ≡ other → numbers_in release (means release other)
     ≡ numbers_in release (means release plan)
 meant release plan other is = ap (λ (p : Plan). numbers_in release (means release p)) (sym is)
 
 module _ (release : Release) (plan : Plan) (found : List ℕ) where
+  -- the numbers of all concepts are what a plan of all concepts means
   pub all_node : plan ≡ all_plan → found ≡ range_with_len 0 (length release.concepts) → found
       ≡ numbers_in release (means release plan)
   all_node is found_is = found_is ∙ each_in_force release ∙ meant release plan all_plan is
 
+  -- the concept in force with the identifier `id` is what a plan of this one concept means
   pub one_node : (id : ℕ) → plan ≡ one_plan id
       → found ≡ numbers_in release (λ concept. has_concept release concept && (concept == id))
       → found ≡ numbers_in release (means release plan)
   one_node id is found_is = found_is ∙ meant release plan (one_plan id) is
 
+  -- what an operator leads to from the concepts of `child` is what the walk means
   pub walk_node : (child : Plan) (operator : Operator) (hierarchy : Hierarchy) (count : ℕ) (from : List ℕ) → plan
       ≡ walk_plan operator child
       → hierarchy ≡ hierarchy_of release → count ≡ length release.concepts → from
@@ -51,6 +55,7 @@ module _ (release : Release) (plan : Plan) (found : List ℕ) where
       ∙ in_force_kept release (walks release operator (means release child))
       ∙ meant release plan (walk_plan operator child) is
 
+  -- the components of the reference sets that `child` means are what the plan of members means
   pub members_node : (child : Plan) (from : List ℕ) → plan ≡ members_plan child → from
       ≡ numbers_in release (means release child)
       → found ≡ components_of release from → found ≡ numbers_in release (means release plan)
@@ -58,6 +63,7 @@ module _ (release : Release) (plan : Plan) (found : List ℕ) where
       found_is ∙ components_in release (means release child) from from_is (in_force_if_meant release child)
       ∙ meant release plan (members_plan child) is
 
+  -- the concepts that all parts mean are what their conjunction means
   pub and_node : (parts : List ConceptPlan) → plan ≡ and_plan (logicals_of parts)
       → found ≡ numbers_in release (λ concept. list_all (λ part. means release (logical_of part) concept) parts)
       → found ≡ numbers_in release (means release plan)
@@ -77,6 +83,7 @@ module _ (release : Release) (plan : Plan) (found : List ℕ) where
       all_listed (part ∷ some) concept = ap (λ (b : Bool). means release (logical_of part) concept && b)
           (all_listed some concept)
 
+  -- the concepts that at least one part means are what their disjunction means
   pub or_node : (parts : List ConceptPlan) → plan ≡ or_plan (logicals_of parts)
       → found ≡ numbers_in release (λ concept. list_any (λ part. means release (logical_of part) concept) parts)
       → found ≡ numbers_in release (means release plan)
@@ -94,7 +101,7 @@ module _ (release : Release) (plan : Plan) (found : List ℕ) where
       some_listed (part ∷ some) concept = ap (λ (b : Bool). means release (logical_of part) concept || b)
           (some_listed some concept)
 
--- whether a concept is one of those that a plan means
+-- whether a concept is in the set that a plan has found is whether the plan means it
 pub one_meant : (release : Release) (plan : Plan) (concepts items : List ℕ) → concepts ≡ release.concepts → items
     ≡ numbers_in release (means release plan)
     → is_one_of concepts items ≡ means release plan
@@ -103,11 +110,14 @@ one_meant release plan concepts items are is =
     ∙ (λ i id. one_of_set release (means release plan) items is (in_force_if_meant release plan) id i)
 
 module _ (release : Release) (plan : Plan) (found : List ℕ) where
+  -- the concepts that the attribute names lead to from `start` are what the plan of values means
   pub values_node : (start : Plan) (names : List ConceptPlan) → plan ≡ values_plan start (logicals_of names)
       → found ≡ numbers_in release (leads release (means release start) (logicals_of names)) → found
       ≡ numbers_in release (means release plan)
   values_node start names is found_is = found_is ∙ meant release plan (values_plan start (logicals_of names)) is
 
+  -- the concepts whose number of pairs with types of `items` and passing values lies in `count` are what the leaf
+  -- means
   pub pairs_node : (back : Bool) (count : Cardinality) (types : Plan) (test : TestPlan) (concepts items : List ℕ)
       → plan ≡ pairs_plan back count types test → concepts ≡ release.concepts → items
       ≡ numbers_in release (means release types)
@@ -123,6 +133,7 @@ module _ (release : Release) (plan : Plan) (found : List ℕ) where
       (pairs_of release back concept))
       ∙ meant release plan (pairs_plan back count types test) is
 
+  -- the concepts whose number of groups that `units` means lies in `count` are what the plan of groups means
   pub units_node : (count : Cardinality) (units : PlanOfUnits) → plan ≡ units_plan count units
       → found ≡ numbers_in release (has_groups release count (unit_means release units)) → found
       ≡ numbers_in release (means release plan)
@@ -130,7 +141,7 @@ module _ (release : Release) (plan : Plan) (found : List ℕ) where
       found_is ∙ in_force_kept release (has_groups release count (unit_means release units))
       ∙ meant release plan (units_plan count units) is
 
--- one name more leads from where those before it lead to the values of attributes with a type that it means
+-- one more name leads from where the first `k` names lead to the values of attributes with a type that it means
 leads_further : (release : Release) (names : List ConceptPlan) (k : ℕ) (d : ConceptPlan) → k < length names →
     (set : ℕ → Bool)
     → leads release set (logicals_of (take (suc k) names))
@@ -140,7 +151,7 @@ leads_further release (name ∷ names) zero d within set = refl
 leads_further release (name ∷ names) (suc k) d within set =
     leads_further release names k d (omega (arith, within)) (is_value release set (means release (logical_of name)))
 
--- the concepts that the names so far lead to are in force
+-- the concepts that attribute names lead to are in force, if they start from concepts in force
 led_in_force : (release : Release) (names : Plans) (set : ℕ → Bool) → ((concept : ℕ) → set concept
     ≡ true → has_concept release concept ≡ true)
     → (concept : ℕ) → leads release set names concept ≡ true → has_concept release concept ≡ true
@@ -149,6 +160,7 @@ led_in_force release (plan_then name names) set forced concept led =
     led_in_force release names (is_value release set (means release name))
     (λ value holds. (and_parts (has_concept release value) _ holds).0) concept led
 
+-- if the first `k` names lead to `found`, the name at `k` leads from there to where `k + 1` names lead
 pub name_step : (release : Release) (plan : Plan) (names : List ConceptPlan) (k : ℕ) (name : ConceptPlan) → k < length
     names → name ≡ get_or names k name
     → (concepts found types led : List ℕ) → concepts ≡ release.concepts
@@ -176,6 +188,7 @@ name_step release plan names k name within is concepts found types led are types
 
 -- what passes a test by the concepts of a set passes it by the plan that means them
 module _ (release : Release) (plan : Plan) (concepts items : List ℕ) (test : TestPlan) where
+  -- a value is within the set that a plan has found exactly if it passes the test within the plan
   pub within_passes : test ≡ within_plan plan → concepts ≡ release.concepts → items
       ≡ numbers_in release (means release plan)
       → (value : Value) → is_within (is_one_of concepts items) value ≡ value_passes release test value
@@ -183,6 +196,7 @@ module _ (release : Release) (plan : Plan) (concepts items : List ℕ) (test : T
       ap (λ (set : ℕ → Bool). is_within set value) (one_meant release plan concepts items are items_are)
       ∙ ap (λ (t : TestPlan). value_passes release t value) (sym is)
 
+  -- a value is outside the set that a plan has found exactly if it passes the test outside the plan
   pub outside_passes : test ≡ outside_plan plan → concepts ≡ release.concepts → items
       ≡ numbers_in release (means release plan)
       → (value : Value) → is_outside (is_one_of concepts items) value ≡ value_passes release test value

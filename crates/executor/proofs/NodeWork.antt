@@ -1,5 +1,5 @@
--- What is counted of a node, and what it finds, from what is counted and found of its parts. Which node a plan of the
--- code is, is told by what the code lends of it.
+-- What is counted of a node, and what it finds, from what is counted and found of its parts. What the code borrows
+-- from a plan tells which kind of node the plan is.
 use Rattle.std.proofs.Common.{Err, Ok, Box, ℕ, ◌+◌, ◌-◌, ◌^◌, ◌≡◌, ◌≤◌, ◌∙◌, [], List, length, min, refl, sym, ap}
 use Rattle.std.proofs.Common.{subst, arith}
 use Rattle.std.specs.Prelude.{IfOk, Result}
@@ -37,41 +37,48 @@ use Rattle.reading.proofs.CountLemmas.{counted_both, counted_thrice}
 use Rattle.executor.specs.inside.Executed.{AnswersAll, AnswersPlan, AnswersTest, AnswersUnits, CountsPlan, CountsTest}
 use Rattle.executor.specs.inside.Executed.{CountsBeside, CountsUnits}
 
--- ---- which node a plan is, for nodes of one part
+-- ---- nodes of one part: which node a plan is
+-- a `Walk` node is the physical walk of its operator and operand
 pub walk_is : (operator : Operator) (operand : Box ConceptPlan Global) {plan from : ConceptPlan}
     → plan ≡ concept_plan.Walk operator operand → from ≡ operand.value
     → physical_of plan ≡ physical_walk operator (physical_of from)
 walk_is operator operand is from_is =
     ap physical_of is ∙ ap (λ (from : ConceptPlan). physical_walk operator (physical_of from)) (sym from_is)
 
+-- a `Members` node is the physical node of its operand
 pub members_are : (operand : Box ConceptPlan Global) {plan from : ConceptPlan}
     → plan ≡ concept_plan.Members operand → from ≡ operand.value → physical_of plan
     ≡ physical_members (physical_of from)
 members_are operand is from_is = ap physical_of is ∙ ap (λ (from : ConceptPlan). physical_members (physical_of from))
     (sym from_is)
 
+-- a test within a plan is the physical test within it
 pub test_within : (operand : Box ConceptPlan Global) {test : ValueTest} {lent : ConceptPlan}
     → test ≡ value_test.Within operand → lent ≡ operand.value → physical_test_of test
     ≡ physical_within (physical_of lent)
 test_within operand is lent_is =
     ap physical_test_of is ∙ ap (λ (lent : ConceptPlan). physical_within (physical_of lent)) (sym lent_is)
 
+-- a test outside a plan is the physical test outside it
 pub test_outside : (operand : Box ConceptPlan Global) {test : ValueTest} {lent : ConceptPlan}
     → test ≡ value_test.Outside operand → lent ≡ operand.value → physical_test_of test
     ≡ physical_outside (physical_of lent)
 test_outside operand is lent_is =
     ap physical_test_of is ∙ ap (λ (lent : ConceptPlan). physical_outside (physical_of lent)) (sym lent_is)
 
--- ---- what is counted and found of the node is so of the plan
+-- ---- what holds of a node holds of the plan that the node is
 module _ (indexed : Indexed) {early late : Counter} where
+  -- what is within the bound of a node of concepts is within the bound of the plan that the node is
   pub plan_counts : {plan node : Physical} → plan ≡ node → CountsPlan indexed node early late → CountsPlan indexed plan
       early late
   plan_counts is = subst (λ (plan : Physical). CountsPlan indexed plan early late) (sym is)
 
+  -- what is within the bound of a node of groups is within the bound of the plan that the node is
   pub units_count : {plan node : PhysicalUnits} → plan ≡ node → CountsUnits indexed node early late → CountsUnits
       indexed plan early late
   units_count is = subst (λ (plan : PhysicalUnits). CountsUnits indexed plan early late) (sym is)
 
+  -- what is within the bound of a test is within the bound of the test that it is equal to
   pub test_counts : {test node : PhysicalTest} → test ≡ node → CountsTest indexed node early late → CountsTest indexed
       test early late
   test_counts is = subst (λ (test : PhysicalTest). CountsTest indexed test early late) (sym is)
@@ -79,12 +86,14 @@ module _ (indexed : Indexed) {early late : Counter} where
 module _ {S E : Type 0} (sets : Ghosts S) (release : Release) (indexed : Indexed) (candidates : Candidates S)
     (early late : Counter)
     (result : Result S E) where
+  -- an answer to a node of concepts is an answer to the plan that the node is
   pub plan_answers : {plan node : Physical} → plan ≡ node
       → IfOk result (AnswersPlan sets release indexed candidates node early late)
       → IfOk result (AnswersPlan sets release indexed candidates plan early late)
   plan_answers is = subst
       (λ (plan : Physical). IfOk result (AnswersPlan sets release indexed candidates plan early late)) (sym is)
 
+  -- an answer to a node of groups is an answer to the plan that the node is
   pub units_answer : {plan node : PhysicalUnits} → plan ≡ node
       → IfOk result (AnswersUnits sets release indexed candidates node early late)
       → IfOk result (AnswersUnits sets release indexed candidates plan early late)
@@ -98,6 +107,7 @@ module _ {S : Type 0} (sets : Ghosts S) (release : Release) (indexed : Indexed) 
     (is : AnswersAll sets release indexed plan early late found)
     (rises : IsRisingBelow (length release.concepts) (sets.items_of found))
     (few : length (sets.items_of found) ≤ size indexed plan) {test : PhysicalTest} where
+  -- the set that a plan has found, as a test within it, answers the test within the plan
   pub answers_within : test ≡ physical_within plan → AnswersTest sets release indexed test early late
       (tests.Within found)
   answers_within test_is =
@@ -116,6 +126,7 @@ module _ {S : Type 0} (sets : Ghosts S) (release : Release) (indexed : Indexed) 
             omega (arith, rows);
       })
 
+  -- the set that a plan has found, as a test outside it, answers the test outside the plan
   pub answers_outside : test ≡ physical_outside plan → AnswersTest sets release indexed test early late
       (tests.Outside found)
   answers_outside test_is =
@@ -131,7 +142,7 @@ module _ {S : Type 0} (sets : Ghosts S) (release : Release) (indexed : Indexed) 
         read = λ back. omega arith;
       })
 
--- a node without parts, which counts nothing
+-- a node without parts that counts nothing finds what its set has, if its floor is 0
 pub leaf_found : {S E : Type 0} (sets : Ghosts S) (visits : Counter) (result : Result S E) (below : ℕ)
     {least : ℕ} {numbers : List ℕ} {own : List ℕ → Type 0}
     → least ≡ 0 → ((found : List ℕ) → own found → found ≡ numbers)
@@ -141,12 +152,13 @@ leaf_found sets visits (Ok found) below none next items bound =
     record { items = next (sets.items_of found) items; bound = bound; floor = omega (arith, none) }
 leaf_found sets visits (Err error) below none next items bound = tt
 
--- of no parts nothing is counted
+-- the floor of no parts of concepts is 0, so any counter has reached it
 pub no_floor : (indexed : Indexed) {parts : List ConceptPlan} (before : ℕ) → parts ≡ []
     → min (before + plans_sum (floor_number indexed) (physicals_of parts)) (2 ^ 64 - 1) ≤ before
 no_floor indexed before none =
     omega (arith, ap (λ (parts : List ConceptPlan). plans_sum (floor_number indexed) (physicals_of parts)) none)
 
+-- the floor of no parts of groups is 0, so any counter has reached it
 pub no_floor_of_groups : (indexed : Indexed) {parts : List UnitPlan} (before : ℕ) → parts ≡ []
     → min (before + groups_sum (floor_number indexed) (physical_units_list_of parts)) (2 ^ 64 - 1) ≤ before
 no_floor_of_groups indexed before none =
@@ -154,13 +166,13 @@ no_floor_of_groups indexed before none =
 
 -- ---- a leaf: its types, and its test
 module _ (indexed : Indexed) (types : Physical) (test : PhysicalTest) where
-  -- what is read of the types, of the test and of the leaf itself
+  -- a leaf counts at most its own bound and those of its types and its test, which are executed before it
   pub leaf_reads : {early typed tested late : Counter} {most own : ℕ} → CountsPlan indexed types early typed
       → CountsTest indexed test typed tested → most ≤ own → CountsWithin most tested late
       → CountsWithin (own + (node_sum (own_number indexed) types + test_sum (own_number indexed) test)) early late
   leaf_reads one other room read = counted_thrice one other read (omega (arith, room))
 
-  -- a leaf, its types and its test together read no less than their floors
+  -- a leaf, its types and its test together count at least their floors
   pub leaf_floor : (before : ℕ) {typed tested after least own : ℕ}
       → min (before + node_sum (floor_number indexed) types) (2 ^ 64 - 1) ≤ typed
       → min (typed + test_sum (floor_number indexed) test) (2 ^ 64 - 1) ≤ tested
@@ -169,7 +181,8 @@ module _ (indexed : Indexed) (types : Physical) (test : PhysicalTest) where
       (2 ^ 64 - 1) ≤ after
   leaf_floor before one other same read = omega (arith, one, other, same, read)
 
--- ---- what dotted attributes read: their start, and what is read along their names from so many
+-- ---- dotted attributes read their start, and then the values along their names
+-- dotted attributes count at most the bound of their start, of their names and of the values along them
 pub led_reads : (indexed : Indexed) (start : Physical) (names : Physicals) {found : ℕ} {early between late : Counter}
     → CountsPlan indexed start early between
     → CountsWithin (values_bound indexed (plan_count names) found + plans_sum (own_number indexed) names) between late
@@ -177,7 +190,7 @@ pub led_reads : (indexed : Indexed) (start : Physical) (names : Physicals) {foun
 led_reads indexed start names {found = found} first along few =
     counted_both first along (omega (arith, along_from indexed (plan_count names) found (size indexed start) few))
 
--- what MINUS counts beside its two parts: what it has room for beside both, and then what both have found
+-- a difference counts at most the bounds of both parts and its own bound, which has room for what both found
 pub counted_minus : {first second left right most own all : ℕ} {early one two three late : Counter}
     → CountsWithin first early one → CountsBeside left most own one two → CountsWithin second two three
     → HandsOut (left + right) three late → right ≤ left → right ≤ most → left + min most left ≤ own

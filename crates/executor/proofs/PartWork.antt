@@ -1,5 +1,5 @@
--- What the parts of a node of either sort find at most, and what they visit with what is read of that; and how many a
--- set has of those that a plan means.
+-- What the parts of a node find and visit at most, and how many numbers a set has of those that a plan means. Nodes
+-- of concepts and of groups are treated apart.
 use Rattle.std.proofs.Common.{ℕ, ◌+◌, ◌*◌, ◌≡◌, ◌≤◌, ◌∙◌, ◌&&◌, Bool, true, List, length, get_or, min, refl, sym, ap}
 use Rattle.std.proofs.Common.{subst, arith}
 use Rattle.std.specs.Prelude.{All, slice_get}
@@ -41,6 +41,7 @@ use Rattle.executor.proofs.GroupNodeLemmas as groups
 use Rattle.executor.proofs.NodeLemmas.{or_node}
 use Rattle.executor.proofs.WithinNodes.{groups_same, within_same}
 
+-- the sizes of plans of concepts, added up
 abbrev pub concepts_found : Indexed → Sum ConceptPlan
 concepts_found indexed = record {
   of_part = λ part. size indexed (physical_of part);
@@ -49,6 +50,7 @@ concepts_found indexed = record {
   more = λ part parts. refl;
 }
 
+-- twice the sizes of plans of concepts, and their bounds, added up
 abbrev pub concepts_read : Indexed → Sum ConceptPlan
 concepts_read indexed = record {
   of_part = λ part. 2 * size indexed (physical_of part) + node_sum (own_number indexed) (physical_of part);
@@ -58,6 +60,7 @@ concepts_read indexed = record {
   more = λ part parts. omega arith;
 }
 
+-- the sizes of plans of groups, added up
 abbrev pub groups_found : Indexed → Sum UnitPlan
 groups_found indexed = record {
   of_part = λ part. group_size indexed (physical_units_of part);
@@ -66,6 +69,7 @@ groups_found indexed = record {
   more = λ part parts. refl;
 }
 
+-- twice the sizes of plans of groups, and their bounds, added up
 abbrev pub groups_read : Indexed → Sum UnitPlan
 groups_read indexed = record {
   of_part = λ part. 2 * group_size indexed (physical_units_of part) + group_sum (own_number indexed)
@@ -77,7 +81,8 @@ groups_read indexed = record {
   more = λ part parts. omega arith;
 }
 
--- ---- no more is found than a plan means, of whichever candidates
+-- ---- a plan finds at most what it means, whatever the candidates
+-- at most as many numbers below `bound` pass two tests as pass one of them
 fewer : (bound : ℕ) (may set : ℕ → Bool) → length (numbers_where bound (λ n. may n && set n))
     ≤ length (numbers_where bound set)
 fewer bound may set =
@@ -88,7 +93,7 @@ fewer bound may set =
       count_le (λ n. may n && set n) set (range_with_len 0 bound) (λ n passes. (and_parts (may n) (set n) passes).1),
     )
 
--- no more numbers of a set are found of some candidates than there are candidates
+-- a set that is found among candidates has at most as many numbers as there are candidates
 pub few_of_candidates : (bound : ℕ) (candidates : List ℕ) (set : ℕ → Bool) (found : List ℕ)
     → found ≡ numbers_where bound (λ n. has candidates n && set n) → length found ≤ length candidates
 few_of_candidates bound candidates set found is =
@@ -102,6 +107,7 @@ few_of_candidates bound candidates set found is =
       listed_few bound candidates,
     )
 
+-- each number that is found among candidates is a candidate
 pub are_candidates : (bound : ℕ) (may set : ℕ → Bool) (found : List ℕ) → found
     ≡ numbers_where bound (λ n. may n && set n)
     → All (λ n. may n ≡ true) found
@@ -115,6 +121,7 @@ are_candidates bound may set found is =
 module _ (release : Release) (indexed : Indexed) (is : IsIndexOf indexed release)
     (rising : IsStrictlyIncreasing release.concepts)
     (known : All (λ (row : Attribute). has release.concepts row.source ≡ true) release.attributes) where
+  -- a plan of concepts finds at most its size, among any candidates
   pub few_found : (plan : Physical) (may : ℕ → Bool) (found : List ℕ) → found
       ≡ numbers_within release may (means release (logical plan))
       → length found ≤ size indexed plan
@@ -126,6 +133,7 @@ module _ (release : Release) (indexed : Indexed) (is : IsIndexOf indexed release
         numbers-le release indexed is rising known plan,
       )
 
+  -- a plan of groups finds at most its size, among any candidates
   pub few_groups : (plan : PhysicalUnits) (may : ℕ → Bool) (found : List ℕ)
       → found ≡ groups_within release may (unit_means release (logical_units plan)) → length found
       ≤ group_size indexed plan
@@ -138,7 +146,7 @@ module _ (release : Release) (indexed : Indexed) (is : IsIndexOf indexed release
         group_numbers-le release indexed is rising known plan (some_group_in release set) (λ group. refl),
       )
 
-  -- nor than some parts find together
+  -- the concepts that at least one part finds are at most the total of the sizes of the parts
   pub few_joined : (parts : List ConceptPlan) (may : ℕ → Bool) (found : List ℕ)
       → found ≡ numbers_within release may (λ concept. list_any (λ part. means release (logical_of part) concept) parts)
       → length found ≤ total (sizes indexed (physicals_of parts))
@@ -150,6 +158,7 @@ module _ (release : Release) (indexed : Indexed) (is : IsIndexOf indexed release
       (or_node release plan (numbers_in release some) parts refl refl)) in
       omega (arith, few)
 
+  -- the groups that at least one part finds are at most the total of the sizes of the parts
   pub few_joined_groups : (parts : List UnitPlan) (may : ℕ → Bool) (found : List ℕ)
       → found ≡ groups_within release may (λ pairs. list_any (λ part. unit_means release (logical_units_of part) pairs)
       parts)
@@ -163,7 +172,7 @@ module _ (release : Release) (indexed : Indexed) (is : IsIndexOf indexed release
       (groups.or_node release plan (groups_where release some) parts refl refl)) in
       omega (arith, few)
 
-  -- nor are there more values of attributes than rows
+  -- the values of attributes are at most as many as the concepts and as the rows
   pub few_values : (set types : ℕ → Bool) (found : List ℕ) → found ≡ numbers_in release (is_value release set types)
       → length found ≤ min (length indexed.concepts) (length indexed.rows)
   few_values set types found found_is =

@@ -4,7 +4,7 @@ use Rattle.set_algebra.proofs.PhysicalLemmas.{physical_units_of-And}
 use Rattle.set_algebra.proofs.PhysicalLemmas.{physical_units_of-Or}
 use Rattle.set_algebra.proofs.PlanLemmas.{plan_of-And, plan_of-Or, plan_of-Values, unit_plan_of-And, unit_plan_of-Or}
 
--- for the functions that go from a node to its parts
+-- lemmas for the functions that go from a node to its parts
 pub ruleset node_parts = (
   plan_of-And,
   plan_of-Or,

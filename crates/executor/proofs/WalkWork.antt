@@ -1,4 +1,4 @@
--- What is read where an operator leads from what a plan has found is within the bound of the node.
+-- What a walk reads, from what its operand has found, is within the bound of the node.
 use Rattle.std.proofs.Common.{ℕ, ◌+◌, [], ◌≡◌, ◌≤◌, ◌<◌, ◌∙◌, Bool, true, false, cond, List, Option, None, Some}
 use Rattle.std.proofs.Common.{length, refl, sym, ap, arith, rules}
 use Rattle.std.specs.Prelude.{IsSome, if◌then◌else◌}
@@ -27,12 +27,12 @@ use Rattle.walks.specs.Families.{all_items_of, family_of, lists_of}
 use Rattle.walks.specs.Reads.{walk_items}
 use Rattle.walks.proofs.ReadLemmas.{at_most_all}
 
--- what is counted of a walk at least
+-- the floor of a walk node
 abbrev walk_floor : Indexed → Operator → Option ℕ → ℕ
 walk_floor indexed operator one = if is_extreme operator then 0 else of_one_concept indexed one
     (list_length indexed operator)
 
--- the lists of a node are those of the operator's family
+-- the lists of a walk are those of the operator's family
 along : (hierarchy : Hierarchy) (operator : Operator) → lists_of hierarchy (family_of operator)
     ≡ lists_along hierarchy operator
 along hierarchy Descendants = refl
@@ -46,6 +46,7 @@ along hierarchy ParentsOrSelf = refl
 along hierarchy Top = refl
 along hierarchy Bottom = refl
 
+-- the items of all lists of the operator's family are as many as its lists have together
 pub all_along : (indexed : Indexed) (operator : Operator) → all_items_of indexed.hierarchy (family_of operator)
     ≡ lists_length indexed operator
 all_along indexed Descendants = refl
@@ -59,7 +60,7 @@ all_along indexed ParentsOrSelf = refl
 all_along indexed Top = refl
 all_along indexed Bottom = refl
 
--- from one concept, or from none
+-- reading at most one concept and its list takes at most 1 and the length of its list
 of_one : (indexed : Indexed) (operator : Operator) (number : Option ℕ)
     → length (as_list number) + walk_items indexed.hierarchy operator (as_list number)
     ≤ 1 + counted (λ n. length (list_of (lists_along indexed.hierarchy operator) n)) number
@@ -75,7 +76,7 @@ module _ (release : Release) (indexed : Indexed) (index : IsIndexOf indexed rele
     (rising : IsStrictlyIncreasing release.concepts)
     (items : List ℕ) (below : IsRisingBelow (length release.concepts) items) (operator : Operator) (size : ℕ)
     (few : length items ≤ size) where
-  -- from any
+  -- reading a set of concepts and their lists takes at most its size and the length of all lists
   of_any : length items + walk_items indexed.hierarchy operator items ≤ size + lists_length indexed operator
   of_any =
       omega (
@@ -87,6 +88,7 @@ module _ (release : Release) (indexed : Indexed) (index : IsIndexOf indexed rele
         all_along indexed operator,
       )
 
+  -- reading what a plan has found and the lists that a walk leads along takes at most the bound of the walk
   pub walk_read : (plan : Physical) → items ≡ numbers_in release (means release (logical plan))
       → length items + walk_items indexed.hierarchy operator items ≤ walk_bound indexed operator (one_of plan) size
   walk_read (physical_one id) is =
@@ -110,11 +112,12 @@ module _ (release : Release) (indexed : Indexed) (index : IsIndexOf indexed rele
   walk_read (physical_pairs back count types test choice) is = of_any
   walk_read (physical_units count units) is = of_any
 
--- from what is no one concept any list may be read, and nothing has to be counted
+-- the bound of a walk from what is not one concept is the size and the length of all lists
 pub several_bound : (indexed : Indexed) (operator : Operator) (one : Option ℕ) (size : ℕ) → one ≡ None
     → walk_bound indexed operator one size ≡ size + lists_length indexed operator
 several_bound indexed operator one size none = ap (λ (one : Option ℕ). walk_bound indexed operator one size) none
 
+-- the floor of a walk from what is not one concept is 0
 pub several_floor : (indexed : Indexed) (operator : Operator) (one : Option ℕ) → one
     ≡ None → walk_floor indexed operator one ≡ 0
 several_floor indexed operator one none = ap (walk_floor indexed operator) none ∙ at (is_extreme operator)
@@ -123,6 +126,7 @@ several_floor indexed operator one none = ap (walk_floor indexed operator) none 
     at true = refl
     at false = refl
 
+-- a plan that has rows to read without its candidates is not one concept
 pub not_one : (one : Option ℕ) (rows : ℕ) → (IsSome one → rows ≡ 0) → 0 < rows → one ≡ None
 not_one None rows none some = refl
 not_one (Some id) rows none some = let is : IsSome (Some id) = search rules in absurd (omega (arith, none is, some))

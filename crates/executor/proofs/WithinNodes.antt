@@ -1,4 +1,4 @@
--- What plans mean, of candidates alone, from what they mean.
+-- What plans mean among candidates, from what they mean.
 use Rattle.std.proofs.Common.{ℕ, zero, suc, ◌≡◌, ◌<◌, ◌≤◌, ◌∙◌, ◌∷◌, [], Bool, true, false, not, ◌&&◌, List}
 use Rattle.std.proofs.Common.{Option, None, Some, length, get_or, take, refl, sym, ap, subst, arith, inl, inr, ◌+◌}
 use Rattle.std.specs.Prelude.{IfOk, Result, filter, slice_get}
@@ -36,7 +36,7 @@ use Rattle.executor.proofs.NodeLemmas.{and_node, or_node, units_node, walk_node}
 use Rattle.pair_sets.proofs.LeafLemmas as leaf
 use Rattle.candidates.proofs.WithinLemmas.{all_again, all_done, kept_groups, minus_within, restricted_to, some_of_none}
 
--- what all of a list pass, one of them passes
+-- a test that all items of a list pass is passed by the item at `k`
 pub passed_by : {X : Type 0} (test : X → Bool) (xs : List X) (k : ℕ) (x : X) → list_all test xs ≡ true → slice_get xs k
     ≡ Some x → test x ≡ true
 passed_by test [] k x all at = absurd cc
@@ -46,7 +46,7 @@ passed_by test (y ∷ ys) zero x all at =
     ap test (sym same) ∙ here
 passed_by test (y ∷ ys) (suc k) x all at = passed_by test ys k x (and_parts (test y) (list_all test ys) all).1 at
 
--- what a call finds, where its items are told otherwise
+-- what a call finds meets a statement if the statement follows from the one that the call promises
 pub found_for : {T E : Type 0} (items_of : T → List ℕ) (result : Result T E) {own other : List ℕ → Type 0}
     → ((found : List ℕ) → own found → other found) → IfOk result (λ found. own (items_of found)) → IfOk result
     (λ found. other (items_of found))
@@ -54,10 +54,11 @@ found_for items_of result {own} {other} next found =
     IfOk-weaker result (λ x. own (items_of x)) (λ x. other (items_of x)) (λ x. next (items_of x)) found
 
 module _ (release : Release) (may : ℕ → Bool) where
+  -- whether a set contains the concept with a number
   abbrev by_number : (ℕ → Bool) → ℕ → Bool
   by_number set n = set (get_or release.concepts n 0)
 
-  -- sets that are the same are so of candidates
+  -- two sets with the same numbers have the same numbers among candidates
   pub within_same : (p q : ℕ → Bool) → numbers_in release p ≡ numbers_in release q → numbers_within release may p
       ≡ numbers_within release may q
   within_same p q same =
@@ -67,21 +68,26 @@ module _ (release : Release) (may : ℕ → Bool) where
       ∙ restricted_to (length release.concepts) may (by_number q) (numbers_in release q)
       (filter may (numbers_in release q)) refl refl
 
+  -- restricting what a plan means to candidates gives what the plan means among them
   pub kept_node : (plan : Plan) (some found : List ℕ) → some ≡ numbers_in release (means release plan) → found
       ≡ filter may some
       → found ≡ numbers_within release may (means release plan)
   kept_node plan some found some_is found_is = restricted_to (length release.concepts) may
       (by_number (means release plan)) some found some_is found_is
 
+  -- equal plans mean equal sets among candidates
   pub meant_within : (plan other : Plan) → plan ≡ other → numbers_within release may (means release other)
       ≡ numbers_within release may (means release plan)
   meant_within plan other is = ap (λ (p : Plan). numbers_within release may (means release p)) (sym is)
 
+  -- the empty set is what the empty plan means among candidates
   pub empty_within : (plan : Plan) (found : List ℕ) → plan ≡ empty_plan → found ≡ [] → found
       ≡ numbers_within release may (means release plan)
   empty_within plan found is found_is = some_of_none (length release.concepts) may found found_is
       ∙ meant_within plan empty_plan is
 
+  -- the first part among candidates without the second among what the first found is what the difference means among
+  -- candidates
   pub minus_node : (plan first second : Plan) (left right found : List ℕ) → plan ≡ minus_plan first second
       → left ≡ numbers_within release may (means release first)
       → right ≡ numbers_within release (has left) (means release second)
@@ -91,7 +97,7 @@ module _ (release : Release) (may : ℕ → Bool) where
       left right found left_is right_is found_is
       ∙ meant_within plan (minus_plan first second) is
 
-  -- all parts, where that at a place was executed first
+  -- the candidates that the driving part and all parts mean are the candidates that all parts mean
   pub led_all : (parts : List ConceptPlan) (lead : ℕ) (found : List ℕ)
       → found ≡ numbers_where (length release.concepts)
       (λ n. (may n && leads_off release (slice_get parts lead) (get_or release.concepts n 0))
@@ -109,7 +115,7 @@ module _ (release : Release) (may : ℕ → Bool) where
       had concept None is all = refl
       had concept (Some part) is all = passed_by (λ p. means release (logical_of p) concept) parts lead part all is
 
-  -- where no part is executed first
+  -- if there is no driving part, restricting all concepts to candidates gives what the driving part means among them
   pub led_none : (parts : List ConceptPlan) (lead : ℕ) (every found : List ℕ) → length parts ≤ lead
       → every ≡ range_with_len 0 (length release.concepts) → found ≡ filter may every
       → found ≡ numbers_within release may (leads_off release (slice_get parts lead))
@@ -121,7 +127,7 @@ module _ (release : Release) (may : ℕ → Bool) where
       each : range_with_len 0 (length release.concepts) ≡ numbers_where (length release.concepts) (λ n. true)
       each = sym (numbers_where-all (length release.concepts))
 
-  -- the part that was executed first is passed over
+  -- a turn at the driving part changes nothing, because it was executed first
   pub led_again : (parts : List ConceptPlan) (lead k : ℕ) → k ≡ lead → k < length parts → (found : List ℕ)
       → found ≡ numbers_where (length release.concepts)
       (λ n. (may n && leads_off release (slice_get parts lead) (get_or release.concepts n 0))
@@ -143,14 +149,17 @@ module _ (release : Release) (may : ℕ → Bool) where
     | inr (past, at) ↦ absurd (omega (arith, past, within))
   ]
 
--- ---- the same of groups
+-- ---- groups
 module _ (release : Release) (may : ℕ → Bool) where
+  -- the groups of the release
   abbrev all : List ConceptGroup
   all = all_groups release
 
+  -- whether a set of pairs contains the pairs of the group with a number
   abbrev group_by_number : (List Pair → Bool) → ℕ → Bool
   group_by_number set n = some_group_in release set (slice_get all n)
 
+  -- two sets of pairs with the same group numbers have the same group numbers among candidates
   pub groups_same : (p q : List Pair → Bool) → groups_where release p
       ≡ groups_where release q → groups_within release may p ≡ groups_within release may q
   groups_same p q same =
@@ -160,14 +169,17 @@ module _ (release : Release) (may : ℕ → Bool) where
       ∙ restricted_to (length all) may (group_by_number q) (groups_where release q)
       (filter may (groups_where release q)) refl refl
 
+  -- equal plans of groups mean equal sets among candidates
   pub groups_meant : (plan other : PlanOfUnits) → plan ≡ other
       → groups_within release may (unit_means release other) ≡ groups_within release may (unit_means release plan)
   groups_meant plan other is = ap (λ (p : PlanOfUnits). groups_within release may (unit_means release p)) (sym is)
 
+  -- no group has pairs in the empty set
   nothing_in : (at : Option ConceptGroup) → false ≡ some_group_in release (λ pairs. false) at
   nothing_in None = refl
   nothing_in (Some group) = refl
 
+  -- the empty set is what the plan of no group means among candidates
   pub nothing_within : (plan : PlanOfUnits) (found : List ℕ) → plan ≡ nothing_unit → found ≡ [] → found
       ≡ groups_within release may (unit_means release plan)
   nothing_within plan found is found_is =
@@ -175,12 +187,15 @@ module _ (release : Release) (may : ℕ → Bool) where
       ∙ (λ i. numbers_where (length all) (λ n. may n && nothing_in (slice_get all n) i))
       ∙ groups_meant plan nothing_unit is
 
+  -- the pairs of a group are in the difference of two sets exactly if they are in the first and not in the second
   minus_in : (p q : List Pair → Bool) (at : Option ConceptGroup)
       → (some_group_in release p at && not (some_group_in release q at))
       ≡ some_group_in release (λ pairs. p pairs && not (q pairs)) at
   minus_in p q None = refl
   minus_in p q (Some group) = refl
 
+  -- the first part of groups among candidates without the second among what the first found is what the difference
+  -- means among candidates
   pub minus_groups : (plan first second : PlanOfUnits) (left right found : List ℕ) → plan ≡ minus_units first second
       → left ≡ groups_within release may (unit_means release first)
       → right ≡ groups_within release (has left) (unit_means release second)
@@ -192,18 +207,20 @@ module _ (release : Release) (may : ℕ → Bool) where
       (slice_get all n) i))
       ∙ groups_meant plan (minus_units first second) is
 
-  -- each group that there is has its pairs
+  -- each group below the number of groups has its pairs in a set that contains all
   there : (n : ℕ) → n < length all → (at : Option ConceptGroup) → slice_get all n ≡ at → (set : List Pair → Bool)
       → ((pairs : List Pair) → set pairs ≡ true) → some_group_in release set at ≡ true
   there n within None is set each = absurd (leaf.none_within all n within is)
   there n within (Some group) is set each = each _
 
+  -- the pairs of a group are in the sets of all parts exactly if they are in their intersection
   all_in : (parts : List UnitPlan) (n : ℕ) → n < length all → (at : Option ConceptGroup) → slice_get all n ≡ at
       → list_all (λ part. some_group_in release (unit_means release (logical_units_of part)) at) parts
       ≡ some_group_in release (λ pairs. list_all (λ part. unit_means release (logical_units_of part) pairs) parts) at
   all_in parts n within None is = absurd (leaf.none_within all n within is)
   all_in parts n within (Some group) is = refl
 
+  -- the pairs of a group are in the set of at least one part exactly if they are in their union
   any_in : (parts : List UnitPlan) (at : Option ConceptGroup)
       → list_any (λ part. some_group_in release (unit_means release (logical_units_of part)) at) parts
       ≡ some_group_in release (λ pairs. list_any (λ part. unit_means release (logical_units_of part) pairs) parts) at
@@ -211,6 +228,7 @@ module _ (release : Release) (may : ℕ → Bool) where
   any_in (part ∷ parts) None = any_in parts None
   any_in parts (Some group) = refl
 
+  -- the candidate groups that the driving part and all parts mean are the candidate groups that all parts mean
   pub groups_led_all : (parts : List UnitPlan) (lead : ℕ) (found : List ℕ)
       → found ≡ numbers_where (length all)
       (λ n. (may n && some_group_in release (leads_off_groups release (slice_get parts lead)) (slice_get all n))
@@ -237,6 +255,7 @@ module _ (release : Release) (may : ℕ → Bool) where
       had n within (Some part) is each = passed_by (λ p. some_group_in release (unit_means release (logical_units_of p))
           (slice_get all n)) parts lead part each is
 
+  -- a turn at the driving part of groups changes nothing, because it was executed first
   pub groups_led_again : (parts : List UnitPlan) (lead k : ℕ) → k ≡ lead → k < length parts → (found : List ℕ)
       → found ≡ numbers_where (length all) (λ n. (may n && some_group_in release
       (leads_off_groups release (slice_get parts lead)) (slice_get all n))
@@ -262,6 +281,7 @@ module _ (release : Release) (may : ℕ → Bool) where
     | inr (past, at) ↦ absurd (omega (arith, past, within))
   ]
 
+  -- if there is no driving part, restricting all groups to candidates gives what the driving part means among them
   pub groups_led_none : (parts : List UnitPlan) (lead : ℕ) (every found : List ℕ) → length parts ≤ lead
       → every ≡ groups_where release (λ pairs. true) → found ≡ filter may every
       → found ≡ groups_within release may (leads_off_groups release (slice_get parts lead))
@@ -270,6 +290,7 @@ module _ (release : Release) (may : ℕ → Bool) where
       ∙ ap (λ (at : Option UnitPlan). groups_within release may (leads_off_groups release at))
       (sym (slice_get_past parts lead past))
 
+  -- the candidate groups that at least one part means, by their numbers, are those by their pairs
   pub any_done : (parts : List UnitPlan) (found : List ℕ)
       → found ≡ numbers_where (length all) (λ n. may n && list_any
       (λ part. some_group_in release (unit_means release (logical_units_of part)) (slice_get all n)) parts)
@@ -278,7 +299,8 @@ module _ (release : Release) (may : ℕ → Bool) where
   any_done parts found found_is = found_is
       ∙ (λ i. numbers_where (length all) (λ n. may n && any_in parts (slice_get all n) i))
 
--- where an operator leads, of candidates, from what a plan means of concepts that are enough for them
+-- what an operator leads to from the enough concepts of `child`, restricted to candidates, is what the walk means
+-- among candidates
 pub walk_of_part : (release : Release) (child : Plan) (operator : Operator) (hierarchy : Hierarchy) (count : ℕ)
     (may enough : ℕ → Bool) (part found : List ℕ)
     → hierarchy ≡ hierarchy_of release → count ≡ length release.concepts
@@ -318,8 +340,9 @@ walk_of_part release child operator hierarchy count may enough part found over c
               ∙ sym (has-numbers_where_past (length release.concepts) holds n past)
         ]
 
--- ---- parts that are joined, and concepts with groups, as the plan of their node
+-- ---- joined parts, and concepts with groups, are the plan of their node
 module _ (release : Release) (may : ℕ → Bool) where
+  -- the candidates that all parts mean are what their conjunction means among candidates
   pub and_within : (parts : List ConceptPlan)
       → numbers_within release may (λ concept. list_all (λ part. means release (logical_of part) concept) parts)
       ≡ numbers_within release may (means release (and_plan (logicals_of parts)))
@@ -328,6 +351,7 @@ module _ (release : Release) (may : ℕ → Bool) where
       let plan : Plan = and_plan (logicals_of parts) in
       within_same release may set (means release plan) (and_node release plan (numbers_in release set) parts refl refl)
 
+  -- the candidates that at least one part means are what their disjunction means among candidates
   pub or_within : (parts : List ConceptPlan)
       → numbers_within release may (λ concept. list_any (λ part. means release (logical_of part) concept) parts)
       ≡ numbers_within release may (means release (or_plan (logicals_of parts)))
@@ -336,6 +360,7 @@ module _ (release : Release) (may : ℕ → Bool) where
       let plan : Plan = or_plan (logicals_of parts) in
       within_same release may set (means release plan) (or_node release plan (numbers_in release set) parts refl refl)
 
+  -- the candidates with a number of groups of `units` in `count` are what the plan of groups means among candidates
   pub units_within : (count : Cardinality) (units : PlanOfUnits)
       → numbers_within release may (has_groups release count (unit_means release units))
       ≡ numbers_within release may (means release (units_plan count units))
@@ -345,6 +370,7 @@ module _ (release : Release) (may : ℕ → Bool) where
       within_same release may set (means release plan) (units_node release plan (numbers_in release set) count units
       refl refl)
 
+  -- the candidate groups that all parts mean are what their conjunction means among candidates
   pub and_groups : (parts : List UnitPlan)
       → groups_within release may (λ pairs. list_all (λ part. unit_means release (logical_units_of part) pairs) parts)
       ≡ groups_within release may (unit_means release (and_units (logical_units_list_of parts)))
@@ -354,6 +380,7 @@ module _ (release : Release) (may : ℕ → Bool) where
       groups_same release may set (unit_means release plan) (groups.and_node release plan (groups_where release set)
       parts refl refl)
 
+  -- the candidate groups that at least one part means are what their disjunction means among candidates
   pub or_groups : (parts : List UnitPlan)
       → groups_within release may (λ pairs. list_any (λ part. unit_means release (logical_units_of part) pairs) parts)
       ≡ groups_within release may (unit_means release (or_units (logical_units_list_of parts)))

@@ -1,4 +1,4 @@
--- What is counted of the parts of a node, of either sort, one part after the other.
+-- What is counted of the parts of a node, of concepts or of groups, one part after the other.
 use Rattle.std.proofs.Common.{ℕ, zero, suc, ◌+◌, ◌*◌, ◌-◌, ◌==◌, ◌∷◌, [], ◌≡◌, ◌≢◌, ◌≤◌, ◌<◌, ◌^◌, ◌∙◌, Bool, true}
 use Rattle.std.proofs.Common.{false, cond, List}
 use Rattle.std.proofs.Common.{length, get_or, take, refl, sym, ap, arith, inl, inr, mul-le-mul_right, suc-mul, zero-mul}
@@ -12,9 +12,9 @@ use Rattle.plan_bounds.specs.Bounds.{values_bound}
 use Rattle.plan_bounds.proofs.LoopLemmas.{Sum}
 use Rattle.executor.specs.inside.Lead.{of_lead}
 
--- ---- parts in front of a place, and the one at it
+-- ---- the parts before a place, and the part at it
 module _ {Part : Type 0} (sum : Sum Part) where
-  -- the sum of one part more
+  -- the sum over `suc place` parts is the sum over the first `place` parts and the number of the part at `place`
   more : (parts : List Part) (place : ℕ) (part : Part) → place < length parts → part ≡ get_or parts place part
       → sum.of_parts (take (suc place) parts) ≡ sum.of_parts (take place parts) + sum.of_part part
   more [] place part within is = absurd (omega (arith, within))
@@ -27,12 +27,14 @@ module _ {Part : Type 0} (sum : Sum Part) where
         more parts place part (omega (arith, within)) is,
       )
 
+  -- the sum over `place + 1` parts is the sum over the first `place` parts and the number of the part at `place`
   pub sum_more : (parts : List Part) (place : ℕ) (part : Part) → place < length parts → part ≡ get_or parts place part
       → sum.of_parts (take (place + 1) parts) ≡ sum.of_parts (take place parts) + sum.of_part part
   sum_more parts place part within is = (λ i. sum.of_parts (take (next_place place i) parts))
       ∙ more parts place part within is
 
-  -- fewer parts have no more
+  -- the sum over the first `place` parts is at most the sum over the first `further` parts, if `place` is at most
+  -- `further`
   pub sum_le : (parts : List Part) (place further : ℕ) → place ≤ further
       → sum.of_parts (take place parts) ≤ sum.of_parts (take further parts)
   sum_le parts zero further before = omega (arith, sum.none)
@@ -46,10 +48,12 @@ module _ {Part : Type 0} (sum : Sum Part) where
         sum_le parts place further (omega (arith, before)),
       )
 
+  -- the sum over as many parts as there are, or more, is the sum over all parts
   pub sum_all : (parts : List Part) (place : ℕ) → length parts ≤ place → sum.of_parts (take place parts)
       ≡ sum.of_parts parts
   sum_all parts place past = ap sum.of_parts (take_all place parts past)
 
+  -- the sum over the first parts is at most the sum over all parts
   sum_most : (parts : List Part) (place : ℕ) → sum.of_parts (take place parts) ≤ sum.of_parts parts
   sum_most parts place = elim (cases_lt place (length parts)) [
     | inl before ↦ omega (
@@ -60,11 +64,12 @@ module _ {Part : Type 0} (sum : Sum Part) where
     | inr past ↦ omega (arith, sum_all parts place past)
   ]
 
-  -- what the part has that is executed first
+  -- the number of the driving part, which is executed first; 0 if there is no such part
   abbrev pub of_first : List Part → ℕ → ℕ
   of_first parts lead = of_lead sum.of_part (slice_get parts lead)
 
-  -- beside the parts in front of a place that is not past it, there is room for it
+  -- the parts before `place` and the driving part, if it is not before `place`, have together at most the sum over
+  -- all parts
   first_room : (parts : List Part) (lead place : ℕ) → place ≤ lead → lead < length parts
       → sum.of_parts (take place parts) + of_first parts lead ≤ sum.of_parts parts
   first_room parts lead place before inside = elim (slice_get_cases parts lead).1 [
@@ -79,10 +84,12 @@ module _ {Part : Type 0} (sum : Sum Part) where
     | inr (past, at) ↦ absurd (omega (arith, past, inside))
   ]
 
+  -- the number of the driving part is at most the sum over all parts
   pub first_within : (parts : List Part) (lead : ℕ) → lead < length parts → of_first parts lead ≤ sum.of_parts parts
   first_within parts lead inside = omega (arith, first_room parts lead 0 (omega arith) inside)
 
--- ---- the part that comes first is one of the parts, where there are some
+-- ---- the driving part is one of the parts, if there is a part
+-- the place `min place (count - 1)` is one of the parts, if there is a part
 pub lead_inside : {empty : Bool} {count lead : ℕ} (place : ℕ) → empty ≡ (count == 0) → empty ≡ false → lead
     ≡ min place (count - 1) → lead < count
 lead_inside {empty} {count} {lead} place told not_empty lead_is = elim (cases_lt 0 count) [
@@ -90,31 +97,41 @@ lead_inside {empty} {count} {lead} place told not_empty lead_is = elim (cases_lt
   | inr none ↦ absurd (both_ways empty not_empty (told ∙ eq-eqb count 0 (omega (arith, none))))
 ]
 
+-- a list that is said to be empty has the length 0
 pub no_parts : {empty : Bool} {count : ℕ} → empty ≡ (count == 0) → empty ≡ true → count ≡ 0
 no_parts {empty} {count} told is_empty = eqb-true count 0 (sym told ∙ is_empty)
 
 -- ---- what has been counted
--- it lies between two numbers, or stands still
+-- a counter has grown by at least `least` and at most `most`, or has stopped at the largest number of 64 bits
 pub record Counts (before least most after : ℕ) : Type 0 where
+  -- the counter has grown by at most `most`
   pub within : after ≤ before + most
+  -- the counter has grown by at least `least`, or has stopped at the largest number of 64 bits
   pub floor : min (before + least) (2 ^ 64 - 1) ≤ after
 
--- all parts, one of which comes first: until its place is passed it is counted beside those in front of the place
+-- loop invariant of AND: the counts are those of the parts before `place` and of the driving part, which was executed
+-- first
 pub record AllSoFar {Part : Type 0} (least most : Sum Part) (parts : List Part) (lead place before after : ℕ) : Type 0
   where
+    -- the counter does not fall
     pub grows : before ≤ after
+    -- up to the place of the driving part, its count comes on top of those of the parts before `place`
     pub early : place ≤ lead → Counts before
         (least.of_parts (take place parts) + of_first least parts lead)
         (most.of_parts (take place parts) + of_first most parts lead) after
+    -- after the place of the driving part, its count is among those of the parts before `place`
     pub late : lead < place → Counts before (least.of_parts (take place parts)) (most.of_parts (take place parts)) after
 
--- parts in their order, beside which the node reads so much up to each place
+-- loop invariant of a node that takes its parts in order: the counts are those of the parts before `place`, and at
+-- most `own place` that the node itself reads
 pub record SomeSoFar {Part : Type 0} (least most : Sum Part) (own : ℕ → ℕ) (parts : List Part)
     (place before after : ℕ) : Type 0 where
+  -- the counter does not fall
   pub grows : before ≤ after
+  -- the counts are those of the parts before `place`, and at most `own place` of the node itself
   pub counts : Counts before (least.of_parts (take place parts)) (own place + most.of_parts (take place parts)) after
 
--- what the part at a place has
+-- the number of the driving part is that of the part at its place
 pub lead_is : {Part : Type 0} (number : Part → ℕ) (parts : List Part) (lead : ℕ) (part : Part) → lead < length parts →
     part ≡ get_or parts lead part
     → of_lead number (slice_get parts lead) ≡ number part
@@ -122,7 +139,7 @@ lead_is number parts lead part within is =
     ap (of_lead number) (slice_get_read parts (length parts) lead part refl within is)
 
 module _ {Part : Type 0} {least most : Sum Part} {parts : List Part} {lead : ℕ} where
-  -- the part that comes first has been counted
+  -- after the driving part has been executed, `AllSoFar` holds at place 0
   pub all_first : {before after : ℕ} (part : Part) → lead < length parts → part ≡ get_or parts lead part → before
       ≤ after
       → after ≤ before + most.of_part part → min (before + least.of_part part) (2 ^ 64 - 1) ≤ after
@@ -139,7 +156,7 @@ module _ {Part : Type 0} {least most : Sum Part} {parts : List Part} {lead : ℕ
         late = λ past. absurd (omega (arith, past));
       }
 
-  -- what has been counted is no more than all parts have
+  -- what has been counted is at most the sum over all parts
   pub all_most : {place before after : ℕ} → AllSoFar least most parts lead place before after → lead < length parts
       → after ≤ before + most.of_parts parts
   all_most {place} so_far inside = elim (cases_lt lead place) [
@@ -147,7 +164,8 @@ module _ {Part : Type 0} {least most : Sum Part} {parts : List Part} {lead : ℕ
     | inr before ↦ omega (arith, (so_far.early before).within, first_room most parts lead place before inside)
   ]
 
-  -- nor is it with what a part has that is executed next
+  -- what has been counted and the count of the part at `place`, which is executed next, are at most the sum over all
+  -- parts
   pub all_next : {place before after next : ℕ} → AllSoFar least most parts lead place before after → lead < length parts
       → (part : Part) → place < length parts → part ≡ get_or parts place part → place ≢ lead
       → next ≤ after + most.of_part part → next ≤ before + most.of_parts parts
@@ -171,7 +189,7 @@ module _ {Part : Type 0} {least most : Sum Part} {parts : List Part} {lead : ℕ
         | inr same ↦ absurd (other (omega (arith, past, same)))
       ]
 
-  -- a part that is executed
+  -- a turn that executes the part at `place` keeps `AllSoFar`
   pub all_turn : {place before after next : ℕ} → AllSoFar least most parts lead place before after
       → (part : Part) → place < length parts → part ≡ get_or parts place part → place ≢ lead
       → after ≤ next → next ≤ after + most.of_part part → min (after + least.of_part part) (2 ^ 64 - 1) ≤ next
@@ -211,7 +229,7 @@ module _ {Part : Type 0} {least most : Sum Part} {parts : List Part} {lead : ℕ
         | inr more ↦ absurd (other (omega (arith, past, more)))
       ]
 
-  -- the part that came first
+  -- a turn that passes over the driving part keeps `AllSoFar`
   pub all_pass : {place before after next : ℕ} → AllSoFar least most parts lead place before after
       → (part : Part) → place < length parts → part ≡ get_or parts place part → place ≡ lead
       → next ≡ after → AllSoFar least most parts lead (place + 1) before next
@@ -228,6 +246,7 @@ module _ {Part : Type 0} {least most : Sum Part} {parts : List Part} {lead : ℕ
         };
       }
 
+  -- past the last part, the counts are those of all parts
   pub all_end : {place before after : ℕ} → AllSoFar least most parts lead place before after → length parts
       ≤ place → lead < length parts
       → Counts before (least.of_parts parts) (most.of_parts parts) after
@@ -239,12 +258,14 @@ module _ {Part : Type 0} {least most : Sum Part} {parts : List Part} {lead : ℕ
       }
 
 module _ {Part : Type 0} {least most : Sum Part} {own : ℕ → ℕ} {parts : List Part} where
+  -- before the first part, `SomeSoFar` holds with nothing counted
   pub some_start : (visits : ℕ) → SomeSoFar least most own parts 0 visits visits
   some_start visits = record {
     grows = omega arith;
     counts = record { within = omega arith; floor = omega (arith, least.none) };
   }
 
+  -- a turn that executes the part at `place` and reads `read` items keeps `SomeSoFar`
   pub some_turn : {place before after next : ℕ} → SomeSoFar least most own parts place before after
       → (part : Part) → place < length parts → part ≡ get_or parts place part
       → (read : ℕ) → own place + read ≤ own (place + 1)
@@ -259,7 +280,8 @@ module _ {Part : Type 0} {least most : Sum Part} {own : ℕ → ℕ} {parts : Li
         };
       }
 
-  -- what is counted of a part, or of a front of it, is within what all parts have
+  -- what has been counted and the count of the part at `place`, with the items that are read, are at most the sum
+  -- over all parts and what the node itself reads
   pub some_next : {place before after next : ℕ} → SomeSoFar least most own parts place before after
       → (part : Part) → place < length parts → part ≡ get_or parts place part
       → (read : ℕ) → own place + read ≤ own (length parts) → next ≤ after + (most.of_part part + read)
@@ -274,6 +296,7 @@ module _ {Part : Type 0} {least most : Sum Part} {own : ℕ → ℕ} {parts : Li
         sum_most most parts (place + 1),
       )
 
+  -- past the last part, the counts are those of all parts and at most what the node itself reads
   pub some_end : {place before after : ℕ} → SomeSoFar least most own parts place before after → length parts ≡ place
       → Counts before (least.of_parts parts) (own (length parts) + most.of_parts parts) after
   some_end {place} so_far end =
@@ -282,7 +305,7 @@ module _ {Part : Type 0} {least most : Sum Part} {own : ℕ → ℕ} {parts : Li
         floor = omega (arith, so_far.counts.floor, sum_all least parts place (omega (arith, end)));
       }
 
--- where parts are joined, what was found so far and what the next has found are no more than what all find
+-- what was found before `place` and what the part at `place` has found fit into one more times the sum of all sizes
 pub joined_reads : {Part : Type 0} (sizes : Sum Part) (parts : List Part) (place : ℕ) (part : Part)
     → place < length parts → part ≡ get_or parts place part
     → (found also : ℕ) → found ≤ sizes.of_parts (take place parts) → also ≤ sizes.of_part part
@@ -294,24 +317,27 @@ joined_reads sizes parts place part inside is found also few fewer =
     let most : sizes.of_parts (take (place + 1) parts) ≤ all = sum_most sizes parts (place + 1) in
     omega (arith, few, fewer, sum_more sizes parts place part inside is, most, times)
 
--- so many times a number, for one place more, and for a place before the last
+-- `place + 1` times a number is at most `count` times it, if `place` is below `count`
 pub times_more : {place count : ℕ} (all : ℕ) → place < count → (place + 1) * all ≤ count * all
 times_more all inside = mul-le-mul_right all (omega (arith, inside))
 
+-- `place` times a number is at most `count` times it, if `place` is below `count`
 pub times_less : {place count : ℕ} (all : ℕ) → place < count → place * all + 0 ≤ count * all
 times_less {place} {count} all inside =
     let less : place * all ≤ count * all = mul-le-mul_right all (omega (arith, inside)) in
     omega (arith, less)
 
--- ---- what is counted is within more
+-- ---- larger bounds
+-- a counter that has grown by at most `sum` has grown by at most `found + sum`
 pub counted_beside : {after : ℕ} (before found sum : ℕ) → after ≤ before + sum → after ≤ before + (found + sum)
 counted_beside before found sum within = omega (arith, within)
 
+-- a counter that has grown by at most `sum` has grown by at most `sum + 0`
 pub counted_without : {after : ℕ} (before sum : ℕ) → after ≤ before + sum → after ≤ before + (sum + 0)
 counted_without before sum within = omega (arith, within)
 
 -- ---- values along types
--- the first type, and those behind it
+-- the values bound of `place + 1` types is that of the first type and `place` times that of a later one
 pub along_one : (indexed : Indexed) (place first : ℕ)
     → values_bound indexed (suc place) first
     ≡ (first + length indexed.rows) + place * (min (length indexed.concepts) (length indexed.rows) + length
@@ -323,7 +349,7 @@ along_one indexed place first =
     ap (λ (b : Bool). cond b 0 ((first + length indexed.rows) + (suc place - 1) * step)) some
     ∙ ap (λ (n : ℕ). (first + length indexed.rows) + n * step) one_less
 
--- so much is read for one type more: what has been found, and rows
+-- one type more reads what has been found and all rows, which fits into the values bound of one type more
 pub along_more : (indexed : Indexed) (place first found : ℕ) → (place ≡ 0 → found ≡ first)
     → (0 < place → found ≤ min (length indexed.concepts) (length indexed.rows))
     → values_bound indexed place first + (found + length indexed.rows) ≤ values_bound indexed (place + 1) first
@@ -345,7 +371,7 @@ along_more indexed (suc place) first found start few =
       ap (λ (n : ℕ). values_bound indexed n first) (next_place (suc place)),
     )
 
--- more types, or more to start from, read no less
+-- the values bound of more types is no less
 pub along_le : (indexed : Indexed) (place further first : ℕ) → place ≤ further → values_bound indexed place first
     ≤ values_bound indexed further first
 along_le indexed zero further first before = omega arith
@@ -359,6 +385,7 @@ along_le indexed (suc place) (suc further) first before =
       mul-le-mul_right {m = place} {n = further} step (omega (arith, before)),
     )
 
+-- the values bound from more concepts is no less
 pub along_from : (indexed : Indexed) (place few many : ℕ) → few ≤ many → values_bound indexed place few
     ≤ values_bound indexed place many
 along_from indexed zero few many more = omega arith

@@ -1,4 +1,4 @@
-//! The limits of a leaf, by what its types and its test have found.
+//! Computes the limits of a leaf from what its types and its test have found.
 ghost use Rattle.std.specs.Prelude.{◌≡◌, ◌≤◌};
 ghost use Rattle.set_algebra.specs.Physical.{physical_of, physical_test_of};
 ghost use Rattle.plan_bounds.specs.Alternatives.{leaf_bound};
@@ -10,8 +10,8 @@ ghost use Rattle.plan_bounds.specs.Sizes.{size, test_size};
 use plan_bounds::{LeafParts, NodeLimits, leaf_limits};
 use postings::Lengths;
 
-/// A leaf among so many concepts or groups: between which numbers its visits lie, where so many types and so many
-/// concepts for its test were found.
+/// Returns the floor and the own bound of a leaf among `all` concepts or groups. `found` says how many types, and
+/// how many concepts for its test, have been found.
 pub fn leaf_limits_within(
     lengths: Lengths<'_>,
     all: u64,

@@ -1,4 +1,4 @@
-//! Dotted attributes of a plan.
+//! Executes the dotted attributes of a plan.
 ghost use Rattle.std.specs.Prelude.{◌≡◌, ◌+◌, IfOk, IfSome, length};
 ghost use Rattle.set_algebra.specs.Meaning.{leads, means};
 ghost use Rattle.set_algebra.specs.Physical.{logical, logicals, physical_of, physical_values, physicals_of};
@@ -23,7 +23,7 @@ use reading::{Answer, Counter, Reader};
 use set_algebra::ConceptPlan;
 use std::alloc::AllocError;
 
-/// The candidates among the concepts that a plan of dotted attributes means.
+/// Executes a `Values` node: returns the candidates among the concepts that its dotted attributes lead to.
 #[cycle(execute)]
 pub fn led_from<S: ConceptSet>(
     reader: Reader<'_>,
@@ -45,8 +45,9 @@ pub fn led_from<S: ConceptSet>(
     Ok(found)
 }
 
-// The concepts to which dotted attributes lead from a set: the values of its attributes of the first name, of these
-// those of the second, and so on (Expression Constraint Language, "Refinements", dotted attributes).
+// Returns the concepts to which dotted attributes lead from a set: the values of its attributes with the first
+// name, the values of theirs with the second, and so on (Expression Constraint Language, "Refinements", dotted
+// attributes).
 #[cycle(execute)]
 fn led_along<S: ConceptSet>(
     reader: Reader<'_>,
@@ -78,8 +79,8 @@ fn led_along<S: ConceptSet>(
     Ok(found)
 }
 
-// The concepts that the name of a dotted attribute means. Where the name before is the same, what it means is known;
-// then the name is left out, and its floor counted.
+// Returns the concepts that the name of a dotted attribute means. If the name before it is equal, what it means is
+// known; then the name is not executed, and its floor is counted.
 #[cycle(execute)]
 fn named_by<S: ConceptSet>(
     reader: Reader<'_>,

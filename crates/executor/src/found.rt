@@ -1,5 +1,5 @@
-//! What a node finds, once its parts have been executed: nothing here goes down a plan. What is read is counted, beside
-//! what the parts have read.
+//! Executes a node after its parts have been executed; nothing here goes down a plan. Each function counts only
+//! what it reads itself, besides what the parts have read.
 ghost use Rattle.std.specs.Prelude.{◌≡◌, ◌≤◌, IfOk, filter, length};
 ghost use Rattle.postings.specs.Groups.{all_groups};
 ghost use Rattle.set_algebra.specs.Physical.{logical, physical_members, physical_of, physical_walk};
@@ -25,8 +25,8 @@ use set_algebra::ConceptPlan;
 use std::alloc::AllocError;
 use walks::{members_within, walk_within};
 
-/// The candidates among the concepts that a walk leads to from a set, which its operand has found. The rows are
-/// added of what is found from one concept, if the tally asks for them.
+/// Returns the candidates among the concepts that a walk leads to from `from`, which its operand has found. If the
+/// operand is one concept and `tally` asks for rows, it adds the rows of what is found.
 pub fn walk_found<S: ConceptSet>(
     reader: Reader<'_>,
     walk: WalkParts<'_>,
@@ -63,7 +63,7 @@ pub fn walk_found<S: ConceptSet>(
     Ok(found)
 }
 
-/// The candidates among the components of the reference sets of a set, which an operand has found.
+/// Returns the candidates among the components of the reference sets in `from`, which the operand has found.
 pub fn members_found<S: ConceptSet>(
     reader: Reader<'_>,
     operand: &ConceptPlan,
@@ -92,7 +92,8 @@ pub fn members_found<S: ConceptSet>(
     Ok(found)
 }
 
-/// The candidates among the concepts so many of whose groups are among some, which a plan has found. These are counted.
+/// Returns the candidates whose number of groups among `groups`, which a plan has found, lies in `count`. It
+/// counts one visit for each of `groups`.
 pub fn units_found<S: ConceptSet>(
     reader: Reader<'_>,
     count: Cardinality,

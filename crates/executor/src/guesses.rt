@@ -1,7 +1,7 @@
-//! How many concepts or groups a plan means, at a guess.
+//! Estimates how many concepts or groups a plan means.
 //!
-//! A guess reads the lengths of a few lists. It tells which of several parts is executed first, so that a bad one costs
-//! time, and no answer depends on it.
+//! An estimate reads the lengths of a few lists. It decides which of several parts is executed first, so a bad one
+//! costs time, and no answer depends on it.
 ghost use Rattle.std.specs.Prelude.{◌≡◌, IsSome};
 ghost use Rattle.set_algebra.specs.Physical.{physical_of};
 ghost use Rattle.plan_bounds.specs.Counts.{one_of};
@@ -12,24 +12,26 @@ use postings::Lengths;
 use rf2_rows::Decimal;
 use set_algebra::{ConceptPlan, UnitPlan, ValueTest};
 
-// How deep below a part its own parts are looked at. What lies deeper is taken for much, so that each node of a plan is
-// looked at a few times at the most.
+// How deep below a part its own parts are looked at. A deeper part counts as all concepts or groups, so that each
+// node of a plan is looked at only a few times.
 const DEPTH: u32 = 3;
 
-// How many rows a value may have that is not looked up.
+// Estimated number of rows that have a given value, if that value is not looked up.
 const ROWS_OF_VALUE: u64 = 16;
 
-// How many rows a concept has as their source, or more.
+// Estimated number of rows that have a given concept as their source, on the high side.
 const ROWS_OF_SOURCE: u64 = 8;
 
-// How many parents, children and ancestors a concept has, or more.
+// Estimated number of parents of a concept, on the high side.
 const PARENTS: u64 = 2;
 
+// Estimated number of children of a concept, on the high side.
 const CHILDREN: u64 = 4;
 
+// Estimated number of ancestors of a concept, on the high side.
 const ANCESTORS: u64 = 16;
 
-/// The place of that part of which the least is guessed.
+/// Returns the place of the plan of concepts with the smallest estimate: the one to execute first.
 pub fn lead_of(parts: &[ConceptPlan], lengths: Lengths<'_>) -> usize {
     let mut lead = 0;
     let mut least = u64::MAX;
@@ -43,7 +45,7 @@ pub fn lead_of(parts: &[ConceptPlan], lengths: Lengths<'_>) -> usize {
     lead
 }
 
-/// The place of the plan of groups with the smallest estimate: the one to execute first.
+/// Returns the place of the plan of groups with the smallest estimate: the one to execute first.
 pub fn group_lead_of(parts: &[UnitPlan], lengths: Lengths<'_>) -> usize {
     let mut lead = 0;
     let mut least = u64::MAX;
@@ -57,12 +59,12 @@ pub fn group_lead_of(parts: &[UnitPlan], lengths: Lengths<'_>) -> usize {
     lead
 }
 
-/// How many groups a plan means.
+/// Estimates how many groups a plan means.
 pub fn guess_of_groups(plan: &UnitPlan, lengths: Lengths<'_>) -> u64 {
     group_guess(plan, lengths, DEPTH)
 }
 
-// How many concepts a plan means.
+// Estimates how many concepts a plan means. At `depth` 0 it answers all concepts.
 #[cycle(guess)]
 fn guess(plan: &ConceptPlan, lengths: Lengths<'_>, depth: u32) -> u64 {
     let all = u64::from(lengths.concept_count());
@@ -102,7 +104,7 @@ fn guess(plan: &ConceptPlan, lengths: Lengths<'_>, depth: u32) -> u64 {
     }
 }
 
-// The least that is guessed of some plans.
+// Returns the least estimate of sibling plans of concepts.
 #[cycle(guess)]
 fn least_of(parts: &[ConceptPlan], lengths: Lengths<'_>, depth: u32) -> u64 {
     let mut least = u64::from(lengths.concept_count());
@@ -113,7 +115,7 @@ fn least_of(parts: &[ConceptPlan], lengths: Lengths<'_>, depth: u32) -> u64 {
     least
 }
 
-// All that is guessed of some plans.
+// Returns the sum of the estimates of sibling plans of concepts.
 #[cycle(guess)]
 fn sum_of(parts: &[ConceptPlan], lengths: Lengths<'_>, depth: u32) -> u64 {
     let mut sum = 0u64;
@@ -124,7 +126,7 @@ fn sum_of(parts: &[ConceptPlan], lengths: Lengths<'_>, depth: u32) -> u64 {
     sum
 }
 
-// How many concepts dotted attributes lead to.
+// Estimates how many concepts the dotted attributes `names` lead to from `start`.
 #[cycle(guess)]
 fn guess_of_values(
     start: &ConceptPlan,
@@ -140,7 +142,8 @@ fn guess_of_values(
     found.min(u64::from(lengths.concept_count()))
 }
 
-// How many rows have one of the types that a plan means, or more.
+// Estimates how many rows have one of the types that a plan means: the exact number for one type, none if the plan
+// is estimated at no types, else all rows.
 #[cycle(guess)]
 fn rows_with_types(types: &ConceptPlan, lengths: Lengths<'_>, depth: u32) -> u64 {
     match types {
@@ -150,7 +153,8 @@ fn rows_with_types(types: &ConceptPlan, lengths: Lengths<'_>, depth: u32) -> u64
     }
 }
 
-// How many rows have one of the types and a value that may pass, or read backwards a source that may.
+// Estimates how many rows have one of the types and a value that may pass `test`; read backwards, a source that
+// may pass.
 #[cycle(guess)]
 fn guess_of_rows(
     back: bool,
@@ -171,7 +175,7 @@ fn guess_of_rows(
     }
 }
 
-// How many rows have a concept that a plan means as their value, or as their source.
+// Estimates how many rows have a concept that `values` means as their value, or, if `as_source`, as their source.
 #[cycle(guess)]
 fn rows_with_values(
     as_source: bool,
@@ -193,7 +197,7 @@ fn rows_with_values(
     }
 }
 
-// How many groups a plan means.
+// Estimates how many groups a plan means. At `depth` 0 it answers all groups.
 #[cycle(guess)]
 fn group_guess(plan: &UnitPlan, lengths: Lengths<'_>, depth: u32) -> u64 {
     let all = u64::from(lengths.group_count());
@@ -218,7 +222,7 @@ fn group_guess(plan: &UnitPlan, lengths: Lengths<'_>, depth: u32) -> u64 {
     }
 }
 
-// The least that is guessed of some plans of groups.
+// Returns the least estimate of sibling plans of groups.
 #[cycle(guess)]
 fn least_group_guess(parts: &[UnitPlan], lengths: Lengths<'_>, depth: u32) -> u64 {
     let mut least = u64::from(lengths.group_count());
@@ -229,7 +233,7 @@ fn least_group_guess(parts: &[UnitPlan], lengths: Lengths<'_>, depth: u32) -> u6
     least
 }
 
-// All that is guessed of some plans of groups.
+// Returns the sum of the estimates of sibling plans of groups.
 #[cycle(guess)]
 fn sum_of_group_guesses(parts: &[UnitPlan], lengths: Lengths<'_>, depth: u32) -> u64 {
     let mut sum = 0u64;
@@ -240,12 +244,13 @@ fn sum_of_group_guesses(parts: &[UnitPlan], lengths: Lengths<'_>, depth: u32) ->
     sum
 }
 
-// What is guessed where so many may be none, and where not.
+// Returns `all` if the minimum of `count` is 0, because then a concept or group without a pair is found; else
+// `some`.
 fn unless_none_is_asked(count: Cardinality, all: u64, some: u64) -> u64 {
     if count.min == 0 { all } else { some }
 }
 
-// All rows, unless so many values are none.
+// Returns 0 if `values` is 0, else the number of all rows.
 fn rows_unless_none(values: u64, lengths: Lengths<'_>) -> u64 {
     if values == 0 {
         0
@@ -254,7 +259,7 @@ fn rows_unless_none(values: u64, lengths: Lengths<'_>) -> u64 {
     }
 }
 
-// How many concepts an operator leads to, from so many.
+// Estimates how many concepts an operator leads to from an operand that is estimated at `from` concepts.
 fn guess_of_walk(
     operator: Operator,
     operand: &ConceptPlan,
@@ -277,8 +282,8 @@ fn guess_of_walk(
     }
 }
 
-// How many concepts an operator leads to from one, and the concept itself, which is read too; none where it leads to
-// none.
+// Estimates how many concepts an operator leads to from one concept, and adds 1 because the concept itself is
+// read. It answers 0 if the operator leads to none.
 fn guess_from_one(operator: Operator, id: u64, lengths: Lengths<'_>) -> u64 {
     let list = list_length(lengths, operator, id);
     match operator {
@@ -293,7 +298,8 @@ fn guess_from_one(operator: Operator, id: u64, lengths: Lengths<'_>) -> u64 {
     }
 }
 
-// How many components the reference sets have that a plan means, of so many concepts.
+// Estimates how many components the reference sets have that `operand` means, if it is estimated at `from`
+// concepts.
 fn guess_of_members(operand: &ConceptPlan, from: u64, lengths: Lengths<'_>) -> u64 {
     match operand {
         ConceptPlan::One(id) => member_count(lengths, *id),
@@ -302,7 +308,8 @@ fn guess_of_members(operand: &ConceptPlan, from: u64, lengths: Lengths<'_>) -> u
     }
 }
 
-// Whether one of the decimals of all rows may compare so with a number, by the least and the greatest of them.
+// Tests whether a decimal of any row may stand in the relation `compare` to `number`. It looks at the least and the
+// greatest of all decimals.
 fn may_meet(lengths: Lengths<'_>, compare: Compare, number: Decimal) -> bool {
     let count = lengths.decimal_count();
     if count == 0 {
@@ -320,12 +327,12 @@ fn may_meet(lengths: Lengths<'_>, compare: Compare, number: Decimal) -> bool {
     }
 }
 
-/// How many rows have one of the types that a plan means, or more.
+/// Estimates how many rows have one of the types that a plan means.
 pub fn rows_of_types(types: &ConceptPlan, lengths: Lengths<'_>) -> u64 {
     rows_with_types(types, lengths, DEPTH)
 }
 
-/// How many rows a plan reads where it reads none of candidates; none where it never does.
+/// Estimates how many rows a plan reads if it does not read those of its candidates; 0 if it never reads rows so.
 pub fn rows_without(plan: &ConceptPlan, lengths: Lengths<'_>) -> u64
     ensures { IsSome (one_of (physical_of plan.now)) → result ≡ 0 }
 {
@@ -345,8 +352,8 @@ pub fn rows_without(plan: &ConceptPlan, lengths: Lengths<'_>) -> u64
     }
 }
 
-/// How many rows that part reads which is executed next, from a place on, where another was executed first; none where
-/// no part is left.
+/// Estimates how many rows the part of concepts reads that is executed next, at `place` or after it, if part
+/// `first` was executed first; 0 if no part is left.
 pub fn rows_behind(parts: &[ConceptPlan], place: usize, first: usize, lengths: Lengths<'_>) -> u64 {
     match parts.get(place_behind(place, first)) {
         Some(part) => rows_without(part, lengths),
@@ -354,8 +361,8 @@ pub fn rows_behind(parts: &[ConceptPlan], place: usize, first: usize, lengths: L
     }
 }
 
-/// How many rows that part of groups reads which is executed next, from a place on, where another was executed first;
-/// none where no part is left.
+/// Estimates how many rows the part of groups reads that is executed next, at `place` or after it, if part `first`
+/// was executed first; 0 if no part is left.
 pub fn unit_rows_behind(
     parts: &[UnitPlan],
     place: usize,
@@ -368,7 +375,7 @@ pub fn unit_rows_behind(
     }
 }
 
-// The place of the part that is executed next, from a place on, where another was executed first.
+// Returns `place`, or the place after it if the part at `place` was executed first.
 fn place_behind(place: usize, first: usize) -> usize {
     if place == first {
         place.saturating_add(1)
@@ -377,7 +384,8 @@ fn place_behind(place: usize, first: usize) -> usize {
     }
 }
 
-/// How many rows a plan of groups reads where it reads none of candidates; none where it never does.
+/// Estimates how many rows a plan of groups reads if it does not read those of its candidates; 0 if it never reads
+/// rows so.
 pub fn unit_rows_without(plan: &UnitPlan, lengths: Lengths<'_>) -> u64 {
     match plan {
         UnitPlan::Nothing | UnitPlan::Every => 0,

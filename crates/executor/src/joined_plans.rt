@@ -1,4 +1,4 @@
-//! Parts of a plan that are joined by AND, or by OR.
+//! Executes parts of a plan that are joined by AND or by OR.
 ghost use Rattle.std.specs.Prelude.{IfOk};
 ghost use Rattle.set_algebra.specs.Physical.{physical_and, physical_or, physicals_of};
 ghost use Rattle.candidates.specs.Tallies.{Adds};
@@ -14,9 +14,9 @@ use reading::{Answer, Counter, Reader};
 use set_algebra::ConceptPlan;
 use std::alloc::AllocError;
 
-/// The candidates among the concepts that all of some plans mean; of no plans each candidate. One part is executed
-/// first, and each of the others for what is left. What each has found is gone through once more, to see how much there
-/// is of it.
+/// Executes an `And` node: returns the candidates that all parts mean; without parts, each candidate. It runs the
+/// driving part first, and each of the others for what is left. It reads what each part has found once more, to
+/// measure it.
 #[cycle(execute)]
 pub fn in_all<S: ConceptSet>(
     reader: Reader<'_>,
@@ -52,8 +52,8 @@ pub fn in_all<S: ConceptSet>(
     Ok(found)
 }
 
-/// The candidates among the concepts that one of some plans means; of no plans none. What is found so far is read again
-/// with what each plan has found.
+/// Executes an `Or` node: returns the candidates that at least one part means; without parts, none. With what each
+/// part has found, it reads again what was found so far.
 #[cycle(execute)]
 pub fn in_some<S: ConceptSet>(
     reader: Reader<'_>,

@@ -1,7 +1,8 @@
-//! The concepts that a plan means.
+//! Computes the concepts that a plan means.
 //!
-//! `execute` gives them as a set of concept numbers, in any form of set. It goes down the plan, and has one
-//! function for each kind of node, over the sets of the node's parts and the lists of the index.
+//! `execute` returns them as a set of concept numbers, in any form of set. It goes down the plan, with one
+//! function for each kind of node. Each function works on the sets of the node's parts and the lists of the
+//! indexes.
 #![tactic(auto)]
 
 mod counting;

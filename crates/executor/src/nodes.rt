@@ -1,4 +1,4 @@
-//! The nodes without parts, and those that join sets.
+//! Executes the nodes without parts.
 ghost use Rattle.std.specs.Prelude.{◌≡◌, ◌==◌, ◌&&◌, [], IfOk, filter, length};
 ghost use Rattle.std.specs.List.{range_with_len};
 ghost use Rattle.constraint_tree.specs.Walks.{has_concept};
@@ -11,7 +11,7 @@ use idset::ConceptSet;
 use reading::{Answer, Reader};
 use std::alloc::AllocError;
 
-/// No concept.
+/// Returns the empty set of concepts.
 pub fn no_concept<S: ConceptSet>(reader: Reader<'_>) -> Result<Answer<S>, AllocError>
     ensures items { IfOk result (λ found. S.items_of found ≡ []) }
     ensures bound { IfOk result (λ found. S.bound_of found ≡ length reader.entry.snapshot.now.release.concepts) }
@@ -19,7 +19,7 @@ pub fn no_concept<S: ConceptSet>(reader: Reader<'_>) -> Result<Answer<S>, AllocE
     Answer::from_items(reader.alloc, &[], reader.concept_count())
 }
 
-/// The candidates among the concepts in force.
+/// Returns the candidates among all concepts in force.
 pub fn every_candidate<S: ConceptSet>(
     reader: Reader<'_>,
     candidates: &Candidates<'_, S>,
@@ -33,7 +33,7 @@ pub fn every_candidate<S: ConceptSet>(
     restricted(reader, every, candidates)
 }
 
-/// No group.
+/// Returns the empty set of groups.
 pub fn no_group<S: ConceptSet>(reader: Reader<'_>) -> Result<Answer<S>, AllocError>
     ensures items { IfOk result (λ found. S.items_of found ≡ []) }
     ensures bound { IfOk result (λ found. S.bound_of found ≡ length (all_groups reader.entry.snapshot.now.release)) }
@@ -41,7 +41,7 @@ pub fn no_group<S: ConceptSet>(reader: Reader<'_>) -> Result<Answer<S>, AllocErr
     Answer::from_items(reader.alloc, &[], group_count(reader))
 }
 
-/// The candidates among the groups.
+/// Returns the candidates among all groups.
 pub fn every_candidate_group<S: ConceptSet>(
     reader: Reader<'_>,
     candidates: &Candidates<'_, S>,
@@ -55,7 +55,7 @@ pub fn every_candidate_group<S: ConceptSet>(
     restricted(reader, every, candidates)
 }
 
-/// How many groups all concepts have.
+/// Returns how many groups all concepts have.
 pub fn group_count(reader: Reader<'_>) -> u32
     ensures { result ≡ length (all_groups reader.entry.snapshot.now.release) }
 {
@@ -64,7 +64,7 @@ pub fn group_count(reader: Reader<'_>) -> u32
     reader.group_count()
 }
 
-/// The concept in force with an identifier, if there is one and it is a candidate.
+/// Returns the concept in force with identifier `id`, if there is one and it is a candidate.
 pub fn one_candidate<S: ConceptSet>(
     reader: Reader<'_>,
     id: u64,
@@ -80,7 +80,7 @@ pub fn one_candidate<S: ConceptSet>(
     restricted(reader, one, candidates)
 }
 
-// The concept in force with an identifier, if there is one.
+// Returns the concept in force with identifier `id`, if there is one.
 fn one_concept<S: ConceptSet>(reader: Reader<'_>, id: u64) -> Result<Answer<S>, AllocError>
     ensures items { IfOk result (λ found. S.items_of found ≡ numbers_in reader.entry.snapshot.now.release
         (λ concept. has_concept reader.entry.snapshot.now.release concept && (concept == id))) }

@@ -1,4 +1,4 @@
-//! Going down a plan.
+//! Executes a plan of concepts, from each node to its parts.
 ghost use Rattle.std.specs.Prelude.{◌≡◌, ◌≤◌, ◌+◌, ◌-◌, ◌^◌, IfOk, length, min};
 ghost use Rattle.postings.specs.Indexed.{IsIndexOf};
 ghost use Rattle.set_algebra.specs.Meaning.{means};
@@ -35,10 +35,12 @@ use reading::{Answer, Counter, Reader, Visits};
 use set_algebra::{ConceptPlan, UnitPlan, ValueTest};
 use std::alloc::{AllocError, Global};
 
-/// The concepts that a plan means over a release, as a set of their numbers whose bound is the number of concepts,
-/// whatever the choices of its leaves. The indexes are those of the release. What is read is counted: no more than the
-/// bound of the plan, also where the answer is an error; and at least its floor where it is none, or the count stands
-/// at `u64::MAX`. The error is want of memory.
+/// Returns the concepts that a plan means over a release, as a set of their numbers. The bound of the set is the
+/// number of concepts. The choices of the leaves do not change the result. The indexes must be those of the
+/// release.
+///
+/// It adds what it reads to `visits`: at most the bound of the plan, even if it returns an error; and without an
+/// error at least its floor, unless the count stops at `u64::MAX`. The error is want of memory.
 pub fn execute<S: ConceptSet>(
     alloc: Global,
     physical: &PhysicalPlan,
@@ -63,7 +65,7 @@ pub fn execute<S: ConceptSet>(
     Ok(counter.close(answer))
 }
 
-/// The candidates among the concepts that a plan means, which are no more than its size.
+/// Returns the candidates among the concepts that a plan means. They are at most as many as its size.
 #[cycle(execute)]
 pub fn execute_within<S: ConceptSet>(
     reader: Reader<'_>,
@@ -83,8 +85,8 @@ pub fn execute_within<S: ConceptSet>(
     Ok(found)
 }
 
-/// Executes a plan of concepts for some candidates. Adds up how many rows the concepts found have as values, if the
-/// tally asks for it. Without candidates it executes nothing, and counts the floor of the plan.
+/// Executes a plan of concepts for `candidates`. It adds up how many rows the concepts that it finds have as
+/// values, if `tally` asks for that. Without a candidate it executes nothing, and counts the floor of the plan.
 #[cycle(execute)]
 pub fn execute_tallied<S: ConceptSet>(
     reader: Reader<'_>,
@@ -114,7 +116,7 @@ pub fn execute_tallied<S: ConceptSet>(
     Ok(found)
 }
 
-// Executes one node of a plan of concepts. The caller has ruled out that there is no candidate.
+// Executes one node of a plan of concepts. The caller has ruled out an empty candidate set.
 #[cycle(execute)]
 #[tactic(auto, using(crate::proofs::Rules::node_parts))]
 fn execute_node<S: ConceptSet>(
@@ -170,7 +172,8 @@ fn execute_node<S: ConceptSet>(
     }
 }
 
-// The candidates among the components of the reference sets that a plan means.
+// Executes a `Members` node: returns the candidates among the components of the reference sets that `operand`
+// means.
 #[cycle(execute)]
 fn members_of<S: ConceptSet>(
     reader: Reader<'_>,
@@ -190,8 +193,8 @@ fn members_of<S: ConceptSet>(
     Ok(found)
 }
 
-// Executes a MINUS: the first plan for the candidates, then the second for what the first has found. Answers what the
-// first has found and the second has not.
+// Executes a `Minus` node: runs the first part for the candidates, then the second for what the first found.
+// Returns what the first found and the second did not.
 #[cycle(execute)]
 fn in_first_alone<S: ConceptSet>(
     reader: Reader<'_>,
@@ -214,7 +217,8 @@ fn in_first_alone<S: ConceptSet>(
     Ok(found)
 }
 
-// Executes a leaf: the candidates whose number of distinct pairs with such a type and value lies in the cardinality.
+// Executes a leaf of concepts: returns the candidates whose number of distinct pairs with a type and a value of
+// the leaf lies in its cardinality.
 #[cycle(execute)]
 fn pairs_within<S: ConceptSet>(
     reader: Reader<'_>,
@@ -251,8 +255,8 @@ fn pairs_within<S: ConceptSet>(
     Ok(found)
 }
 
-// Adds the rows of the concept that a plan names. Those of what a walk or an OR finds are added as it is found; how
-// many any other plan finds is not known.
+// Adds the rows of the concept that a plan names. A walk or an OR adds rows as it finds concepts. How many rows
+// any other plan finds is not known, so the tally forgets its number.
 fn tally_named(reader: Reader<'_>, plan: &ConceptPlan, tally: &mut RowTally<'_>)
     ensures { AddsNamed reader.entry.snapshot.now.release (plan_of plan.now) tally.old tally.new }
 {
@@ -269,7 +273,8 @@ fn tally_named(reader: Reader<'_>, plan: &ConceptPlan, tally: &mut RowTally<'_>)
     }
 }
 
-// The candidates among the concepts so many of whose groups are among those that a plan means.
+// Executes a `Units` node: returns the candidates whose number of groups that `units` means lies in `count`. For
+// candidates with few groups it executes `units` for these groups alone.
 #[cycle(execute)]
 fn units_within<S: ConceptSet>(
     reader: Reader<'_>,
@@ -304,7 +309,8 @@ fn units_within<S: ConceptSet>(
     Ok(found)
 }
 
-/// What a test asks of values. Where it asks for what is found by a walk, the rows are counted that these values have.
+/// Executes the plan of a test, if it has one, and returns the test of values. If the test is within a set and
+/// `tally` asks for rows, it adds the rows that these values have.
 #[cycle(execute)]
 pub fn tested_of<S: ConceptSet>(
     reader: Reader<'_>,

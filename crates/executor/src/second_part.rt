@@ -1,5 +1,5 @@
-//! What MINUS does between its two parts: it sees how much there is of what the first has found, for which alone the
-//! second is executed.
+//! What `Minus` does between its two parts: it measures what the first part has found, because the second part is
+//! executed for that alone.
 ghost use Rattle.std.specs.Prelude.{◌≡◌, ◌≤◌, All, IfOk, length, true};
 ghost use Rattle.postings.specs.Groups.{all_groups};
 ghost use Rattle.set_algebra.specs.Physical.{physical_minus, physical_units_minus, physical_of, physical_units_of};
@@ -16,7 +16,7 @@ use reading::{Answer, Counter, Reader};
 use set_algebra::{ConceptPlan, UnitPlan};
 use std::alloc::AllocError;
 
-/// How much there is of what the first part of a plan of concepts has found.
+/// Measures `left`, which the first part of a `Minus` of concepts has found.
 pub fn second_part<S: ConceptSet>(
     reader: Reader<'_>,
     first: &ConceptPlan,
@@ -41,7 +41,7 @@ pub fn second_part<S: ConceptSet>(
     Ok(extent)
 }
 
-/// How much there is of what the first part of a plan of groups has found.
+/// Measures `left`, which the first part of a `Minus` of groups has found.
 pub fn second_unit_part<S: ConceptSet>(
     reader: Reader<'_>,
     first: &UnitPlan,

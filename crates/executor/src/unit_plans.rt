@@ -1,4 +1,4 @@
-//! Going down a plan of groups.
+//! Executes a plan of groups, from each node to its parts.
 ghost use Rattle.std.specs.Prelude.{◌≡◌, ◌≤◌, ◌<◌, ◌+◌, ◌*◌, IfOk, length, min};
 ghost use Rattle.postings.specs.Groups.{all_groups};
 ghost use Rattle.set_algebra.specs.Physical.{physical_units_and, physical_units_minus, physical_units_or};
@@ -24,8 +24,9 @@ use reading::{Answer, Counter, Reader};
 use set_algebra::UnitPlan;
 use std::alloc::AllocError;
 
-/// The candidates among the groups that a plan means, as a set of their numbers whose bound is the number of groups;
-/// they are no more than its size. Where there is no candidate the plan is left out, and its floor counted.
+/// Returns the candidates among the groups that a plan means, as a set of their numbers whose bound is the number
+/// of groups. They are at most as many as its size. Without a candidate it executes nothing, and counts the floor
+/// of the plan.
 #[cycle(execute)]
 pub fn execute_groups<S: ConceptSet>(
     reader: Reader<'_>,
@@ -52,7 +53,7 @@ pub fn execute_groups<S: ConceptSet>(
     Ok(found)
 }
 
-// Executes one node of a plan of groups. The caller has ruled out that there is no candidate.
+// Executes one node of a plan of groups. The caller has ruled out an empty candidate set.
 #[cycle(execute)]
 #[tactic(auto, using(crate::proofs::Rules::node_parts))]
 fn execute_group_node<S: ConceptSet>(
@@ -91,8 +92,8 @@ fn execute_group_node<S: ConceptSet>(
     }
 }
 
-// Executes a MINUS of groups: the first plan for the candidates, then the second for what the first has found. Answers
-// what the first has found and the second has not.
+// Executes a `Minus` node of groups: runs the first part for the candidates, then the second for what the first
+// found. Returns what the first found and the second did not.
 #[cycle(execute)]
 fn groups_in_first_alone<S: ConceptSet>(
     reader: Reader<'_>,
@@ -116,7 +117,8 @@ fn groups_in_first_alone<S: ConceptSet>(
     Ok(groups)
 }
 
-// Executes a leaf: the groups whose number of distinct pairs with such a type and value lies in the cardinality.
+// Executes a leaf of groups: returns the candidates whose number of distinct pairs with a type and a value of the
+// leaf lies in its cardinality.
 #[cycle(execute)]
 fn groups_with_pairs<S: ConceptSet>(
     reader: Reader<'_>,
@@ -152,7 +154,8 @@ fn groups_with_pairs<S: ConceptSet>(
     Ok(found)
 }
 
-// The candidates among the groups that all of some plans mean; of no plans each candidate.
+// Executes an `And` node of groups: returns the candidates that all parts mean; without parts, each candidate. It
+// runs the driving part first, and each of the others for what is left.
 #[cycle(execute)]
 fn groups_in_all<S: ConceptSet>(
     reader: Reader<'_>,
@@ -188,7 +191,7 @@ fn groups_in_all<S: ConceptSet>(
     Ok(groups)
 }
 
-// The candidates among the groups that one of some plans means; of no plans none.
+// Executes an `Or` node of groups: returns the candidates that at least one part means; without parts, none.
 #[cycle(execute)]
 fn groups_in_some<S: ConceptSet>(
     reader: Reader<'_>,

@@ -1,4 +1,4 @@
-//! Walks of a plan.
+//! Executes the walks of a plan.
 ghost use Rattle.std.specs.Prelude.{◌≡◌, ◌≤◌, ◌/◌, IfOk, None, length};
 ghost use Rattle.number_lists.specs.Members.{has};
 ghost use Rattle.set_algebra.specs.Meaning.{means};
@@ -22,9 +22,9 @@ use reading::{Answer, Counter, Reader};
 use std::alloc::AllocError;
 use walks::{are_enough, enough_for, led_among};
 
-/// The candidates among the concepts that a walk leads to from those that its operand means. Where few candidates are
-/// asked, it is executed for what is in the lists by which they are asked alone. The rows are added of what is found
-/// from one concept, if the tally asks for them.
+/// Executes a `Walk` node: returns the candidates among the concepts that the operator leads to from what the
+/// operand means. For few candidates it executes the operand only for the concepts in their lists. If the operand
+/// is one concept and `tally` asks for rows, it adds the rows of what is found.
 #[cycle(execute)]
 pub fn walk_from<S: ConceptSet>(
     reader: Reader<'_>,
@@ -56,7 +56,7 @@ pub fn walk_from<S: ConceptSet>(
 }
 
 // Executes a walk for few candidates. The lists that lead back from the candidates have all concepts on which the
-// answer depends, so the operand is executed for these alone. Then each candidate is tested by its list.
+// answer depends, so it executes the operand for these alone. Then it tests each candidate by its list.
 #[cycle(execute)]
 fn walk_to_few<S: ConceptSet>(
     reader: Reader<'_>,

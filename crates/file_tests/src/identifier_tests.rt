@@ -3,7 +3,7 @@ use arrayvec::ArrayVec;
 use sctid::{IdFault, Part, SctId};
 use std::process::Abort;
 
-// What each text is parsed to: its part, or the number of its fault.
+// For each text, its part as an identifier, or the number of its fault.
 const TEXTS: &[(&[u8], Result<Part, IdFault>)] = &[
     (b"100005", Ok(Part::Concept)),
     (b"138875005", Ok(Part::Concept)),
@@ -43,7 +43,8 @@ fn parses(rt: HostRuntime) {
     assert_parsed(&rt, TEXTS);
 }
 
-// The number of the identifier, whose digits are written twice over.
+// Returns the number of the identifier in `text`. It writes the digits twice, because the second write has to
+// replace the first.
 fn number_written(digits: &mut ArrayVec<u8, 18>, text: &[u8]) -> Result<u64, IdFault> {
     let id = SctId::parse(text)?;
     id.write_to(digits);

@@ -1,7 +1,6 @@
-//! Tests of what a release's files are read by, from outside: identifiers, rows of each kind, and lines.
+//! Tests of the reading of release files, from outside: identifiers, rows of each kind, and lines.
 //!
-//! They stand in a crate of their own, so that the crates that they look at are not proved once more with
-//! them.
+//! They stand in a crate of their own, so that the tested crates are not proved once more with them.
 #![tactic(auto)]
 
 #[cfg(test)]

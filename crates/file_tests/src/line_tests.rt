@@ -1,4 +1,4 @@
-//! Lines from outside, of bytes and of files that are read in pieces.
+//! Tests of lines: of bytes in memory, and of files that are read in pieces.
 ghost use Rattle.std.specs.Prelude.{◌≤◌};
 
 use release_files::{FileSource, Line, Lines, MemoryFiles, NamedBytes, PieceLines, SourceFault};
@@ -16,7 +16,7 @@ fn is_same(found: Option<Line<'_>>, expected: Line<'_>) -> bool {
     }
 }
 
-// These lines come next: number, end and text of each.
+// Checks that these lines come next, each with its number, end and text.
 fn check_next(rt: &impl Abort, lines: &mut Lines<'_>, expected: &[(u64, u64, &[u8])]) {
     for &(number, end, bytes) in expected {
         let line = Line { number, end, bytes };
@@ -24,7 +24,7 @@ fn check_next(rt: &impl Abort, lines: &mut Lines<'_>, expected: &[(u64, u64, &[u
     }
 }
 
-// The bytes have these lines and no more.
+// Checks that the bytes have these lines and no more.
 fn assert_lines(rt: &impl Abort, bytes: &[u8], expected: &[(u64, u64, &[u8])]) {
     let mut lines = Lines::new(bytes);
     check_next(rt, &mut lines, expected);
@@ -72,10 +72,11 @@ fn finds_no_line_in_nothing(rt: HostRuntime) {
 
 const NAME: &str = "Terminology/lines.txt";
 
-// A mark, each end of a line, empty lines, a mark that is none, and a last line without an end.
+// A text with a byte order mark, each kind of line end, empty lines, a mark that is none, and a last line without an
+// end.
 const TEXT: &[u8] = b"\xef\xbb\xbfa\tb\r\n\r\n\nlong\rer\r\r\n\xef\xbb\xbfc\nd";
 
-// Two files of one name among three.
+// Three files, two of which have one name.
 fn files() -> [NamedBytes<'static>; 3] {
     [
         NamedBytes {
@@ -93,7 +94,7 @@ fn files() -> [NamedBytes<'static>; 3] {
     ]
 }
 
-// No fault is expected but that memory was refused.
+// Turns a fault for want of memory into an error; fails at any other fault.
 fn but_for_memory(rt: &impl Abort, checked: Result<(), SourceFault>) -> Result<(), AllocError> {
     assert!(rt; checked != Err(SourceFault::Device), "no call fails");
     match checked {
@@ -125,7 +126,7 @@ fn check_line<S: FileSource>(
     Ok(())
 }
 
-// The open file has the lines of these bytes. After the last of them, and after a fault, none comes.
+// Checks that the open file has the lines of these bytes. After the last line, and after a fault, no line comes.
 fn check_lines<S: FileSource>(
     rt: &impl Abort,
     lines: &mut PieceLines,
@@ -159,7 +160,7 @@ fn check_whole<S: FileSource>(
     checked
 }
 
-// The same of a file of a source, which is opened first.
+// Opens a file of a source, and checks that it has the lines of these bytes.
 fn check_file<S: FileSource>(
     rt: &impl Abort,
     alloc: Global,
@@ -172,7 +173,7 @@ fn check_file<S: FileSource>(
     check_whole(rt, &mut lines, source, bytes)
 }
 
-// A file in memory, read by pieces of this many bytes, has its lines.
+// Checks that a file in memory has its lines if it is read in pieces of this many bytes.
 fn check_pieces(
     rt: &impl Abort,
     alloc: Global,
@@ -200,7 +201,7 @@ fn front(limit: usize) -> &'static [u8] {
     &TEXT[..limit.min(TEXT.len())]
 }
 
-// The first bytes of a file have the lines of a file that has no others.
+// Checks that the first bytes of a file have the lines of a file with these bytes alone.
 fn check_front<S: FileSource>(
     rt: &impl Abort,
     alloc: Global,
@@ -212,7 +213,7 @@ fn check_front<S: FileSource>(
     check_lines(rt, &mut lines, source, front(limit))
 }
 
-// The same of a file in memory, where no call fails.
+// Checks the lines of the first `limit` bytes of a file in memory, for which no call fails.
 fn check_limit(rt: &impl Abort, alloc: Global, limit: usize) -> Result<(), AllocError> {
     let files = files();
     let mut source = MemoryFiles::new(alloc, &files, 4_096, 0);
@@ -227,7 +228,7 @@ fn reads_no_more_than_the_limit(rt: HostRuntime) -> Result<(), AllocError> {
     Ok(())
 }
 
-// A line of so many bytes, and one of a byte.
+// Makes a text of a line of `count` bytes and a line of one byte.
 fn long_text(alloc: Global, count: usize) -> Result<Vec<u8>, AllocError> {
     let mut text = Vec::new(alloc);
     text.resize(count, b'x')?;
@@ -242,7 +243,7 @@ fn reads_a_line_longer_than_a_piece(rt: HostRuntime) -> Result<(), AllocError> {
     check_long(&rt, alloc, text.as_slice())
 }
 
-// A line of 16 MiB has its memory, where there is some.
+// A line of 16 MiB is read, if there is memory for it.
 #[test]
 fn reads_a_line_of_many_pieces(rt: HostRuntime) -> Result<(), AllocError> {
     let alloc = rt.alloc();
@@ -256,8 +257,8 @@ fn check_long(rt: &impl Abort, alloc: Global, bytes: &[u8]) -> Result<(), AllocE
     check_pieces(rt, alloc, &files, 1_000_000, bytes)
 }
 
-// Where a call fails, that is what is answered, and what is counted; then no line comes. Answers
-// whether no call failed.
+// Checks that a failing call of the source is answered and counted once, and that no line follows. Returns whether
+// no call failed.
 fn check_counted(
     rt: &impl Abort,
     alloc: Global,
@@ -287,7 +288,7 @@ fn answers_each_failure(rt: HostRuntime) -> Result<(), AllocError> {
         }
         failed = fail_at;
     }
-    // One opens the file, four read its 27 bytes, and two find its end.
+    // one call opens the file, four read its 27 bytes, and two find its end
     assert_eq!(&rt; failed, 7);
     Ok(())
 }
@@ -300,7 +301,7 @@ fn are_names_of(names: &[String], files: &[NamedBytes<'_>]) -> bool {
             .all(|(name, file)| name.as_str() == file.name)
 }
 
-// The names of the files.
+// Checks the names of the files.
 fn check_names(rt: &impl Abort, source: &mut MemoryFiles<'_>) -> Result<(), SourceFault> {
     let names = source.list()?;
     assert!(rt; are_names_of(&names, &files()));

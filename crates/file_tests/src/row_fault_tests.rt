@@ -10,7 +10,7 @@ fn fault_of(kind: FileKind, line: &[u8]) -> Option<RowFault> {
     }
 }
 
-// Each line has this fault and no row.
+// Checks that each line has this fault and no row.
 fn assert_faults(rt: &impl Abort, kind: FileKind, lines: &[(&[u8], RowCause, u8)]) {
     for &(line, cause, column) in lines {
         let fault = RowFault { cause, column };

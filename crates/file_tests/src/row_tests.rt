@@ -224,7 +224,7 @@ fn value_of(line: &[u8]) -> Option<Value<'_>> {
     }
 }
 
-// The value of each line is so many times 10^-18.
+// Checks that the value of each line is this number, in units of 10^-18.
 fn assert_numbers(rt: &impl Abort, lines: &[(&[u8], i128)]) {
     for (line, number) in lines {
         let value = Value::Decimal(Decimal(*number));
@@ -232,7 +232,7 @@ fn assert_numbers(rt: &impl Abort, lines: &[(&[u8], i128)]) {
     }
 }
 
-// The value of each line is a text.
+// Checks that the value of each line is this text.
 fn assert_texts(rt: &impl Abort, lines: &[(&[u8], &[u8])]) {
     for (line, text) in lines {
         assert!(rt; value_of(line) == Some(Value::Other(text)), "{text:?}");
@@ -335,7 +335,7 @@ fn is_member(row: &MemberRow) -> bool {
         && row.active
 }
 
-// A description whose language code and term have so many bytes.
+// Makes a description whose language code has `code` bytes and whose term has `term` bytes.
 fn description_with(alloc: Global, code: usize, term: usize) -> Result<Vec<u8>, AllocError> {
     let mut line = Vec::from_slice(alloc, b"100014\t20240101\t1\t900000000000207008\t100005\t")?;
     push_letters(&mut line, code)?;
@@ -352,7 +352,8 @@ fn push_letters(line: &mut Vec<u8>, count: usize) -> Result<(), AllocError> {
     Ok(())
 }
 
-// Tabs are looked for in blocks of 32 bytes: texts of each length up to two blocks.
+// Fields are cut at tabs at any place: the two texts have each length from 0 to 65, so a tab stands at each place of
+// a block of 64 bytes.
 #[test]
 fn cuts_at_a_tab_anywhere(rt: HostRuntime) -> Result<(), AllocError> {
     for code in 0..66usize {
@@ -388,7 +389,7 @@ fn has_fields(line: &[u8]) -> bool {
     }
 }
 
-// The module and the definition status of a concept's line; of another row nothing.
+// Returns the module and the definition status of a concept's line, and `None` for another row.
 fn concept_of(reader: &mut RowReader, line: &[u8]) -> Result<Option<(u64, u64)>, RowFault> {
     match reader.read_row(FileKind::Concept, line) {
         Ok(Row::Concept(row)) => Ok(Some((
@@ -400,7 +401,7 @@ fn concept_of(reader: &mut RowReader, line: &[u8]) -> Result<Option<(u64, u64)>,
     }
 }
 
-// The same of each line, or its fault, read by one reader in turn.
+// Checks the module and the definition status of each line, or its fault. One reader reads them in turn.
 fn assert_concepts(rt: &impl Abort, rows: &[(&[u8], Result<Option<(u64, u64)>, RowFault>)]) {
     let mut reader = RowReader::new();
     for (line, expected) in rows {
@@ -462,7 +463,7 @@ fn reads_concepts_in_turn(rt: HostRuntime) {
     );
 }
 
-// The characteristic type and the modifier of a relationship's line; of another row nothing.
+// Returns the characteristic type and the modifier of a relationship's line, and `None` for another row.
 fn relationship_of(reader: &mut RowReader, line: &[u8]) -> Option<(u64, u64)> {
     match reader.read_row(FileKind::Relationship, line) {
         Ok(Row::Relationship(row)) => {
@@ -475,7 +476,7 @@ fn relationship_of(reader: &mut RowReader, line: &[u8]) -> Option<(u64, u64)> {
     }
 }
 
-// The same of each line, read by one reader in turn.
+// Checks the characteristic type and the modifier of each line. One reader reads them in turn.
 fn assert_relationships(rt: &impl Abort, rows: &[(&[u8], (u64, u64))]) {
     let mut reader = RowReader::new();
     for (line, expected) in rows {

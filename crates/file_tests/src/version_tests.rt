@@ -1,8 +1,8 @@
-//! Which lines are one row, and what time a row has.
+//! Tests of which lines are one row, and which time a row has.
 use rf2_rows::{FileKind, RowFault, read_row, same_row};
 use std::process::Abort;
 
-// Whether two lines of a kind, each of which is a row, are told to be one row or not.
+// Whether `same_row` answers `same` for two lines of a kind, each of which is a row.
 fn are_told(kind: FileKind, one: &[u8], other: &[u8], same: bool) -> bool {
     match (read_row(kind, one), read_row(kind, other)) {
         (Ok(_), Ok(_)) => {
@@ -126,7 +126,7 @@ fn tells_rows_that_differ(rt: HostRuntime) {
                 b"100022\t20240101\t1\t100005\t101009\t#1\t0\t103007\t104001\t105000",
                 b"100022\t20240101\t1\t100005\t101009\t#-1\t0\t103007\t104001\t105000",
             ),
-            // of each kind a pair that differs in its last column
+            // for each kind a pair that differs in its last column
             (
                 FileKind::Concept,
                 b"100005\t20240101\t1\t101009\t102002",

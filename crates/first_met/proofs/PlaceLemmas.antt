@@ -4,7 +4,7 @@ use Rattle.std.specs.List.{list_any, position_or_len}
 use Rattle.std.proofs.lemmas.Bool.Decides.{nat_tests}
 use Rattle.std.proofs.lemmas.Grind.{common_steps}
 
--- a key that was not met comes behind all that were
+-- the place of a key that is not among `keys` is the number of `keys`
 pub behind_all : (keys : List ℕ) (key : ℕ) → list_any (nat_eq key) keys ≡ false → position_or_len (nat_eq key) keys ≡ length keys
 behind_all [] key is = grind (arith, common_steps)
 behind_all (first ∷ keys) key is = grind (arith, common_steps, nat_tests, (behind_all keys key))

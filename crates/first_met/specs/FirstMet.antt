@@ -2,6 +2,6 @@
 use Rattle.std.specs.Prelude.{ℕ, if◌then◌else◌, List, [], ◌∷◌, ◌++◌, nat_eq}
 use Rattle.std.specs.List.{list_any}
 
--- the keys once one more was met: it comes last if it was not met before
+-- `keys` after `key` was met: it comes last if it was not among them before
 abbrev pub keys_behind : List ℕ → ℕ → List ℕ
 keys_behind keys key = if list_any (nat_eq key) keys then keys else keys ++ key ∷ []

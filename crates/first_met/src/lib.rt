@@ -1,7 +1,7 @@
 //! Keys in the order in which they were first met, each once, with the place of each.
 //!
-//! What files choose, as identifiers and types, is numbered by this. The keys are found by a hash over a seed.
-//! Keys that are made for a known seed can take time by the square of their number.
+//! The engine uses this to number what files choose, for example identifiers and types. A hash over a seed finds
+//! the keys. Keys that somebody makes for a known seed can take time quadratic in their number.
 #![tactic(auto)]
 
 mod seed;
@@ -19,7 +19,7 @@ use std::marker::Model;
 /// Keys in the order in which they were first met, each once. Contracts see the list of them.
 #[derive(Drop)]
 pub struct FirstMet {
-    // none only if no hash could be made of the seed, which the library leaves open: each key is then
+    // `None` only if the library could make no hash of the seed, which its contract leaves open; each key is then
     // refused as if memory were
     keys: Option<IndexSet<u128, RandomState>>,
 }
@@ -35,7 +35,7 @@ impl Model for FirstMet {
 }
 
 impl FirstMet {
-    /// No key. Those that are met are hashed over `seed`. Takes no memory.
+    /// Creates a list without a key. The keys will be hashed over `seed`. Takes no memory.
     pub fn new(alloc: Global, seed: Seed) -> FirstMet
         ensures { result ≡ [] }
     {
@@ -70,7 +70,8 @@ impl FirstMet {
         }
     }
 
-    /// The place of a key, which comes last if it was not met before, and whether it was not.
+    /// Returns the place of `key`, and whether the key is new. A new key comes last. If memory is refused, the keys
+    /// stay.
     pub fn meet(&mut self, key: u128) -> Result<(usize, bool), AllocError>
         ensures place { IfOk result (λ met. met.0 ≡ position_or_len (nat_eq key) self.old) }
         ensures new { IfOk result (λ met. met.1 ≡ not (list_any (nat_eq key) self.old)) }

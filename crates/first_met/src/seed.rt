@@ -1,10 +1,10 @@
-//! What hashes begin with.
+//! The seed with which hashes begin.
 use std::io;
 use std::random::RandomSource;
 
-/// The 128 bits that a hash of keys begins with. No answer depends on them, only the time that it takes: whoever
-/// knows the seed can make keys that all fall into one place of a table. So it is drawn where one does not trust
-/// the keys.
+/// The 128 bits with which a hash of keys begins. No answer depends on them, only the time that it takes: whoever
+/// knows the seed can make keys that all fall into one place of a table. A caller that does not trust the keys
+/// draws a seed.
 #[derive(Clone, Copy)]
 pub struct Seed {
     /// The bits.
@@ -15,7 +15,7 @@ impl Seed {
     /// A seed that everyone knows, for keys that one trusts.
     pub const FIXED: Seed = Seed { bits: 0 };
 
-    /// Draws a seed. It fails where the source does.
+    /// Draws a seed. It fails if the source does.
     pub fn draw<R: RandomSource>(source: &R) -> io::Result<Seed> {
         let mut bytes = [0; 16];
         source.fill_bytes(&mut bytes)?;
@@ -25,7 +25,7 @@ impl Seed {
     }
 }
 
-/// Tells the bytes of the seed, the lowest first, again and again.
+/// Fills a buffer with the bytes of the seed, the lowest first, again and again.
 impl RandomSource for Seed {
     fn fill_bytes(&self, buffer: &mut [u8]) -> io::Result<()> {
         let bytes = self.bits.to_le_bytes();

@@ -1,4 +1,4 @@
--- From what was listed of the rows to the contents of a snapshot.
+-- From the listed rows to the contents of a snapshot.
 use Rattle.std.proofs.lemmas.Bool.Decides.{nat_tests}
 use Rattle.std.proofs.lemmas.Grind.{common_steps}
 use Rattle.std.proofs.Common.{ℕ, Bool, ◌≡◌, ◌≢◌, ◌≤◌, ◌+◌, ◌-◌, All, List, [], ◌∷◌, length, map, Option, None, Some, Result, Ok, Err, arith, false, true, cond, filter_map, refl}
@@ -20,11 +20,12 @@ use Rattle.row_lists.specs.declared.fault.LoadFault.{LoadFault}
 use Rattle.row_lists.specs.declared.fault.LoadFault.TheVariants.{Cycle, Memory}
 use Rattle.held_release.proofs.NumberingLemmas.{first_cyclic-Some, rows_of_numbers}
 
--- a list does not grow by being brought in rising order
+-- `put` makes a list longer by one item at most
 length-put : (id : ℕ) (xs : List ℕ) → length (put id xs) ≤ length xs + 1
 length-put id [] = omega arith
 length-put id (x ∷ xs) = grind (arith, put, cond, (length-put id xs))
 
+-- a list does not grow when it is brought into rising order
 pub length-rising : (xs : List ℕ) → length (rising xs) ≤ length xs
 length-rising [] = omega arith
 length-rising (x ∷ xs) = omega (arith, length-put x (rising xs), length-rising xs)
@@ -46,7 +47,7 @@ contents_by_number language files concepts inactive isa attributes members names
   passed = passed;
 }
 
--- where no concept reaches itself, the snapshot is of the contents made of what was listed
+-- if no concept reaches itself, `finished` is `Ok` of the contents that the numbered concepts and rows stand for
 pub finished-Ok : (language : List ℕ) (files count : ℕ) (listed : ReleaseLists) (concepts inactive : List ℕ)
     (isa : List (ℕ × ℕ)) (attributes : List Attribute) (members : List (ℕ × ℕ)) (names : List Name) (passed : ℕ)
     → concepts ≡ rising listed.active_concepts → inactive ≡ rising listed.inactive_concepts
@@ -60,26 +61,27 @@ pub finished-Ok : (language : List ℕ) (files count : ℕ) (listed : ReleaseLis
 finished-Ok language files count listed concepts inactive isa attributes members names passed rises inactive_rise isa_is
     attributes_are members_are named acyclic counted = grind (arith, rows_of_numbers, length-map)
 
--- where one does, the least is the fault
+-- a fault that names the first concept that reaches itself, or is the want of memory, is the fault of `finished`
 pub finished-Err : (language : List ℕ) (files count : ℕ) (listed : ReleaseLists) (concepts : List ℕ) (fault : LoadFault)
     → concepts ≡ rising listed.active_concepts → IsCycle fault (first_cyclic concepts (rows_among concepts listed.isa_ends))
     → IsFaultOf fault (finished language files count listed)
 finished-Err language files count listed concepts fault rises cycle other = grind (arith, common_steps, nat_tests)
 
--- there are no more names of some concepts than names
+-- `names_among` keeps at most as many names as there are
 pub length-names_among : (concepts : List ℕ) (names : List Name) → length (names_among concepts names) ≤ length names
 length-names_among concepts names = grind (arith, common_steps, nat_tests, count_by-le-length, length-filter)
 
--- nor more attributes than attributes
+-- `attributes_among` keeps at most as many attributes as there are
 pub length-attributes_among : (concepts : List ℕ) (attributes : List Attribute) → length (attributes_among concepts attributes) ≤ length attributes
 length-attributes_among concepts attributes = grind (arith, common_steps, nat_tests, count_by-le-length, length-filter)
 
--- the values of attributes of some concepts that are concepts are among these
+-- if the value of a kept attribute is a concept, it is one of `concepts`
 pub attributes_among-values : (concepts : List ℕ) (attributes : List Attribute)
     → All (λ (row : Attribute). is_value_among concepts row.value ≡ true) (attributes_among concepts attributes)
 attributes_among-values concepts attributes = grind (arith, common_steps, nat_tests, All-weaker, and_parts, filter_passes)
 
--- the fault that names the least concept that reaches itself is that of the load
+-- a fault that names the least concept that reaches itself by numbered rows names the first that reaches itself by
+-- identifiers
 pub least_cycle : (fault : LoadFault) (concepts : List ℕ) → IsStrictlyIncreasing concepts → (ends : List (ℕ × ℕ))
     → IsLeastCycle fault concepts (filter_map (numbered_row concepts) ends)
     → IsCycle fault (first_cyclic concepts (rows_among concepts ends))

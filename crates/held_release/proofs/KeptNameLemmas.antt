@@ -12,7 +12,7 @@ use Rattle.row_lists.proofs.SpanLemmas.{all-push, rows-push, span-extends, stand
 use Rattle.held_release.specs.inside.NamesInLines.{AreNoted, IsKept, name_kept, term_span}
 use Rattle.held_release.specs.declared.kept_names.KeptName.{KeptName}
 
--- the spans that are noted for rows
+-- spans noted for rows stay valid while the buffer grows
 pub noted-extends : (names : List Name) (texts grown : List ℕ) (spans : List (Option Span))
     → AreNoted names texts spans → Extends texts grown → AreNoted names grown spans
 noted-extends names texts grown spans noted extends = record {
@@ -21,16 +21,17 @@ noted-extends names texts grown spans noted extends = record {
       (λ span stands. stands-extends texts grown extends name.term span stands);
 }
 
--- a span is noted for a row
+-- if the term of the row at `place` stands at `span`, this span may be noted for the row
 pub noted-set : (names : List Name) (texts : List ℕ) (spans : List (Option Span)) (place : ℕ) (name : Name) (span : Span)
     → AreNoted names texts spans → slice_get names place ≡ Some name → StandsAt texts name.term span → AreNoted names texts (set spans place (Some span))
 noted-set names texts spans place name span noted there stands =
     grind (arith, common_steps, nat_tests, cases_eq, get_or-set_other, get_or-set_same, length-set, slice_get_within)
 
--- one row more, while both grow
+-- one kept row more, while the buffer and the spans of language codes grow
 module _ (texts grown : List ℕ) (languages more : List Span) (kept items : List KeptName) (row : KeptName)
     (extends : Extends texts grown) (extends_languages : Extends languages more) (pushed : items ≡ kept ++ row ∷ [])
     (are : All (IsKept texts languages) kept) where
+  -- if the new row is kept in the grown buffer, so are all rows
   pub kept-push : IsKept grown more row → All (IsKept grown more) items
   kept-push is =
       all-push (IsKept texts languages) (IsKept grown more) (λ row kept. record {
@@ -38,6 +39,8 @@ module _ (texts grown : List ℕ) (languages more : List Span) (kept items : Lis
         term = span-extends texts grown extends (term_span row) kept.term;
       }) kept items row pushed are is
 
+  -- if the rows so far stand for the first `place` names and the new row for the next one, they stand for `place + 1`
+  -- names
   pub names-push : AreSpansOf texts languages → (names : List Name) (place : ℕ) (name : Name) → map (name_kept texts languages) kept ≡ take place names
       → name_kept grown more row ≡ name → place < length names → name ≡ get_or names place name → map (name_kept grown more) items ≡ take (place + 1) names
   names-push placed names place name so_far is within there =

@@ -1,4 +1,4 @@
--- The concept that a cycle is refused by, in the words of a reader.
+-- The concept that the fault `Cycle` names, in the words of a reader.
 use Rattle.std.proofs.lemmas.Bool.Decides.{nat_tests}
 use Rattle.std.proofs.lemmas.Grind.{common_steps}
 use Rattle.std.proofs.Common.{ℕ, ◌≡◌, ◌<◌, List, length, get_or, None, Some, sym, ◌∙◌, ap, arith, Bool, true, false, Contains, find, slice_get}
@@ -16,7 +16,7 @@ use Rattle.std.proofs.lemmas.List.Elements.{Contains-get_or}
 use Rattle.held_release.proofs.NumberingLemmas.{find-first, find-none}
 use Rattle.number_lists.proofs.IncreasingLemmas.{earlier_below, not_falling}
 
--- what is found passes the test, and no item before it does
+-- the item that `find` finds passes the test, and no item before it does
 find-Some : (test : ℕ → Bool) (xs : List ℕ) (x : ℕ) → find test xs ≡ Some x
     → (i : ℕ) × (i < length xs) × (get_or xs i 0 ≡ x) × (test x ≡ true) × ((k : ℕ) → k < i → test (get_or xs k 0) ≡ false)
 find-Some test xs x found =
@@ -29,7 +29,7 @@ find-Some test xs x found =
       λ k before. fails_before_first test xs k 0 before,
     )
 
--- nothing is found where no item passes the test
+-- if `find` finds nothing, no item passes the test
 find-none_passes : (test : ℕ → Bool) (xs : List ℕ) → find test xs ≡ None → (x : ℕ) → Contains xs x → test x ≡ false
 find-none_passes test xs none x (k, below, is) =
     grind (
@@ -42,11 +42,13 @@ find-none_passes test xs none x (k, below, is) =
       (fails_before_first test xs k x),
     )
 
--- a lesser concept stands before a greater one
+-- in a rising list a lesser concept stands before a greater one
 earlier_place : (concepts : List ℕ) → IsStrictlyIncreasing concepts → (i k : ℕ) → i < length concepts → k < length concepts
     → get_or concepts k 0 < get_or concepts i 0 → k < i
 earlier_place concepts rising i k within also less = grind (arith, common_steps, nat_tests, cases_lt, not_falling)
 
+-- `least_cyclic` names the least concept that a chain of is-a rows leads back to, and nothing if there is no such
+-- chain
 pub names_least_cyclic : NamesLeastCyclic
 names_least_cyclic release rising = (
   λ concept. (

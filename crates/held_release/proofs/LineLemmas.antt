@@ -12,11 +12,12 @@ use Rattle.held_release.specs.Name.{first_name, name_among, names_of}
 use Rattle.number_lists.proofs.CutLemmas.{below_cut, cut, cut-push, end_within, found, slice_range-append, starts-push}
 use Rattle.number_lists.proofs.ListLemmas.{same_maps}
 
--- the place of the row that comes first is that of a row, and the term there is its term
+-- a place that leads to the row that comes first is below the number of rows
 pub place_within : (names : List Name) (place : Option ℕ) (first : Option Name)
     → option_map (slice_get names) place ≡ option_map Some first → IfSome place (λ at. at < length names)
 place_within names place first h0 = grind (arith, common_steps, nat_tests, slice_get_within)
 
+-- each first place is below the number of rows
 pub places_within : (language concepts : List ℕ) (names some : List Name) (places : List (Option ℕ)) → AreFirstPlaces language concepts names some places
     → All (λ (place : Option ℕ). IfSome place (λ at. at < length names)) places
 places_within language concepts names some places are =
@@ -28,7 +29,7 @@ places_within language concepts names some places are =
       (are.1 k),
     )
 
--- the line of the next concept comes behind those of the concepts so far
+-- the lines of the first `number` concepts and the line of the next one are the lines of `number + 1` concepts
 pub lines-more : (language concepts : List ℕ) (names : List Name) (places : List (Option ℕ)) (number concept : ℕ) (name : Option (List ℕ))
     → AreFirstPlaces language concepts names names places → number < length concepts → concept ≡ get_or concepts number concept
     → name ≡ option_map (λ (row : Name). row.term) (option_and_then (slice_get names) (get_or places number None))
@@ -36,20 +37,23 @@ pub lines-more : (language concepts : List ℕ) (names : List Name) (places : Li
     ≡ map (concept_line (name_among language names)) (take (number + 1) concepts)
 lines-more language concepts names places number concept name are within concept_is name_is = grind (arith, common_steps, nat_tests, get_or_read, map_more)
 
--- where a line is put behind the others, and its end behind the other places, it is one line more
+-- a line is put after the others, and its end after the other starts
 module _ (starts starts_after texts texts_after line : List ℕ) (end : ℕ) (grown : texts_after ≡ texts ++ line)
     (ends : end ≡ length texts_after) (pushed : starts_after ≡ starts ++ end ∷ []) (kept : AreStarts starts texts) where
+  -- a text that grows by a line, whose end is pushed to the starts, is cut into one line more
   pub line-pushed : cut starts_after texts_after ≡ cut starts texts ++ line ∷ []
   line-pushed = grind (arith, cut, cut-push, length-append)
 
+  -- starts stay valid if a line comes and its end is pushed
   pub starts-pushed : AreStarts starts_after texts_after
   starts-pushed = grind (arith, common_steps, nat_tests, starts-push, length-append)
 
--- the lines stay where more comes behind them
+-- the lines that starts cut out of a text do not change if more text follows
 pub lines-append : (starts lines more : List ℕ) → AreStarts starts lines → cut starts (lines ++ more) ≡ cut starts lines
 lines-append starts lines more kept = search (rules, end_within, get_or, same_maps, slice_range-append)
 
--- where the lines are those at the beginning of a text: the places of a line, and what stands between them
+-- if the lines stand at the beginning of a text, line `number` is the text between its start and the next start,
+-- which are within the text
 pub line_places : (starts texts : List ℕ) (lists : List (List ℕ)) (number : ℕ)
     → (lines more : List ℕ) × (texts ≡ lines ++ more) × AreStarts starts lines → cut starts texts ≡ lists → number < length lists
     → (number + 1 < length starts) × (get_or starts number 0 ≤ get_or starts (number + 1) 0) × (get_or starts (number + 1) 0 ≤ length texts)
@@ -63,7 +67,7 @@ line_places starts texts lists number (lines, more, grown, kept) are below =
       found starts texts lists number are below,
     )
 
--- the line of a concept among those of all
+-- the line at `number` in the lines of all concepts is the line of the concept at `number`
 pub line_among : (name : ℕ → Option (List ℕ)) (concepts : List ℕ) (number : ℕ) → number < length concepts
     → get_or (map (concept_line name) concepts) number [] ≡ concept_line name (get_or concepts number 0)
 line_among name concepts number below = get_or-map (concept_line name) concepts number 0 [] below

@@ -20,58 +20,58 @@ use Rattle.held_release.specs.Numbering.{concept_number, numbered_row, row_of_nu
 use Rattle.number_lists.proofs.PlaceLemmas.{get_or-place_of, place_below, place_of, place_of-get_or, place_within}
 use Rattle.number_lists.proofs.IncreasingLemmas.{has-between}
 
--- the row of what a function gives of both ends
+-- a row with `f` applied to both ends
 abbrev pub row_by : (ℕ → ℕ) → ℕ × ℕ → ℕ × ℕ
 row_by f row = (f row.0, f row.1)
 
--- a chain of rows, each end of which is renamed
+-- a chain of rows stays a chain if `f` renames both ends of each row
 pub Reaches-map : (f : ℕ → ℕ) {rows : List (ℕ × ℕ)} {x y : ℕ} → Reaches rows x y → Reaches (map (row_by f) rows) (f x) (f y)
 Reaches-map f {rows} {x} {y} (one_row there) = one_row (Contains-map (row_by f) rows (x, y) there)
 Reaches-map f {rows} {x} {y} (more_rows {parent = parent} there rest) = more_rows (Contains-map (row_by f) rows (x, parent) there) (Reaches-map f rest)
 
--- the number of a concept among others is its place
+-- the number of an identifier in `concepts` is its place there
 pub concept_number-has : (concepts : List ℕ) (id : ℕ) → has concepts id ≡ true → concept_number concepts id ≡ Some (place_of concepts id)
 concept_number-has concepts id there = rw (place_within concepts id, there) refl
 
--- an identifier has a number exactly where it is among concepts
+-- an identifier has a number exactly if it is in `concepts`
 pub number_has : (concepts : List ℕ) (id : ℕ) → is_some (concept_number concepts id) ≡ has concepts id
 number_has concepts id = grind (arith, nat_tests, place_within concepts id)
 
--- the number of the identifier at a place is the place
+-- the number of the identifier at a place is this place
 pub number_at : (concepts : List ℕ) → IsStrictlyIncreasing concepts → (id place : ℕ) → place < length concepts
     → get_or concepts place 0 ≡ id → Some place ≡ concept_number concepts id
 number_at concepts rising id place within is = grind (arith, common_steps, nat_tests, concept_number-has, lt-ltb, place_of-get_or, place_within)
 
--- an identifier has no number where those before a place are less and those from it on are greater
+-- an identifier has no number if those before some place are less and those from it on are greater
 pub number_nowhere : (concepts : List ℕ) → IsStrictlyIncreasing concepts → (id place : ℕ) → place ≤ length concepts
     → ((k : ℕ) → k < place → get_or concepts k 0 < id) → ((k : ℕ) → place ≤ k → k < length concepts → id < get_or concepts k 0)
     → None ≡ concept_number concepts id
 number_nowhere concepts rising id place within above below =
     grind (arith, (has-between concepts rising id place within), (above (place - 1)), (below place), (place_within concepts id))
 
--- the rows among concepts by their numbers are the rows by their places
+-- the rows between `concepts`, each end by its place, are the numbered rows
 pub numbered_rows : (concepts : List ℕ) (rows : List (ℕ × ℕ))
     → map (row_by (place_of concepts)) (rows_among concepts rows) ≡ filter_map (numbered_row concepts) rows
 numbered_rows concepts [] = refl
 numbered_rows concepts (row ∷ rows) = grind (arith, nat_tests, numbered_rows concepts rows, place_within concepts row.0, place_within concepts row.1)
 
--- both ends of each of them are concepts
+-- both ends of each row between `concepts` are in `concepts`
 ends_among : (concepts : List ℕ) (rows : List (ℕ × ℕ))
     → All (λ (row : ℕ × ℕ). (has concepts row.0 ≡ true) × (has concepts row.1 ≡ true)) (rows_among concepts rows)
 ends_among concepts rows k d within = grind (arith, common_steps, nat_tests, and_parts, filter_passes)
 
--- and by the identifiers at these numbers they are the rows again
+-- numbered rows, with identifiers for their numbers, are the rows between `concepts`
 pub rows_of_numbers : (concepts : List ℕ) (rows : List (ℕ × ℕ))
     → map (row_of_numbers concepts) (filter_map (numbered_row concepts) rows) ≡ rows_among concepts rows
 rows_of_numbers concepts [] = refl
 rows_of_numbers concepts (row ∷ rows) = grind (arith, common_steps, nat_tests, get_or-place_of, nat_tests, place_within, (rows_of_numbers concepts rows))
 
--- what stands at the first place where a test passes is found
+-- if the item at place `i` is the first that passes the test, `find` gives it
 pub find-first : (test : ℕ → Bool) (xs : List ℕ) (i : ℕ) → i < length xs → ((k : ℕ) → k < i → test (get_or xs k 0) ≡ false)
     → test (get_or xs i 0) ≡ true → find test xs ≡ Some (get_or xs i 0)
 find-first test xs i within before here = found_at (find test) test Some None refl (λ x xs. refl) xs i 0 within before here
 
--- nothing is found where no test passes
+-- if no item passes the test, `find` gives none
 pub find-none : (test : ℕ → Bool) (xs : List ℕ) → ((k : ℕ) → k < length xs → test (get_or xs k 0) ≡ false) → find test xs ≡ None
 find-none test xs none = found_nowhere (find test) test Some None refl (λ x xs. refl) xs 0 none
 
@@ -82,7 +82,7 @@ module _ (concepts : List ℕ) (rising : IsStrictlyIncreasing concepts) (ends : 
   reaches_by_id i chain =
       test_from_chain (rows_among concepts ends) (rw (← rows_of_numbers concepts ends) (Reaches-map (λ (number : ℕ). get_or concepts number 0) chain))
 
-  -- and the other way round
+  -- a concept that reaches itself by its identifier reaches itself by its number
   reaches_by_number : (i : ℕ) → i < length concepts
       → reaches (rows_among concepts ends) (get_or concepts i 0) (get_or concepts i 0) ≡ true
       → Reaches (filter_map (numbered_row concepts) ends) i i
@@ -101,27 +101,28 @@ module _ (concepts : List ℕ) (rising : IsStrictlyIncreasing concepts) (ends : 
       → first_cyclic concepts (rows_among concepts ends) ≡ Some (get_or concepts i 0)
   first_cyclic-Some i within chain least = grind (arith, common_steps, nat_tests, find-first, lacks_by_id, reaches_by_id)
 
-  -- where none does by its number, none does by its identifier
+  -- if no concept reaches itself by its number, none does by its identifier
   pub first_cyclic-None : ((k : ℕ) → k < length concepts → Reaches (filter_map (numbered_row concepts) ends) k k → ⊥)
       → first_cyclic concepts (rows_among concepts ends) ≡ None
   first_cyclic-None none = grind (arith, common_steps, nat_tests, find-none, lacks_by_id)
 
--- the numbers in numbered rows are those of concepts
+-- each number in numbered rows is that of a concept
 pub IsWithin-numbered : (concepts : List ℕ) (ends : List (ℕ × ℕ)) → IsWithin (length concepts) (filter_map (numbered_row concepts) ends)
 IsWithin-numbered concepts ends =
     subst (IsWithin (length concepts)) (numbered_rows concepts ends)
     (All-map (λ (row : ℕ × ℕ). (row.0 < length concepts) × (row.1 < length concepts)) (row_by (place_of concepts))
     (rows_among concepts ends) (λ k d within. grind (arith, (ends_among concepts ends k d within), place_below)))
 
--- there are no more of them than rows
+-- there are at most as many numbered rows as rows
 pub length-numbered : (concepts : List ℕ) (ends : List (ℕ × ℕ)) → length (filter_map (numbered_row concepts) ends) ≤ length ends
 length-numbered concepts ends = rw (← numbered_rows concepts ends) (grind (arith, common_steps, nat_tests, length-map, length-filter, count_by-le-length))
 
--- rows of numbers of concepts are told apart by the concepts' identifiers
+-- rows of numbers, with identifiers for the numbers and then places for these, are the rows of numbers
 pub numbers_again : (concepts : List ℕ) → IsStrictlyIncreasing concepts → (rows : List (ℕ × ℕ)) → IsWithin (length concepts) rows
     → map (λ (row : ℕ × ℕ). (place_of concepts row.0, place_of concepts row.1)) (map (row_of_numbers concepts) rows) ≡ rows
 numbers_again concepts rises rows within = search (rules, map-map, map_fixed, place_of-get_or)
 
+-- two lists of rows by number are equal if they are equal by identifiers
 pub same_numbers : (concepts : List ℕ) → IsStrictlyIncreasing concepts → (rows others : List (ℕ × ℕ))
     → IsWithin (length concepts) rows → IsWithin (length concepts) others
     → map (row_of_numbers concepts) rows ≡ map (row_of_numbers concepts) others → rows ≡ others

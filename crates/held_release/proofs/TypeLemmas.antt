@@ -1,4 +1,4 @@
--- The places of types, to which those that are new are added.
+-- The places of types, while new types are added.
 use Rattle.std.proofs.Common.{ℕ, ◌+◌, ◌≡◌, ◌≤◌, ◌<◌, ◌++◌, ◌∷◌, [], ◌∙◌, Bool, true, false, cond, not, List, length, get_or, nat_eq, Some, refl, sym, ap, append-nil, arith, length-append}
 use Rattle.std.specs.List.{list_any, position_or_len, slice_get}
 use Rattle.std.proofs.lemmas.List.{get_or_append_left, get_or_at, length_push}
@@ -12,11 +12,11 @@ use Rattle.held_release.specs.declared.sorted_attributes.SortedRow.{SortedRow}
 use Rattle.number_lists.proofs.MemberLemmas.{any-has}
 use Rattle.number_lists.proofs.PlaceLemmas.{get_or-place_of, place_below}
 
--- the place of a key is no further than there are keys
+-- the position of a key is at most the number of keys
 pub place_near : (keys : List ℕ) (key : ℕ) → position_or_len (nat_eq key) keys ≤ length keys
 place_near keys key = prefix_len-le-length (λ other. not (nat_eq key other)) keys
 
--- a type leads to itself from the place at which it was met
+-- a type stands at the place at which it was met
 pub placed_type : (types : List ℕ) (id : ℕ) → slice_get (keys_behind types id) (position_or_len (nat_eq id) types) ≡ Some id
 placed_type types id = by (list_any (nat_eq id) types) refl
   where
@@ -31,7 +31,7 @@ placed_type types id = by (list_any (nat_eq id) types) refl
         ∙ slice_get-get_or (types ++ id ∷ []) (length types) 0 (omega (arith, length_push types id))
         ∙ ap (λ (id : ℕ). Some id) (get_or_at types id [] 0 (length types) refl)
 
--- types to which one is added begin with what they were
+-- types with a new one added begin with the types before
 pub behind_extends : (types : List ℕ) (id : ℕ) → Extends types (keys_behind types id)
 behind_extends types id = by (list_any (nat_eq id) types)
   where
@@ -39,18 +39,20 @@ behind_extends types id = by (list_any (nat_eq id) types)
     by true = ([], sym (append-nil types))
     by false = (id ∷ [], refl)
 
--- rows whose types stand among some stay what they are while more types come
+-- a row whose type stands among `types`, while more types come
 module _ (types more : List ℕ) (extends : Extends types more) where
+  -- a row whose type place is below the number of types keeps it so when there are more types
   pub type_within : (row : SortedRow) → row.type_place < length types → row.type_place < length more
   type_within row within = omega (arith, within, ap length extends.1, length-append types extends.0)
 
+  -- a row whose type stands among `types` does not change when there are more types
   pub row-extends : (row : SortedRow) → row.type_place < length types → row_in more row ≡ row_in types row
   row-extends row within =
       let same : get_or more row.type_place 0 ≡ get_or types row.type_place 0 =
       ap (λ (ids : List ℕ). get_or ids row.type_place 0) extends.1 ∙ get_or_append_left types extends.0 0 row.type_place within in
       λ i. record { source = row.source; group = row.group; type_id = same i; value = row.value }
 
--- there is at most one more
+-- adding a type makes at most one type more
 pub behind_few : (types : List ℕ) (id : ℕ) → length (keys_behind types id) ≤ length types + 1
 behind_few types id = by (list_any (nat_eq id) types)
   where

@@ -1,8 +1,8 @@
 -- The line that tells of a concept.
 use Rattle.std.specs.Prelude.{ℕ, ◌++◌, List, [], ◌∷◌, codes, decimal, Option, None, Some}
 
--- a name between bars behind a space, if there is one (Expression Constraint Language, "Concept references":
--- a term behind its concept)
+-- a name between bars after a space, if there is one (Expression Constraint Language, "Concept references": a term
+-- after its concept)
 abbrev pub name_text : Option (List ℕ) → List ℕ
 name_text None = []
 name_text (Some name) = codes " |" ++ name ++ codes "|"

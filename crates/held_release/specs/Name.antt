@@ -1,27 +1,27 @@
 -- The name of a concept (Release File Specification, "Description file"): its fully specified name, in
--- the asked language where it has one in it.
+-- the asked language if it has one in it.
 use Rattle.std.specs.Prelude.{ℕ, ◌≡◌, ◌↔◌, Contains, ◌==◌, ◌&&◌, Bool, true, false, not, bytes_eq, nat_lt, if◌then◌else◌, List, [], ◌∷◌, filter, Option, None, Some, option_map}
 use Rattle.std.specs.Borrow.{Bor}
 use Rattle.rf2_rows.specs.Release.{Name, Release}
 
--- the row is in the language
+-- whether the row is in the language
 abbrev pub is_in : List ℕ → Name → Bool
 is_in language row = bytes_eq row.language language
 
--- a row comes before another: one in the asked language before one that is not, and else the lesser
--- identifier first
+-- whether row `one` comes before row `other`: a row in the asked language comes before one that is not, and else the
+-- lesser identifier comes first
 abbrev pub comes_before : List ℕ → Name → Name → Bool
 comes_before language one other =
     if is_in language one && not (is_in language other) then true
     else if is_in language other && not (is_in language one) then false
     else nat_lt one.id other.id
 
--- of a row and another, if there is one, the one that comes first
+-- the one of two rows that comes first, or the only one
 abbrev pub first_of_two : List ℕ → Name → Option Name → Name
 first_of_two language row None = row
 first_of_two language row (Some other) = if comes_before language other row then other else row
 
--- the row that comes first
+-- the row that comes first, if there are rows
 abbrev pub first_name : List ℕ → List Name → Option Name
 first_name language [] = None
 first_name language (row ∷ rows) = Some (first_of_two language row (first_name language rows))
@@ -30,21 +30,20 @@ first_name language (row ∷ rows) = Some (first_of_two language row (first_name
 abbrev pub names_of : ℕ → List Name → List Name
 names_of concept names = filter (λ (row : Name). row.concept == concept) names
 
--- the name of a concept in the asked language among name rows: the term of the one that comes first, if there
--- is one
+-- the name of a concept in the asked language among `names`: the term of the row that comes first, if there is one
 abbrev pub name_among : List ℕ → List Name → ℕ → Option (List ℕ)
 name_among language names concept = option_map (λ (row : Name). row.term) (first_name language (names_of concept names))
 
--- the name of a concept in the asked language
+-- the name of a concept of a release in the asked language
 abbrev pub name_of : Release → List ℕ → ℕ → Option (List ℕ)
 name_of release language concept = name_among language release.names concept
 
--- the text that is lent, if one is
+-- the text that is lent, if there is one
 abbrev pub text_lent : Option (Bor (List ℕ)) → Option (List ℕ)
 text_lent lent = option_map (λ (text : Bor (List ℕ)). text.now) lent
 
--- the row that is called the first is one of the rows and none of them comes before it, and there is none
--- exactly where there are no rows
+-- the row that `first_name` gives is one of the rows, and none comes before it; it gives none exactly if there are no
+-- rows
 abbrev pub NamesFirstRow : Type 0
 NamesFirstRow =
     (language : List ℕ) (rows : List Name)

@@ -5,6 +5,7 @@ use Rattle.std.specs.Prelude.{ℕ, ◌==◌, List, position, slice_index, Option
 abbrev pub concept_number : List ℕ → ℕ → Option ℕ
 concept_number concepts id = position (λ other. id == other) concepts
 
+-- the pair of two numbers, if both are there
 abbrev pub both : Option ℕ → Option ℕ → Option (ℕ × ℕ)
 both (Some child) (Some parent) = Some (child, parent)
 both child parent = None

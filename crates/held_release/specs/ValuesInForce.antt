@@ -3,7 +3,7 @@ use Rattle.std.specs.Prelude.{◌≡◌, ℕ, Bool, true, List, All}
 use Rattle.rf2_rows.specs.Release.{Attribute, Release, Value, concept_value, number_value, text_value}
 use Rattle.number_lists.specs.Members.{has}
 
--- a value that is no concept, or one of some concepts
+-- whether a value is no concept, or is one of `concepts`
 abbrev pub is_value_among : List ℕ → Value → Bool
 is_value_among concepts (concept_value concept) = has concepts concept
 is_value_among concepts (number_value number) = true

@@ -7,21 +7,22 @@ use first_met::FirstMet;
 use sctid::SctId;
 use std::alloc::{AllocError, Global};
 
-// Of so many types the places are found at once. A release has about a hundred.
+// How many guesses `near` holds: one for each value of the digits that `place_near` looks at.
+// A release has about a hundred types.
 const NEAR_TYPES: usize = 1024;
 
-/// The types of attribute rows, each where it is first.
+/// The types of attribute rows, each once, in the order in which they first occur.
 #[derive(Drop)]
 pub struct Types {
-    /// The types by their identifiers, which are found here.
+    /// The types, which finds the place of an identifier.
     pub numbers: FirstMet,
-    /// The same, to be read by their places.
+    /// The identifiers of the types, read by place.
     pub ids: Vec<SctId>,
 }
 
 impl Types {
-    /// The same as `place_of`, by a guess that is tested: the place that was told last of a type with these digits.
-    /// `near` is what `near_types` gives, and is to be handed from type to type.
+    /// Finds the place of a type, and adds the type if it is new. It first tests a guess: the place that it last
+    /// found for a type with these digits. Hand the `near` that `near_types` makes from call to call.
     pub fn place_near(&mut self, id: SctId, near: &mut [u32]) -> Result<u32, AllocError>
         requires few { length self.old.numbers < 2 ^ 32 - 1 }
         requires ids { self.old.ids.items ≡ self.old.numbers }
@@ -41,7 +42,7 @@ impl Types {
         Ok(place)
     }
 
-    // The place of a type, which is added if it is new.
+    // Finds the place of a type, and adds the type if it is new.
     fn place_of(&mut self, id: SctId) -> Result<u32, AllocError>
         requires few { length self.old.numbers < 2 ^ 32 - 1 }
         requires ids { self.old.ids.items ≡ self.old.numbers }
@@ -57,13 +58,13 @@ impl Types {
     }
 }
 
-/// A place for each type that may be found at once.
+/// Makes the guesses that `place_near` tests, all 0 at first.
 pub fn near_types(alloc: Global) -> Result<Vec<u32>, AllocError> {
     let places = vec![in alloc; 0u32; NEAR_TYPES]?;
     Ok(places)
 }
 
-// Whether a type stands at a place.
+// Tells whether type `id` stands at `place`.
 fn is_at(ids: &[SctId], place: u32, id: SctId) -> bool
     ensures { OnTrue result (slice_get ids.now place ≡ Some id) }
 {

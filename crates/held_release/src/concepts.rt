@@ -9,11 +9,11 @@ use sctid::SctId;
 use std::alloc::{AllocError, Global};
 use std::marker::Model;
 
-// So many identifiers that follow one another share a bucket. The last three digits of a concept's
-// identifier in the short form follow from those before them, so that a bucket has five at most.
+// How many successive identifiers share a bucket. The last three digits of a concept's identifier in the
+// short form follow from those before them, so a bucket holds five concepts at most.
 const BUCKET_IDS: u64 = 4096;
 
-// All larger identifiers share the last bucket, as those of extensions, which have 11 digits and more.
+// The last bucket, which all larger identifiers share: those of extensions have 11 digits and more.
 const LAST_BUCKET: u64 = 524_287;
 
 const BUCKETS: usize = LAST_BUCKET as usize + 1;
@@ -24,7 +24,7 @@ const BUCKETS: usize = LAST_BUCKET as usize + 1;
 pub struct Concepts {
     // the identifiers in rising order
     ids: Vec<SctId>,
-    // for each bucket of identifiers how many are in the buckets before it, and how many there are in all
+    // for each bucket, how many identifiers are in the buckets before it; and at the end, how many there are in all
     starts: Vec<u32>,
 }
 
@@ -41,7 +41,7 @@ impl Model for Concepts {
 }
 
 impl Concepts {
-    /// The concepts with some identifiers.
+    /// The concepts with the identifiers `ids`.
     pub fn new(alloc: Global, ids: Vec<SctId>) -> Result<Concepts, AllocError>
         requires rising { IsStrictlyIncreasing ids.items }
         requires few { length ids.items < 2 ^ 31 }
@@ -96,7 +96,7 @@ impl KnownConcepts for Concepts {
     }
 }
 
-// The bucket of an identifier.
+// Computes the bucket of an identifier.
 #[inline]
 #[tactic(auto, unfolding(crate::specs::inside::Buckets::bucket_of))]
 fn bucket_of(id: u64) -> usize
@@ -106,7 +106,7 @@ fn bucket_of(id: u64) -> usize
     (id / BUCKET_IDS).min(LAST_BUCKET) as usize
 }
 
-// For each bucket how many of the identifiers are in the buckets before it, and how many there are in all.
+// Counts for each bucket how many identifiers are in the buckets before it; the last entry counts all.
 fn bucket_starts(alloc: Global, ids: &[SctId]) -> Result<Vec<u32>, AllocError>
     requires rising { IsStrictlyIncreasing ids.now }
     requires few { length ids.now < 2 ^ 31 }
@@ -121,7 +121,7 @@ fn bucket_starts(alloc: Global, ids: &[SctId]) -> Result<Vec<u32>, AllocError>
     Ok(starts)
 }
 
-// Where a bucket starts among the identifiers, from a place on before which all are in earlier ones.
+// Finds where `bucket` starts among the identifiers. All before `from` are in earlier buckets.
 fn bucket_start(ids: &[SctId], from: usize, bucket: usize) -> usize
     requires rising { IsStrictlyIncreasing ids.now }
     requires from { from ≤ length ids.now }
@@ -135,8 +135,8 @@ fn bucket_start(ids: &[SctId], from: usize, bucket: usize) -> usize
     start
 }
 
-// The number of the concept with an identifier, which is above those before a place and below those from
-// another one on.
+// Finds the number of the concept with identifier `id` by binary search. Those before `from` are less than
+// `id`, and those from `to` on are greater.
 fn number_between(ids: &[SctId], from: usize, to: usize, id: u64) -> Option<u32>
     requires rising { IsStrictlyIncreasing ids.now }
     requires few { length ids.now < 2 ^ 31 }

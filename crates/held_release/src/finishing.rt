@@ -1,4 +1,4 @@
-//! From the rows that were read to the release that they make: its concepts numbered, and the rows between them kept.
+//! Makes a release of the rows that were read: numbers its concepts, and keeps the rows between them.
 ghost use Rattle.std.specs.Prelude.{◌≡◌, ◌<◌, ◌^◌, ℕ, None, Ok, IfOk, IfErr, OnOk, map, length, string_bytes};
 ghost use Rattle.std.specs.List.{filter_map};
 ghost use Rattle.std.specs.List.Sorted.{IsStrictlyIncreasing};
@@ -27,9 +27,9 @@ use row_lists::{Attributes, LoadFault, Names, ReadRows, RowLists};
 use sctid::SctId;
 use std::alloc::{AllocError, Global};
 
-/// The release that the rows make which were read of so many files: its concepts in force are numbered in rising order, and the rows
-/// between them kept; names in a language come first. What the rows hold is hashed over `seed`, which the release keeps. The fault is
-/// `Cycle`, with the least concept that reaches itself, or `Memory`.
+/// Makes the release of the rows in `read`, which come from `files` files. It numbers the concepts in force in rising
+/// order and keeps the rows between them. Names in `language` come first. Hashes over what the rows hold begin with
+/// `seed`, which the release keeps. The fault is `Cycle`, with the least concept that reaches itself, or `Memory`.
 pub fn finish(
     alloc: Global,
     read: ReadRows,
@@ -94,7 +94,7 @@ pub fn finish(
     }
 }
 
-// The lists of rows of some concepts beside the hierarchy.
+// The rows of the concepts in force, besides the hierarchy.
 #[derive(Drop)]
 struct Lists {
     lines: ConceptLines,
@@ -102,8 +102,8 @@ struct Lists {
     members: Vec<(u32, u32)>,
 }
 
-// The lines, name rows, attribute rows, sorted by source, and member rows of some concepts, with their
-// names in a language.
+// Makes the lines, the attribute rows sorted by source, and the member rows of `concepts`. The lines have
+// the names in `language`.
 fn lists_among(
     alloc: Global,
     concepts: &Concepts,
@@ -131,8 +131,8 @@ fn lists_among(
     })
 }
 
-// The attribute rows of some concepts, sorted by source. What was read of them leaves before they are
-// sorted.
+// Numbers the attribute rows of `concepts` and sorts them by source. It frees `attributes` before it sorts,
+// to save memory.
 fn sorted_among(
     alloc: Global,
     concepts: &Concepts,
@@ -148,7 +148,7 @@ fn sorted_among(
     sort_by_source(alloc, concepts, numbered, seed)
 }
 
-// The is-a rows by the numbers of their ends.
+// The is-a rows by the numbers of their ends, and an order of the concepts.
 #[derive(Drop)]
 struct NumberedHierarchy {
     isa: Vec<(u32, u32)>,
@@ -156,7 +156,8 @@ struct NumberedHierarchy {
     order: Vec<u32>,
 }
 
-// The rows between two of some concepts by the numbers of these, unless one reaches itself.
+// Makes the is-a rows between `concepts` by number, and an order in which parents come first. The fault is
+// `Cycle` if a concept reaches itself.
 fn number_hierarchy(
     alloc: Global,
     concepts: &Concepts,
@@ -175,7 +176,7 @@ fn number_hierarchy(
     }
 }
 
-// The fault that names the least concept that reaches itself.
+// Makes the fault that names the least concept that reaches itself.
 fn cycle_fault(alloc: Global, concepts: &Concepts, rows: &[(u32, u32)]) -> LoadFault
     requires within { IsWithin (length concepts.now) rows.now }
     requires few { length rows.now < 2 ^ 32 }
@@ -189,7 +190,7 @@ fn cycle_fault(alloc: Global, concepts: &Concepts, rows: &[(u32, u32)]) -> LoadF
     }
 }
 
-// Concepts in rising order, each once.
+// Sorts the concepts, and keeps each once.
 fn rising(mut concepts: Vec<SctId>) -> Vec<SctId>
     ensures rising { result.items ≡ rising_of concepts.items }
     ensures increasing { IsStrictlyIncreasing result.items }

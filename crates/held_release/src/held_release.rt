@@ -63,7 +63,7 @@ impl Model for Snapshot {
 }
 
 impl Snapshot {
-    /// The seed of the hashes over what the files hold, as the source of the files told it.
+    /// The seed of the hashes over what the files hold, as the source of the files gave it.
     pub fn seed(&self) -> Seed {
         self.seed
     }
@@ -77,7 +77,7 @@ impl Snapshot {
         self.concepts.len()
     }
 
-    /// The number of the concept with an identifier, or `None` where there is none in force.
+    /// The number of the concept with an identifier, or `None` if there is none in force.
     pub fn index_of(&self, id: u64) -> Option<u32>
         ensures { result ≡ concept_number self.now.release.concepts id }
     {
@@ -101,8 +101,8 @@ impl Snapshot {
     }
 
     /// The name of a concept by its number, which is below `concept_count`: the term of its fully
-    /// specified name, of several the one in the asked language, and of these the one with the least
-    /// identifier. `None` where it has none (Release File Specification, "Description file").
+    /// specified name. If it has several, those in the asked language come first, and among them the one
+    /// with the least identifier. `None` if it has none (Release File Specification, "Description file").
     #[tactic(auto, using(crate::proofs::LineLemmas::line_among, crate::proofs::NameInLineLemmas::same_name))]
     pub fn name(&self, concept: u32) -> Option<&str>
         requires { concept < length self.now.release.concepts }
@@ -111,8 +111,8 @@ impl Snapshot {
         self.lines.name(concept, self.concepts.id_at(concept))
     }
 
-    /// The line of a concept by its number, which is below `concept_count`: its identifier, behind a
-    /// space its name between bars where it has one, and LF.
+    /// The line of a concept by its number, which is below `concept_count`: its identifier, then a space
+    /// and its name between bars if it has one, and LF.
     #[tactic(auto, using(crate::proofs::LineLemmas::line_among))]
     pub fn line(&self, concept: u32) -> &[u8]
         requires { concept < length self.now.release.concepts }
@@ -182,7 +182,8 @@ impl Snapshot {
         }
     }
 
-    /// The same with a concept that is the value by its number, so that no identifier of it is read.
+    /// An attribute row in force by its number, like `attribute_row`, but with a concept as value by its
+    /// number, so that no identifier is read.
     pub fn attribute_numbers(&self, n: u32) -> AttributeNumbers<'_>
         requires { n < length self.now.release.attributes }
         ensures row { slice_get (attributes_by_source self.now.release) n ≡ Some (by_identifiers self.now.release.concepts (attribute_numbered result)) }
@@ -215,7 +216,7 @@ impl Snapshot {
     }
 }
 
-// Whether an identifier is that of a concept in a rising list.
+// Tells whether an identifier is that of a concept in a rising list.
 fn is_among(id: u64, concepts: &[SctId]) -> bool
     requires { IsStrictlyIncreasing concepts.now }
     ensures { result ≡ has concepts.now id }
@@ -229,7 +230,7 @@ fn is_among(id: u64, concepts: &[SctId]) -> bool
     place.is_ok()
 }
 
-// A value with a concept by its identifier in place of its number.
+// Replaces the number of a concept by its identifier, in a value.
 fn identified_value<'a>(concepts: &Concepts, value: NumberedValue<'a>) -> Value<'a>
     requires { IsNumberBelow (length concepts.now) (numbered_lent value) }
     ensures value { value_lent result ≡ value_by_identifier concepts.now (numbered_lent value.entry) }

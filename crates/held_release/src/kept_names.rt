@@ -8,7 +8,7 @@ use row_lists::{Names, ReadName, Span, push_text};
 use sctid::SctId;
 use std::alloc::{AllocError, Global};
 
-// No file within the limits of a load has a term of more bytes.
+// The most bytes that a term may have. No file within the limits of a load has a longer term.
 const MOST_BYTES: usize = u32::MAX as usize;
 
 /// A name row: the description, the concept that it names, where its term starts and how many bytes it
@@ -22,8 +22,9 @@ pub struct KeptName {
     language: u32,
 }
 
-/// The name rows, whose terms stand at spans as far as these are known. The other terms come behind the
-/// texts of the buffer, and so do the language codes, for which the spans are added.
+/// Keeps the name rows. A term whose entry of `spans` is a span stands there already; `keep_names` appends every
+/// other term to `texts`. It also appends each language code that differs from the one before, and adds its span
+/// to `languages`.
 pub fn keep_names(
     alloc: Global,
     names: &Names,
@@ -44,7 +45,7 @@ pub fn keep_names(
     Ok(kept)
 }
 
-// A name row, whose term stands at a span if this is known.
+// Keeps one name row. Its term stands at `span`, if there is one.
 fn keep_name(
     name: &ReadName<'_>,
     span: Option<Span>,
@@ -73,7 +74,7 @@ fn keep_name(
     })
 }
 
-// How many bytes a text has, in 32 bits.
+// Tells how many bytes `span` has, in 32 bits.
 fn short_len(span: Span) -> Result<u32, AllocError>
     requires { span.start ≤ span.end }
     ensures { IfOk result (λ bytes. span.start + bytes ≡ span.end) }
@@ -85,7 +86,7 @@ fn short_len(span: Span) -> Result<u32, AllocError>
     Ok(bytes as u32)
 }
 
-// Where a term stands: at the span if this is known, and else behind the texts.
+// Tells where a term stands: at `span` if there is one. Else it appends the term to `texts`.
 fn keep_term(term: &str, span: Option<Span>, texts: &mut String) -> Result<Span, AllocError>
     requires { IfSome span (StandsAt (string_bytes texts.old) term.now) }
     ensures grown { OnOk result (Extends (string_bytes texts.old) (string_bytes texts.new)) }
@@ -97,8 +98,8 @@ fn keep_term(term: &str, span: Option<Span>, texts: &mut String) -> Result<Span,
     }
 }
 
-// The number of the span where a language code stands: the last one if it is the code there, and else a
-// new one behind the texts.
+// Gives the number of the span at which a language code stands: the last one if the code is the one there.
+// Else it appends the code to `texts` and its span to `languages`.
 fn keep_language(
     language: &str,
     texts: &mut String,
@@ -121,7 +122,7 @@ fn keep_language(
     Ok((languages.len() - 1) as u32)
 }
 
-// Whether a text stands at the last one of some spans.
+// Tells whether `text` stands at the last of `spans`.
 fn is_last(text: &[u8], texts: &[u8], spans: &[Span]) -> bool
     requires { AreSpansOf texts.now spans.now }
     ensures some { result ≡ true → 0 < length spans.now }

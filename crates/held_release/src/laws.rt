@@ -3,7 +3,7 @@
 ghost use Rattle.held_release.specs.Contents.{NamesLeastCyclic};
 ghost use Rattle.held_release.specs.Name.{NamesFirstRow};
 
-/// The concept that a cycle is refused by reaches itself by a chain of is-a rows, and no lesser one does.
+/// The concept that the fault `Cycle` names reaches itself by a chain of is-a rows, and no lesser one does.
 pub fn cyclic_concept_is_the_least()
     ensures { NamesLeastCyclic }
 {}

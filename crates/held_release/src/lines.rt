@@ -1,5 +1,5 @@
-//! The lines of concepts, one behind the other in one buffer, and the name rows, whose terms are parts
-//! of the lines where they name a concept.
+//! The lines of concepts, one after another in one buffer, and the name rows. The term of a row that names a
+//! concept is part of the concept's line.
 ghost use Rattle.std.specs.Prelude.{◌≡◌, ◌≤◌, ◌<◌, ◌+◌, ◌^◌, ◌++◌, ℕ, [], List, Option, None, Some, All, IfOk, IfSome, OnOk, length, map, option_and_then, option_map, slice_index, slice_range, string_bytes};
 ghost use Rattle.std.specs.List.{slice_get};
 ghost use Rattle.rf2_rows.specs.Release.{Name};
@@ -21,7 +21,7 @@ use sctid::SctId;
 use std::alloc::{AllocError, Global};
 use std::marker::Model;
 
-// About how many bytes a line takes, for the room that is asked for beforehand.
+// About how many bytes a line takes; `lines_by_place` reserves this much for each concept.
 const BYTES_OF_LINE: usize = 72;
 
 /// A line for each concept, in the order of their numbers, and name rows. Contracts see the lists of
@@ -30,11 +30,11 @@ const BYTES_OF_LINE: usize = 72;
 pub struct ConceptLines {
     // the place of each line's first byte, and where the last line ends
     starts: Vec<usize>,
-    // the lines, one behind the other, and behind them the texts of name rows that stand in no line
+    // the lines, one after another, and then the texts of name rows that stand in no line
     texts: String,
     // the name rows, which contracts alone look at
     names: Vec<KeptName>,
-    // where the language codes of name rows stand
+    // the spans at which the language codes of name rows stand
     languages: Vec<Span>,
 }
 
@@ -70,7 +70,7 @@ impl ConceptLines {
         )
     }
 
-    /// The name in the line of a concept, which has the number, if there is one.
+    /// The name in line `number`, which is the line of `concept`, if it has one.
     pub fn name(&self, number: u32, concept: SctId) -> Option<&str>
         requires number { number < length self.now.lines }
         requires line { (name : Option (List ℕ)) × (list_of self.now.lines number ≡ concept_line (λ _. name) concept) }
@@ -82,7 +82,7 @@ impl ConceptLines {
     }
 }
 
-/// The lines of concepts, with their names in a language, and of name rows those of the concepts.
+/// Makes the lines of `concepts` with their names in `language`, and keeps the name rows of the concepts.
 pub fn lines_among(
     alloc: Global,
     concepts: &Concepts,
@@ -98,7 +98,7 @@ pub fn lines_among(
     lines_by_place(alloc, concepts.ids(), &names, places.as_slice())
 }
 
-// The line of each concept, by the place of the row that names it, if there is one.
+// Makes the line of each concept. `places` has the place of the row that names it, if there is one.
 fn lines_by_place(
     alloc: Global,
     concepts: &[SctId],
@@ -126,8 +126,8 @@ fn lines_by_place(
     })
 }
 
-// Writes the lines, answers where they start and where the last one ends, and notes where in them the
-// terms of rows stand.
+// Writes the lines, and notes in `spans` where in them the terms of rows stand. Returns where the lines
+// start, and where the last one ends.
 #[tactic(auto, using(std::proofs::lemmas::List::take_all))]
 fn write_lines(
     alloc: Global,
@@ -155,8 +155,8 @@ fn write_lines(
     Ok(starts)
 }
 
-// Writes the line of a concept by the place of the row that names it, if there is one, and notes where
-// in the line the term of this row stands.
+// Writes the line of a concept. If the row at `place` names it, notes in `spans` where in the line the term
+// of this row stands.
 fn write_line(
     concept: SctId,
     names: &Names,
@@ -180,7 +180,7 @@ fn write_line(
     }
 }
 
-// Appends the line of a concept that has a name, and answers where the name stands in it.
+// Appends the line of a concept that has a name. Returns the span of the name.
 fn push_named(concept: SctId, name: &str, texts: &mut String) -> Result<Span, AllocError>
     ensures line { OnOk result (string_bytes texts.new ≡ string_bytes texts.old ++ concept_line (λ _. Some name.now) concept) }
     ensures span { IfOk result (StandsAt (string_bytes texts.new) name.now) }
@@ -202,7 +202,7 @@ fn push_bare(concept: SctId, texts: &mut String) -> Result<(), AllocError>
     texts.push_str("\n")
 }
 
-// The bytes from where a line starts to where the next one does.
+// Takes line `number` out of `texts`: the bytes between its start and the next one.
 fn line_between<'a>(texts: &'a [u8], starts: &[usize], number: usize) -> &'a [u8]
     requires next { number + 1 < length starts.now }
     requires rise { slice_index starts.now number ≤ slice_index starts.now (number + 1) }
@@ -214,7 +214,7 @@ fn line_between<'a>(texts: &'a [u8], starts: &[usize], number: usize) -> &'a [u8
     &texts[from..to]
 }
 
-// The name in the line of a concept that stands between two places, if there is one.
+// Takes the name out of the line of a concept that stands between `from` and `to`, if it has one.
 fn name_between(texts: &str, from: usize, to: usize, concept: SctId) -> Option<&str>
     requires rise { from ≤ to }
     requires end { to ≤ length texts.now }
@@ -226,6 +226,6 @@ fn name_between(texts: &str, from: usize, to: usize, concept: SctId) -> Option<&
     if to - from == bare {
         return None;
     }
-    // in front of the name stand the identifier, a space and a bar, and behind it a bar and LF
+    // before the name stand the identifier, a space and a bar, and after it a bar and LF
     Some(&texts[from + bare + 1..to - 2])
 }

@@ -8,7 +8,7 @@ use crate::concepts::Concepts;
 use row_lists::Names;
 use std::alloc::{AllocError, Global};
 
-/// For each of some concepts the place of the row that names it in a language, if there is one.
+/// Finds for each of `concepts` the place of the row that names it in `language`, if there is one.
 pub fn first_places(
     alloc: Global,
     names: &Names,
@@ -29,7 +29,7 @@ pub fn first_places(
     Ok(places)
 }
 
-// Of the row at a place and a later one, if there is one, the place of the one that comes first.
+// Tells which comes first: the row at `place` or the one at `later`, if there is one.
 fn first_of_two(names: &Names, language: &str, place: u32, later: Option<u32>) -> u32
     requires place { place < length names.now }
     requires later { IfSome later (λ other. other < length names.now) }
@@ -41,7 +41,7 @@ fn first_of_two(names: &Names, language: &str, place: u32, later: Option<u32>) -
     }
 }
 
-// Whether the row at a place comes before another as a name in a language.
+// Tells whether the row at `one` comes before the row at `other` as a name in `language`.
 fn comes_before(names: &Names, language: &str, one: usize, other: usize) -> bool
     requires one { one < length names.now }
     requires other { other < length names.now }

@@ -24,7 +24,7 @@ pub struct NumberedRow {
     pub value: PackedNumber,
 }
 
-/// Attribute rows of some concepts by numbers, in the order in which they were read.
+/// Attribute rows by numbers, in the order in which they were read.
 #[derive(Drop)]
 pub struct NumberedAttributes {
     pub rows: Vec<NumberedRow>,
@@ -32,7 +32,7 @@ pub struct NumberedAttributes {
     pub concrete: ConcreteValues,
 }
 
-/// The attribute rows of some concepts whose values are no concepts or among these, by numbers.
+/// Numbers the attribute rows whose source is one of `concepts`, and whose value is one of them if it is a concept.
 pub fn number_attributes(
     alloc: Global,
     concepts: &Concepts,
@@ -53,7 +53,7 @@ pub fn number_attributes(
 }
 
 impl NumberedAttributes {
-    // Adds the row that was read at a place, if its source is one of some concepts, and its value is no
+    // Adds the row at `place` of `attributes`, if its source is one of `concepts`, and its value is no
     // concept or one of them.
     fn add(
         &mut self,
@@ -91,8 +91,8 @@ impl NumberedAttributes {
     }
 }
 
-// A value by its number, put behind the others if it is no concept: none if it is a concept and none of
-// some.
+// Numbers a value. If it is no concept, appends it to `concrete`. Returns `None` if it is a concept that is
+// not in force.
 fn number_value(
     concepts: &Concepts,
     concrete: &mut ConcreteValues,
@@ -116,11 +116,11 @@ fn number_value(
     }
 }
 
-// The number of a value that is a concept: none if it is none of some.
+// Numbers a value that is a concept. Returns `None` if the concept is not in force.
 fn number_concept(concepts: &Concepts, concept: SctId) -> Option<PackedNumber>
     ensures { (values : List Concrete) → IsNumberOf concepts.now values (concept_value concept) result }
 {
-    // its contract says that they are few
+    // the contract of `len` says that the concepts are few
     let _ = concepts.len();
     let number = concepts.index_of(concept.number())?;
     Some(PackedNumber::of_concept(number))

@@ -7,7 +7,8 @@ use crate::concepts::Concepts;
 use sctid::SctId;
 use std::alloc::{AllocError, Global};
 
-/// The rows whose ends are both in force, each a child and its parent, by the numbers of their ends.
+/// Numbers the ends of each row whose ends are both in force. A row is a child and its parent, or a reference
+/// set and its component.
 pub fn number_rows(
     alloc: Global,
     concepts: &Concepts,
@@ -20,7 +21,7 @@ pub fn number_rows(
         .collect(alloc)
 }
 
-// A row by the numbers of its ends, if both are in force.
+// Numbers the ends of a row, if both are in force.
 fn number_row(concepts: &Concepts, row: &(SctId, SctId)) -> Option<(u32, u32)>
     ensures { result ≡ numbered_row concepts.now row.now }
 {

@@ -3,21 +3,21 @@ ghost use Rattle.std.specs.Prelude.{◌≡◌, ◌<◌, ◌^◌};
 
 use std::marker::Model;
 
-/// The value of an attribute by a number: that of a concept, or the place of a value that is no concept
-/// among these.
+/// The number of an attribute value: a concept's number, or the place of a value that is no concept among
+/// those values.
 #[derive(Clone, Copy)]
 pub enum ValueNumber {
     Concept(u32),
     Concrete(u32),
 }
 
-// The least number that is none of a concept: there are fewer concepts than these.
+// The least packed number that stands for no concept: there are fewer than 2^31 concepts.
 const CONCRETE: u32 = 2_147_483_648;
 
 /// The number of a value in 32 bits. Contracts see the number.
 #[derive(Clone, Copy)]
 pub struct PackedNumber {
-    // the number of a concept, or behind those the place of another value
+    // the number of a concept, or 2^31 and the place of another value
     packed: u32,
 }
 
@@ -35,7 +35,7 @@ impl Model for PackedNumber {
 }
 
 impl PackedNumber {
-    /// That of a concept, which is below 2^31.
+    /// Packs the number of a concept, which is below 2^31.
     #[inline]
     pub fn of_concept(number: u32) -> PackedNumber
         requires { number < 2 ^ 31 }
@@ -44,7 +44,7 @@ impl PackedNumber {
         PackedNumber { packed: number }
     }
 
-    /// That of a value that is no concept, whose place is below 2^31.
+    /// Packs the place of a value that is no concept, which is below 2^31.
     #[inline]
     pub fn of_concrete(place: u32) -> PackedNumber
         requires { place < 2 ^ 31 }
@@ -55,7 +55,7 @@ impl PackedNumber {
         }
     }
 
-    /// The number.
+    /// Unpacks the number.
     #[inline]
     pub fn number(self) -> ValueNumber
         ensures { result ≡ self }

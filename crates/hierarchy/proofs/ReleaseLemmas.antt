@@ -1,4 +1,4 @@
--- The children of a concept that is done, one after another.
+-- The children of a concept that is done are released, one after another.
 use Rattle.std.proofs.Common.{ℕ, ◌+◌, ◌-◌, ◌==◌, ◌≡◌, ◌≢◌, ◌≤◌, ◌<◌, ◌++◌, ◌∷◌, [], ◌∙◌, ⊎_elim, cond, List, length, get_or, take, set, refl, arith, length-set, get_or-set_same, get_or-set_other, ap, sym, eq-eqb, ne_eqb}
 use Rattle.std.specs.List.{IsDistinct}
 use Rattle.std.proofs.lemmas.Bool.{cases_eq}
@@ -12,17 +12,17 @@ use Rattle.hierarchy.specs.inside.Released.{IsReleased}
 use Rattle.std.proofs.lemmas.Grind.{common_steps, get_or-set_at}
 use Rattle.std.proofs.lemmas.Bool.Decides.{nat_tests}
 
--- no child is let go
+-- before the first child nothing has changed, and none is added
 pub release_none : (before : List ℕ) → IsReleased [] before before []
 unfolding IsDistinct
 release_none before = record { len = refl; less = λ concept. omega arith; once = tt; members = λ concept. grind arith }
 
--- the next child waits for a parent
+-- the next child still waits for at least one parent
 pub still_waits : (children before after added : List ℕ) (i : ℕ) → i < length children → IsReleased (take i children) before after added
     → ((concept : ℕ) → times concept children ≤ get_or before concept 0) → 1 ≤ get_or after (get_or children i 0) 0
 still_waits children before after added i within released enough = grind (arith, common_steps, nat_tests, times-own)
 
--- the next child waits for one parent less, and is added if that was the last
+-- the next child waits for one parent less; it is added exactly if that was the last
 pub release_next : (children : List ℕ) (i : ℕ) {before after added : List ℕ} {left : ℕ} → i < length children
     → get_or children i 0 < length after → IsReleased (take i children) before after added
     → ((concept : ℕ) → times concept children ≤ get_or before concept 0) → left ≡ get_or after (get_or children i 0) left

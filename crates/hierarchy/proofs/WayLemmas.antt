@@ -1,4 +1,4 @@
--- The order with parents first: what holds on the way, and what it comes to.
+-- The invariant of the search for an order with parents first, and the result at its end.
 use Rattle.std.proofs.Common.{ℕ, zero, suc, ◌+◌, ◌-◌, ◌==◌, ◌≡◌, ◌≢◌, ◌≤◌, ◌<◌, ◌↔◌, ◌++◌, ◌∷◌, [], ◌∙◌, ⊎_elim, true, false, List, length, get_or, take, drop, refl, sym, ap, subst, arith, length-append, length-take, get_or-take, All, Contains, nat_eq, eq-eqb, ne_eqb, eqb-true, take-append-drop, take-take, take_all}
 use Rattle.std.specs.List.{IsDistinct}
 use Rattle.std.specs.Cmp.{nat_eq_equiv}
@@ -19,7 +19,7 @@ use Rattle.number_lists.proofs.KeyedLemmas.{items_of-append, length-lengths, len
 use Rattle.hierarchy.proofs.OrderLemmas.{all_done, counted, open_all, open_count, open_less, some_open, times-children}
 use Rattle.number_lists.proofs.MemberLemmas.{any-has, contains_had, had_not, not_contained}
 
--- the parents of a concept are those that its rows lead to
+-- a row from a child to a parent puts the parent among the items of the child
 pub items_of-contained : (rows : List (ℕ × ℕ)) (child parent : ℕ) → Contains rows (child, parent) → Contains (items_of rows child) parent
 items_of-contained [] child parent there = absurd (omega (arith, there.1))
 items_of-contained (row ∷ rows) child parent there = ⊎_elim
@@ -29,6 +29,7 @@ items_of-contained (row ∷ rows) child parent there = ⊎_elim
     (Contains-append_right (items_of (row ∷ []) child) (items_of rows child) parent (items_of-contained rows child parent later)))
     (contained_cases row rows (child, parent) there)
 
+-- a parent among the items of a child comes from a row
 pub contained_items_of : (rows : List (ℕ × ℕ)) (child parent : ℕ) → Contains (items_of rows child) parent → Contains rows (child, parent)
 contained_items_of [] child parent there = absurd (omega (arith, there.1))
 contained_items_of (row ∷ rows) child parent there = ⊎_elim
@@ -40,19 +41,20 @@ contained_items_of (row ∷ rows) child parent there = ⊎_elim
     (contained_items_of rows child parent (let later = rw other at there in later)))
     (cases_Bool (row.0 == child))
 
--- what is in the first of a list is in more of it, and in a list without repetition no item is among those before it
+-- an item of a shorter front of a list is in a longer front
 longer : (xs : List ℕ) (few more x : ℕ) → few ≤ more → Contains (take few xs) x → Contains (take more xs) x
 longer xs few more x le there =
     subst (λ ys. Contains ys x) (take-append-drop few (take more xs))
     (Contains-append_left _ (drop few (take more xs)) x (rw (take-take few more xs le) there))
 
+-- in a list without repeats, no item is among those before it
 once_apart : (xs : List ℕ) (k : ℕ) → IsDistinct nat_eq xs → k < length xs → Contains (take k xs) (get_or xs k 0) → ⊥
 once_apart xs k once within (j, below, is) =
     let less : j < k = omega (arith, below, length-take k xs) in
     eqb-false (get_or xs j 0) (get_or xs k 0) (apart_from_distinct nat_eq xs j k 0 once less within)
     (sym (get_or-take k xs j 0 less) ∙ get_or_default (take k xs) j 0 (get_or xs k 0) below ∙ is)
 
--- two lists without repetition that share no item, one behind the other
+-- two lists without repeats that share no item are one list without repeats
 distinct-append : (xs ys : List ℕ) → IsDistinct nat_eq xs → IsDistinct nat_eq ys → ((x : ℕ) → Contains xs x → Contains ys x → ⊥) → IsDistinct nat_eq (xs ++ ys)
 distinct-append xs ys once more apart = IsDistinct-from_apart nat_eq (xs ++ ys) (λ i j d less below. ⊎_elim
     (λ (early : j < length xs). grind (arith, get_or_append_left, (apart_from_distinct nat_eq xs i j d once less early)))
@@ -66,21 +68,29 @@ distinct-append xs ys once more apart = IsDistinct-from_apart nat_eq (xs ++ ys) 
     (cases_lt i (length xs)))
     (cases_lt j (length xs)))
 
--- on the way: so many of the order are done
+-- the state after the first `done` concepts of the order are done
 pub record OnWay (count : ℕ) (rows : List (ℕ × ℕ)) (done : ℕ) (waiting order : List ℕ) : Type 0 where
+  -- each concept has its count of open parents
   pub long : length waiting ≡ count
+  -- `done` is within the order
   pub past : done ≤ length order
+  -- the count of a concept is the number of its parents that are not done
   pub left : (concept : ℕ) → get_or waiting concept 0 ≡ open_count (take done order) (list_of (lists_by count rows) concept)
+  -- the order has exactly the concepts that wait for no parent
   pub members : (concept : ℕ) → Contains order concept ↔ ((concept < count) × (get_or waiting concept 0 ≡ 0))
+  -- the order has no concept twice
   pub once : IsDistinct nat_eq order
+  -- each parent of a concept in the order stands before it
   pub first : (place parent : ℕ) → place < length order → Contains rows (get_or order place 0, parent) → Contains (take place order) parent
 
+-- a row of a concept below `count` is exactly an item of its list
 listed : (count : ℕ) (rows : List (ℕ × ℕ)) (concept parent : ℕ) → concept < count
     → Contains rows (concept, parent) ↔ Contains (list_of (lists_by count rows) concept) parent
 listed count rows concept parent below =
     rw (list_of-lists_by count rows concept below)
     (items_of-contained rows concept parent, contained_items_of rows concept parent)
 
+-- at the start the order has the roots, and no concept is done
 pub way_start : {count : ℕ} {rows : List (ℕ × ℕ)} {waiting order left : List ℕ} {parents : List (List ℕ)}
     → waiting ≡ lengths parents → parents ≡ lists_by count rows → left ≡ waiting
     → AreRoots (length left) left order → OnWay count rows 0 waiting order
@@ -104,14 +114,15 @@ way_start {count} {rows} {waiting} {order} lengths_is parents_is same roots =
     }
 
 module _ {count done : ℕ} {rows : List (ℕ × ℕ)} {waiting order : List ℕ} (way : OnWay count rows done waiting order) where
-  -- the order is no longer than there are concepts
+  -- the order has at most `count` concepts
   pub order_fits : length order ≤ count
   order_fits = length-le_from_distinct_below order count way.once (λ q told. ((way.members q).0 (contains_had order q (sym (any-has order q) ∙ told))).0)
 
-  -- what is not done yet is a concept, and each child waits for it as often as it is listed
+  -- the next concept of the order is below `count`
   next_below : done < length order → get_or order done 0 < count
   next_below within = ((way.members (get_or order done 0)).0 (Contains-get_or order done 0 within)).0
 
+  -- if the next concept is done, each concept waits for it no longer, once for each time that it is listed
   next_left : done < length order → (concept : ℕ) → open_count (take done order ++ get_or order done 0 ∷ []) (list_of (lists_by count rows) concept)
       + times concept (list_of (turned count (lists_by count rows)) (get_or order done 0)) ≡ get_or waiting concept 0
   next_left within concept =
@@ -120,7 +131,7 @@ module _ {count done : ℕ} {rows : List (ℕ × ℕ)} {waiting order : List ℕ
       (had_not (take done order) next (once_apart order done way.once within)) in
       omega (arith, less, way.left concept, times-children count rows concept next (next_below within))
 
-  -- the next concept is done
+  -- if the children of the next concept are released, it is done
   way_step : (after added : List ℕ) → done < length order
       → IsReleased (list_of (turned count (lists_by count rows)) (get_or order done 0)) waiting after added
       → OnWay count rows (done + 1) after (order ++ added)
@@ -172,7 +183,7 @@ module _ {count done : ℕ} {rows : List (ℕ × ℕ)} {waiting order : List ℕ
             (cases_lt place (length order));
       }
 
-  -- the children of the next: they are concepts, each waits for it as often as it is listed, and once they are let go it is done
+  -- the children of the next concept meet what `release` requires, and after their release the concept is done
   pub way_turn : {parent : ℕ} {list : List ℕ} {parents children : List (List ℕ)} → done < length order
       → parents ≡ lists_by count rows → children ≡ turned count parents → parent ≡ get_or order done parent
       → list ≡ list_of children parent
@@ -199,13 +210,13 @@ module _ {count done : ℕ} {rows : List (ℕ × ℕ)} {waiting order : List ℕ
         (λ after added released. way_step after added within (subst (λ (xs : List ℕ). IsReleased xs waiting after added) own released)),
       )
 
-  -- no concept waits any more
+  -- if no concept waits any more, the order has all concepts with parents first
   pub way_end : {left : List ℕ} → left ≡ waiting → ((concept : ℕ) → concept < length left → get_or left concept 0 ≡ 0) → IsParentsFirst count rows order
   way_end is none =
       let none : (concept : ℕ) → concept < length waiting → get_or waiting concept 0 ≡ 0 = rw is at none in
       record { once = way.once; members = λ concept. grind (arith, (way.members concept), (none concept), way.long); first = way.first }
 
-  -- where some concept waits for ever: one that is in no order has a parent that is in none
+  -- if all concepts of the order are done, a concept outside it has a parent outside it
   stuck : IsWithin count rows → length order ≤ done → (concept : ℕ) → concept < count → has order concept ≡ false
       → (parent : ℕ) × Contains rows (concept, parent) × (parent < count) × (has order parent ≡ false)
   stuck within full concept below lost =
@@ -215,7 +226,7 @@ module _ {count done : ℕ} {rows : List (ℕ × ℕ)} {waiting order : List ℕ
       let row = (listed count rows concept found.0 below).1 found.1 in
       (found.0, row, (All-contains (λ (row : ℕ × ℕ). (row.0 < count) × (row.1 < count)) rows (concept, found.0) within row).1, found.2)
 
-  -- from such a concept on, a chain of such concepts comes back to one of its own
+  -- a path of concepts outside the order, each a child of the next, ends in a concept that reaches itself
   chain : IsWithin count rows → length order ≤ done → (steps : ℕ) (path : List ℕ) (concept : ℕ)
       → length path + steps ≡ count + 1 → IsDistinct nat_eq path
       → ((q : ℕ) → Contains path q → (q < count) × Reaches rows q concept)
@@ -239,6 +250,7 @@ module _ {count done : ℕ} {rows : List (ℕ × ℕ)} {waiting order : List ℕ
       next.2 next.3)
       (cases_Bool (has path concept))
 
+  -- if all concepts of the order are done and one still waits, some concept reaches itself
   pub way_stuck : {left : List ℕ} → IsWithin count rows → length order ≤ done → left ≡ waiting → (concept : ℕ)
       → (concept < length left) × (0 < get_or left concept 0) → (cyclic : ℕ) × (cyclic < count) × Reaches rows cyclic cyclic
   unfolding IsDistinct
@@ -247,7 +259,7 @@ module _ {count done : ℕ} {rows : List (ℕ × ℕ)} {waiting order : List ℕ
       chain within full (count + 1) [] concept (omega arith) tt (λ q there. absurd (omega (arith, there.1))) (omega (arith, found.0, way.long))
       (had_not order concept (λ there. absurd (omega (arith, found.1, ((way.members concept).0 there).1))))
 
--- the parents are concepts
+-- the parents in the lists are below `count`
 pub parents_below : (count : ℕ) (rows : List (ℕ × ℕ)) (lists : List (List ℕ)) → IsWithin count rows → lists ≡ lists_by count rows → AreItemsBelow count lists
 parents_below count rows lists within is k d below j e inside =
     let near : k < count = omega (arith, below, ap (λ (xs : List (List ℕ)). length xs) is, length-lists_by count rows) in
@@ -258,7 +270,7 @@ parents_below count rows lists within is k d below j e inside =
     (Contains-get_or (get_or lists k d) j e inside)) in
     (All-contains (λ (row : ℕ × ℕ). (row.0 < count) × (row.1 < count)) rows (k, get_or (get_or lists k d) j e) within row).1
 
--- a chain of rows leads from a place to an earlier one
+-- in an order with parents first, a chain of rows from a place leads to an earlier place
 climbs : {rows : List (ℕ × ℕ)} {child ancestor count : ℕ} (order : List ℕ) → IsParentsFirst count rows order
     → Reaches rows child ancestor → (k : ℕ) → k < length order → get_or order k 0 ≡ child → Contains (take k order) ancestor
 climbs {rows} {child} {ancestor} order first (one_row row) k within is =
@@ -270,6 +282,7 @@ climbs {rows} {child} {ancestor} order first (more_rows {parent = parent} row re
     (climbs order first rest there.0 (omega arith)
     (sym (get_or-take k order there.0 0 less) ∙ get_or_default (take k order) there.0 0 parent there.1 ∙ there.2))
 
+-- in an order with parents first no concept reaches itself
 pub ordered_acyclic : (count : ℕ) (rows : List (ℕ × ℕ)) (order : List ℕ) → IsParentsFirst count rows order
     → (concept : ℕ) → concept < count → Reaches rows concept concept → ⊥
 ordered_acyclic count rows order first concept below round =

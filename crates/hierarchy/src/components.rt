@@ -1,14 +1,14 @@
-//! The search for cycles: the strongly connected components of the is-a rows, by two depth-first
-//! searches over flat lists (Kosaraju and Sharir), with no recursion. No contract says that it finds
-//! what it should; `cycle` tests that.
+//! The search for cycles: the strongly connected components of the is-a rows, by two depth-first searches over flat
+//! lists (Kosaraju and Sharir), with no recursion. No contract says that it finds the right ranks; `cycle` tests
+//! them.
 ghost use Rattle.std.specs.Prelude.{◌≡◌, ◌<◌, ◌^◌, IfOk, length};
 ghost use Rattle.hierarchy.specs.Hierarchy.{IsWithin};
 
 use number_lists::KeyedLists;
 use std::alloc::{AllocError, Global};
 
-/// A rank for each of `count` concepts: those that reach one another have one rank, and otherwise a
-/// child has a lower rank than its parent.
+/// Returns a rank for each of `count` concepts. Concepts that reach one another have one rank; otherwise a child has
+/// a lower rank than its parent.
 pub fn component_ranks(
     alloc: Global,
     rows: &[(u32, u32)],
@@ -25,7 +25,7 @@ pub fn component_ranks(
     Ok(ranks)
 }
 
-// The ranks, where the search upwards is done with the concepts in this order.
+// Returns the ranks. `finished` is the order in which the search upwards was done with the concepts.
 fn ranks_behind(
     alloc: Global,
     finished: &[u32],
@@ -43,7 +43,7 @@ fn ranks_behind(
     Ok(ranks)
 }
 
-/// Places of rows in the order in which a search upwards from a concept meets them.
+/// Returns the places of rows in the order in which a search upwards from a concept meets them.
 pub fn rows_from(
     alloc: Global,
     rows: &[(u32, u32)],
@@ -70,7 +70,7 @@ pub fn rows_from(
     Ok(order)
 }
 
-// The places of each concept's rows.
+// Returns for each concept the places of its rows.
 fn places_by_child(alloc: Global, rows: &[(u32, u32)], count: u32) -> Result<KeyedLists, AllocError>
     requires within { IsWithin count rows.now }
     requires few { length rows.now < 2 ^ 32 }
@@ -83,7 +83,7 @@ fn places_by_child(alloc: Global, rows: &[(u32, u32)], count: u32) -> Result<Key
     KeyedLists::from_pairs(alloc, count, pairs.as_slice())
 }
 
-// The list of a concept, if it has one.
+// Returns the list of a concept, or an empty list if it has none.
 fn list_at(lists: &KeyedLists, concept: u32) -> &[u32]
     requires { length lists.now < 2 ^ 32 }
 {
@@ -94,7 +94,7 @@ fn list_at(lists: &KeyedLists, concept: u32) -> &[u32]
     }
 }
 
-// The parent of the row at a place.
+// Returns the parent of the row at a place, or 0 if there is no such row.
 fn parent_at(rows: &[(u32, u32)], place: u32) -> u32 {
     match rows.get(place as usize) {
         Some(row) => row.1,
@@ -102,7 +102,7 @@ fn parent_at(rows: &[(u32, u32)], place: u32) -> u32 {
     }
 }
 
-// Marks a concept, and tells whether it was not marked before.
+// Marks a concept; returns whether it was not marked before.
 fn mark(seen: &mut [bool], concept: u32) -> bool {
     match seen.get_mut(concept as usize) {
         Some(slot) => {
@@ -114,8 +114,8 @@ fn mark(seen: &mut [bool], concept: u32) -> bool {
     }
 }
 
-// The concepts in the order in which a depth-first search upwards, over so many rows, is done with
-// them.
+// Returns the concepts in the order in which a depth-first search upwards is done with them. `rows` is the number of
+// rows.
 fn finish_order(alloc: Global, up: &KeyedLists, rows: usize) -> Result<Vec<u32>, AllocError>
     requires { length up.now < 2 ^ 32 }
 {
@@ -133,8 +133,8 @@ fn finish_order(alloc: Global, up: &KeyedLists, rows: usize) -> Result<Vec<u32>,
     Ok(finished)
 }
 
-// Goes on with a depth-first search until its stack of concepts, each with the number of its rows
-// that are done, is empty. That takes at most as many steps as there are rows and concepts.
+// Continues a depth-first search until its stack is empty. The stack holds concepts, each with the number of its
+// rows that are done. The search takes at most `steps` steps, which is the number of rows and concepts.
 fn finish(
     finished: &mut Vec<u32>,
     stack: &mut Vec<(u32, usize)>,
@@ -161,7 +161,7 @@ fn finish(
     Ok(())
 }
 
-// Gives a rank to a concept and to all that reach it and have none.
+// Gives `rank` to the concept `root` and to all concepts that reach it and have no rank.
 fn flood(
     ranks: &mut Vec<u32>,
     stack: &mut Vec<u32>,
@@ -186,7 +186,7 @@ fn flood(
     Ok(())
 }
 
-// Ranks a concept that has no rank yet, and tells whether it had none.
+// Ranks a concept that has no rank yet; returns whether it had none.
 fn set_rank(ranks: &mut [u32], concept: u32, rank: u32) -> bool {
     match ranks.get_mut(concept as usize) {
         Some(slot) if *slot == u32::MAX => {

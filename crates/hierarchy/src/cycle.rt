@@ -1,5 +1,5 @@
-//! Cycles among is-a rows. A search that is not proved suggests where to look, and what it suggests
-//! is tested here: a wrong suggestion would cost time and no answer.
+//! Cycles among is-a rows. A search without a proof suggests which concepts to test, and the tests here are proved.
+//! So a wrong suggestion costs time, but gives no wrong answer.
 ghost use Rattle.std.specs.Prelude.{◌≡◌, ◌<◌, ◌^◌, ◌↔◌, ◌⊎◌, ℕ, false, true, List, All, Contains, IfOk, IfSome, IfNone, IsTrue, length, vec_len};
 ghost use Rattle.std.specs.Bool.{OnFalse, OnTrue};
 ghost use Rattle.hierarchy.specs.Hierarchy.{IsWithin, Reaches};
@@ -8,7 +8,7 @@ ghost use Rattle.hierarchy.specs.inside.Search.{IsMarked, IsFollowed, MarksReach
 use crate::components::{component_ranks, rows_from};
 use std::alloc::{AllocError, Global};
 
-/// The least of `count` concepts that reaches itself by the rows, each a child and its parent. There are
+/// Returns the least of `count` concepts that reaches itself by the rows, each a child and its parent. There are
 /// fewer than 2^32 rows.
 pub fn least_cyclic(
     alloc: Global,
@@ -33,8 +33,8 @@ pub fn least_cyclic(
     Ok(None)
 }
 
-// Which concepts may reach themselves. Where no row falls in rank, a concept whose rows all rise
-// does not.
+// Marks the concepts that may reach themselves. If no row falls in rank, a concept whose rows all rise does not
+// reach itself.
 #[tactic(auto, using(crate::proofs::SearchLemmas::level_row))]
 fn suspects(
     alloc: Global,
@@ -64,14 +64,15 @@ fn none_falls(rows: &[(u32, u32)], ranks: &[u32]) -> bool
         .all(|row| rank_of(ranks, row.0) <= rank_of(ranks, row.1))
 }
 
+// Returns the rank of a concept, or 0 if it has none.
 fn rank_of(ranks: &[u32], concept: u32) -> u32
     ensures { result ≡ rank_in ranks.now concept }
 {
     ranks.get(concept as usize).copied().unwrap_or(0)
 }
 
-// Whether a concept reaches itself by the rows. The rows are gone through in the order in which a
-// search meets them, and then, as often as something new is found, in theirs.
+// Whether a concept reaches itself by the rows. It follows the rows first in the order in which a search meets them,
+// and then in their own order, until nothing new is found.
 fn reaches_itself(
     alloc: Global,
     rows: &[(u32, u32)],
@@ -89,7 +90,7 @@ fn reaches_itself(
     Ok(reaches)
 }
 
-// Whether a concept reaches itself by the rows, with no concept marked at first.
+// Whether a concept reaches itself by the rows. At the start no concept is marked.
 fn is_reached_at_last(
     reached: &mut [bool],
     rows: &[(u32, u32)],
@@ -109,7 +110,7 @@ fn is_reached_at_last(
     reached[concept as usize]
 }
 
-// Follows the rows at some places.
+// Follows the rows at the places of `order`.
 fn climb_in(reached: &mut [bool], rows: &[(u32, u32)], order: &[u32], start: u32)
     requires { IsWithin (length reached.old) rows.now }
     ensures { MarksReached rows.now start reached.old → MarksReached rows.now start reached.new }
@@ -130,7 +131,7 @@ fn climb_at(reached: &mut [bool], rows: &[(u32, u32)], place: u32, start: u32)
     }
 }
 
-// Follows all rows as often as something new is reached.
+// Follows all rows again and again, until nothing new is reached.
 fn climb_to_end(reached: &mut [bool], rows: &[(u32, u32)], start: u32)
     requires { IsWithin (length reached.old) rows.now }
     ensures reached { MarksReached rows.now start reached.old → MarksReached rows.now start reached.new }
@@ -139,7 +140,7 @@ fn climb_to_end(reached: &mut [bool], rows: &[(u32, u32)], start: u32)
     while climb_all(reached, rows, start) {}
 }
 
-// Follows all rows once, and tells whether something new was reached.
+// Follows all rows once; returns whether something new was reached.
 fn climb_all(reached: &mut [bool], rows: &[(u32, u32)], start: u32) -> bool
     requires { IsWithin (length reached.old) rows.now }
     ensures reached { MarksReached rows.now start reached.old → MarksReached rows.now start reached.new }
@@ -155,7 +156,7 @@ fn climb_all(reached: &mut [bool], rows: &[(u32, u32)], start: u32) -> bool
     found
 }
 
-// Follows a row from the start or from what it reached, and tells whether its parent is new.
+// Follows a row from the start or from a concept that it reached; returns whether the row's parent is new.
 #[tactic(auto, using(crate::proofs::SearchLemmas::marks_reached_set))]
 fn climb(reached: &mut [bool], row: (u32, u32), start: u32) -> bool
     requires child { row.0 < length reached.old }

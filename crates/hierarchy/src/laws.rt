@@ -1,7 +1,7 @@
 //! The law of this crate's definitions: a function that does nothing, with the law as its contract.
 ghost use Rattle.hierarchy.specs.Hierarchy.{TellsReaches};
 
-/// The test of what a concept reaches, which computes, says exactly that a chain of is-a rows leads there.
+/// The test `reaches`, which computes, holds exactly if a chain of is-a rows leads from one concept to another.
 #[tactic(auto, using(crate::proofs::HierarchyLemmas::tells_reaches))]
 pub fn reaches_tells_chains()
     ensures { TellsReaches }

@@ -1,4 +1,4 @@
-//! An order of concepts in which parents come first (Kahn's algorithm). It also tells whether a concept
+//! An order of concepts in which parents come first (Kahn's algorithm). The search also finds whether some concept
 //! reaches itself.
 ghost use Rattle.std.specs.Prelude.{◌≡◌, ◌≤◌, ◌<◌, ◌+◌, ◌^◌, ◌==◌, ◌++◌, ℕ, List, All, IfOk, IfSome, IfNone, OnOk, count_by, length, map, slice_index};
 ghost use Rattle.hierarchy.specs.Hierarchy.{IsWithin, Reaches};
@@ -8,9 +8,9 @@ ghost use Rattle.hierarchy.specs.inside.Released.{AreRoots, IsReleased};
 use number_lists::KeyedLists;
 use std::alloc::{AllocError, Global};
 
-/// An order of `count` concepts in which each row, a child and its parent, leads to a concept that
-/// stands before; or none, where a concept reaches itself. There are fewer than 2^32 rows. Takes time
-/// linear in the rows.
+/// Returns an order of `count` concepts in which each row, a child and its parent, leads to a concept that stands
+/// before. Returns `None` if some concept reaches itself. There are fewer than 2^32 rows. Takes time linear in the
+/// rows.
 #[tactic(auto, using(crate::proofs::WayLemmas::parents_below, crate::proofs::Rules::order_by))]
 pub fn parents_first(
     alloc: Global,
@@ -24,7 +24,7 @@ pub fn parents_first(
 {
     let parents = KeyedLists::from_pairs(alloc, count, rows)?;
     let children = parents.turned(alloc, count)?;
-    // how many rows of each concept lead to parents that are not done
+    // for each concept, how many of its rows lead to parents that are not done
     let mut waiting = lengths(alloc, &parents)?;
     let mut order = roots(alloc, waiting.as_slice())?;
     let mut done = 0usize;
@@ -39,7 +39,7 @@ pub fn parents_first(
     }
 }
 
-// How long each list is.
+// Returns the length of each list.
 fn lengths(alloc: Global, lists: &KeyedLists) -> Result<Vec<usize>, AllocError>
     requires { length lists.now < 2 ^ 32 }
     ensures { IfOk result (λ lengths. lengths.items ≡ map length lists.now) }
@@ -51,7 +51,7 @@ fn lengths(alloc: Global, lists: &KeyedLists) -> Result<Vec<usize>, AllocError>
     Ok(lengths)
 }
 
-// The concepts that wait for no parent.
+// Returns the concepts that wait for no parent.
 fn roots(alloc: Global, waiting: &[usize]) -> Result<Vec<u32>, AllocError>
     requires { length waiting.now < 2 ^ 32 }
     ensures { IfOk result (λ roots. AreRoots (length waiting.now) waiting.now roots.items) }
@@ -65,7 +65,7 @@ fn roots(alloc: Global, waiting: &[usize]) -> Result<Vec<u32>, AllocError>
     Ok(roots)
 }
 
-// A concept that waits for a parent, if there is one.
+// Returns a concept that waits for a parent, if there is one.
 fn first_waiting(waiting: &[usize]) -> Option<usize>
     ensures some { IfSome result (λ concept. (concept < length waiting.now) × (0 < slice_index waiting.now concept)) }
     ensures none { IfNone result ((concept : ℕ) → concept < length waiting.now → slice_index waiting.now concept ≡ 0) }
@@ -73,8 +73,7 @@ fn first_waiting(waiting: &[usize]) -> Option<usize>
     waiting.iter().position(|left| *left > 0)
 }
 
-// Lets children of a concept that is done wait for one parent less, and puts those that wait for none
-// any more at the end of the order.
+// Lets each child of a done concept wait for one parent less, and adds those that then wait for none to the order.
 #[tactic(auto, using(crate::proofs::ReleaseLemmas::release_none, crate::proofs::ReleaseLemmas::still_waits, crate::proofs::Rules::order_by))]
 fn release(
     children: &[u32],

@@ -1,5 +1,4 @@
-//! Answers queries over a SNOMED CT release, one to a line of standard input, or reports what a release
-//! has.
+//! Answers queries over a SNOMED CT release, one to a line of standard input, or reports the contents of a release.
 #![tactic(auto)]
 
 use query_tool::start;

@@ -1,4 +1,4 @@
--- How many bits are set: those of a word, of a vector of words and of a list of words are as many as the numbers that they stand for.
+-- Counting ones: a word, a vector of words and a list of words have as many ones as they stand for numbers.
 use Rattle.std.proofs.Common.{ℕ, zero, suc, ◌+◌, ◌-◌, ◌*◌, ◌/◌, ◌%◌, ◌<◌, ◌≤◌, ◌≡◌, ◌^◌, Bool, true, false, cond, eqb, List, [], ◌∷◌, length, take, get_or, refl, sym, ap, ◌∙◌, arith, map, sum_by, count_ones, Fits, w64, length-append, add-zero, zero-add, add_assoc}
 use Rattle.std.specs.Int.{bit_at}
 use Rattle.std.specs.Int.Count.{ones_step, ones-le}
@@ -12,6 +12,8 @@ use Rattle.idset.specs.Words.{AreWordsBelow, is_set, numbers_in}
 use Rattle.number_lists.proofs.WhereLemmas.{numbers_from, numbers_from-add, numbers_where-skip}
 
 -- ---- a vector
+-- if `f` adds within 64 bits and `g` after `h` counts the ones of a word, folding the mapped words from `a` gives `a`
+-- and all their ones
 pub vector_sum : (f : ℕ → ℕ → ℕ) (g h : ℕ → ℕ) → ((s x : ℕ) → s + x < 2 ^ 64 → f s x ≡ s + x)
     → ((x : ℕ) → x < 2 ^ 64 → g (h x) ≡ count_ones x) → (a : ℕ) (xs : List ℕ) → Each1 (Fits w64) xs
     → a + 64 * length xs < 2 ^ 64 → fold_l f a (map g (map h xs)) ≡ a + sum_by count_ones xs
@@ -26,15 +28,17 @@ vector_sum f g h adds counts a (x ∷ xs) fits small =
     ∙ ap (λ n. a + n) (sym (sum_by-cons count_ones x xs))
 
 -- ---- a word
+-- a word below 2^0 has no ones
 no_ones : (w : ℕ) → w < 2 ^ 0 → 0 ≡ count_ones w
 no_ones w small = omega (arith, ones-le 0 w small)
 
+-- the list that holds one item if a bit is 1 is as long as the bit
 one_bit : (n : ℕ) → n < 2 → length {A = ℕ} (cond (eqb n 1) (0 ∷ []) []) ≡ n
 one_bit zero small = refl
 one_bit (suc zero) small = refl
 one_bit (suc (suc n)) small = absurd (omega arith)
 
--- the bits of a word are as many as the numbers of its stretch that pass
+-- a word below 2^k has as many ones as numbers of the `k` from `low` on pass the test of its bits
 bits_counted : (k w low : ℕ) (p : ℕ → Bool) → w < 2 ^ k → ((i : ℕ) → i < k → p (low + i) ≡ eqb (bit_at w i) 1) → length (numbers_from low k p) ≡ count_ones w
 bits_counted zero w low p small same = no_ones w small
 bits_counted (suc k) w low p small same =
@@ -54,7 +58,7 @@ bits_counted (suc k) w low p small same =
     front true x xs = omega arith
     front false x xs = omega arith
 
--- a word has as many bits set as it stands for numbers
+-- `numbers_in` has as many items as the word has ones
 pub length-numbers_in : (first word : ℕ) → word < 2 ^ 64 → length (numbers_in first word) ≡ count_ones word
 unfolding numbers_in
 length-numbers_in first word narrow =
@@ -65,6 +69,7 @@ length-numbers_in first word narrow =
     back k = omega arith
 
 -- ---- a list of words
+-- words have as many ones as numbers from `low` on pass the test of their bits
 words_counted : (words : List ℕ) (low : ℕ) (p : ℕ → Bool) → ((k : ℕ) → get_or words k 0 < 2 ^ 64)
     → ((n : ℕ) → p (low + n) ≡ is_set words n) → length (numbers_from low (64 * length words) p) ≡ sum_by count_ones words
 words_counted [] low p narrow same = refl
@@ -89,7 +94,7 @@ words_counted (word ∷ words) low p narrow same =
         let same : (64 + n) % 64 ≡ n % 64 = omega arith in
         (λ i. eqb (bit_at (get_or (word ∷ words) (next i) 0) (same i)) 1)
 
--- the bits of the words of a set are as many as its numbers
+-- the words of a set have as many ones as the set has numbers
 pub length-words : (bound : ℕ) (words : List ℕ) → AreWordsBelow bound words → ((k : ℕ) → get_or words k 0 < 2 ^ 64)
     → sum_by count_ones words ≡ length (numbers_where bound (is_set words))
 length-words bound words below narrow =
@@ -97,6 +102,7 @@ length-words bound words below narrow =
     ∙ ap length (numbers_where-skip bound (64 * length words) (is_set words) (omega (arith, below.enough)) (λ n past _. below.clear n past))
 
 -- ---- the whole vectors of a list and the words after them
+-- the ones of the first `block` vectors and of the next one are those of the first `block + 1` vectors
 pub count_vector_step : (words : List ℕ) (block count more : ℕ) → count ≡ sum_by count_ones (take (block * 16) words)
     → more ≡ sum_by count_ones (chunk (block * 16) 16 words) → count + more ≡ sum_by count_ones (take ((block + 1) * 16) words)
 count_vector_step words block count more so_far made =
@@ -104,7 +110,7 @@ count_vector_step words block count more so_far made =
     (λ i. so_far i + made i) ∙ sym (sum_by-append count_ones (take (block * 16) words) (chunk (block * 16) 16 words))
     ∙ sym (ap (sum_by count_ones) (take-add (block * 16) 16 words)) ∙ (λ i. sum_by count_ones (take (end i) words))
 
--- no list of words has more bits set than it has bits
+-- words have at most 64 ones each
 pub count_le : (words : List ℕ) → ((k : ℕ) → get_or words k 0 < 2 ^ 64) → sum_by count_ones words ≤ 64 * length words
 count_le [] narrow = omega arith
 count_le (word ∷ words) narrow =

@@ -1,10 +1,11 @@
--- Sets in normal form, the numbers below a bound that pass a test: what the operations on sets are in it.
+-- The operations on sets in normal form: a set is the numbers below a bound that pass a test.
 use Rattle.std.proofs.Common.{ℕ, ◌≡◌, Bool, true, false, not, ◌&&◌, ◌||◌, List, refl, sym, ap, ◌∙◌}
 use Rattle.idset.specs.Sets.{common_items, other_items, all_items, missing_numbers}
 use Rattle.number_lists.specs.Members.{has}
 use Rattle.number_lists.specs.Rising.{numbers_where}
 use Rattle.number_lists.proofs.WhereLemmas.{filter-numbers_where, has-numbers_where, numbers_where-agree}
 
+-- the common items of two sets in normal form are the numbers below `bound` that pass both tests
 pub common_items-numbers_where : (bound : ℕ) (p q : ℕ → Bool)
     → common_items (numbers_where bound p) (numbers_where bound q) ≡ numbers_where bound (λ n. p n && q n)
 common_items-numbers_where bound p q =
@@ -12,6 +13,8 @@ common_items-numbers_where bound p q =
     ∙ numbers_where-agree bound (λ n. p n && has (numbers_where bound q) n) (λ n. p n && q n)
     (λ n below. ap (λ b. p n && b) (has-numbers_where bound q n below))
 
+-- the items of the first of two sets in normal form that are not in the second are the numbers that pass `p` and not
+-- `q`
 pub other_items-numbers_where : (bound : ℕ) (p q : ℕ → Bool)
     → other_items (numbers_where bound p) (numbers_where bound q) ≡ numbers_where bound (λ n. p n && not (q n))
 other_items-numbers_where bound p q =
@@ -19,12 +22,14 @@ other_items-numbers_where bound p q =
     ∙ numbers_where-agree bound (λ n. p n && not (has (numbers_where bound q) n)) (λ n. p n && not (q n))
     (λ n below. ap (λ b. p n && not b) (has-numbers_where bound q n below))
 
+-- the union of two sets in normal form is the numbers below `bound` that pass one of both tests
 pub all_items-numbers_where : (bound : ℕ) (p q : ℕ → Bool)
     → all_items bound (numbers_where bound p) (numbers_where bound q) ≡ numbers_where bound (λ n. p n || q n)
 all_items-numbers_where bound p q =
     numbers_where-agree bound (λ n. has (numbers_where bound p) n || has (numbers_where bound q) n)
     (λ n. p n || q n) (λ n below i. has-numbers_where bound p n below i || has-numbers_where bound q n below i)
 
+-- the missing numbers of a set in normal form are the numbers below `bound` that fail its test
 pub missing_numbers-numbers_where : (bound : ℕ) (p : ℕ → Bool) → missing_numbers bound (numbers_where bound p) ≡ numbers_where bound (λ n. not (p n))
 missing_numbers-numbers_where bound p =
     numbers_where-agree bound (λ n. not (has (numbers_where bound p) n)) (λ n. not (p n)) (λ n below i. not (has-numbers_where bound p n below i))

@@ -1,9 +1,9 @@
--- Of a list those items that stand behind the first so many, and of these so many at the most: a page of the list.
+-- Pages of a list: the items after the first `skipped`, at most `most` of them.
 use Rattle.std.proofs.Common.{ℕ, zero, suc, ◌-◌, ◌≤◌, ◌≡◌, List, [], ◌∷◌, ◌++◌, length, take, drop}
 use Rattle.std.proofs.Common.{refl, sym, ap, ◌∙◌, arith, append-nil}
 use Rattle.std.proofs.lemmas.List.{drop_all, length-take, take_all, take-append-le}
 
--- what is left of two lists together is what is left of the first and, if that is gone, of the second
+-- dropping `n` items of two joined lists drops them of the first, and what is left to drop of the second
 drop-both : (n : ℕ) (xs ys : List ℕ) → drop n (xs ++ ys) ≡ drop n xs ++ drop (n - length xs) ys
 drop-both zero xs ys = (λ i. xs ++ drop (none i) ys)
   where
@@ -18,15 +18,15 @@ drop-both (suc n) (x ∷ xs) ys = drop-both n xs ys ∙ (λ i. drop n xs ++ drop
     one_less : n - length xs ≡ suc n - length (x ∷ xs)
     one_less = omega arith
 
--- what a front leaves out of the first list is not in the front of both
+-- cutting the first list at `n` before joining does not change the first `n` items of both
 take-front : (n : ℕ) (xs ys : List ℕ) → take n (take n xs ++ ys) ≡ take n (xs ++ ys)
 take-front zero xs ys = refl
 take-front (suc n) [] ys = refl
 take-front (suc n) (x ∷ xs) ys = ap (λ rest. x ∷ rest) (take-front n xs ys)
 
--- a page of the items so far, in more items
+-- the page of the items `done`, and of these items and `more`
 module _ (most skipped : ℕ) (done more page : List ℕ) (so_far : page ≡ take most (drop skipped done)) where
-  -- the items that come next go on with it
+  -- the page of the items with more items is the page so far with the next items, cut at `most`
   pub page_more : (next : List ℕ) → next ≡ take most (page ++ drop (skipped - length done) more)
       → next ≡ take most (drop skipped (done ++ more))
   page_more next pushed =
@@ -34,7 +34,7 @@ module _ (most skipped : ℕ) (done more page : List ℕ) (so_far : page ≡ tak
       ∙ take-front most (drop skipped done) (drop (skipped - length done) more)
       ∙ ap (take most) (sym (drop-both skipped done more))
 
-  -- where it is full they do not change it
+  -- a full page does not change when more items follow
   pub page_full : most ≤ length page → page ≡ take most (drop skipped (done ++ more))
   page_full full =
       let enough : most ≤ length (drop skipped done) =
@@ -43,11 +43,11 @@ module _ (most skipped : ℕ) (done more page : List ℕ) (so_far : page ≡ tak
       ∙ sym (ap (take most) (drop-both skipped done more)
       ∙ take-append-le most (drop skipped done) (drop (skipped - length done) more) enough)
 
--- a list that is short enough is the front of itself
+-- a list of at most `most` items is the first `most` of itself
 pub front_whole : (most : ℕ) (items : List ℕ) → length items ≤ most → items ≡ take most (items ++ [])
 front_whole most items short = sym (take_all most items short) ∙ ap (take most) (sym (append-nil items))
 
--- items that are all left out do not change it
+-- pushing items that are all skipped does not change a list of at most `most` items
 pub none_pushed : (most skipped : ℕ) (items more : List ℕ) → length items ≤ most → length more ≤ skipped
     → items ≡ take most (items ++ drop skipped more)
 none_pushed most skipped items more short past =

@@ -10,19 +10,22 @@ use Rattle.number_lists.specs.Rising.{rises_within, IsRising, IsRisingBelow}
 use Rattle.idset.specs.Sets.{place_of}
 use Rattle.number_lists.proofs.RisingLemmas.{get_or-rising, has-below_lowest, rises_from_on, rises_on}
 
+-- the place of a number is at most the length of the list
 pub place_le : (items : List ℕ) (n : ℕ) → place_of items n ≤ length items
 place_le items n = prefix_len-le-length (λ item. ltb item n) items
 
+-- each item before the place of a number is below this number
 pub below_place : (items : List ℕ) (n k : ℕ) → k < place_of items n → get_or items k 0 < n
 below_place items n k lt = ltb-true (get_or items k 0) n (prefix_len_passes (λ item. ltb item n) items k 0 lt)
 
+-- the item at the place of a number is not below this number
 pub at_place : (items : List ℕ) (n : ℕ) → place_of items n < length items → n ≤ get_or items (place_of items n) 0
 at_place items n lt = ltb-ge (get_or items (place_of items n) 0) n (prefix_len_stops (λ item. ltb item n) items 0 lt)
   where
     ltb-ge : (a b : ℕ) → ltb a b ≡ false → b ≤ a
     ltb-ge a b e = elim (cases_lt a b) [ inl lt ↦ absurd (true≢false (sym (lt-ltb a b lt) ∙ e)) | inr ge ↦ ge ]
 
--- an item below the number stands before its place
+-- an item below a number stands before the place of the number
 pub place_above : (bound : ℕ) (items : List ℕ) (n k : ℕ) → IsRisingBelow bound items → k < length items → get_or items k 0 < n → k < place_of items n
 place_above bound items n k rises in' lt =
     elim (cases_lt k (place_of items n)) [
@@ -36,12 +39,12 @@ place_above bound items n k rises in' lt =
           ]
     ]
 
--- an item that is not below the number stands at its place or later
+-- the place of a number is at most that of an item that is not below it
 pub place_at_most : (items : List ℕ) (n k : ℕ) → n ≤ get_or items k 0 → place_of items n ≤ k
 place_at_most items n k le =
     elim (cases_lt k (place_of items n)) [ inl lt ↦ absurd (omega (arith, below_place items n k lt)) | inr ge ↦ ge ]
 
--- the place is where the items before are below the number, and the one there is not
+-- a place is that of a number if the item before it is below the number and the one at it is not
 pub place_is : (bound : ℕ) (items : List ℕ) (n p : ℕ) → IsRisingBelow bound items → p ≤ length items
     → (0 < p → get_or items (p - 1) 0 < n) → (p < length items → n ≤ get_or items p 0) → p ≡ place_of items n
 place_is bound items n p rises in' before here =
@@ -59,7 +62,7 @@ place_is bound items n p rises in' before here =
     ] in
     omega arith
 
--- a larger number has no earlier place
+-- a greater number has no earlier place
 pub place_grows : (items : List ℕ) (m n : ℕ) → m ≤ n → place_of items m ≤ place_of items n
 place_grows items m n le =
     elim (cases_lt (place_of items n) (length items)) [
@@ -67,17 +70,18 @@ place_grows items m n le =
       | inr ge ↦ omega (arith, place_le items m)
     ]
 
--- where the list is empty, the place is 0; else the first item tells
+-- if the first item is below `n`, the place of `n` is one more than its place in the rest
 place-cons_below : (item : ℕ) (items : List ℕ) (n : ℕ) → item < n → place_of (item ∷ items) n ≡ suc (place_of items n)
 place-cons_below item items n lt = (λ i. cond (lt-ltb item n lt i) (1 + place_of items n) 0) ∙ more
   where
     more : 1 + place_of items n ≡ suc (place_of items n)
     more = omega arith
 
+-- if the first item is not below `n`, the place of `n` is 0
 place-cons_here : (item : ℕ) (items : List ℕ) (n : ℕ) → n ≤ item → place_of (item ∷ items) n ≡ 0
 place-cons_here item items n le = (λ i. cond (le-ltb item n le i) (1 + place_of items n) 0)
 
--- what stands from the place on rises from the number
+-- the items from the place of a number on rise from this number
 pub drop_place-rising : (lowest bound : ℕ) (items : List ℕ) (n : ℕ) → rises_within lowest bound items ≡ true
     → rises_within n bound (drop (place_of items n) items) ≡ true
 drop_place-rising lowest bound [] n rises = refl
@@ -88,7 +92,7 @@ drop_place-rising lowest bound (item ∷ items) n rises =
       | inr ge ↦ (λ i. rises_within n bound (drop (place-cons_here item items n ge i) (item ∷ items))) ∙ rises_from_on n bound item items ge on.below on.rest
     ]
 
--- and has the members that are not below the number
+-- the items from the place of `n` on have the members of the list that are not below `n`
 pub has-drop_place : (items : List ℕ) (n m : ℕ) → n ≤ m → has (drop (place_of items n) items) m ≡ has items m
 has-drop_place [] n m le = refl
 has-drop_place (item ∷ items) n m le =
@@ -100,11 +104,11 @@ has-drop_place (item ∷ items) n m le =
       | inr ge ↦ (λ i. has (drop (place-cons_here item items n ge i) (item ∷ items)) m)
     ]
 
--- an item of the list is in it
+-- the item at a place of a list is in the list
 pub has-get_or : (items : List ℕ) (k : ℕ) → k < length items → has items (get_or items k 0) ≡ true
 has-get_or items k in' = list_any_at (λ item. eqb item (get_or items k 0)) items k 0 in' (eq-eqb (get_or items k 0) (get_or items k 0) refl)
 
--- between a number and the item at its place there is none
+-- no number between `n` and the item at its place is in the list
 pub none_between : (bound : ℕ) (items : List ℕ) (n m : ℕ) → IsRisingBelow bound items → n ≤ m
     → (place_of items n < length items → m < get_or items (place_of items n) 0) → has items m ≡ false
 none_between bound items n m rises le before =
@@ -129,7 +133,7 @@ none_between bound items n m rises le before =
               (rises_from_on item bound item items (omega arith) on.below on.rest) above
         ]
 
--- a number is in the list if it stands at its place
+-- a number is in a rising list exactly if it stands at its place
 pub has-place : (bound : ℕ) (items : List ℕ) (n : ℕ) → IsRisingBelow bound items
     → has items n ≡ (ltb (place_of items n) (length items) && eqb (get_or items (place_of items n) 0) n)
 has-place bound items n rises =
@@ -144,7 +148,7 @@ has-place bound items n rises =
           ∙ sym (λ i. le-ltb (place_of items n) (length items) ge i && eqb (get_or items (place_of items n) 0) n)
     ]
 
--- the two answers of the test, by the place
+-- the item at the place of `n` equals `n` exactly if `n` is in the list
 pub has-here : (items : List ℕ) (n p : ℕ) → IsRising items → p ≡ place_of items n → p < length items → eqb (get_or items p 0) n ≡ has items n
 has-here items n p rises is lt =
     let here : place_of items n < length items = omega arith in
@@ -152,30 +156,36 @@ has-here items n p rises is lt =
     ∙ sym (has-place (2 ^ 32) items n rises
     ∙ (λ i. lt-ltb (place_of items n) (length items) here i && eqb (get_or items (place_of items n) 0) n))
 
+-- a number whose place is the end of the list is not in the list
 pub has-gone : (items : List ℕ) (n p : ℕ) → IsRising items → p ≡ place_of items n → length items ≤ p → false ≡ has items n
 has-gone items n p rises is ge =
     let here : length items ≤ place_of items n = omega arith in
     sym (has-place (2 ^ 32) items n rises ∙ (λ i. le-ltb (place_of items n) (length items) here i && eqb (get_or items (place_of items n) 0) n))
 
--- what a reading of an item tells of the place
+-- if the item at `k` is below `n`, the place of `n` is after `k`
 pub read_below : (items : List ℕ) (n k : ℕ) → IsRising items → k < length items → get_or items k 0 < n → suc k ≤ place_of items n
 read_below items n k rises in' lt = place_above (2 ^ 32) items n k rises in' lt
 
+-- if the item at `k` is not below `n`, and the place of `n` is not before `k`, it is `k`
 pub read_reached : (items : List ℕ) (n k : ℕ) → k ≤ place_of items n → n ≤ get_or items k 0 → k ≡ place_of items n
 read_reached items n k le here = omega (arith, place_at_most items n k here)
 
+-- if `k` is at or past the end and the place of `n` is not before `k`, it is `k`
 pub read_all : (items : List ℕ) (n k : ℕ) → k ≤ place_of items n → length items ≤ k → k ≡ place_of items n
 read_all items n k le past = omega (arith, place_le items n)
 
+-- the lemmas on what reading an item tells of a place
 pub ruleset readings = (read_below, read_reached, read_all, place_le, place_at_most, has-here, has-gone)
 
--- ---- a step of a loop over a rising list that looks each item up in another
+-- ---- one step of a loop that looks each item of a rising list up in another
+-- pushing item `i` if it passes makes the filter of the first `i + 1` items
 pub filter_step : (p : ℕ → Bool) (items out next : List ℕ) (i : ℕ) (kept : Bool) → i < length items
     → out ≡ filter p (take i items) → kept ≡ p (get_or items i 0)
     → next ≡ out ++ cond kept (get_or items i 0 ∷ []) [] → next ≡ filter p (take (i + 1) items)
 filter_step p items out next i kept in' so_far same pushed =
     pushed ∙ (λ j. so_far j ++ cond (same j) (get_or items i 0 ∷ []) []) ∙ sym (filter_more p items i 0 in')
 
+-- the place of item `i` in the others is at most that of item `i + 1`
 pub behind_step : (items others : List ℕ) (i p : ℕ) → IsRising items → i + 1 < length items
     → p ≡ place_of others (get_or items i 0) → p ≤ place_of others (get_or items (i + 1) 0)
 behind_step items others i p rises in' is =

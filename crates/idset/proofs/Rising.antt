@@ -7,14 +7,15 @@ use Rattle.number_lists.specs.Rising.{IsRisingBelow}
 use Rattle.number_lists.proofs.RisingLemmas.{numbers_where-rising, range_rising, rises_within-filter, rising_fits, rising_is_numbers_where}
 use Rattle.number_lists.proofs.WhereLemmas.{numbers_where-agree}
 
--- the operations keep the rule
+-- the common items of a rising list and another list rise
 pub common_items-rising : (bound : ℕ) (xs ys : List ℕ) → IsRisingBelow bound xs → IsRisingBelow bound (common_items xs ys)
 common_items-rising bound xs ys rises = rises_within-filter 0 bound (has ys) xs rises
 
+-- the items of a rising list that are not in another list rise
 pub other_items-rising : (bound : ℕ) (xs ys : List ℕ) → IsRisingBelow bound xs → IsRisingBelow bound (other_items xs ys)
 other_items-rising bound xs ys rises = rises_within-filter 0 bound (λ n. not (has ys n)) xs rises
 
--- what is common to two rising lists is so in either order
+-- the common items of two rising lists are the same in either order
 pub common_items-swap : (bound : ℕ) (xs ys : List ℕ) → IsRisingBelow bound xs → IsRisingBelow bound ys → common_items xs ys ≡ common_items ys xs
 common_items-swap bound xs ys rises-x rises-y =
     let of-x = rising_is_numbers_where bound xs rises-x in
@@ -29,4 +30,5 @@ common_items-swap bound xs ys rises-x rises-y =
     and_swap false true = refl
     and_swap false false = refl
 
+-- the lemmas on which results of set operations rise
 pub ruleset rules_of_rising = (rising_fits, common_items-rising, other_items-rising, numbers_where-rising, range_rising)

@@ -1,4 +1,4 @@
--- The set as words: what each operation leaves is what its list says.
+-- The set as words: each operation on words gives the list that `Sets` says.
 use Rattle.std.proofs.Common.{ℕ, ◌<◌, ◌≡◌, Bool, true, false, not, ◌&&◌, ◌||◌, ltb, List, length, refl, sym, ap, ◌∙◌, subst, inl, inr, bit_and, bit_or}
 use Rattle.std.specs.Bool.{beq}
 use Rattle.std.specs.List.{All, filter, range_with_len}
@@ -14,19 +14,24 @@ use Rattle.idset.proofs.Bits.{and_words_below, and_words_items, minus_words_belo
 use Rattle.number_lists.proofs.WhereLemmas.{filter-numbers_where, has-numbers_where, has-numbers_where_past, numbers_where-agree, numbers_where-all}
 use Rattle.number_lists.proofs.RisingLemmas.{get_or-below, has-past_bound, numbers_where-rising, rising_is_numbers_where}
 
--- words of a set with the same bound
+-- words of one bound are words of an equal bound
 pub below_too : (bound other_bound : ℕ) (words : List ℕ) → bound ≡ other_bound → AreWordsBelow other_bound words → AreWordsBelow bound words
 below_too bound other_bound words same below = subst (λ (b : ℕ). AreWordsBelow b words) (sym same) below
 
+-- words of equal bounds are equally long
 pub same_words : (bound other_bound : ℕ) (xs ys : List ℕ) → bound ≡ other_bound → AreWordsBelow bound xs → AreWordsBelow other_bound ys → length ys ≡ length xs
 same_words bound other_bound xs ys same below below' = (below_too bound other_bound ys same below').enough ∙ sym below.enough
 
--- what words hold, and what a set of them keeps
+-- the words hold the numbers of `content`, and stay within their bound
 pub record Holds (bound : ℕ) (words content : List ℕ) : Type 0 where
+  -- the words are as many as `bound` takes, and no bit from it on is set
   pub held : AreWordsBelow bound words
+  -- the numbers whose bits are set rise below `bound`
   pub rising : IsRisingBelow bound (numbers_where bound (is_set words))
+  -- the numbers whose bits are set are `content`
   pub items : numbers_where bound (is_set words) ≡ content
 
+-- `zip2 bit_and` of the words of two sets holds their common items
 pub holds_and : (bound other_bound : ℕ) (xs ys made : List ℕ) → bound ≡ other_bound → AreWordsBelow bound xs
     → AreWordsBelow other_bound ys → made ≡ zip2 bit_and xs ys
     → Holds bound made (common_items (numbers_where bound (is_set xs)) (numbers_where other_bound (is_set ys)))
@@ -39,6 +44,7 @@ holds_and bound other_bound xs ys made same below below' is =
           ∙ (λ i. common_items (numbers_where bound (is_set xs)) (numbers_where (same i) (is_set ys)));
     }
 
+-- `zip2 bit_or` of the words of two sets holds their union
 pub holds_or : (bound other_bound : ℕ) (xs ys made : List ℕ) → bound ≡ other_bound → AreWordsBelow bound xs
     → AreWordsBelow other_bound ys → made ≡ zip2 bit_or xs ys
     → Holds bound made (all_items bound (numbers_where bound (is_set xs)) (numbers_where other_bound (is_set ys)))
@@ -51,6 +57,7 @@ holds_or bound other_bound xs ys made same below below' is =
           ∙ (λ i. all_items bound (numbers_where bound (is_set xs)) (numbers_where (same i) (is_set ys)));
     }
 
+-- `zip2 bit_minus` of the words of two sets holds the items of the first that are not in the second
 pub holds_minus : (bound other_bound : ℕ) (xs ys made : List ℕ) → bound ≡ other_bound → AreWordsBelow bound xs
     → AreWordsBelow other_bound ys → made ≡ zip2 bit_minus xs ys
     → Holds bound made (other_items (numbers_where bound (is_set xs)) (numbers_where other_bound (is_set ys)))
@@ -63,24 +70,27 @@ holds_minus bound other_bound xs ys made same below below' is =
           ∙ (λ i. other_items (numbers_where bound (is_set xs)) (numbers_where (same i) (is_set ys)));
     }
 
--- marked numbers
+-- each item of a rising list is below its bound
 pub items_below : (bound : ℕ) (items : List ℕ) → IsRisingBelow bound items → All (λ item. item < bound) items
 items_below bound items rises k d in' = subst (λ (item : ℕ). item < bound) (get_or_default items k 0 d in') (get_or-below 0 bound items k rises in')
 
+-- words that mark the items of a rising list hold this list
 pub marked_items : (bound : ℕ) (words items : List ℕ) → IsRisingBelow bound items
     → MarkedBelow bound words (has items) → numbers_where bound (is_set words) ≡ items
 marked_items bound words items rises marked =
     numbers_where-agree bound (is_set words) (has items) (λ n _. marked.marked n) ∙ sym (rising_is_numbers_where bound items rises)
 
+-- words that mark the numbers of a test hold the numbers below `bound` that pass it
 pub marked_numbers : (bound : ℕ) (words : List ℕ) (test : ℕ → Bool) → MarkedBelow bound words test
     → numbers_where bound (is_set words) ≡ numbers_where bound test
 marked_numbers bound words test marked = numbers_where-agree bound (is_set words) test (λ n _. marked.marked n)
 
+-- words that mark all numbers below `bound` hold the range below `bound`
 pub marked_every : (bound : ℕ) (words : List ℕ) → MarkedBelow bound words (λ n. ltb n bound) → numbers_where bound (is_set words) ≡ range_with_len 0 bound
 marked_every bound words marked =
     numbers_where-agree bound (is_set words) (λ _. true) (λ n below. marked.marked n ∙ lt-ltb n bound below) ∙ numbers_where-all bound
 
--- marks added to those of a set
+-- setting the bits of `items` in the words of a set holds the union
 pub holds_more : (bound : ℕ) (words made items : List ℕ) → AreWordsBelow bound words → IsRisingBelow bound items
     → length made ≡ length words → ((n : ℕ) → is_set made n ≡ (is_set words n || has items n))
     → Holds bound made (all_items bound (numbers_where bound (is_set words)) items)
@@ -92,7 +102,7 @@ holds_more bound words made items below rises long marked = record {
       (λ n lt. marked n ∙ (λ i. sym (has-numbers_where bound (is_set words) n lt) i || has items n));
 }
 
--- a set has the numbers whose bit is set
+-- a number is set in words exactly if it is in their set
 pub has_marked : (bound : ℕ) (words : List ℕ) (n : ℕ) → AreWordsBelow bound words → is_set words n ≡ has (numbers_where bound (is_set words)) n
 has_marked bound words n below =
     elim (cases_lt n bound) [
@@ -100,7 +110,7 @@ has_marked bound words n below =
       | inr past ↦ below.clear n past ∙ sym (has-numbers_where_past bound (is_set words) n past)
     ]
 
--- marks taken from those of a set
+-- clearing the bits of `items` in the words of a set holds the items that are not in `items`
 pub holds_less : (bound : ℕ) (words made items : List ℕ) → AreWordsBelow bound words → IsRisingBelow bound items
     → length made ≡ length words → ((n : ℕ) → is_set made n ≡ (is_set words n && not (has items n)))
     → Holds bound made (other_items (numbers_where bound (is_set words)) items)
@@ -111,15 +121,17 @@ holds_less bound words made items below rises long marked = record {
       ∙ sym (filter-numbers_where bound (is_set words) (λ n. not (has items n)));
 }
 
--- the items of a list that are marked, and those that are not
+-- comparing a test with true does not change it
 beq_true : (a : Bool) → beq a true ≡ a
 beq_true true = refl
 beq_true false = refl
 
+-- comparing a test with false is its negation
 beq_false : (a : Bool) → beq a false ≡ not a
 beq_false true = refl
 beq_false false = refl
 
+-- filtering the items of a list by their marks is the common items of the list and the words' set
 pub kept_common : (bound : ℕ) (words items own kept : List ℕ) → AreWordsBelow bound words → items ≡ own
     → kept ≡ filter (λ n. beq (is_set words n) true) items → kept ≡ common_items own (numbers_where bound (is_set words))
 kept_common bound words items own kept below same is =
@@ -127,6 +139,7 @@ kept_common bound words items own kept below same is =
     (λ n. beq_true (is_set words n) ∙ has_marked bound words n below) items
     ∙ ap (filter (has (numbers_where bound (is_set words)))) same
 
+-- filtering the items of a list by their missing marks is the items that the words' set has not
 pub kept_other : (bound : ℕ) (words items own kept : List ℕ) → AreWordsBelow bound words → items ≡ own
     → kept ≡ filter (λ n. beq (is_set words n) false) items → kept ≡ other_items own (numbers_where bound (is_set words))
 kept_other bound words items own kept below same is =

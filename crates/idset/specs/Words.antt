@@ -7,24 +7,28 @@ use Rattle.std.specs.List.{range_with_len}
 abbrev pub is_set : List ℕ → ℕ → Bool
 is_set words number = bit_at (slice_index words (number / 64)) (number % 64) == 1
 
--- how many words have a bit for each number below a bound
+-- how many words have a bit for each number below `bound`
 abbrev pub words_for : ℕ → ℕ
 words_for bound = (bound + 63) / 64
 
--- there are as many words as the bound takes, and no bit is set at the bound or past it
+-- the words are as many as `bound` takes, and no bit from `bound` on is set
 pub record AreWordsBelow (bound : ℕ) (words : List ℕ) : Type 0 where
+  -- there are as many words as `bound` takes
   pub enough : length words ≡ words_for bound
+  -- no bit from `bound` on is set
   pub clear : (number : ℕ) → bound ≤ number → is_set words number ≡ false
 
--- the bits of the one word that the other has not
+-- the bits of word `one` that word `other` has not
 abbrev pub bit_minus : ℕ → ℕ → ℕ
 bit_minus one other = bit_and one (bit_xor one other)
 
--- the numbers from a first one on whose bits are set in one word
+-- the numbers from `first` on whose bits are set in one word
 unfoldable pub numbers_in : ℕ → ℕ → List ℕ
 numbers_in first word = filter (λ number. bit_at word (number - first) == 1) (range_with_len first 64)
 
--- the words are those of a bound, and the bits that are set are those of the numbers that pass a test
+-- the words are those of `bound`, and the bits that are set are those of the numbers that pass `test`
 pub record MarkedBelow (bound : ℕ) (words : List ℕ) (test : ℕ → Bool) : Type 0 where
+  -- the words are those of `bound`
   pub below : AreWordsBelow bound words
+  -- the bit of a number is set exactly if the number passes `test`
   pub marked : (number : ℕ) → is_set words number ≡ test number

@@ -1,4 +1,4 @@
-//! What every form of set gives.
+//! The operations that every form of set has.
 ghost use Rattle.std.specs.Prelude.{◌≡◌, ◌<◌, ◌^◌, ℕ, List, All, drop, IfOk, length, OnErr, OnOk, take};
 ghost use Rattle.std.specs.List.{range_with_len};
 ghost use Rattle.idset.specs.Sets.{all_items, common_items, missing_numbers, other_items};
@@ -24,15 +24,15 @@ pub trait ConceptSet: Drop {
         ensures items { IfOk result (λ set. items_of set ≡ items.now) }
         ensures bound { IfOk result (λ set. bound_of set ≡ bound) };
 
-    /// The set of the numbers of a list in any order, which may name a number more than once: for
-    /// what a pass over rows finds.
+    /// The set of the numbers of a list, which may be in any order and repeat a number: for the numbers that a
+    /// pass over rows finds.
     fn from_numbers(alloc: Global, numbers: &[u32], bound: u32) -> Result<Self, AllocError>
         requires { All (λ number. number < bound) numbers.now }
         ensures items { IfOk result (λ set. items_of set ≡ listed_numbers bound numbers.now) }
         ensures bound { IfOk result (λ set. bound_of set ≡ bound) };
 
-    /// The set of the numbers whose bit is set in words of 64 bits, the lowest bit first: for marks,
-    /// and for a wide list that an index keeps as words, which are copied as they are.
+    /// The set of the numbers whose bit is set in words of 64 bits, the lowest bit first: for a bitmap, and for
+    /// a wide list that an index keeps as words. The words are copied as they are.
     fn from_words(alloc: Global, words: &[u64], bound: u32) -> Result<Self, AllocError>
         requires { AreWordsBelow bound words.now }
         ensures items { IfOk result (λ set. items_of set ≡ numbers_where bound (is_set words.now)) }
@@ -43,28 +43,28 @@ pub trait ConceptSet: Drop {
         ensures items { IfOk result (λ set. items_of set ≡ range_with_len 0 bound) }
         ensures bound { IfOk result (λ set. bound_of set ≡ bound) };
 
-    /// The items that both sets have.
+    /// Intersects: makes the set of the items that both sets have.
     fn and(&self, alloc: Global, other: &Self) -> Result<Self, AllocError>
         requires { bound_of self.now ≡ bound_of other.now }
         ensures items { IfOk result
             (λ set. items_of set ≡ common_items (items_of self.now) (items_of other.now)) }
         ensures bound { IfOk result (λ set. bound_of set ≡ bound_of self.now) };
 
-    /// The items that one of the sets has, or both.
+    /// Unites: makes the set of the items that one of the sets has, or both.
     fn or(&self, alloc: Global, other: &Self) -> Result<Self, AllocError>
         requires { bound_of self.now ≡ bound_of other.now }
         ensures items { IfOk result
             (λ set. items_of set ≡ all_items (bound_of self.now) (items_of self.now) (items_of other.now)) }
         ensures bound { IfOk result (λ set. bound_of set ≡ bound_of self.now) };
 
-    /// The items that this set has and the other has not.
+    /// Subtracts: makes the set of the items that this set has and the other has not.
     fn minus(&self, alloc: Global, other: &Self) -> Result<Self, AllocError>
         requires { bound_of self.now ≡ bound_of other.now }
         ensures items { IfOk result
             (λ set. items_of set ≡ other_items (items_of self.now) (items_of other.now)) }
         ensures bound { IfOk result (λ set. bound_of set ≡ bound_of self.now) };
 
-    /// The numbers below the bound that the set has not.
+    /// Complements: makes the set of the numbers below the bound that this set has not.
     fn others(&self, alloc: Global) -> Result<Self, AllocError>
         ensures items { IfOk result
             (λ set. items_of set ≡ missing_numbers (bound_of self.now) (items_of self.now)) }
@@ -82,17 +82,17 @@ pub trait ConceptSet: Drop {
     fn items(&self, alloc: Global) -> Result<Vec<u32>, AllocError>
         ensures { IfOk result (λ items. items.items ≡ items_of self.now) };
 
-    /// Of the items in rising order those behind the first `skipped`, and of these `most` at the most, as a list of
-    /// their own.
+    /// Copies the items in rising order, without the first `skipped`, at most `most` of them, into a list of their
+    /// own.
     fn some_items(&self, alloc: Global, skipped: u64, most: u64) -> Result<Vec<u32>, AllocError>
         ensures { IfOk result (λ items. items.items ≡ take most (drop skipped (items_of self.now))) };
 
-    /// The same set, in the form in which it is asked soonest whether it has a number: for tests of many numbers.
+    /// Gives the set in the form that answers `has` fastest: for tests of many numbers.
     fn for_asking(self, alloc: Global) -> Result<Self, AllocError>
         ensures items { IfOk result (λ set. items_of set ≡ items_of self) }
         ensures bound { IfOk result (λ set. bound_of set ≡ bound_of self) };
 
-    /// A set of the same items.
+    /// Copies the set.
     fn copy(&self, alloc: Global) -> Result<Self, AllocError>
         ensures items { IfOk result (λ set. items_of set ≡ items_of self.now) }
         ensures bound { IfOk result (λ set. bound_of set ≡ bound_of self.now) };
@@ -101,11 +101,11 @@ pub trait ConceptSet: Drop {
     fn bound(&self) -> u32
         ensures { result ≡ bound_of self.now };
 
-    /// Whether a number is in the set; one that is not below the bound is not.
+    /// Tells whether a number is in the set; one that is not below the bound is not.
     fn has(&self, number: u32) -> bool
         ensures { result ≡ has (items_of self.now) number };
 
-    /// How many items there are, which is the bound at the most.
+    /// Counts the items, which are at most as many as the bound.
     fn count(&self) -> u32
         ensures { result ≡ length (items_of self.now) };
 

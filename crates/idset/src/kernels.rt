@@ -9,19 +9,19 @@ use std::simd::prelude::*;
 // How many words a vector holds.
 const LANES: usize = 4;
 
-// How many words a vector holds where bits are counted, since its sum is taken once for all.
+// How many words a vector for counting bits holds. It is wider than `LANES`, because its sum is taken only once.
 const COUNTED: usize = 16;
 
-/// What is done to each pair of words.
+/// An operation on each pair of words.
 trait WordOperation {
-    /// The word that two words give.
+    /// The word that the operation makes of two words.
     ghost of: { ℕ → ℕ → ℕ };
 
-    /// One pair.
+    /// Combines one pair.
     fn word(one: u64, other: u64) -> u64
         ensures { result ≡ of one other };
 
-    /// A vector of pairs.
+    /// Combines a vector of pairs.
     fn lanes(one: u64x4, other: u64x4) -> u64x4
         ensures { result ≡ zip2 of one other };
 }
@@ -74,7 +74,7 @@ impl WordOperation for Minus {
     }
 }
 
-/// The bits that both words have, word by word.
+/// Intersects: keeps the bits that both words have, word by word.
 pub fn and_words(alloc: Global, words: &[u64], others: &[u64]) -> Result<Vec<u64>, AllocError>
     requires { length others.now ≡ length words.now }
     ensures { IfOk result (λ made. made.items ≡ zip2 bit_and words.now others.now) }
@@ -83,7 +83,7 @@ pub fn and_words(alloc: Global, words: &[u64], others: &[u64]) -> Result<Vec<u64
     Ok(made)
 }
 
-/// The bits that one of the words has, or both, word by word.
+/// Unites: keeps the bits that one of the words has, or both, word by word.
 pub fn or_words(alloc: Global, words: &[u64], others: &[u64]) -> Result<Vec<u64>, AllocError>
     requires { length others.now ≡ length words.now }
     ensures { IfOk result (λ made. made.items ≡ zip2 bit_or words.now others.now) }
@@ -92,7 +92,7 @@ pub fn or_words(alloc: Global, words: &[u64], others: &[u64]) -> Result<Vec<u64>
     Ok(made)
 }
 
-/// The bits that the one word has and the other has not, word by word.
+/// Subtracts: keeps the bits that the one word has and the other has not, word by word.
 pub fn minus_words(alloc: Global, words: &[u64], others: &[u64]) -> Result<Vec<u64>, AllocError>
     requires { length others.now ≡ length words.now }
     ensures { IfOk result (λ made. made.items ≡ zip2 bit_minus words.now others.now) }
@@ -101,7 +101,7 @@ pub fn minus_words(alloc: Global, words: &[u64], others: &[u64]) -> Result<Vec<u
     Ok(made)
 }
 
-// Each word of the one with its word of the other, in words of their own.
+// Combines each word of the one list with its word of the other, into a new vector.
 #[inline]
 fn combined<O: WordOperation>(
     alloc: Global,
@@ -116,7 +116,7 @@ fn combined<O: WordOperation>(
     Ok(made)
 }
 
-// Each word of the one with its word of the other.
+// Combines each word of the one list with its word of the other, into `out`.
 #[inline]
 fn combine<O: WordOperation>(words: &[u64], others: &[u64], out: &mut [u64])
     requires others { length others.now ≡ length words.now }
@@ -127,7 +127,7 @@ fn combine<O: WordOperation>(words: &[u64], others: &[u64], out: &mut [u64])
     combine_rest::<O>(words, others, out, place);
 }
 
-// As many whole vectors as there are. Tells how many words that is.
+// Combines all whole vectors; returns the number of words done.
 #[inline]
 fn combine_vectors<O: WordOperation>(words: &[u64], others: &[u64], out: &mut [u64]) -> usize
     requires others { length others.now ≡ length words.now }
@@ -145,7 +145,7 @@ fn combine_vectors<O: WordOperation>(words: &[u64], others: &[u64], out: &mut [u
     place
 }
 
-// The words from a place on, one by one.
+// Combines the words from `from` on, one by one.
 #[inline]
 fn combine_rest<O: WordOperation>(words: &[u64], others: &[u64], out: &mut [u64], from: usize)
     requires others { length others.now ≡ length words.now }
@@ -159,7 +159,7 @@ fn combine_rest<O: WordOperation>(words: &[u64], others: &[u64], out: &mut [u64]
     }
 }
 
-/// How many bits are set in all words.
+/// Counts the bits that are set in all words.
 pub fn count_words(words: &[u64]) -> u64
     requires { length words.now ≤ 2 ^ 26 }
     ensures { result ≡ sum_by count_ones words.now }
@@ -168,7 +168,7 @@ pub fn count_words(words: &[u64]) -> u64
     count_vectors(words) + count_rest(words, whole)
 }
 
-// How many bits are set in as many whole vectors as there are.
+// Counts the bits that are set in all whole vectors.
 #[inline]
 fn count_vectors(words: &[u64]) -> u64
     requires { length words.now ≤ 2 ^ 26 }
@@ -181,7 +181,7 @@ fn count_vectors(words: &[u64]) -> u64
     count
 }
 
-// How many bits are set in one vector.
+// Counts the bits that are set in one vector.
 #[inline]
 fn count_vector(words: u64x16) -> u64
     requires { length words ≡ 16 }
@@ -190,7 +190,7 @@ fn count_vector(words: u64x16) -> u64
     words.count_ones().reduce_sum()
 }
 
-// How many bits are set in the words from a place on.
+// Counts the bits that are set in the words from `from` on.
 #[inline]
 fn count_rest(words: &[u64], from: usize) -> u64
     requires short { length words.now ≤ 2 ^ 26 }
@@ -204,8 +204,7 @@ fn count_rest(words: &[u64], from: usize) -> u64
     count
 }
 
-/// How many bits are set in all words, or `most` where there are more: the words behind those that have so many are not
-/// read.
+/// Counts the bits that are set in all words, up to `most`: it does not read further once it has counted `most`.
 pub fn count_up_to(words: &[u64], most: u64) -> u64
     requires { length words.now ≤ 2 ^ 26 }
     ensures { result ≡ min most (sum_by count_ones words.now) }

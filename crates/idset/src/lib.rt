@@ -1,8 +1,8 @@
 //! Sets of concept numbers.
 //!
 //! A set is a strictly rising list of numbers below a bound. `ConceptSet` says what its operations
-//! give, in terms of such lists; the forms behind it are `SortedSet`, the list itself, `WordSet`, a bit
-//! for each number below the bound, and `MixedSet`, whichever of the two is the smaller.
+//! give, in terms of such lists. Its forms are `SortedSet`, the list itself; `WordSet`, a bit for each
+//! number below the bound; and `MixedSet`, one of these two, by how many items it has.
 #![tactic(auto)]
 
 mod concept_set;

@@ -1,4 +1,4 @@
-//! The set in whichever of the two forms suits how many items it has.
+//! The set in one of two forms, by how many items it has.
 ghost use Rattle.std.specs.Prelude.{◌≡◌, IfOk};
 ghost use Rattle.idset.specs.inside.MixedForm.{form_bound, form_items, form_rises, list_items, word_items};
 ghost use Rattle.idset.specs.Sets.{all_items, common_items, other_items};
@@ -11,12 +11,12 @@ use crate::sorted_set::SortedSet;
 use crate::word_set::WordSet;
 use std::alloc::{AllocError, Global};
 
-// A set is kept as a list up to the bound divided by this many items. A wider one is asked for numbers, and joined with
-// others, sooner as words.
+// A set has the form of a list up to the bound divided by `WIDE` items. In a wider one, words answer `has` and are
+// combined with other sets faster.
 const WIDE: u32 = 256;
 
-/// A set as a rising list while it has few items for its bound, and as words else: a set of a few
-/// concepts costs by its items, a wide one by the bound.
+/// A set as a rising list if it has few items for its bound, and as words else: a small set costs by its
+/// items, a wide one by the bound.
 #[derive(Drop)]
 pub struct MixedSet {
     form: Form,
@@ -191,7 +191,7 @@ fn many(set: WordSet) -> MixedSet
     }
 }
 
-// The set of words, as a list where it has few items.
+// Turns a set of words into a list if it has few items.
 fn from_wide(alloc: Global, set: WordSet) -> Result<MixedSet, AllocError>
     ensures items { IfOk result (λ mixed. form_items mixed.form ≡ word_items set) }
     ensures bound { IfOk result (λ mixed. form_bound mixed.form ≡ set.bound) }
@@ -204,7 +204,7 @@ fn from_wide(alloc: Global, set: WordSet) -> Result<MixedSet, AllocError>
     }
 }
 
-// The set of a list, as words where it has many items.
+// Turns a set of a list into words if it has many items.
 fn from_narrow(alloc: Global, set: SortedSet) -> Result<MixedSet, AllocError>
     ensures items { IfOk result (λ mixed. form_items mixed.form ≡ list_items set) }
     ensures bound { IfOk result (λ mixed. form_bound mixed.form ≡ set.bound) }
@@ -217,7 +217,7 @@ fn from_narrow(alloc: Global, set: SortedSet) -> Result<MixedSet, AllocError>
     }
 }
 
-// The union of a list and another one.
+// Makes the union of a set of a list and `items`.
 #[tactic(auto, using(crate::proofs::Rising::rules_of_rising))]
 fn grown_few(alloc: Global, own: &SortedSet, items: &[u32]) -> Result<MixedSet, AllocError>
     requires { IsRisingBelow own.now.bound items.now }
@@ -236,7 +236,7 @@ fn grown_few(alloc: Global, own: &SortedSet, items: &[u32]) -> Result<MixedSet, 
     }
 }
 
-// What a list and another set have in common.
+// Makes the set of the items that a list and another set have in common.
 fn and_few(alloc: Global, own: &SortedSet, other: &MixedSet) -> Result<MixedSet, AllocError>
     requires { own.now.bound ≡ form_bound other.now.form }
     ensures items { IfOk result
@@ -255,7 +255,7 @@ fn and_few(alloc: Global, own: &SortedSet, other: &MixedSet) -> Result<MixedSet,
     }
 }
 
-// What words and another set have in common.
+// Makes the set of the items that words and another set have in common.
 fn and_many(alloc: Global, own: &WordSet, other: &MixedSet) -> Result<MixedSet, AllocError>
     requires { own.now.bound ≡ form_bound other.now.form }
     ensures items { IfOk result
@@ -274,7 +274,7 @@ fn and_many(alloc: Global, own: &WordSet, other: &MixedSet) -> Result<MixedSet, 
     }
 }
 
-// What is in a list and not in another set.
+// Makes the set of the items that a list has and another set has not.
 fn minus_few(alloc: Global, own: &SortedSet, other: &MixedSet) -> Result<MixedSet, AllocError>
     requires { own.now.bound ≡ form_bound other.now.form }
     ensures items { IfOk result
@@ -293,7 +293,7 @@ fn minus_few(alloc: Global, own: &SortedSet, other: &MixedSet) -> Result<MixedSe
     }
 }
 
-// What is in words and not in another set.
+// Makes the set of the items that words have and another set has not.
 fn minus_many(alloc: Global, own: &WordSet, other: &MixedSet) -> Result<MixedSet, AllocError>
     requires { own.now.bound ≡ form_bound other.now.form }
     ensures items { IfOk result
@@ -313,7 +313,7 @@ fn minus_many(alloc: Global, own: &WordSet, other: &MixedSet) -> Result<MixedSet
     }
 }
 
-// What is in a list or in another set.
+// Makes the union of a list and another set.
 fn or_few(alloc: Global, own: &SortedSet, other: &MixedSet) -> Result<MixedSet, AllocError>
     requires { own.now.bound ≡ form_bound other.now.form }
     ensures items { IfOk result
@@ -333,7 +333,7 @@ fn or_few(alloc: Global, own: &SortedSet, other: &MixedSet) -> Result<MixedSet, 
     }
 }
 
-// What is in words or in another set.
+// Makes the union of words and another set.
 fn or_many(alloc: Global, own: &WordSet, other: &MixedSet) -> Result<MixedSet, AllocError>
     requires { own.now.bound ≡ form_bound other.now.form }
     ensures items { IfOk result
@@ -353,7 +353,7 @@ fn or_many(alloc: Global, own: &WordSet, other: &MixedSet) -> Result<MixedSet, A
     }
 }
 
-// The items of a list that words have too.
+// Keeps the items of a list that are also in words.
 fn common_of_both(alloc: Global, few: &SortedSet, many: &WordSet) -> Result<SortedSet, AllocError>
     ensures items { IfOk result
         (λ set. list_items set ≡ common_items (list_items few.now) (word_items many.now)) }
@@ -363,7 +363,7 @@ fn common_of_both(alloc: Global, few: &SortedSet, many: &WordSet) -> Result<Sort
     Ok(SortedSet::from_list(items, few.bound()))
 }
 
-// The items of a list that words have not.
+// Keeps the items of a list that are not in words.
 fn list_alone(alloc: Global, few: &SortedSet, many: &WordSet) -> Result<SortedSet, AllocError>
     ensures items { IfOk result
         (λ set. list_items set ≡ other_items (list_items few.now) (word_items many.now)) }

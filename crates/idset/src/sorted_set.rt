@@ -123,7 +123,7 @@ impl ConceptSet for SortedSet {
 }
 
 impl SortedSet {
-    /// The set of the items of a rising list, which becomes the set's own.
+    /// Makes the set of the items of a rising list, and takes over the list.
     pub fn from_list(items: Vec<u32>, bound: u32) -> SortedSet
         requires { IsRisingBelow bound items.items }
         ensures items { ⟦<SortedSet as ConceptSet>⟧.items_of result ≡ items.items }

@@ -114,7 +114,7 @@ impl ConceptSet for WordSet {
 }
 
 impl WordSet {
-    /// Lends the words, the lowest bit of the first for the number 0: what `from_words` takes.
+    /// Lends the words, in the form that `from_words` takes: the lowest bit of the first word is the number 0.
     pub fn words(&self) -> &[u64]
         ensures below { AreWordsBelow (⟦<WordSet as ConceptSet>⟧.bound_of self.now) result.now }
         ensures items { ⟦<WordSet as ConceptSet>⟧.items_of self.now ≡ numbers_where (⟦<WordSet as ConceptSet>⟧.bound_of self.now) (is_set result.now) }
@@ -122,7 +122,7 @@ impl WordSet {
         &self.words
     }
 
-    /// Takes the items of a rising list out of the set.
+    /// Removes the items of a rising list from the set.
     pub fn remove_all(&mut self, items: &[u32])
         requires { IsRisingBelow (⟦<WordSet as ConceptSet>⟧.bound_of self.old) items.now }
         ensures items { ⟦<WordSet as ConceptSet>⟧.items_of self.new ≡ other_items (⟦<WordSet as ConceptSet>⟧.items_of self.old) items.now }

@@ -1,9 +1,9 @@
-//! Texts with their tokens and their refusals, as the language's description gives them.
+//! Tests of texts with their tokens and their refusals, as the description of the language gives them.
 use ecl_lexer::{Feature, QueryFault, Token, TokenKind, lex};
 use std::alloc::{AllocError, Global};
 use std::process::Abort;
 
-// Each token alone.
+// Each spelling of a token, and its kind.
 const SPELLINGS: &[(&[u8], TokenKind)] = &[
     (b"<", TokenKind::DescendantOf),
     (b"<<", TokenKind::DescendantOrSelfOf),
@@ -47,7 +47,7 @@ const SPELLINGS: &[(&[u8], TokenKind)] = &[
     (b"100035", TokenKind::Digits),
 ];
 
-// A word, which is followed by a blank.
+// Each word, followed by a blank, with its kind and its end.
 const WORDS: &[(&[u8], TokenKind, usize)] = &[
     (b"AND ", TokenKind::And, 3),
     (b"and\t", TokenKind::And, 3),
@@ -59,7 +59,7 @@ const WORDS: &[(&[u8], TokenKind, usize)] = &[
     (b"r/**/", TokenKind::Reverse, 1),
 ];
 
-// Texts and their tokens, by kind and span.
+// Texts with their tokens, each by kind, start and end.
 const TOKENS: &[(&[u8], &[(TokenKind, usize, usize)])] = &[
     (b"", &[]),
     (b" \t\r\n/**//* c */ ", &[]),
@@ -170,7 +170,7 @@ const TOKENS: &[(&[u8], &[(TokenKind, usize, usize)])] = &[
     ),
 ];
 
-// Texts that are refused.
+// Texts with their refusals.
 const REFUSALS: &[(&[u8], QueryFault)] = &[
     (
         b"*{{C active=1}}",
@@ -253,7 +253,7 @@ const REFUSALS: &[(&[u8], QueryFault)] = &[
     (b"|\xff|", QueryFault::Utf8),
 ];
 
-// The token of a text that has no other.
+// Returns the token of a text that has only one.
 fn only_token(alloc: Global, text: &[u8]) -> Option<Token<'_>> {
     match lex(alloc, text) {
         Ok(tokens) => sole(&tokens),
@@ -268,7 +268,7 @@ fn sole<'a>(tokens: &[Token<'a>]) -> Option<Token<'a>> {
     }
 }
 
-// The one token of a text, which may have blanks behind it.
+// Checks the only token of a text. Blanks may follow the token.
 fn assert_token(rt: &impl Abort, alloc: Global, text: &[u8], kind: TokenKind, end: usize) {
     assert!(rt; end <= text.len());
     let token = Token {
@@ -321,7 +321,7 @@ fn tokens(rt: HostRuntime) {
     assert_tokens(&rt, rt.alloc(), TOKENS);
 }
 
-// How many tokens a text has, or its refusal.
+// Returns how many tokens a text has, or its refusal.
 fn count(alloc: Global, text: &[u8]) -> Result<usize, QueryFault> {
     match lex(alloc, text) {
         Ok(tokens) => Ok(tokens.len()),
@@ -340,7 +340,7 @@ fn refusals(rt: HostRuntime) {
     assert_refused(&rt, rt.alloc(), REFUSALS);
 }
 
-// A text of many times the same bytes, with others before and behind them.
+// Makes a text of repeated bytes, with other bytes before and after them.
 fn repeated(
     alloc: Global,
     front: &[u8],
@@ -356,7 +356,7 @@ fn repeated(
     Ok(text)
 }
 
-// Whether a text that is made first is answered so.
+// Whether a text that is made first has this count of tokens, or this refusal.
 fn is_counted(
     alloc: Global,
     (front, bytes, times, back): (&[u8], &[u8], usize, &[u8]),
@@ -405,7 +405,7 @@ fn long_texts(rt: HostRuntime) {
     );
 }
 
-// Whether a fault is told in these words.
+// Whether the text of a fault is `words`.
 fn is_told(alloc: Global, fault: QueryFault, words: &str) -> bool {
     match format!(in alloc; "{fault}") {
         Ok(text) => text.as_str() == words,

@@ -1,7 +1,6 @@
-//! Tests of what a constraint's text goes through, from outside: tokens, trees, the parser and plans.
+//! Tests of the language, from outside: tokens, trees, the parser and plans.
 //!
-//! They stand in a crate of their own, so that the crates that they look at are not proved once more with
-//! them.
+//! They stand in a crate of their own, so that the tested crates are not proved once more with them.
 #![tactic(auto)]
 
 #[cfg(test)]

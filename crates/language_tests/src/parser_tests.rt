@@ -1,4 +1,4 @@
-//! Texts that are constraints, with their trees, and texts that are refused.
+//! Tests of texts that are constraints, with their trees, and of texts that are refused.
 use crate::trees::{boxed, either, members, pair_of, reversed, walk};
 use constraint_tree::{
     Attribute, AttributeSet, Cardinality, Compare, Constraint, Operator, Refinement, Test,
@@ -9,7 +9,7 @@ use numerals::Decimal;
 use std::alloc::{AllocError, Global};
 use std::process::Abort;
 
-// Whether a text is answered by the tree.
+// Whether a text is read as the tree.
 fn is_answered(alloc: Global, text: &[u8], tree: &Constraint) -> bool {
     match parse(alloc, text) {
         Ok(found) => found == *tree,
@@ -21,7 +21,7 @@ fn check(rt: &impl Abort, alloc: Global, text: &[u8], tree: &Constraint) {
     assert!(rt; is_answered(alloc, text, tree), "{text:?}");
 }
 
-// The same of a tree that is made first.
+// Checks that a text is read as a tree that is made first.
 fn check_built(
     rt: &impl Abort,
     alloc: Global,
@@ -75,7 +75,7 @@ fn refuses_what_the_grammar_lacks(rt: HostRuntime) {
             b"<",
         ],
     );
-    // the empty text takes no memory, so nothing refuses it but its syntax
+    // the empty text takes no memory, so its only refusal is its syntax
     assert!(rt; refusal(rt.alloc(), b"") == Some(QueryFault::Syntax));
 }
 
@@ -119,7 +119,7 @@ fn refuses_tokens_first(rt: HostRuntime) {
     );
 }
 
-// So many times one byte, then some others, and so many times another.
+// Makes a text of one byte repeated, then the text inside, and then another byte repeated.
 fn nested(
     alloc: Global,
     count: usize,
@@ -138,7 +138,7 @@ fn nested(
     Ok(text)
 }
 
-// The same of brackets, by how many there are, what they are, and what stands inside.
+// Checks the refusals of nested brackets, by their number, their kind, and the text inside.
 fn check_nested(
     rt: &impl Abort,
     alloc: Global,
@@ -172,7 +172,7 @@ fn allows_so_many_brackets(rt: HostRuntime) -> Result<(), AllocError> {
     )
 }
 
-// So many times `*`, joined by commas.
+// Makes a text of `count` stars, joined by commas.
 fn joined_stars(alloc: Global, count: usize) -> Result<Vec<u8>, AllocError> {
     let mut text = Vec::new(alloc);
     text.push(b'*')?;
@@ -182,7 +182,7 @@ fn joined_stars(alloc: Global, count: usize) -> Result<Vec<u8>, AllocError> {
     Ok(text)
 }
 
-// How many constraints a text joins by AND.
+// Returns how many constraints a text joins by AND.
 fn part_count(alloc: Global, text: &[u8]) -> Option<usize> {
     match parse(alloc, text) {
         Ok(Constraint::And(parts)) => Some(parts.len()),
@@ -190,7 +190,7 @@ fn part_count(alloc: Global, text: &[u8]) -> Option<usize> {
     }
 }
 
-// The longest text has 65,535 tokens of one byte each, and no memory is wanting for them.
+// The longest text has 65,535 tokens of one byte each, and there is memory for them.
 #[test]
 fn answers_the_longest_text(rt: HostRuntime) -> Result<(), AllocError> {
     let text = joined_stars(rt.alloc(), 32_768)?;
@@ -278,7 +278,7 @@ fn check_read(rt: &impl Abort, alloc: Global, texts: &[&[u8]]) {
     }
 }
 
-// Constraints of the shapes that the published specification has as its examples.
+// Constraints of the shapes that the examples of the published specification have.
 #[test]
 fn reads_published_shapes(rt: HostRuntime) {
     check_read(
@@ -319,7 +319,7 @@ fn reads_published_shapes(rt: HostRuntime) {
     );
 }
 
-// What is printed of a constraint is read as that constraint.
+// Whether the printed text of a constraint is read as that constraint.
 fn is_read_again(alloc: Global, text: &[u8]) -> Result<bool, QueryFault> {
     let constraint = parse(alloc, text)?;
     Ok(read_again(alloc, &constraint)? == constraint)

@@ -1,4 +1,4 @@
-//! The plans of worked queries, their depth and their copies, and plans that are not equal.
+//! Tests of the plans of worked queries, their depth and their copies, and of plans that are not equal.
 use crate::trees::{
     SOME, attribute, boxed as boxed_query, by_value as query_by_value, either, members, pair_of,
     refined, walk,
@@ -37,7 +37,7 @@ fn walked(alloc: Global, operator: Operator, number: u64) -> Result<ConceptPlan,
     Ok(ConceptPlan::Walk(operator, one(alloc, number)?))
 }
 
-// What is below 100005 and in the plan.
+// Makes the plan of the concepts below 100005 that are in `plan`.
 fn below_and(alloc: Global, plan: ConceptPlan) -> Result<ConceptPlan, AllocError> {
     let below = walked(alloc, Operator::Descendants, 100005)?;
     Ok(ConceptPlan::And(plans_of(alloc, below, plan)?))
@@ -50,7 +50,7 @@ fn lowered(
     lower(alloc, &query?)
 }
 
-// Whether two plans are equal. Either may lack memory.
+// Whether two plans are equal. Either may have failed for want of memory.
 fn are_equal(
     found: Result<ConceptPlan, AllocError>,
     wanted: Result<ConceptPlan, AllocError>,
@@ -105,7 +105,7 @@ fn lowers_by_type(alloc: Global) -> Result<bool, AllocError> {
     lowers_to(alloc, query_by_type(alloc), by_type(alloc))
 }
 
-// The groups of `{type_id=values}`.
+// Makes the group plan of `{type_id=values}`.
 fn valued(alloc: Global, type_id: u64, values: ConceptPlan) -> Result<UnitPlan, AllocError> {
     let values = boxed(alloc, values)?;
     Ok(UnitPlan::Pairs {
@@ -121,7 +121,7 @@ fn valued_below(alloc: Global) -> Result<UnitPlan, AllocError> {
     valued(alloc, 104001, values)
 }
 
-// The groups of `{104001=<<106004,105000=*}`.
+// Makes the group plan of `{104001=<<106004,105000=*}`.
 fn groups_in_braces(alloc: Global) -> Result<UnitPlan, AllocError> {
     let first = valued_below(alloc)?;
     let second = valued(alloc, 105000, ConceptPlan::All)?;
@@ -316,7 +316,7 @@ fn copies_are_equal(alloc: Global) -> Result<bool, AllocError> {
     Ok(plans && groups)
 }
 
-// Whether these concepts are told to be `<100005`.
+// Whether the plan of this operator and number equals that of `<100005`.
 fn is_below(alloc: Global, operator: Operator, number: u64) -> Result<bool, AllocError> {
     are_equal(
         walked(alloc, Operator::Descendants, 100005),
@@ -324,7 +324,7 @@ fn is_below(alloc: Global, operator: Operator, number: u64) -> Result<bool, Allo
     )
 }
 
-// Whether these two concepts in this order are told to be `100005,101009`.
+// Whether the plan of these two concepts in this order equals that of `100005,101009`.
 fn are_both(alloc: Global, first: u64, second: u64) -> Result<bool, AllocError> {
     are_equal(both(alloc, 100005, 101009), both(alloc, first, second))
 }
@@ -339,7 +339,7 @@ fn leaves_differ(alloc: Global) -> bool {
         && ValueTest::Number(Compare::Less, TWO) != ValueTest::Number(Compare::LessOrEqual, TWO)
 }
 
-// Plans that differ in one thing alone.
+// Checks plans that differ in one thing alone.
 fn others_differ(alloc: Global) -> Result<bool, AllocError> {
     let same = [
         is_below(alloc, Operator::Descendants, 100005)?,

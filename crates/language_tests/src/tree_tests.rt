@@ -1,4 +1,4 @@
-//! Constraints as trees: their depth and their text.
+//! Tests of constraints as trees: their depth and their text.
 use crate::trees::{
     SOME, attribute, boxed, by_value, either, members, pair_of, refined, reversed, walk,
 };
@@ -69,7 +69,7 @@ fn depth_of_lists(rt: HostRuntime) -> Result<(), AllocError> {
     Ok(())
 }
 
-// Whether a tree has this text behind a `|` that stands there before.
+// Whether a tree prints this text after a `|` that stands there before.
 fn is_printed(alloc: Global, tree: &Constraint, text: &[u8]) -> Result<bool, AllocError> {
     let mut output = Vec::from_slice(alloc, b"|")?;
     tree.print(alloc, &mut output)?;
@@ -161,7 +161,7 @@ fn numbers(alloc: Global) -> Result<AttributeSet, AllocError> {
     )?))
 }
 
-// `[2..*]{..}` of these numbers
+// `[2..*]{..}` of the attributes that `numbers` makes
 fn group(alloc: Global) -> Result<Refinement, AllocError> {
     let count = Cardinality { min: 2, max: None };
     Ok(Refinement::Group(count, numbers(alloc)?))
@@ -181,7 +181,7 @@ fn both(
     Ok(vec![in alloc; first, second]?)
 }
 
-// The same and `105000<#0.000000000000000001`.
+// `104001!=(101009 OR 106004)` and `105000<#0.000000000000000001`
 fn outside_and_less(alloc: Global) -> Result<Refinement, AllocError> {
     let least = Refinement::One(number(Compare::Less, 1));
     Ok(Refinement::And(both(alloc, outside(alloc)?, least)?))

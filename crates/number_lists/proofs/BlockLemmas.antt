@@ -1,4 +1,4 @@
--- Lists in blocks, one for each number of a range: what filters, maps and tests make of them.
+-- Lists in blocks, one for each number of a range: filters, maps and tests of them.
 use Rattle.std.proofs.Common.{ℕ, zero, suc, ◌+◌, ◌≡◌, ◌<◌, ◌≤◌, ◌++◌, ◌∷◌, [], ◌∙◌, ◌&&◌}
 use Rattle.std.proofs.Common.{◌||◌, List, length, get_or, map, take, Bool, true, false, cond, refl, ap, subst, arith, length-append}
 use Rattle.std.specs.Prelude.{All, Contains}
@@ -10,7 +10,7 @@ use Rattle.std.proofs.lemmas.List.FromFn.{fill_by_all, take-map-range_with_len}
 
 -- ---- filters and maps
 module _ {X : Type 0} where
-  -- what is left of what a function gives is given for what is left
+  -- filtering what `f` gives for `xs` is mapping the items of `xs` for which `f` gives what passes
   pub filter-map : {Y : Type 0} (p : Y → Bool) (f : X → Y) (xs : List X) → filter p (map f xs) ≡ map f (filter (λ x. p (f x)) xs)
   filter-map p f [] = refl
   filter-map p f (x ∷ xs) =
@@ -19,7 +19,7 @@ module _ {X : Type 0} where
       ≡ map f (cond b (x ∷ filter (λ x. p (f x)) xs) (filter (λ x. p (f x)) xs)))
       [ true ↦ (λ i. f x ∷ rest i) | false ↦ rest ]
 
-  -- tests that agree on the items leave the same
+  -- tests that agree on the items of a list keep the same items of it
   pub filter-within : (p q : X → Bool) (xs : List X) → All (λ x. p x ≡ q x) xs → filter p xs ≡ filter q xs
   filter-within p q [] same = refl
   filter-within p q (x ∷ xs) same =
@@ -27,7 +27,7 @@ module _ {X : Type 0} where
       let rest = filter-within p q xs (All-tail (λ x. p x ≡ q x) x xs same) in
       λ i. cond (here i) (x ∷ rest i) (rest i)
 
-  -- one filter behind another
+  -- filtering by `q` and then by `p` is filtering by both at once
   pub filter-twice : (p q : X → Bool) (xs : List X) → filter p (filter q xs) ≡ filter (λ x. q x && p x) xs
   filter-twice p q [] = refl
   filter-twice p q (x ∷ xs) =
@@ -36,14 +36,14 @@ module _ {X : Type 0} where
       ≡ cond (b && p x) (x ∷ filter (λ x. q x && p x) xs) (filter (λ x. q x && p x) xs))
       [ true ↦ (λ i. cond (p x) (x ∷ rest i) (rest i)) | false ↦ rest ]
 
-  -- where no item passes, nothing is left
+  -- if no item passes the test, the filter keeps nothing
   pub filter-none : (p : X → Bool) (xs : List X) → All (λ x. p x ≡ false) xs → filter p xs ≡ []
   filter-none p [] none = refl
   filter-none p (x ∷ xs) none =
       let here : p x ≡ false = All-head (λ x. p x ≡ false) x xs none in
       (λ i. cond (here i) (x ∷ filter p xs) (filter p xs)) ∙ filter-none p xs (All-tail (λ x. p x ≡ false) x xs none)
 
-  -- and where all pass, all are left
+  -- if all items pass the test, the filter keeps all
   pub filter-all : (p : X → Bool) (xs : List X) → All (λ x. p x ≡ true) xs → filter p xs ≡ xs
   filter-all p [] all = refl
   filter-all p (x ∷ xs) all =
@@ -51,7 +51,7 @@ module _ {X : Type 0} where
       (λ i. cond (here i) (x ∷ filter p xs) (filter p xs))
       ∙ ap (λ (rest : List X). x ∷ rest) (filter-all p xs (All-tail (λ x. p x ≡ true) x xs all))
 
-  -- functions that agree on the items give the same
+  -- functions that agree on the items of a list map it to the same list
   pub map-within : {Y : Type 0} (f g : X → Y) (xs : List X) → All (λ x. f x ≡ g x) xs → map f xs ≡ map g xs
   map-within f g [] same = refl
   map-within f g (x ∷ xs) same =
@@ -59,7 +59,7 @@ module _ {X : Type 0} where
       let rest = map-within f g xs (All-tail (λ x. f x ≡ g x) x xs same) in
       λ i. here i ∷ rest i
 
-  -- and the same blocks
+  -- functions that agree on the items of a list have the same flat map of it
   pub flat_map-within : {Y : Type 0} (f g : X → List Y) (xs : List X) → All (λ x. f x ≡ g x) xs → flat_map f xs ≡ flat_map g xs
   flat_map-within f g [] same = refl
   flat_map-within f g (x ∷ xs) same =
@@ -67,11 +67,11 @@ module _ {X : Type 0} where
       let rest = flat_map-within f g xs (All-tail (λ x. f x ≡ g x) x xs same) in
       λ i. here i ++ rest i
 
-  -- what holds of what a function gives, of the items
+  -- if `P` holds of every item of `map f xs`, `P` holds of `f x` for every `x` in `xs`
   pub All-mapped : {Y : Type 0} (P : Y → Type 0) (f : X → Y) (xs : List X) → All P (map f xs) → All (λ x. P (f x)) xs
   All-mapped P f xs all k d below = subst P (get_or-map f xs k d (f d) below) (all k (f d) (omega (arith, below, length-map xs f)))
 
-  -- tests of some items
+  -- tests that agree on the items of a list agree on whether some item passes
   pub any-within : (p q : X → Bool) (xs : List X) → All (λ x. p x ≡ q x) xs → list_any p xs ≡ list_any q xs
   any-within p q [] same = refl
   any-within p q (x ∷ xs) same =
@@ -79,12 +79,12 @@ module _ {X : Type 0} where
       let rest = any-within p q xs (All-tail (λ x. p x ≡ q x) x xs same) in
       λ i. here i || rest i
 
-  -- a test of what a function gives
+  -- some item of `map f xs` passes `p` exactly if `f x` does for some `x` in `xs`
   pub any-map : {Y : Type 0} (p : Y → Bool) (f : X → Y) (xs : List X) → list_any p (map f xs) ≡ list_any (λ x. p (f x)) xs
   any-map p f [] = refl
   any-map p f (x ∷ xs) = ap (λ (b : Bool). p (f x) || b) (any-map p f xs)
 
-  -- a test of what another leaves
+  -- some item kept by `q` passes `p` exactly if some item of the list passes both
   pub any-filter : (p q : X → Bool) (xs : List X) → list_any p (filter q xs) ≡ list_any (λ x. q x && p x) xs
   any-filter p q [] = refl
   any-filter p q (x ∷ xs) =
@@ -92,7 +92,7 @@ module _ {X : Type 0} where
       elim (q x) as (λ b. list_any p (cond b (x ∷ filter q xs) (filter q xs)) ≡ ((b && p x) || list_any (λ x. q x && p x) xs))
       [ true ↦ (λ i. p x || rest i) | false ↦ rest ]
 
-  -- an item that passes is among those that are left
+  -- an item of a list that passes the test is in the filtered list
   pub Contains-filter : (p : X → Bool) (xs : List X) (x : X) → p x ≡ true → Contains xs x → Contains (filter p xs) x
   Contains-filter p [] x passes there = absurd (omega (arith, there.1))
   Contains-filter p (y ∷ xs) x passes (zero, within, is) =
@@ -108,7 +108,7 @@ module _ {X : Type 0} where
       by true there = Contains-append_right (y ∷ []) (filter p xs) x there
       by false there = there
 
-  -- and what a function gives of an item is among what it gives
+  -- if `x` is in `xs`, `f x` is in `map f xs`
   pub Contains-map : {Y : Type 0} (f : X → Y) (xs : List X) (x : X) → Contains xs x → Contains (map f xs) (f x)
   Contains-map f [] x there = absurd (omega (arith, there.1))
   Contains-map f (y ∷ xs) x (zero, within, is) = (0, omega arith, ap f is)
@@ -117,33 +117,33 @@ module _ {X : Type 0} where
 
 -- ---- blocks
 module _ {X : Type 0} where
-  -- a filter of blocks is the filter of each
+  -- filtering a flat map is the flat map of the filtered lists
   pub filter-flat_map : {K : Type 0} (p : X → Bool) (f : K → List X) (keys : List K)
       → filter p (flat_map f keys) ≡ flat_map (λ key. filter p (f key)) keys
   filter-flat_map p f [] = refl
   filter-flat_map p f (key ∷ keys) = filter-append p (f key) (flat_map f keys)
       ∙ ap (λ rest. filter p (f key) ++ rest) (filter-flat_map p f keys)
 
-  -- and so with a map
+  -- mapping a flat map is the flat map of the mapped lists
   pub map-flat_map : {K Y : Type 0} (h : X → Y) (f : K → List X) (keys : List K)
       → map h (flat_map f keys) ≡ flat_map (λ key. map h (f key)) keys
   map-flat_map h f [] = refl
   map-flat_map h f (key ∷ keys) = map-append h (f key) (flat_map f keys) ∙ ap (λ rest. map h (f key) ++ rest) (map-flat_map h f keys)
 
-  -- and a test passes for some item where it does for some item of a block
+  -- some item of a flat map passes the test exactly if some item of some list of it does
   pub any-flat_map : {K : Type 0} (p : X → Bool) (f : K → List X) (keys : List K)
       → list_any p (flat_map f keys) ≡ list_any (λ key. list_any p (f key)) keys
   any-flat_map p f [] = refl
   any-flat_map p f (key ∷ keys) = list_any-append p (f key) (flat_map f keys)
       ∙ ap (λ (b : Bool). list_any p (f key) || b) (any-flat_map p f keys)
 
-  -- blocks that are the same for each number of a range
+  -- if `f` and `g` give the same list for each number of a range, their flat maps of the range are equal
   pub blocks-same : (f g : ℕ → List X) (from n : ℕ) → ((k : ℕ) → k < from + n → f k ≡ g k)
       → flat_map f (range_with_len from n) ≡ flat_map g (range_with_len from n)
   blocks-same f g from zero same = refl
   blocks-same f g from (suc n) same = λ i. same from (omega arith) i ++ blocks-same f g (from + 1) n (λ k below. same k (omega arith)) i
 
-  -- and blocks that are as long
+  -- if `f` and `g` give equally long lists for each number of a range, their flat maps of the range are equally long
   pub blocks-long : {Y : Type 0} (f : ℕ → List X) (g : ℕ → List Y) (from n : ℕ)
       → ((k : ℕ) → k < from + n → length (f k) ≡ length (g k))
       → length (flat_map f (range_with_len from n)) ≡ length (flat_map g (range_with_len from n))
@@ -157,7 +157,7 @@ module _ {X : Type 0} where
         blocks-long f g (from + 1) n (λ k below. same k (omega arith)),
       )
 
-  -- what holds of each item of each block
+  -- if `P` holds of every item of the list of each number of a range, `P` holds of every item of their flat map
   pub All-blocks : (P : X → Type 0) (f : ℕ → List X) (from n : ℕ) → ((k : ℕ) → from ≤ k → k < from + n → All P (f k))
       → All P (flat_map f (range_with_len from n))
   All-blocks P f from zero all = All-nil P
@@ -165,7 +165,7 @@ module _ {X : Type 0} where
       All-append P (f from) (flat_map f (range_with_len (from + 1) n)) (all from (omega arith) (omega arith))
       (All-blocks P f (from + 1) n (λ k above below. all k (omega arith) (omega arith)))
 
-  -- the same for the blocks of any keys
+  -- if `P` holds of every item of the list of each key, `P` holds of every item of the flat map of the keys
   pub All-flat_map : {K : Type 0} (P : X → Type 0) (f : K → List X) (keys : List K)
       → ((key : K) → Contains keys key → All P (f key)) → All P (flat_map f keys)
   All-flat_map P f [] all = All-nil P
@@ -174,28 +174,28 @@ module _ {X : Type 0} where
       (All-flat_map P f keys (λ other there. all other (Contains-append_right (key ∷ []) keys other there)))
 
 -- ---- numbers of a range
--- what holds of each number of a range
+-- if `P` holds of each number of a range, `P` holds of every item of the range
 pub All-range : (P : ℕ → Type 0) (from n : ℕ) → ((k : ℕ) → from ≤ k → k < from + n → P k)
     → All P (range_with_len from n)
 All-range P from zero all = All-nil P
 All-range P from (suc n) all = All-cons P from (range_with_len (from + 1) n) (all from (omega arith) (omega arith))
     (All-range P (from + 1) n (λ k above below. all k (omega arith) (omega arith)))
 
--- a list is its items by their places
+-- a list is its items at the places from 0 to its length
 pub items_by_place : {X : Type 0} (xs : List X) (d : X) → xs ≡ map (λ k. get_or xs k d) (range_with_len 0 (length xs))
 items_by_place xs d = fill_by_all (λ k. get_or xs k d) xs (length xs) d refl (λ k within. refl)
 
--- and its first items are those at its first places
+-- the first `n` items of a list are its items at the first `n` places
 pub items_before : {X : Type 0} (xs : List X) (d : X) (n : ℕ) → n ≤ length xs
     → take n xs ≡ map (λ k. get_or xs k d) (range_with_len 0 n)
 items_before xs d n within = ap (take n) (items_by_place xs d) ∙ take-map-range_with_len (λ k. get_or xs k d) 0 (length xs) n within
 
--- the blocks of the items of a list are those of its places
+-- the flat map of a list is the flat map of its items at all places
 pub blocks_by_place : {X Y : Type 0} (f : X → List Y) (xs : List X) (d : X)
     → flat_map f xs ≡ flat_map (λ k. f (get_or xs k d)) (range_with_len 0 (length xs))
 blocks_by_place f xs d = ap (flat_map f) (items_by_place xs d) ∙ flat_map-map f (λ k. get_or xs k d) (range_with_len 0 (length xs))
 
--- and those of its first items those of its first places
+-- the flat map of the first `n` items of a list is the flat map of its items at the first `n` places
 pub blocks_before : {X Y : Type 0} (f : X → List Y) (xs : List X) (d : X) (n : ℕ) → n ≤ length xs
     → flat_map f (take n xs) ≡ flat_map (λ k. f (get_or xs k d)) (range_with_len 0 n)
 blocks_before f xs d n within = ap (flat_map f) (items_before xs d n within) ∙ flat_map-map f (λ k. get_or xs k d) (range_with_len 0 n)

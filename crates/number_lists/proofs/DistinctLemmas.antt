@@ -13,13 +13,14 @@ use Rattle.std.proofs.lemmas.Map.Views.{Contains-from_any, any-filter_same, list
 use Rattle.number_lists.specs.Distinct.{KeepsEachNumberOnce, KeepsEachOnce, distinct}
 
 module _ {X : Type 0} (same : X → X → Bool) where
-  -- what a test leaves of distinct items is distinct
+  -- filtering distinct items leaves distinct items
   distinct_kept : (test : X → Bool) (ys : List X) → IsDistinct same ys → IsDistinct same (filter test ys)
   distinct_kept test ys apart =
       IsDistinct-from_apart same (filter test ys)
       (AllPairs-filter (λ x y. same x y ≡ false) test ys
       (λ i j d before within. apart_from_distinct same ys i j d apart before within))
 
+  -- no two items of `distinct` are the same
   distinct_once : (xs : List X) → IsDistinct same (distinct same xs)
   unfolding IsDistinct
   distinct_once [] = tt
@@ -38,11 +39,11 @@ module _ {X : Type 0} (same : X → X → Bool) where
       )
 
   module _ (is : IsEquivalence same) where
-    -- an item that is the same as one that is not the same as x stays beside x
+    -- if `k` is the same as `q`, and `q` is not the same as `x`, `k` is not the same as `x`
     beside : (q x k : X) → same q x ≡ false → same q k ≡ true → not (same x k) ≡ true
     beside q x k apart alike = ap not (is.symm x k ∙ sym (is.congr q k x alike) ∙ apart)
 
-    -- an item is the same as one of the distinct items exactly where it is the same as one of all
+    -- an item is the same as one of the distinct items exactly if it is the same as one of all
     pub any_distinct : (q : X) (xs : List X) → list_any (same q) (distinct same xs) ≡ list_any (same q) xs
     any_distinct q [] = refl
     any_distinct q (x ∷ xs) = elim (cases_Bool (same q x)) [
@@ -50,6 +51,7 @@ module _ {X : Type 0} (same : X → X → Bool) where
       | inr apart ↦ rw apart (any-filter_same (same q) (λ y. not (same x y)) true (λ k alike. beside q x k apart alike) (distinct same xs) ∙ any_distinct q xs)
     ]
 
+    -- if items that `same` calls the same are equal, `distinct` keeps each item of a list once
     pub keeps_each_once : ((x y : X) → same x y ≡ true → x ≡ y) → (xs : List X) → KeepsEachOnce same xs
     keeps_each_once exact xs = (
       distinct_once xs,
@@ -59,5 +61,6 @@ module _ {X : Type 0} (same : X → X → Bool) where
       ),
     )
 
+-- `distinct` keeps each number of a list once
 pub keeps_each_number_once : KeepsEachNumberOnce
 keeps_each_number_once numbers = keeps_each_once nat_eq nat_eq_equiv (λ x y alike. eqb-true x y alike) numbers

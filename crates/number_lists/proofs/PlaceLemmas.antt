@@ -8,23 +8,24 @@ use Rattle.std.proofs.lemmas.Bool.Decides.{nat_tests}
 use Rattle.number_lists.specs.Members.{has}
 use Rattle.number_lists.proofs.IncreasingLemmas.{earlier_below}
 
--- the place of a number among others, or how many these are where it is not among them
+-- the place of a number in a list, or the length of the list if it is not there
 abbrev pub place_of : List ℕ → ℕ → ℕ
 place_of numbers number = position_or_len (λ other. number == other) numbers
 
--- a number has a place below how many there are exactly where it is among them
+-- a number has a place below the length of the list exactly if it is in the list
 pub place_within : (numbers : List ℕ) (number : ℕ) → ltb (place_of numbers number) (length numbers) ≡ has numbers number
 place_within [] number = refl
 place_within (first ∷ numbers) number = grind (arith, nat_tests, place_within numbers number)
 
+-- the place of a number in a list is below the length of the list
 pub place_below : (numbers : List ℕ) (number : ℕ) → has numbers number ≡ true → place_of numbers number < length numbers
 place_below numbers number there = ltb-true (place_of numbers number) (length numbers) (place_within numbers number ∙ there)
 
--- what stands at the place of a number among others is that number
+-- the item at the place of a number in a list is this number
 pub get_or-place_of : (numbers : List ℕ) (number : ℕ) → has numbers number ≡ true → get_or numbers (place_of numbers number) 0 ≡ number
 get_or-place_of numbers number there = grind (arith, common_steps, nat_tests, eqb-true, get_or, passes_at_first, place_below)
 
--- the place of what stands at a place, where the numbers rise
+-- the place of the item at `i` is `i`, if the list rises strictly
 pub place_of-get_or : (numbers : List ℕ) → IsStrictlyIncreasing numbers → (i : ℕ) → i < length numbers → place_of numbers (get_or numbers i 0) ≡ i
 place_of-get_or numbers rising i within =
     position_or_len_is (λ other. get_or numbers i 0 == other) numbers i 0 (omega arith)

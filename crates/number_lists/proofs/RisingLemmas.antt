@@ -9,25 +9,30 @@ use Rattle.number_lists.specs.Members.{has}
 use Rattle.number_lists.specs.Rising.{rises_within, IsRising, IsRisingBelow, numbers_where}
 use Rattle.number_lists.proofs.WhereLemmas.{has-numbers_where, has-numbers_where_past, numbers_where-agree}
 
--- what a rising list that is not empty says of its first item and of the rest
+-- the first item of a rising list lies within the limits, and the rest rises above it
 pub record RisesOn (lowest bound item : ℕ) (items : List ℕ) : Type 0 where
+  -- the first item is not below `lowest`
   pub above : lowest ≤ item
+  -- the first item is below `bound`
   pub below : item < bound
+  -- the rest rises strictly from the first item on
   pub rest : rises_within (suc item) bound items ≡ true
 
+-- a rising list rises on from its first item
 pub rises_on : (lowest bound item : ℕ) (items : List ℕ) → rises_within lowest bound (item ∷ items) ≡ true → RisesOn lowest bound item items
 rises_on lowest bound item items rises =
     let outer = and_parts (leb lowest item) (ltb item bound && rises_within (suc item) bound items) rises in
     let inner = and_parts (ltb item bound) (rises_within (suc item) bound items) outer.1 in
     record { above = leb-true lowest item outer.0; below = ltb-true item bound inner.0; rest = inner.1 }
 
+-- a rising list with a lesser item in front rises
 pub rises_from_on : (lowest bound item : ℕ) (items : List ℕ) → lowest ≤ item → item < bound
     → rises_within (suc item) bound items ≡ true → rises_within lowest bound (item ∷ items) ≡ true
 rises_from_on lowest bound item items above below rest =
     and_from (leb lowest item) (ltb item bound && rises_within (suc item) bound items) (le-leb lowest item above)
     (and_from (ltb item bound) (rises_within (suc item) bound items) (lt-ltb item bound below) rest)
 
--- wider limits
+-- a list that rises within limits rises within wider limits
 pub rises_within-wider : (lowest bound lower higher : ℕ) (items : List ℕ) → lower ≤ lowest → bound ≤ higher
     → rises_within lowest bound items ≡ true → rises_within lower higher items ≡ true
 rises_within-wider lowest bound lower higher [] le le' rises = refl
@@ -36,7 +41,7 @@ rises_within-wider lowest bound lower higher (item ∷ items) le le' rises =
     rises_from_on lower higher item items (omega (arith, on.above)) (omega (arith, on.below))
     (rises_within-wider (suc item) bound (suc item) higher items (omega arith) le' on.rest)
 
--- nothing below the lowest, and nothing from the bound on
+-- a rising list has no number below `lowest`
 pub has-below_lowest : (lowest bound : ℕ) (items : List ℕ) (n : ℕ) → rises_within lowest bound items ≡ true → n < lowest → has items n ≡ false
 has-below_lowest lowest bound [] n rises below = refl
 has-below_lowest lowest bound (item ∷ items) n rises below =
@@ -44,6 +49,7 @@ has-below_lowest lowest bound (item ∷ items) n rises below =
     let apart : eqb item n ≡ false = ne_eqb item n (λ e. omega (arith, on.above)) in
     (λ i. apart i || has-below_lowest (suc item) bound items n on.rest (omega (arith, on.above)) i)
 
+-- a rising list has no number from `bound` on
 pub has-past_bound : (lowest bound : ℕ) (items : List ℕ) (n : ℕ) → rises_within lowest bound items ≡ true → bound ≤ n → has items n ≡ false
 has-past_bound lowest bound [] n rises past = refl
 has-past_bound lowest bound (item ∷ items) n rises past =
@@ -51,14 +57,16 @@ has-past_bound lowest bound (item ∷ items) n rises past =
     let apart : eqb item n ≡ false = ne_eqb item n (λ e. omega (arith, on.below)) in
     (λ i. apart i || has-past_bound (suc item) bound items n on.rest past i)
 
--- an item is not below the lowest
+-- a member of a rising list is not below `lowest`
 lowest_le : (lowest bound : ℕ) (items : List ℕ) (n : ℕ) → rises_within lowest bound items ≡ true → has items n ≡ true → lowest ≤ n
 lowest_le lowest bound items n rises there =
     elim (cases_lt n lowest) [ inl below ↦ absurd (false≢true (sym (has-below_lowest lowest bound items n rises below) ∙ there)) | inr above ↦ above ]
 
+-- a number equals itself
 eqb-same : (n : ℕ) → eqb n n ≡ true
 eqb-same n = eq-eqb n n refl
 
+-- if `x` is in a rising list, the first item of this list is at most `x`
 first_le : (lowest bound x y : ℕ) (xs ys : List ℕ) → rises_within lowest bound (y ∷ ys) ≡ true → has (x ∷ xs) x ≡ has (y ∷ ys) x → y ≤ x
 first_le lowest bound x y xs ys rises same =
     let on = rises_on lowest bound y ys rises in
@@ -91,7 +99,7 @@ same_rising lowest bound (x ∷ xs) (y ∷ ys) rises-x rises-y same =
           | inr below ↦ has-below_lowest (suc x) bound xs n rises-x (omega arith) ∙ sym (has-below_lowest (suc x) bound ys n rises-y (omega arith))
         ]
 
--- any filter of a rising list rises
+-- a filtered rising list rises
 pub rises_within-filter : (lowest bound : ℕ) (p : ℕ → Bool) (xs : List ℕ) → rises_within lowest bound xs ≡ true → rises_within lowest bound (filter p xs) ≡ true
 rises_within-filter lowest bound p [] rises = refl
 rises_within-filter lowest bound p (x ∷ xs) rises =
@@ -102,17 +110,18 @@ rises_within-filter lowest bound p (x ∷ xs) rises =
       | false ↦ rises_within-wider (suc x) bound lowest bound (filter p xs) (omega (arith, on.above)) (omega arith) kept
     ]
 
+-- a range rises within limits around it
 rises_within-range : (lowest bound low count : ℕ) → lowest ≤ low → low + count ≤ bound → rises_within lowest bound (range_with_len low count) ≡ true
 rises_within-range lowest bound low zero le le' = refl
 rises_within-range lowest bound low (suc count) le le' =
     rises_from_on lowest bound low (range_with_len (low + 1) count) le (omega arith)
     (rises_within-range (suc low) bound (low + 1) count (omega arith) (omega arith))
 
--- the numbers below a bound that pass a test rise below it
+-- the numbers below `bound` that pass a test rise below `bound`
 pub numbers_where-rising : (bound : ℕ) (p : ℕ → Bool) → IsRisingBelow bound (numbers_where bound p)
 numbers_where-rising bound p = rises_within-filter 0 bound p (range_with_len 0 bound) (rises_within-range 0 bound 0 bound (omega arith) (omega arith))
 
--- a rising list is what passes the test of being in it
+-- a rising list is the numbers below `bound` that are in it
 pub rising_is_numbers_where : (bound : ℕ) (items : List ℕ) → IsRisingBelow bound items → items ≡ numbers_where bound (has items)
 rising_is_numbers_where bound items rises =
     same_rising 0 bound items (numbers_where bound (has items)) rises (numbers_where-rising bound (has items)) (λ n.
@@ -121,12 +130,12 @@ rising_is_numbers_where bound items rises =
       | inr past ↦ has-past_bound 0 bound items n rises past ∙ sym (has-numbers_where_past bound (has items) n past)
     ])
 
--- a rising list whose members below the bound are those that pass a test
+-- a rising list whose members below `bound` are those that pass `p` is `numbers_where bound p`
 pub rising_is_where : (bound : ℕ) (items : List ℕ) (p : ℕ → Bool) → IsRisingBelow bound items
     → ((n : ℕ) → n < bound → has items n ≡ p n) → items ≡ numbers_where bound p
 rising_is_where bound items p rises same = rising_is_numbers_where bound items rises ∙ numbers_where-agree bound (has items) p same
 
--- two rising stretches, the second from where the first ends
+-- a rising list up to `middle` followed by a rising list from `middle` on rises
 pub rises_within-append : (lowest middle bound : ℕ) (xs ys : List ℕ) → lowest ≤ middle → middle ≤ bound
     → rises_within lowest middle xs ≡ true → rises_within middle bound ys ≡ true → rises_within lowest bound (xs ++ ys) ≡ true
 rises_within-append lowest middle bound [] ys le le' rises-x rises-y = rises_within-wider middle bound lowest bound ys le (omega arith) rises-y
@@ -135,14 +144,16 @@ rises_within-append lowest middle bound (x ∷ xs) ys le le' rises-x rises-y =
     rises_from_on lowest bound x (xs ++ ys) on.above (omega (arith, on.below))
     (rises_within-append (suc x) middle bound xs ys (omega (arith, on.below)) le' on.rest rises-y)
 
--- what rises below a bound of 32 bits rises
+-- a list that rises below a `bound` of 32 bits rises
 pub rising_fits : (bound : ℕ) (items : List ℕ) → IsRisingBelow bound items → bound < 2 ^ 32 → IsRising items
 rising_fits bound items rises small = rises_within-wider 0 bound 0 (2 ^ 32) items (omega arith) (omega arith) rises
 
+-- the range of the numbers below `bound` rises below `bound`
 pub range_rising : (bound : ℕ) → IsRisingBelow bound (range_with_len 0 bound)
 range_rising bound = rises_within-range 0 bound 0 bound (omega arith) (omega arith)
 
 -- ---- the items of a rising list by their places
+-- each item of a rising list is at least `lowest`
 pub get_or-above : (lowest bound : ℕ) (items : List ℕ) (k : ℕ) → rises_within lowest bound items ≡ true → k < length items → lowest ≤ get_or items k 0
 get_or-above lowest bound [] k rises in' = absurd (omega arith)
 get_or-above lowest bound (item ∷ items) zero rises in' = (rises_on lowest bound item items rises).above
@@ -150,12 +161,14 @@ get_or-above lowest bound (item ∷ items) (suc k) rises in' =
     let on = rises_on lowest bound item items rises in
     omega (arith, on.above, get_or-above (suc item) bound items k on.rest (omega arith))
 
+-- each item of a rising list is below `bound`
 pub get_or-below : (lowest bound : ℕ) (items : List ℕ) (k : ℕ) → rises_within lowest bound items ≡ true → k < length items → get_or items k 0 < bound
 get_or-below lowest bound [] k rises in' = absurd (omega arith)
 get_or-below lowest bound (item ∷ items) zero rises in' = (rises_on lowest bound item items rises).below
 get_or-below lowest bound (item ∷ items) (suc k) rises in' =
     get_or-below (suc item) bound items k (rises_on lowest bound item items rises).rest (omega arith)
 
+-- an earlier item of a rising list is less than a later one
 pub get_or-rising : (lowest bound : ℕ) (items : List ℕ) (j k : ℕ) → rises_within lowest bound items ≡ true → j < k
     → k < length items → get_or items j 0 < get_or items k 0
 get_or-rising lowest bound [] j k rises lt in' = absurd (omega arith)
@@ -165,17 +178,17 @@ get_or-rising lowest bound (item ∷ items) zero (suc k) rises lt in' =
 get_or-rising lowest bound (item ∷ items) (suc j) (suc k) rises lt in' =
     get_or-rising (suc item) bound items j k (rises_on lowest bound item items rises).rest (omega arith) (omega arith)
 
--- a rising list has no more items than there are numbers for them
+-- a rising list has at most `bound - lowest` items
 pub length-rising : (lowest bound : ℕ) (items : List ℕ) → rises_within lowest bound items ≡ true → length items ≤ bound - lowest
 length-rising lowest bound [] rises = omega arith
 length-rising lowest bound (item ∷ items) rises =
     let on = rises_on lowest bound item items rises in
     omega (arith, on.above, on.below, length-rising (suc item) bound items on.rest)
 
--- a rising list of numbers of 32 bits has no more items than 32 bits count
+-- a list that rises below `bound` has at most `bound` items
 pub count_fits : (bound : ℕ) (items : List ℕ) → IsRisingBelow bound items → length items ≤ bound
 count_fits bound items rises = omega (arith, length-rising 0 bound items rises)
 
--- all items of a rising list are below the bound
+-- all items of a rising list are below `count`
 pub all_below : (count : ℕ) (items : List ℕ) → IsRisingBelow count items → All (λ item. item < count) items
 all_below count items rises k d within = subst (λ (n : ℕ). n < count) (sym (get_or_default items k d 0 within)) (get_or-below 0 count items k rises within)

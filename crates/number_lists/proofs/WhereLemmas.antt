@@ -10,7 +10,7 @@ use Rattle.number_lists.specs.Rising.{numbers_where, listed_numbers}
 use Rattle.number_lists.proofs.BlockLemmas.{filter-twice}
 use Rattle.number_lists.proofs.MemberLemmas.{contains_had, had_contained}
 
--- the numbers from one on, as many as told, that pass a test
+-- the numbers from `low` on, `count` of them, that pass a test
 abbrev pub numbers_from : ℕ → ℕ → (ℕ → Bool) → List ℕ
 numbers_from low count test = filter test (range_with_len low count)
 
@@ -24,11 +24,11 @@ numbers_from-agree low (suc count) p q agree =
     numbers_from-agree (low + 1) count p q (λ n above below. agree n (omega arith) (omega arith)) in
     (λ i. cond (here i) (low ∷ rest i) (rest i))
 
--- tests that agree below the bound give the same list
+-- tests that agree below `bound` give the same list
 pub numbers_where-agree : (bound : ℕ) (p q : ℕ → Bool) → ((n : ℕ) → n < bound → p n ≡ q n) → numbers_where bound p ≡ numbers_where bound q
 numbers_where-agree bound p q agree = numbers_from-agree 0 bound p q (λ n _ below. agree n (omega arith))
 
--- nothing below the lowest is among the numbers
+-- no number below `low` is in `numbers_from`
 has-below : (low count : ℕ) (p : ℕ → Bool) (n : ℕ) → n < low → has (numbers_from low count p) n ≡ false
 has-below low zero p n below = refl
 has-below low (suc count) p n below =
@@ -37,6 +37,7 @@ has-below low (suc count) p n below =
     elim (p low) as (λ b. has (cond b (low ∷ numbers_from (low + 1) count p) (numbers_from (low + 1) count p)) n
     ≡ false) [ true ↦ (λ i. apart i || rest i) | false ↦ rest ]
 
+-- a number of the range is in `numbers_from` exactly if it passes the test
 has-from : (low count : ℕ) (p : ℕ → Bool) (n : ℕ) → low ≤ n → n < low + count → has (numbers_from low count p) n ≡ p n
 has-from low zero p n above below = absurd (omega arith)
 has-from low (suc count) p n above below =
@@ -55,11 +56,11 @@ has-from low (suc count) p n above below =
           [ true ↦ (λ i. other i || has (numbers_from (low + 1) count p) n) ∙ rest | false ↦ rest ])
     ]
 
--- below the bound, being among the numbers is to pass the test
+-- a number below `bound` is in `numbers_where` exactly if it passes the test
 pub has-numbers_where : (bound : ℕ) (p : ℕ → Bool) (n : ℕ) → n < bound → has (numbers_where bound p) n ≡ p n
 has-numbers_where bound p n below = has-from 0 bound p n (omega arith) (omega arith)
 
--- at the bound and past it there is none
+-- no number from the end of the range on is in `numbers_from`
 has-past_from : (low count : ℕ) (p : ℕ → Bool) (n : ℕ) → low + count ≤ n → has (numbers_from low count p) n ≡ false
 has-past_from low zero p n past = refl
 has-past_from low (suc count) p n past =
@@ -68,11 +69,11 @@ has-past_from low (suc count) p n past =
     elim (p low) as (λ b. has (cond b (low ∷ numbers_from (low + 1) count p) (numbers_from (low + 1) count p)) n
     ≡ false) [ true ↦ (λ i. apart i || rest i) | false ↦ rest ]
 
--- a number that is no number below the bound is not among them
+-- no number from `bound` on is in `numbers_where`
 pub has-numbers_where_past : (bound : ℕ) (p : ℕ → Bool) (n : ℕ) → bound ≤ n → has (numbers_where bound p) n ≡ false
 has-numbers_where_past bound p n past = has-past_from 0 bound p n (omega arith)
 
--- being among the numbers, for any number
+-- any number is in `numbers_where` exactly if it is below `bound` and passes the test
 pub has-numbers_where_any : (bound : ℕ) (p : ℕ → Bool) (n : ℕ) → has (numbers_where bound p) n ≡ (ltb n bound && p n)
 has-numbers_where_any bound p n =
     elim (cases_lt n bound) [
@@ -80,7 +81,7 @@ has-numbers_where_any bound p n =
       | inr past ↦ has-numbers_where_past bound p n past ∙ (λ i. sym (le-ltb n bound past) i && p n)
     ]
 
--- the numbers from one on, in two stretches
+-- the numbers of two successive ranges that pass a test are those of the first and then those of the second
 pub numbers_from-add : (low count more : ℕ) (p : ℕ → Bool) → numbers_from low (count + more) p ≡ numbers_from low count p ++ numbers_from (low + count) more p
 numbers_from-add low zero more p = (λ i. numbers_from (low-zero i) (zero-more i) p)
   where
@@ -103,24 +104,24 @@ numbers_from-add low (suc count) more p =
     ≡ cond b (low ∷ numbers_from (low + 1) count p) (numbers_from (low + 1) count p)
     ++ numbers_from (low + suc count) more p) [ true ↦ (λ i. low ∷ joined i) | false ↦ joined ])
 
--- the numbers below a sum are those below the first part, and those of the stretch after it
+-- the numbers below `bound + more` that pass are those below `bound` and those of the next `more`
 pub numbers_where-add : (bound more : ℕ) (p : ℕ → Bool) → numbers_where (bound + more) p ≡ numbers_where bound p ++ filter p (range_with_len bound more)
 numbers_where-add bound more p =
     let place : 0 + bound ≡ bound = omega arith in
     numbers_from-add 0 bound more p ∙ (λ i. numbers_from 0 bound p ++ numbers_from (place i) more p)
 
--- one number more
+-- the numbers below `bound + 1` that pass are those below `bound`, and `bound` if it passes
 pub numbers_where-more : (bound : ℕ) (p : ℕ → Bool) → numbers_where (bound + 1) p ≡ numbers_where bound p ++ cond (p bound) (bound ∷ []) []
 numbers_where-more bound p = numbers_where-add bound 1 p
 
--- no number of a stretch passes
+-- if no number of the range passes, `numbers_from` is empty
 pub numbers_from-none : (low count : ℕ) (p : ℕ → Bool) → ((n : ℕ) → low ≤ n → n < low + count → p n ≡ false) → numbers_from low count p ≡ []
 numbers_from-none low zero p none = refl
 numbers_from-none low (suc count) p none =
     (λ i. cond (none low (omega arith) (omega arith) i) (low ∷ numbers_from (low + 1) count p) (numbers_from (low + 1) count p))
     ∙ numbers_from-none (low + 1) count p (λ n above below. none n (omega arith) (omega arith))
 
--- where no number from one bound up to another passes, the bounds give the same list
+-- if no number from `bound` up to `further` passes, both bounds give the same list
 pub numbers_where-skip : (bound further : ℕ) (p : ℕ → Bool) → bound ≤ further
     → ((n : ℕ) → bound ≤ n → n < further → p n ≡ false) → numbers_where further p ≡ numbers_where bound p
 numbers_where-skip bound further p le none =
@@ -129,48 +130,55 @@ numbers_where-skip bound further p le none =
     ∙ ap (λ rest. numbers_where bound p ++ rest) (numbers_from-none bound (further - bound) p (λ n above below. none n above (omega arith)))
     ∙ append-nil (numbers_where bound p)
 
--- the least number that passes from a bound on comes next
+-- the least number from `bound` on that passes comes next in the list
 pub numbers_where-next : (bound number : ℕ) (p : ℕ → Bool) → bound ≤ number
     → ((n : ℕ) → bound ≤ n → n < number → p n ≡ false) → p number ≡ true
     → numbers_where (number + 1) p ≡ numbers_where bound p ++ number ∷ []
 numbers_where-next bound number p le none here =
     numbers_where-more number p ∙ (λ i. numbers_where-skip bound number p le none i ++ cond (here i) (number ∷ []) [])
 
--- ---- a filter of such a list
--- the numbers that pass one test, kept by another
+-- ---- filtering `numbers_where`
+-- filtering the numbers that pass `p` by `q` gives those that pass both
 pub filter-numbers_where : (bound : ℕ) (p q : ℕ → Bool) → filter q (numbers_where bound p) ≡ numbers_where bound (λ n. p n && q n)
 filter-numbers_where bound p q = filter-twice q p (range_with_len 0 bound)
 
+-- the numbers that are in `numbers_where` are `numbers_where`
 pub listed_numbers-numbers_where : (bound : ℕ) (p : ℕ → Bool) → listed_numbers bound (numbers_where bound p) ≡ numbers_where bound p
 listed_numbers-numbers_where bound p = numbers_where-agree bound (has (numbers_where bound p)) p (λ n below. has-numbers_where bound p n below)
 
--- ---- how many
+-- ---- the length of `numbers_where`
+-- `numbers_where` has as many items as numbers of the range pass
 pub length-numbers_where : (bound : ℕ) (p : ℕ → Bool) → length (numbers_where bound p) ≡ count_by p (range_with_len 0 bound)
 length-numbers_where bound p = length-filter p (range_with_len 0 bound)
 
+-- `numbers_where bound` has at most `bound` items
 pub length-numbers_where-le : (bound : ℕ) (p : ℕ → Bool) → length (numbers_where bound p) ≤ bound
 length-numbers_where-le bound p =
     omega (arith, length-numbers_where bound p, count_by-le-length p (range_with_len 0 bound), length-range_with_len 0 bound)
 
--- all numbers below the bound
+-- if every number passes, `numbers_from` is the range
 numbers_from-all : (low count : ℕ) → numbers_from low count (λ _. true) ≡ range_with_len low count
 numbers_from-all low zero = refl
 numbers_from-all low (suc count) = ap (λ rest. low ∷ rest) (numbers_from-all (low + 1) count)
 
+-- if every number passes, `numbers_where` is the range below `bound`
 pub numbers_where-all : (bound : ℕ) → numbers_where bound (λ _. true) ≡ range_with_len 0 bound
 numbers_where-all bound = numbers_from-all 0 bound
 
+-- if no number passes, `numbers_where` is empty
 pub numbers_where-none : (bound : ℕ) → numbers_where bound (λ _. false) ≡ []
 numbers_where-none bound = numbers_from-none 0 bound (λ _. false) (λ n _ _. refl)
 
+-- the range below `bound + 1` is that below `bound` and `bound`
 pub range_more : (bound : ℕ) → range_with_len 0 (bound + 1) ≡ range_with_len 0 bound ++ bound ∷ []
 range_more bound = sym (numbers_where-all (bound + 1)) ∙ numbers_where-more bound (λ _. true) ∙ ap (λ numbers. numbers ++ bound ∷ []) (numbers_where-all bound)
 
--- ---- what is in such a list
--- a number that passes a test is among the numbers, and only such
+-- ---- the members of `numbers_where`
+-- a number below `count` that passes is in `numbers_where`
 pub where_there : (count : ℕ) (test : ℕ → Bool) (n : ℕ) → n < count → test n ≡ true → Contains (numbers_where count test) n
 where_there count test n below told = contains_had (numbers_where count test) n (has-numbers_where count test n below ∙ told)
 
+-- a number in `numbers_where` is below `count` and passes
 pub there_where : (count : ℕ) (test : ℕ → Bool) (n : ℕ) → Contains (numbers_where count test) n → (n < count) × (test n ≡ true)
 there_where count test n there = ⊎_elim
     (λ (below : n < count). (below, sym (has-numbers_where count test n below) ∙ had_contained (numbers_where count test) n there))

@@ -2,7 +2,7 @@
 use Rattle.std.specs.Prelude.{ℕ, ◌==◌, Bool, List, count_by}
 use Rattle.std.specs.List.{list_any}
 
--- a number is among others
+-- whether a number is in a list of numbers
 abbrev pub has : List ℕ → ℕ → Bool
 has numbers number = list_any (λ other. other == number) numbers
 

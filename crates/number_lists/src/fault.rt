@@ -1,4 +1,4 @@
-//! Why lists by a key do not grow.
+//! The fault of lists by a key that do not grow.
 
 use std::alloc::{AllocError, AllocFailed};
 

@@ -1,5 +1,5 @@
-//! Lists of numbers: lists by a key, all in one vector, and numbers brought in rising order. What other crates say of
-//! lists alone, whatever they are of, is defined and proved here.
+//! Lists of numbers: lists by a key, all in one vector, and numbers brought into rising order. Definitions and lemmas
+//! on lists of any kind, which other crates use, are here.
 #![tactic(auto)]
 
 mod fault;

@@ -2,7 +2,7 @@
 ghost use Rattle.std.specs.Prelude.{ℕ, ◌≡◌, ◌<◌, All};
 ghost use Rattle.number_lists.specs.Rising.{listed_numbers};
 
-/// Brings numbers in rising order, and leaves each once. Asks for no memory.
+/// Sorts numbers into rising order, and keeps each once. Allocates nothing.
 pub fn keep_rising(numbers: &mut Vec<u32>)
     ensures { (bound : ℕ) → All (λ number. number < bound) numbers.old.items → numbers.new.items ≡ listed_numbers bound numbers.old.items }
 {

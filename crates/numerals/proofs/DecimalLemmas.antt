@@ -18,48 +18,50 @@ use Rattle.numerals.specs.Numbers.{is_number, number_of}
 use Rattle.text_parts.specs.Parts.{parts_at}
 use Rattle.numerals.specs.Decimals.{point, whole_of, fraction_of, number_in, unsigned_of, decimal_of}
 
--- a number of at most 17 digits has room for one more
+-- the number that the first `i` digits write is below 10^17, if `i` is at most 17
 pub front_of_17 : (text : List ℕ) (i : ℕ) → i ≤ 17 → list_all is_ascii_digit (take i text) ≡ true → digits_value 10 (take i text) < 10 ^ 17
 front_of_17 text i few digits = front_small text i 17 few digits
 
--- what `grind` takes where a digit is read
+-- the lemmas for `grind` on one turn of the loop that reads digits
 pub ruleset digit_steps = (digits_more, value_more, front_of_17)
 
--- a fraction is less than one
+-- a fraction is less than 10^18 units of 10^-18, that is less than one
 pub fraction_small : (text : List ℕ) → is_number 1 18 text ≡ true → fraction_of text < 10 ^ 18
 fraction_small text is =
     let small : number_of text < 10 ^ length text = digits_value_short numerals text (length text) (grind (arith, nat_tests)) (omega arith) in
     let short : length text ≤ 18 = grind (arith, nat_tests) in
     grind (arith, (mul-lt-mul_of_pos_right small (one-le-pow (18 - length text) 10 (omega arith))), (pow-add 10 (length text) (18 - length text)), short)
 
+-- a text of digits has no point, so it is one part
 digits_one_part : (text : List ℕ) → list_all is_ascii_digit text ≡ true → parts_at point text ≡ text ∷ []
 digits_one_part text digits = grind (arith, common_steps, nat_tests, digit_in, slice_split_none)
 
--- the number with a whole part and a fraction
+-- a whole part and a fraction give the number that is their sum
 pub number_with_fraction : (whole behind : List ℕ) → is_number 1 18 whole ≡ true → is_number 1 18 behind ≡ true
     → number_in (whole ∷ parts_at point behind) ≡ Some (whole_of whole + fraction_of behind)
 number_with_fraction whole behind one other = grind (arith, common_steps, nat_tests, and_from, and_parts, digits_one_part)
 
--- there is none where what stands behind the first point is no fraction
+-- there is no number if the text after the first point is no fraction
 pub number_without_fraction : (whole behind : List ℕ) → is_number 1 18 whole ≡ true → is_number 1 18 behind ≡ false
     → number_in (whole ∷ parts_at point behind) ≡ None
 number_without_fraction whole behind one no_number =
     grind (arith, (length-slice_split (λ byte. byte == point) behind), (join_with_byte-slice_split point behind), one, no_number)
 
--- behind a minus the number is negative
+-- after a minus the number is negative
 pub negative_of : (text : List ℕ) → 0 < length text → get_or text 0 0 ≡ 45
     → decimal_of text ≡ option_map (λ number. neg_ℤ (pos number)) (unsigned_of (drop 1 text))
 negative_of x0 some is = grind arith
 
--- the sum and the negation as the code computes them, in 128 bits
+-- the code's sum of a whole part and a fraction does not overflow 128 bits
 pub signed_sum : (whole fraction : ℕ) → whole < 10 ^ 18 → fraction < 10 ^ 18
     → to_z w128 (of_z w128 (to_z w128 (of_z w128 (to_z w128 (of_z w128 (pos whole)) *ℤ pos (10 ^ 18))) +ℤ to_z w128
     (of_z w128 (pos fraction)))) ≡ pos (whole * 10 ^ 18 + fraction)
 signed_sum whole fraction small_whole small_fraction = omega (arith, ints)
 
+-- the code's negation in 128 bits gives the negative of the number that was found
 pub negation : (found : Option ℕ) (number : ℤ) → SFits w128 number → Some number ≡ option_map pos found
     → Some (to_z w128 (of_z w128 (pos 0 -ℤ to_z w128 (of_z w128 number)))) ≡ option_map (λ size. neg_ℤ (pos size)) found
 negation x0 number fits same = grind (arith)
 
--- what `grind` takes where the parts of a number are put together
+-- the lemmas for `grind` on how the parts of a number are put together
 pub ruleset parts_of_number = (number_with_fraction, number_without_fraction, signed_sum)

@@ -10,11 +10,11 @@ use Rattle.std.proofs.lemmas.List.Folds.{list_all_at, list_all_more}
 use Rattle.std.proofs.lemmas.Str.{digit_value_digit}
 use Rattle.std.proofs.lemmas.Str.Parse.{IsDigitsTest, IsNumeralModel, numerals_by_value, digits_value_short}
 
--- the test of each byte tells the texts of digits
+-- `list_all is_ascii_digit` tells whether a text has digits alone
 tells_digits : IsDigitsTest (λ ds. list_all is_ascii_digit ds ≡ true)
 tells_digits = search rules
 
--- such a text writes its value in base ten
+-- a text of digits alone writes its value in base ten
 pub numerals : IsNumeralModel (λ ds. list_all is_ascii_digit ds ≡ true) (digits_value 10)
 numerals = numerals_by_value _ tells_digits
 
@@ -23,13 +23,13 @@ pub digit_in : (text : List ℕ) (i : ℕ) → i < length text → list_all is_a
 digit_in text i within digits =
     true_from_ne_false _ (λ other. both_ways _ (list_all_at is_ascii_digit text i 0 within other) digits)
 
--- one more digit leaves a text of digits
+-- a text of digits and one more digit are a text of digits
 pub digits_more : (text : List ℕ) (i : ℕ) → i < length text → list_all is_ascii_digit (take i text) ≡ true
     → is_ascii_digit (get_or text i 0) ≡ true → list_all is_ascii_digit (take (i + 1) text) ≡ true
 digits_more text i within front digit =
     list_all_more is_ascii_digit text i 0 within ∙ and_from _ _ front digit
 
--- one more digit is added to ten times the number so far
+-- the number that `i + 1` digits write is ten times that of the first `i`, and the last digit is added
 pub value_more : (text : List ℕ) (i : ℕ) → i < length text → is_ascii_digit (get_or text i 0) ≡ true
     → digits_value 10 (take (i + 1) text) ≡ digits_value 10 (take i text) * 10 + (get_or text i 0 - 48)
 value_more text i within digit =
@@ -37,7 +37,7 @@ value_more text i within digit =
     let digit_is = digit_value_digit (get_or text i 0) (leb-true 48 _ ends.0, leb-true _ 57 ends.1) in
     omega (arith, digits_value_more 10 text i within)
 
--- the number in a front of a text is below the power of ten of its length
+-- the number that the first `i` digits write is below 10^k, if `i` is at most `k`
 pub front_small : (text : List ℕ) (i k : ℕ) → i ≤ k → list_all is_ascii_digit (take i text) ≡ true → digits_value 10 (take i text) < 10 ^ k
 front_small text i k short digits =
     digits_value_short numerals (take i text) k digits (omega (arith, length-take i text))

@@ -8,14 +8,16 @@ use Rattle.text_parts.specs.Parts.{parts_at}
 abbrev pub point : ℕ
 point = 46
 
--- the numbers that the digits before the point and those behind it write, as so many times 10^-18
+-- the number that the digits before the point write, in units of 10^-18
 abbrev pub whole_of : List ℕ → ℕ
 whole_of digits = number_of digits * 10 ^ 18
 
+-- the number that the digits after the point write, in units of 10^-18
 abbrev pub fraction_of : List ℕ → ℕ
 fraction_of digits = number_of digits * 10 ^ (18 - length digits)
 
--- the number whose parts stand between points: 1 to 18 digits, and behind a point another 1 to 18
+-- the number, in units of 10^-18, of a text that its points cut into `whole` and perhaps `fraction`, of 1 to 18
+-- digits each
 abbrev pub number_in : List (List ℕ) → Option ℕ
 number_in (whole ∷ []) =
     if is_number 1 18 whole then Some (whole_of whole) else None
@@ -23,11 +25,11 @@ number_in (whole ∷ fraction ∷ []) =
     if is_number 1 18 whole && is_number 1 18 fraction then Some (whole_of whole + fraction_of fraction) else None
 number_in _ = None
 
--- the number that a text without a sign writes
+-- the number that a text without a sign writes, in units of 10^-18
 abbrev pub unsigned_of : List ℕ → Option ℕ
 unsigned_of text = number_in (parts_at point text)
 
--- the number that a text with a sign, or without one, writes
+-- the number that a text with or without a sign writes, in units of 10^-18
 abbrev pub decimal_of : List ℕ → Option ℤ
 decimal_of text =
     if starts_with nat_eq text (codes "-") then option_map (λ number. neg_ℤ (pos number)) (unsigned_of (drop 1 text))

@@ -4,7 +4,7 @@ use Rattle.std.specs.List.{list_all}
 use Rattle.std.specs.Char.{is_ascii_digit}
 use Rattle.std.specs.Str.Parse.{digits_value}
 
--- a text of this many digits, from the least number to the greatest
+-- a text has `least` to `most` bytes, and all of them are digits
 abbrev pub is_number : ℕ → ℕ → List ℕ → Bool
 is_number least most text = nat_le least (length text) && nat_le (length text) most && list_all is_ascii_digit text
 

@@ -6,8 +6,8 @@ ghost use Rattle.numerals.specs.Numbers.{is_number, number_of};
 use crate::decimals::Decimal;
 use text_parts::cut;
 
-/// The number that a text of ASCII digits writes, of `least` to `most` digits, of which 18 may be the
-/// most; `None` for any other text. Takes no memory.
+/// Reads the number that a text of `least` to `most` ASCII digits writes; `None` for any other text. `most` is at
+/// most 18. Takes no memory.
 #[tactic(auto, using(crate::proofs::DecimalLemmas::digit_steps))]
 pub fn digits(text: &[u8], least: usize, most: usize) -> Option<u64>
     requires { most ≤ 18 }
@@ -28,8 +28,8 @@ pub fn digits(text: &[u8], least: usize, most: usize) -> Option<u64>
     Some(number)
 }
 
-/// The number that a text writes behind `#`: a sign or none, 1 to 18 digits and, behind a point,
-/// another 1 to 18 (Release File Specification, "Relationship concrete values file"). Takes no memory.
+/// Reads the number that a text writes after `#`: a sign or none, 1 to 18 digits, and perhaps a point with 1 to 18
+/// more digits (Release File Specification, "Relationship concrete values file"). Takes no memory.
 pub fn decimal(text: &[u8]) -> Option<Decimal>
     ensures { option_map (λ found. found.0) result ≡ decimal_of text.now }
 {
@@ -49,7 +49,7 @@ pub fn decimal(text: &[u8]) -> Option<Decimal>
     }
 }
 
-// The number that a text without a sign writes, as so many times 10^-18.
+// Reads the number that a text without a sign writes, in units of 10^-18.
 #[tactic(auto, using(crate::proofs::DecimalLemmas::parts_of_number))]
 fn unsigned(text: &[u8]) -> Option<i128>
     ensures { result ≡ option_map pos (unsigned_of text.now) }
@@ -63,7 +63,7 @@ fn unsigned(text: &[u8]) -> Option<i128>
     Some(i128::from(whole) * 1_000_000_000_000_000_000 + i128::from(fraction))
 }
 
-// The fraction that the text behind a point writes, as so many times 10^-18.
+// Reads the fraction that the text after a point writes, in units of 10^-18.
 #[tactic(auto, using(crate::proofs::DecimalLemmas::fraction_small))]
 fn fraction(text: &[u8]) -> Option<u64>
     ensures digits { is_some result ≡ is_number 1 18 text.now }

@@ -1,4 +1,4 @@
--- How many rows of a concept or a group count.
+-- How many rows of a concept or a group count as pairs.
 use Rattle.std.proofs.Common.{ℕ, suc, ◌≡◌, ◌<◌, ◌+◌, ◌∙◌, ◌∷◌, [], Bool, true, false, ◌&&◌, ◌==◌, cond, List, Option, None, Some, length, get_or, map, refl, sym, ap, arith}
 use Rattle.std.specs.Prelude.{All, IfSome, count_by, filter, slice_get}
 use Rattle.std.specs.List.Sorted.{IsStrictlyIncreasing}
@@ -30,19 +30,22 @@ use Rattle.pair_sets.proofs.HitLemmas.{count-cons}
 use Rattle.candidates.proofs.GroupLemmas.{groups_are}
 use Rattle.pair_sets.proofs.LeafLemmas.{count_kept, group_counted, none_within, sources_counted, values_counted}
 
--- what is tested of a row says whether it counts
+-- one row, by its cells
 module _ (indexed : Indexed) (grouped : Bool) (one : ℕ → Bool) (passes : Value → Bool) (told : ℕ → Bool)
     (tells : TellsTypes indexed.rows one told) (cells : RowCells) where
+  -- the cells of a row tell whether its type and its value pass
   tested : (entry : Entry) → AreRowCells indexed cells entry
       → (told cells.type_place && passes (value_of indexed cells.value)) ≡ has_pair_in one passes entry.row
   tested entry are =
       λ i. (tells cells.type_place are.type_within ∙ ap one are.type_is) i && ap passes are.value_is i
 
+  -- the cells of a row tell whether the row counts as a pair of its group, or of its source
   told_counts : (entry : Entry) → AreRowCells indexed cells entry → (b : Bool)
       → (cond b cells.is_first_in_group cells.is_first && (told cells.type_place && passes (value_of indexed cells.value))) ≡ pair_counts b one passes entry
   told_counts entry are true = λ i. are.first_in_group_is i && tested entry are i
   told_counts entry are false = λ i. are.first_is i && tested entry are i
 
+  -- the cells of row n tell whether the row counts as a pair
   pub row_counts : (n : ℕ) → n < length indexed.rows → IfSome (slice_get (entries_of indexed.rows) n) (AreRowCells indexed cells)
       → (cond grouped cells.is_first_in_group cells.is_first && (told cells.type_place && passes (value_of indexed cells.value)))
       ≡ at_entry (pair_counts grouped one passes) (slice_get (entries_of indexed.rows) n)
@@ -58,7 +61,7 @@ module _ (indexed : Indexed) (grouped : Bool) (one : ℕ → Bool) (passes : Val
       by_case None is are = absurd (none_within (entries_of indexed.rows) n (omega (arith, within, long)) is)
       by_case (Some entry) is are = told_counts entry are grouped
 
--- the rows at the places of those that pass a test are these rows
+-- the places of rows that pass `p` pass `at` just as often as entries pass `p` and `test`
 places_count : (p : Attribute → Bool) (test : Entry → Bool) (at : ℕ → Bool) (entries : List Entry) (place : ℕ)
     → ((k : ℕ) → at (place + k) ≡ at_entry test (slice_get entries k))
     → ((k : ℕ) → k < length entries → slice_get entries k ≡ slice_get entries k)
@@ -82,6 +85,7 @@ places_count p test at (entry ∷ entries) place told _ =
         count-cons at place (places_from (place + 1) p (map (λ (e : Entry). e.row) entries)) ∙ (λ i. cond (here i) (1 + rest i) (rest i))
     by_case false rest = rest
 
+-- among the places of the rows that pass `p`, as many entries pass `test` as entries pass `p` and `test`
 pub places_counted : (rows : List Attribute) (p : Attribute → Bool) (test : Entry → Bool)
     → count_by (λ n. at_entry test (slice_get (entries_of rows) n)) (places_where p rows) ≡ count_by (λ entry. p entry.row && test entry) (entries_of rows)
 places_counted rows p test =
@@ -92,9 +96,10 @@ places_counted rows p test =
     zero_sum : (k : ℕ) → 0 + k ≡ k
     zero_sum k = omega arith
 
--- the candidates that are kept by the rows of each are those with so many pairs
+-- candidates that are kept by their own rows
 module _ (indexed : Indexed) (release : Release) (is : IsIndexOf indexed release) (rising : IsStrictlyIncreasing release.concepts)
     (count : Cardinality) (one : ℕ → Bool) (passes : Value → Bool) where
+  -- the candidates that are kept by their own rows are the candidates whose number of matching pairs lies in `count`
   pub among_within : All (λ (row : Attribute). has release.concepts row.source ≡ true) release.attributes
       → (back : Bool) (bound : ℕ) → bound ≡ length release.concepts → (may : ℕ → Bool) (asked kept found : List ℕ)
       → ((n : ℕ) → n < bound → has asked n ≡ may n)
@@ -121,6 +126,7 @@ module _ (indexed : Indexed) (release : Release) (is : IsIndexOf indexed release
           places_counted indexed.rows (λ (row : Attribute). row.source == get_or indexed.concepts n 0) (pair_counts false one passes)
           ∙ sources_counted indexed release is rising one passes n within
 
+  -- the groups that are kept by their own rows are the candidates whose number of matching pairs lies in `count`
   pub groups_among_within : (bound : ℕ) → bound ≡ length (groups_in indexed) → (may : ℕ → Bool) (asked kept found : List ℕ)
       → ((n : ℕ) → n < bound → has asked n ≡ may n)
       → kept ≡ filter (λ number. lies_in count (pairs_among indexed true one passes (rows_of_unit indexed (slice_get (groups_in indexed) number)))) asked
@@ -149,7 +155,7 @@ module _ (indexed : Indexed) (release : Release) (is : IsIndexOf indexed release
           (entries_of indexed.rows))
           ∙ group_counted indexed release is rising one passes n group at)
 
--- the rows of a group
+-- the rows that are read for a group are the rows of the group with that number
 pub unit_told : (indexed : Indexed) (n : ℕ) (rows : List ℕ) → n < length (groups_in indexed)
     → IfSome (slice_get (groups_in indexed) n) (λ group. rows ≡ rows_of_group indexed group) → rows ≡ rows_of_unit indexed (slice_get (groups_in indexed) n)
 unit_told indexed n rows within told = by_case (slice_get (groups_in indexed) n) refl told
@@ -159,11 +165,12 @@ unit_told indexed n rows within told = by_case (slice_get (groups_in indexed) n)
     by_case None is told = absurd (none_within (groups_in indexed) n within is)
     by_case (Some group) is told = told
 
+-- the rows of a group are numbers of rows
 pub unit_below : (indexed : Indexed) (at : Option ConceptGroup) → All (λ n. n < length indexed.rows) (rows_of_unit indexed at)
 unit_below indexed None = All-nil (λ n. n < length indexed.rows)
 unit_below indexed (Some group) = places_where-within (is_in_group group) indexed.rows
 
--- the rows of a group that is there are as many as the group has
+-- the rows that are listed for a group are all the rows that it has
 pub unit_count : (indexed : Indexed) (group : Option ConceptGroup) → length (rows_of_unit indexed group) ≡ rows_in_group indexed group
 unit_count indexed None = refl
 unit_count indexed (Some group) = refl

@@ -24,11 +24,11 @@ use Rattle.pair_sets.proofs.TimesLemmas.{times-cons}
 -- ---- the values of rows, row by row
 module _ (indexed : Indexed) (rising : IsStrictlyIncreasing indexed.concepts) (one told : ℕ → Bool)
     (tells : TellsTypes indexed.rows one told) (bound : ℕ) (is : bound ≡ length indexed.concepts) where
-  -- whether a row counts for the concept with a number
+  -- whether row n counts for the concept with `number` as its value
   abbrev pub counts_at : ℕ → ℕ → Bool
   counts_at number n = at_entry (counts_for_value indexed.concepts (λ row. one row.type_id) number) (slice_get (entries_of indexed.rows) n)
 
-  -- what is tested of its cells tells it
+  -- the cells of a row tell whether it counts for the concept with `number`
   pub cells_tell : (cells : RowCells) (n number : ℕ) → n < length indexed.rows → number < length indexed.concepts
       → IfSome (slice_get (entries_of indexed.rows) n) (AreRowCells indexed cells)
       → counts_at number n ≡ ((ltb cells.value bound && (cells.is_first && told cells.type_place)) && (cells.value == number))
@@ -52,9 +52,10 @@ module _ (indexed : Indexed) (rising : IsStrictlyIncreasing indexed.concepts) (o
       by_case None at are = absurd (none_within (entries_of indexed.rows) n (omega (arith, within, long)) at)
       by_case (Some entry) at are = of_entry entry are
 
--- one row more of which a number is pushed, or none
+-- one row more, for which a number is pushed or none
 module _ (counts : ℕ → Bool) (rows : List ℕ) (k : ℕ) (within : k < length rows) (value number : ℕ) (before : ℕ) (hits : List ℕ)
     (so_far : times number hits ≡ before + count_by counts (take k rows)) where
+  -- if row k counts for the value that is pushed and no other number, the hits are right for one row more
   pub pushed_more : counts (get_or rows k 0) ≡ (value == number) → times number (hits ++ value ∷ []) ≡ before + count_by counts (take (k + 1) rows)
   pushed_more tells = elim (cases_eq value number) [
     | inl same ↦
@@ -77,10 +78,11 @@ module _ (counts : ℕ → Bool) (rows : List ℕ) (k : ℕ) (within : k < lengt
         )
   ]
 
+  -- if row k does not count for `number`, the hits are right for one row more without a push
   pub none_pushed : counts (get_or rows k 0) ≡ false → times number hits ≡ before + count_by counts (take (k + 1) rows)
   none_pushed tells = omega (arith, so_far, count_by_more_no counts rows k 0 within tells)
 
--- the rows of a source that count are those at the places of its rows
+-- the rows of a source count, by their places, just as often as the entries with this source
 pub source_counted : (indexed : Indexed) (one : ℕ → Bool) (source number : ℕ)
     → count_by (λ n. at_entry (counts_for_value indexed.concepts (λ row. one row.type_id) number) (slice_get (entries_of indexed.rows) n))
     (rows_by_source indexed source)

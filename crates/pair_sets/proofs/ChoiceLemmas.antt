@@ -1,4 +1,4 @@
--- Rows read by type and rows read by value are the same rows.
+-- The rows that are read by type and the rows that are read by value count for the same numbers.
 use Rattle.std.proofs.Common.{ℕ, suc, ◌≡◌, ◌<◌, ◌+◌, ◌∙◌, ◌∷◌, ◌++◌, [], inl, inr, arith}
 use Rattle.std.proofs.Common.{Bool, true, false, ◌&&◌, ◌||◌, ◌==◌, cond, List, length, get_or, take, refl, sym, ap}
 use Rattle.std.specs.Prelude.{count_by, filter}
@@ -23,53 +23,61 @@ use Rattle.pair_sets.proofs.LeafLemmas.{count_either, count_kept, count_none, ty
 use Rattle.candidates.proofs.Normal.{same_by_number}
 
 -- ---- tests
+-- a conjunction with true is its other part
 always : (a : Bool) → a ≡ (a && true)
 always true = refl
 always false = refl
 
--- the first of four, put last
+-- the first of four parts of a conjunction can be put last
 moved : (a b c d : Bool) → (a && (b && (c && d))) ≡ (b && (c && (d && a)))
 moved true b c d = λ i. b && (c && always d i)
 moved false b c d = sym ((λ i. b && (c && and-false d i)) ∙ (λ i. b && and-false c i) ∙ and-false b)
 
+-- two tests that are never passed together are not passed together with a third
 both_apart : (a b c : Bool) → (a && b) ≡ false → ((a && c) && (b && c)) ≡ false
 both_apart true true c apart = absurd cc
 both_apart true false c apart = and-false c
 both_apart false b c apart = refl
 
+-- a disjunction within a conjunction may be split into two conjunctions
 one_of_both : (a b c : Bool) → ((a || b) && c) ≡ ((a && c) || (b && c))
 one_of_both true b true = refl
 one_of_both true b false = sym (and-false b)
 one_of_both false b c = refl
 
+-- a test that is passed with neither of two others is not passed with their disjunction
 apart_from_both : (a b c : Bool) → (a && b) ≡ false → (a && c) ≡ false → (a && (b || c)) ≡ false
 apart_from_both true true c first second = first
 apart_from_both true false c first second = second
 apart_from_both false b c first second = refl
 
+-- an equation can be read from either side
 swapped : (a b : ℕ) → (a == b) ≡ (b == a)
 swapped a b = both_ways (a == b) (b == a) (λ told. eq-eqb b a (sym (eqb-true a b told))) (λ told. eq-eqb a b (sym (eqb-true b a told)))
 
 -- ---- the types so far
 module _ (one : ℕ → Bool) (types : List ℕ) (k : ℕ) (within : k < length types) (answer : Bool) (asked : one (get_or types k 0) ≡ answer) where
+  -- the type at place k is appended to the types so far that pass `one` exactly if it passes
   pub id_more : (ids : List ℕ) → ids ≡ filter one (take k types)
       → ids ++ cond answer (get_or types k 0 ∷ []) [] ≡ filter one (take (k + 1) types)
   id_more ids are =
       (λ i. are i ++ cond (sym asked i) (get_or types k 0 ∷ []) []) ∙ sym (filter_more one types k 0 within)
 
+  -- the place k is appended to the places so far of types that pass `one` exactly if the type there passes
   pub place_more : (places : List ℕ) → places ≡ numbers_where k (λ place. one (get_or types place 0))
       → places ++ cond answer (k ∷ []) [] ≡ numbers_where (k + 1) (λ place. one (get_or types place 0))
   place_more places are =
       (λ i. are i ++ cond (sym asked i) (k ∷ []) []) ∙ sym (numbers_where-more k (λ place. one (get_or types place 0)))
 
 -- ---- rows key by key
--- whether a row has one of some keys
+-- whether a row has one of `keys`
 abbrev pub has_some : (ℕ → Entry → Bool) → List ℕ → Entry → Bool
 has_some has keys entry = list_any (λ key. has key entry) keys
 
--- where no row has two keys, the rows of rising keys, key by key, are the rows that have one of them
+-- rising keys, of which no row has two
 module _ (bound : ℕ) (has : ℕ → Entry → Bool)
     (apart : (a b : ℕ) → a < bound → b < bound → (a ≡ b → ⊥) → (entry : Entry) → (has a entry && has b entry) ≡ false) where
+  -- a row with a key below all of rising keys has none of these keys
   not_again : (key lowest : ℕ) → key < lowest → key < bound → (keys : List ℕ) → rises_within lowest bound keys ≡ true
       → (entry : Entry) → (has key entry && has_some has keys entry) ≡ false
   not_again key lowest less within [] rises entry = and-false (has key entry)
@@ -79,6 +87,7 @@ module _ (bound : ℕ) (has : ℕ → Entry → Bool)
       (apart key next within on.below (λ same. absurd (omega (arith, less, same, on.above))) entry)
       (not_again key (suc next) (omega (arith, less, on.above)) within keys on.rest entry)
 
+  -- if no row has two keys, counting the rows of rising keys, key by key, counts the rows that have one of the keys
   pub keys_counted : (entries : List Entry) (test : Entry → Bool) (lowest : ℕ) (keys : List ℕ) → rises_within lowest bound keys ≡ true
       → count_by test (flat_map (λ key. filter (has key) entries) keys) ≡ count_by (λ entry. has_some has keys entry && test entry) entries
   keys_counted entries test lowest [] rises = sym (count_none (λ (entry : Entry). false) entries (λ entry. refl))
@@ -93,18 +102,21 @@ module _ (bound : ℕ) (has : ℕ → Entry → Bool)
       (λ entry. one_of_both (has key entry) (has_some has keys entry) (test entry))
 
 -- ---- concepts as keys: the values of rows, and their sources
+-- no number of a list passes the test that is always false
 none_of : (numbers : List ℕ) → list_any (λ number. false) numbers ≡ false
 none_of [] = refl
 none_of (number ∷ numbers) = none_of numbers
 
 module _ (concepts : List ℕ) where
+  -- whether the value of a row is the concept with a number
   abbrev pub has_value : ℕ → Entry → Bool
   has_value number entry = value_eq entry.row.value (concept_value (get_or concepts number 0))
 
+  -- whether the source of a row is the concept with a number
   abbrev pub has_source : ℕ → Entry → Bool
   has_source number entry = entry.row.source == get_or concepts number 0
 
-  -- a value is one of some concepts where it is the concept of one of their numbers
+  -- a value is the concept with one of `numbers` exactly if it is one of the concepts that they stand for
   value_of_some : (numbers : List ℕ) (value : Value)
       → list_any (λ number. value_eq value (concept_value (get_or concepts number 0))) numbers ≡ is_within (is_one_of concepts numbers) value
   value_of_some numbers (concept_value concept) = λ i. list_any (λ number. swapped concept (get_or concepts number 0) i) numbers
@@ -123,18 +135,21 @@ module _ (concepts : List ℕ) where
       | inr differs ↦ (λ i. ne_eqb concept (get_or concepts a 0) differs i && (concept == get_or concepts b 0))
     ]
 
+    -- no value is the concept with two numbers
     values_apart : (a b : ℕ) → a < length concepts → b < length concepts → (a ≡ b → ⊥) → (value : Value)
         → (value_eq value (concept_value (get_or concepts a 0)) && value_eq value (concept_value (get_or concepts b 0))) ≡ false
     values_apart a b a_within b_within other (concept_value concept) = one_number a b a_within b_within other concept
     values_apart a b a_within b_within other (number_value decimal) = refl
     values_apart a b a_within b_within other (text_value text) = refl
 
--- ---- in either way the numbers stand there as often as rows count for them
+-- ---- hits of rows that are read by type or by value are hits of all rows
 module _ (bound : ℕ) (belongs : ℕ → Entry → Bool) (first passes : Entry → Bool) (indexed : Indexed) (one : ℕ → Bool) (hits : List ℕ) where
-  -- the rows that count
+  -- whether a row counts for a number: it belongs to it, is the first with its pair, and has a type and a value that
+  -- pass
   abbrev pub counts : ℕ → Entry → Bool
   counts number entry = belongs number entry && (first entry && (one entry.row.type_id && passes entry))
 
+  -- the hits of the rows of the types that pass `one` are the hits of all rows that count
   pub of_types : (ids : List ℕ) → ids ≡ filter one (types_of indexed.rows)
       → AreHits bound (λ number entry. belongs number entry && (first entry && passes entry)) (entries_with_types indexed.rows ids) hits
       → AreHits bound counts (entries_of indexed.rows) hits
@@ -146,7 +161,7 @@ module _ (bound : ℕ) (belongs : ℕ → Entry → Bool) (first passes : Entry 
         ∙ types_counted indexed.rows one (belongs n) first passes;
   }
 
-  -- by keys of which no row has two
+  -- the hits of the rows of keys, of which no row has two, are the hits of all rows that count
   of_keys : (has : ℕ → Entry → Bool) (count : ℕ)
       → ((a b : ℕ) → a < count → b < count → (a ≡ b → ⊥) → (entry : Entry) → (has a entry && has b entry) ≡ false)
       → (keys : List ℕ) → rises_within 0 count keys ≡ true → ((entry : Entry) → has_some has keys entry ≡ passes entry)
@@ -163,10 +178,11 @@ module _ (bound : ℕ) (belongs : ℕ → Entry → Bool) (first passes : Entry 
 
 module _ (bound : ℕ) (belongs : ℕ → Entry → Bool) (first : Entry → Bool) (indexed : Indexed) (rising : IsStrictlyIncreasing indexed.concepts)
     (one : ℕ → Bool) (hits numbers : List ℕ) (rises : rises_within 0 (length indexed.concepts) numbers ≡ true) where
-  -- the values that pass
+  -- whether a value is one of the concepts `numbers`
   abbrev pub passing : Value → Bool
   passing = is_within (is_one_of indexed.concepts numbers)
 
+  -- the hits of the rows of the values `numbers` are the hits of all rows that count
   pub of_values : AreHits bound (λ number entry. belongs number entry && (first entry && one entry.row.type_id)) (entries_with_values indexed numbers) hits
       → AreHits bound (λ number entry. belongs number entry && (first entry && (one entry.row.type_id && passing entry.row.value)))
       (entries_of indexed.rows) hits
@@ -175,6 +191,7 @@ module _ (bound : ℕ) (belongs : ℕ → Entry → Bool) (first : Entry → Boo
       (λ a b a_within b_within other entry. values_apart indexed.concepts rising a b a_within b_within other entry.row.value)
       numbers rises (λ entry. value_of_some indexed.concepts numbers entry.row.value) are
 
+  -- the hits of the rows of the sources `numbers` are the hits of all rows that count read backwards
   pub of_sources : AreHits bound (λ number entry. belongs number entry && (first entry && one entry.row.type_id)) (entries_with_sources indexed numbers) hits
       → AreHits bound (λ number entry. belongs number entry && (first entry && (one entry.row.type_id && passing (concept_value entry.row.source))))
       (entries_of indexed.rows) hits

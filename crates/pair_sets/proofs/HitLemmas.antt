@@ -28,11 +28,13 @@ use Rattle.candidates.proofs.Normal.{same_by_number}
 use Rattle.number_lists.proofs.MemberLemmas.{times-append}
 use Rattle.pair_sets.proofs.TimesLemmas.{times-cons}
 
--- ---- lists of which functions give the same
+-- ---- two lists that are mapped to one list
 module _ {X Y Z : Type 0} (f : X → Z) (g : Y → Z) (xs : List X) (ys : List Y) (are : map f xs ≡ map g ys) where
+  -- two lists that are mapped to one list are equally long
   pub same_length : length xs ≡ length ys
   same_length = sym (length-map xs f) ∙ ap (λ (zs : List Z). length zs) are ∙ length-map ys g
 
+  -- two lists that are mapped to one list have, at each place, items that are mapped to one item
   same_at : (k : ℕ) (d : X) (e : Y) → k < length ys → f (get_or xs k d) ≡ g (get_or ys k e)
   same_at k d e within =
       sym (get_or-map f xs k d (f d) (omega (arith, within, same_length)))
@@ -40,6 +42,7 @@ module _ {X Y Z : Type 0} (f : X → Z) (g : Y → Z) (xs : List X) (ys : List Y
       ∙ get_or-map g ys k e (f d) within
 
 -- ---- how many items pass
+-- a first item adds one to the count if it passes
 pub count-cons : {X : Type 0} (test : X → Bool) (x : X) (xs : List X)
     → count_by test (x ∷ xs) ≡ cond (test x) (1 + count_by test xs) (count_by test xs)
 count-cons test x xs =
@@ -49,6 +52,7 @@ count-cons test x xs =
       | false ↦ length-filter test xs
     ]
 
+-- two lists together have as many passing items as both have, added up
 pub count-append : {X : Type 0} (test : X → Bool) (xs ys : List X) → count_by test (xs ++ ys) ≡ count_by test xs + count_by test ys
 count-append test [] ys = let none : count_by test [] ≡ 0 = refl in omega (arith, none)
 count-append test (x ∷ xs) ys =
@@ -61,14 +65,16 @@ count-append test (x ∷ xs) ys =
     ∙ ap (λ n. n + count_by test ys) (sym (count-cons test x xs))
 
 -- ---- the numbers of the places that are kept
+-- the next place is one higher
 next_place : (k : ℕ) → suc k ≡ k + 1
 next_place k = omega arith
 
 module _ (kept : Flagged → ℕ → Bool) (number : Flagged → ℕ → ℕ) (d : Flagged) where
-  -- the number at a place, where it is kept
+  -- the number at place k, if it is kept
   abbrev here : List Flagged → List ℕ → ℕ → Bool → List ℕ
   here marks cells k keep = cond keep (number (get_or marks k d) (get_or cells k 0) ∷ []) []
 
+  -- to pick from the first k + 1 places is to pick from the first k and then place k
   picked_here : (marks : List Flagged) (cells : List ℕ) (k : ℕ) → k < length marks → length marks ≡ length cells
       → picked kept number (take (suc k) marks) (take (suc k) cells)
       ≡ picked kept number (take k marks) (take k cells) ++ here marks cells k (kept (get_or marks k d) (get_or cells k 0))
@@ -85,7 +91,7 @@ module _ (kept : Flagged → ℕ → Bool) (number : Flagged → ℕ → ℕ) (d
         | false ↦ rest
       ]
 
-  -- one place more, which is kept or not
+  -- after the first k places are picked, the number at place k is pushed if it is kept
   pub picked_next : (marks : List Flagged) (cells : List ℕ) (k : ℕ) → k < length marks → length marks ≡ length cells
       → (keep : Bool) → kept (get_or marks k d) (get_or cells k 0) ≡ keep → (before hits next : List ℕ)
       → hits ≡ before ++ picked kept number (take k marks) (take k cells) → next ≡ hits ++ here marks cells k keep
@@ -99,7 +105,7 @@ module _ (kept : Flagged → ℕ → Bool) (number : Flagged → ℕ → ℕ) (d
       ∙ sym (picked_here marks cells k within long)
       ∙ ap (λ (m : ℕ). picked kept number (take m marks) (take m cells)) (next_place k))
 
-  -- they are below a bound where each of them is
+  -- the picked numbers are below a bound if each kept place has a number below it
   picked_below : (bound : ℕ) (marks : List Flagged) (cells : List ℕ) → length marks ≡ length cells
       → ((k : ℕ) → k < length marks → kept (get_or marks k d) (get_or cells k 0) ≡ true → number (get_or marks k d) (get_or cells k 0) < bound)
       → All (λ n. n < bound) (picked kept number marks cells)
@@ -114,7 +120,7 @@ module _ (kept : Flagged → ℕ → Bool) (number : Flagged → ℕ → ℕ) (d
           All-cons (λ n. n < bound) (number mark cell) (picked kept number marks cells) (below 0 (omega arith) keeps) rest
       by_case false leaves rest = rest
 
-  -- and a number stands among them as often as items count for it, where each place is kept for the number exactly where its item counts
+  -- n is picked as often as entries count for it, if place k is kept for n exactly if entry k counts
   times_picked : (n : ℕ) (counts : Entry → Bool) (e : Entry) (marks : List Flagged) (cells : List ℕ) (entries : List Entry)
       → length marks ≡ length entries → length cells ≡ length entries
       → ((k : ℕ) → k < length entries → (kept (get_or marks k d) (get_or cells k 0) && (number (get_or marks k d) (get_or cells k 0) == n))
@@ -137,6 +143,7 @@ module _ (kept : Flagged → ℕ → Bool) (number : Flagged → ℕ → ℕ) (d
           times-cons n (number mark cell) (picked kept number marks cells) ∙ (λ i. cond (is i) (1 + rest i) (rest i))
       by_case false is rest = rest ∙ (λ i. cond (is i) (1 + count_by counts entries) (count_by counts entries))
 
+  -- the picked numbers are hits, if each is below the bound and place k is kept for n exactly if entry k counts for n
   picked_hits : (bound : ℕ) (counts : ℕ → Entry → Bool) (e : Entry) (marks : List Flagged) (cells : List ℕ) (entries : List Entry)
       → length marks ≡ length entries → length cells ≡ length entries
       → ((k : ℕ) → k < length entries → kept (get_or marks k d) (get_or cells k 0) ≡ true → number (get_or marks k d) (get_or cells k 0) < bound)
@@ -149,10 +156,12 @@ module _ (kept : Flagged → ℕ → Bool) (number : Flagged → ℕ → ℕ) (d
     times = λ n inside. times_picked n (counts n) e marks cells entries marks_long cells_long (agree n inside);
   }
 
--- ---- the numbers of the rows of one key after those of others
+-- ---- the hits of one key after those of other keys
+-- the empty list has the hits of no rows
 pub no_hits : (bound : ℕ) (counts : ℕ → Entry → Bool) → AreHits bound counts [] []
 no_hits bound counts = record { within = All-nil (λ n. n < bound); times = λ n inside. refl }
 
+-- the hits of `entries` and those of `more` are together the hits of both
 pub more_hits : (bound : ℕ) (counts : ℕ → Entry → Bool) (entries more : List Entry) (hits next : List ℕ) → AreHits bound counts entries hits
     → AreHits bound counts more next → AreHits bound counts (entries ++ more) (hits ++ next)
 more_hits bound counts entries more hits next so_far added = record {
@@ -164,12 +173,14 @@ more_hits bound counts entries more hits next so_far added = record {
 }
 
 module _ (entries : ℕ → List Entry) (keys : List ℕ) (k : ℕ) (within : k < length keys) where
+  -- the entries of the first k keys and then those of key k are the entries of the first k + 1 keys
   one_key_more : flat_map entries (take k keys) ++ entries (get_or keys k 0) ≡ flat_map entries (take (k + 1) keys)
   one_key_more =
       ap (λ (more : List Entry). flat_map entries (take k keys) ++ more) (sym (append-nil (entries (get_or keys k 0))))
       ∙ sym (flat_map-append entries (take k keys) (get_or keys k 0 ∷ []))
       ∙ ap (flat_map entries) (sym (take_more keys k 0 within))
 
+  -- if the hits of key k are pushed after those of the first k keys, the list has the hits of the first k + 1 keys
   pub hits_pushed : (bound : ℕ) (counts : ℕ → Entry → Bool) (hits next more : List ℕ) → next ≡ hits ++ more
       → AreHits bound counts (flat_map entries (take k keys)) hits → AreHits bound counts (entries (get_or keys k 0)) more
       → AreHits bound counts (flat_map entries (take (k + 1) keys)) next
@@ -178,7 +189,8 @@ module _ (entries : ℕ → List Entry) (keys : List ℕ) (k : ℕ) (within : k 
       (subst (λ (all : List Entry). AreHits bound counts all (hits ++ more)) one_key_more
       (more_hits bound counts (flat_map entries (take k keys)) (entries (get_or keys k 0)) hits more so_far added))
 
-  -- the same, where it is only known how often each number is among those pushed
+  -- if `next` has each number as often as the hits of the first k keys, and as rows of key k count for it besides, it
+  -- has the hits of the first k + 1 keys
   pub hits_counted : (bound : ℕ) (counts : ℕ → Entry → Bool) (hits next : List ℕ) → All (λ n. n < bound) next
       → ((n : ℕ) → n < bound → times n next ≡ times n hits + count_by (counts n) (entries (get_or keys k 0)))
       → AreHits bound counts (flat_map entries (take k keys)) hits
@@ -193,9 +205,11 @@ module _ (entries : ℕ → List Entry) (keys : List ℕ) (k : ℕ) (within : k 
   }
 
 -- ---- a mark and a row
+-- a mark, for the places past the end of a list
 abbrev pub a_mark : Flagged
 a_mark = record { number = 0; is_first = false }
 
+-- an entry, for the places past the end of a list
 abbrev pub an_entry : Entry
 an_entry = record {
   row = record { source = 0; type_id = 0; group = 0; value = text_value [] };
@@ -203,17 +217,19 @@ an_entry = record {
   is_first_in_group = false;
 }
 
+-- the two parts of a conjunction can be exchanged
 and_turned : (a b : Bool) → (a && b) ≡ (b && a)
 and_turned true true = refl
 and_turned true false = refl
 and_turned false true = refl
 and_turned false false = refl
 
+-- the second and the third part of a conjunction can be exchanged
 pub and_apart : (a b c : Bool) → ((a && b) && c) ≡ ((a && c) && b)
 and_apart true b c = and_turned b c
 and_apart false b c = refl
 
--- a value behind the concepts is none
+-- a value after the concepts is no concept
 no_concept : (decimals : List ℤ) (texts : List (List ℕ)) (k concept : ℕ)
     → value_eq (get_or (map number_value decimals ++ map text_value texts) k (text_value [])) (concept_value concept) ≡ false
 no_concept [] [] k concept = refl
@@ -222,6 +238,7 @@ no_concept [] (text ∷ texts) (suc k) concept = no_concept [] texts k concept
 no_concept (decimal ∷ decimals) texts zero concept = refl
 no_concept (decimal ∷ decimals) texts (suc k) concept = no_concept decimals texts k concept
 
+-- a number that is no concept's has a value that is no concept
 past_concepts : (indexed : Indexed) (k concept : ℕ) → length indexed.concepts ≤ k
     → value_eq (value_at (values_of indexed) k) (concept_value concept) ≡ false
 past_concepts indexed k concept past =
@@ -230,7 +247,7 @@ past_concepts indexed k concept past =
     (length indexed.concepts) k (text_value []) (length-map indexed.concepts concept_value) past)
     ∙ no_concept indexed.decimals indexed.texts (k - length indexed.concepts) concept
 
--- a value is the concept with a number exactly where its own number is that of a concept, and this one
+-- a value is concept n exactly if its number is below the count of concepts and is n
 pub value_tells : (indexed : Indexed) → IsStrictlyIncreasing indexed.concepts → (bound : ℕ) → bound ≡ length indexed.concepts
     → (cell : ℕ) (value : Value) → value_at (values_of indexed) cell ≡ value → (n : ℕ) → n < length indexed.concepts
     → (ltb cell bound && (cell == n)) ≡ value_eq value (concept_value (get_or indexed.concepts n 0))
@@ -247,7 +264,7 @@ value_tells indexed rising bound is cell value there n inside =
     (cases_lt cell bound)
     ∙ ap is_it there
 
--- a row is in the group with a number exactly where that is the number of its own group
+-- the number m of a row's own group is n exactly if the row is in group n
 group_tells : (groups : List ConceptGroup) → IsOnce groups → All (λ (group : ConceptGroup). IsTold group.key) groups
     → (m n : ℕ) → n < length groups → (row : Attribute) → slice_get groups m ≡ Some (group_of row)
     → (m == n) ≡ is_in_some (slice_get groups n) row
@@ -269,24 +286,29 @@ group_tells groups once told m n inside row is =
       ]
     ]
 
--- ---- what is told of the cells
+-- ---- what the cells of a column tell
 module _ (indexed : Indexed) (entries : List Entry) (cells : List ℕ) where
   module _ (values : AreValues (values_of indexed) entries cells) where
+    -- there is a cell for each row in a column of values
     pub values_long : length cells ≡ length entries
     values_long = same_length (value_at (values_of indexed)) (λ (entry : Entry). entry.row.value) cells entries values.values
 
+    -- the cell of a row is the number of its value
     pub value_there : (k : ℕ) → k < length entries → value_at (values_of indexed) (get_or cells k 0) ≡ (get_or entries k an_entry).row.value
     value_there k within =
         same_at (value_at (values_of indexed)) (λ (entry : Entry). entry.row.value) cells entries values.values k 0 an_entry within
 
+    -- the cell of a row tells whether its value passes
     pub values_told : (passes : Value → Bool)
         → (k : ℕ) → k < length entries → passes (value_of indexed (get_or cells k 0)) ≡ passes (get_or entries k an_entry).row.value
     values_told passes k within = ap passes (value_there k within)
 
   module _ (types : AreTypes (types_of indexed.rows) entries cells) where
+    -- there is a cell for each row in a column of types
     pub types_long : length cells ≡ length entries
     types_long = same_length (slice_index (types_of indexed.rows)) (λ (entry : Entry). entry.row.type_id) cells entries types.types
 
+    -- the cell of a row tells whether its type passes
     pub types_told : (one told : ℕ → Bool) → TellsTypes indexed.rows one told
         → (k : ℕ) → k < length entries → told (get_or cells k 0) ≡ one (get_or entries k an_entry).row.type_id
     types_told one told tells k within =
@@ -296,25 +318,30 @@ module _ (indexed : Indexed) (entries : List Entry) (cells : List ℕ) where
 
 -- ---- by source, by value and by group
 module _ (concepts : List ℕ) (entries : List Entry) (marks : List Flagged) (sources : AreSources concepts entries marks) where
+  -- there is a mark for each row in a column of sources
   pub sources_long : length marks ≡ length entries
   sources_long = same_length (λ (mark : Flagged). mark.is_first) (λ (entry : Entry). entry.is_first) marks entries sources.firsts
 
+  -- the mark of a row has the number of a concept
   source_below : (k : ℕ) → k < length entries → (get_or marks k a_mark).number < length concepts
   source_below k within = sources.within k a_mark (omega (arith, within, sources_long))
 
+  -- the mark of a row says whether it is the first with its pair
   source_first : (k : ℕ) → k < length entries → (get_or marks k a_mark).is_first ≡ (get_or entries k an_entry).is_first
   source_first k within =
       same_at (λ (mark : Flagged). mark.is_first) (λ (entry : Entry). entry.is_first) marks entries sources.firsts k a_mark an_entry within
 
+  -- the mark of a row has the number of its source
   source_there : (k : ℕ) → k < length entries → get_or concepts (get_or marks k a_mark).number 0 ≡ (get_or entries k an_entry).row.source
   source_there k within =
       same_at (λ (mark : Flagged). get_or concepts mark.number 0) (λ (entry : Entry). entry.row.source) marks entries
       sources.sources k a_mark an_entry within
 
--- where the cell of each row tells whether it is kept
+-- rows whose cell tells whether they are kept
 module _ (kept : Attribute → Bool) (tells : ℕ → Bool) (entries : List Entry) (marks : List Flagged) (cells : List ℕ)
     (cells_long : length cells ≡ length entries)
     (told : (k : ℕ) → k < length entries → tells (get_or cells k 0) ≡ kept (get_or entries k an_entry).row) where
+  -- the sources of the kept rows that are the first with their pairs are hits
   source_hits : (concepts : List ℕ) → IsStrictlyIncreasing concepts → AreSources concepts entries marks
       → AreHits (length concepts) (counts_for_source concepts kept) entries
       (picked (λ mark cell. mark.is_first && tells cell) (λ mark cell. mark.number) marks cells)
@@ -332,6 +359,7 @@ module _ (kept : Attribute → Bool) (tells : ℕ → Bool) (entries : List Entr
           sym (same_by_number concepts rising (get_or marks k a_mark).number n (source_below concepts entries marks sources k within) inside)
           ∙ ap (λ (source : ℕ). source == get_or concepts n 0) (source_there concepts entries marks sources k within)
 
+  -- the groups of the kept rows that are the first with their pairs in their group are hits
   grouped_hits : (indexed : Indexed) → IsStrictlyIncreasing indexed.concepts → AreGroups (groups_in indexed) entries marks
       → AreHits (length (groups_in indexed)) (counts_for_group (groups_in indexed) kept) entries
       (picked (λ mark cell. mark.is_first && tells cell) (λ mark cell. mark.number) marks cells)
@@ -361,15 +389,17 @@ module _ (kept : Attribute → Bool) (tells : ℕ → Bool) (entries : List Entr
           same_at (λ (mark : Flagged). mark.is_first) (λ (entry : Entry). entry.is_first_in_group) marks entries groups.firsts
           k a_mark an_entry within
 
+  -- the owners of the kept rows that are the first with their pairs are hits
   pub owned_hits : (owner : Owner) (indexed : Indexed) → IsStrictlyIncreasing indexed.concepts → AreOwners owner indexed entries marks
       → AreHits (owner_count owner indexed) (counts_for_owner owner indexed kept) entries
       (picked (λ mark cell. mark.is_first && tells cell) (λ mark cell. mark.number) marks cells)
   owned_hits owners.Source indexed rising sources = source_hits indexed.concepts rising sources
   owned_hits owners.Group indexed rising groups = grouped_hits indexed rising groups
 
--- read backwards, the source of each row is tested
+-- rows that are read backwards, whose source is tested
 module _ (indexed : Indexed) (passes : Value → Bool)
     (entries : List Entry) (marks : List Flagged) (sources : AreSources indexed.concepts entries marks) where
+  -- the mark of a row tells whether its source passes
   pub source_told : (k : ℕ) → k < length entries
       → passes (value_of indexed (get_or marks k a_mark).number) ≡ passes (concept_value (get_or entries k an_entry).row.source)
   source_told k within =
@@ -377,7 +407,7 @@ module _ (indexed : Indexed) (passes : Value → Bool)
       (source_below indexed.concepts entries marks sources k within)
       ∙ ap concept_value (source_there indexed.concepts entries marks sources k within))
 
-  -- so the mark and the type of a row tell whether it counts for its value
+  -- the mark and the type of a row tell whether it is kept and the first with its pair, read backwards
   pub back_told : (one told : ℕ → Bool) (cells : List ℕ) → TellsTypes indexed.rows one told → AreTypes (types_of indexed.rows) entries cells
       → (k : ℕ) → k < length entries
       → ((get_or marks k a_mark).is_first && (told (get_or cells k 0) && passes (value_of indexed (get_or marks k a_mark).number)))
@@ -389,16 +419,19 @@ module _ (indexed : Indexed) (passes : Value → Bool)
 module _ (indexed : Indexed) (passes : Value → Bool)
     (rising : IsStrictlyIncreasing indexed.concepts) (entries : List Entry) (marks : List Flagged) (cells : List ℕ)
     (values : AreValues (values_of indexed) entries cells) (sources : AreSources indexed.concepts entries marks) where
-  -- what stands at a place
+  -- the mark at a place
   abbrev mark : ℕ → Flagged
   mark k = get_or marks k a_mark
 
+  -- the cell at a place
   abbrev cell : ℕ → ℕ
   cell k = get_or cells k 0
 
+  -- the entry at a place
   abbrev entry : ℕ → Entry
   entry k = get_or entries k an_entry
 
+  -- the values that are concepts, of the rows whose source passes and that are the first with their pairs, are hits
   pub backward_hits : (bound : ℕ) → bound ≡ length indexed.concepts
       → AreHits (length indexed.concepts) (counts_for_value indexed.concepts (λ row. passes (concept_value row.source))) entries
       (picked (λ mark cell. ltb cell bound && (mark.is_first && passes (value_of indexed mark.number))) (λ mark cell. cell) marks cells)
@@ -412,7 +445,8 @@ module _ (indexed : Indexed) (passes : Value → Bool)
       ∙ (λ i. value_tells indexed rising bound is (cell k) (entry k).row.value (value_there indexed entries cells values k within) n inside i
       && (source_first indexed.concepts entries marks sources k within i && source_told indexed passes entries marks sources k within i)))
 
--- ---- whatever passes, the numbers are below the bound
+-- ---- the numbers that are picked are below the bound
+-- the numbers of marks that are picked are below `bound` if those of all marks are
 pub marks_below : (kept : Flagged → ℕ → Bool) (bound : ℕ) (marks : List Flagged) (cells : List ℕ) → All (λ (mark : Flagged). mark.number < bound) marks
     → All (λ n. n < bound) (picked kept (λ mark cell. mark.number) marks cells)
 marks_below kept bound [] cells below = All-nil (λ n. n < bound)
@@ -425,6 +459,7 @@ marks_below kept bound (mark ∷ marks) (cell ∷ cells) below =
       | false ↦ rest
     ]
 
+-- the cells that are picked are below `bound` if only those below `bound` are picked
 pub cells_below : (test : Flagged → Bool) (bound : ℕ) (marks : List Flagged) (cells : List ℕ)
     → All (λ n. n < bound) (picked (λ mark cell. ltb cell bound && test mark) (λ mark cell. cell) marks cells)
 cells_below test bound [] cells = All-nil (λ n. n < bound)
@@ -438,6 +473,7 @@ cells_below test bound (mark ∷ marks) (cell ∷ cells) = by_case (cells_below 
     by_case rest true keeps = All-cons (λ n. n < bound) cell others (ltb-true cell bound (and_parts (ltb cell bound) (test mark) keeps).0) rest
     by_case rest false leaves = rest
 
+-- the marks of groups have numbers of groups
 group_marks_below : (groups : List ConceptGroup) (entries : List Entry) (marks : List Flagged) → AreGroups groups entries marks
     → All (λ (mark : Flagged). mark.number < length groups) marks
 group_marks_below groups entries marks are k d within =
@@ -447,18 +483,20 @@ group_marks_below groups entries marks are k d within =
     (same_at (λ (mark : Flagged). slice_get groups mark.number) (λ (entry : Entry). Some (group_of entry.row)) marks entries are.groups
     k d an_entry (omega (arith, within, long)))
 
+-- the marks of owners have numbers of owners
 pub owners_below : (owner : Owner) (indexed : Indexed) (entries : List Entry) (marks : List Flagged) → AreOwners owner indexed entries marks
     → All (λ (mark : Flagged). mark.number < owner_count owner indexed) marks
 owners_below owners.Source indexed entries marks sources = sources.within
 owners_below owners.Group indexed entries marks groups = group_marks_below (groups_in indexed) entries marks groups
 
--- there is one of them for each row
+-- there is a mark for each row in a column of owners
 pub owners_long : (owner : Owner) (indexed : Indexed) (entries : List Entry) (marks : List Flagged) → AreOwners owner indexed entries marks
     → length marks ≡ length entries
 owners_long owners.Source indexed entries marks sources = sources_long indexed.concepts entries marks sources
 owners_long owners.Group indexed entries marks groups =
     same_length (λ (mark : Flagged). mark.is_first) (λ (entry : Entry). entry.is_first_in_group) marks entries groups.firsts
 
+-- numbers below `bound` that are pushed after others below `bound` leave all below `bound`
 pub pushed_below : (bound : ℕ) (hits next more : List ℕ) → next ≡ hits ++ more → All (λ n. n < bound) hits → All (λ n. n < bound) more
     → All (λ n. n < bound) next
 pushed_below bound hits next more is below others =

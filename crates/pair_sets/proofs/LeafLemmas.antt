@@ -1,4 +1,4 @@
--- What the rows that count for a concept or a group are among its pairs.
+-- The rows that count for a concept or a group are its distinct pairs that pass.
 use Rattle.std.proofs.Common.{ℕ, ◌≡◌, ◌<◌, ◌+◌, ◌∙◌, ◌∷◌, [], inl, inr, arith}
 use Rattle.std.proofs.Common.{Bool, true, false, ◌&&◌, ◌||◌, ◌==◌, cond, List, length, get_or, map, refl, sym, ap, subst}
 use Rattle.std.specs.Prelude.{All, Contains, None, Option, Some, count_by, filter, nat_eq, slice_get}
@@ -39,11 +39,12 @@ use Rattle.pair_sets.proofs.HitLemmas.{count-append, count-cons}
 
 -- ---- how many items pass, by a key
 module _ {X : Type 0} where
+  -- nothing is counted by a test that no item passes
   pub count_none : (p : X → Bool) (xs : List X) → ((x : X) → p x ≡ false) → count_by p xs ≡ 0
   count_none p [] none = refl
   count_none p (x ∷ xs) none = count-cons p x xs ∙ (λ i. cond (none x i) (1 + count_by p xs) (count_by p xs)) ∙ count_none p xs none
 
-  -- of those that are kept
+  -- among the items that pass `p`, those that pass `q` are the items that pass both
   pub count_kept : (p q : X → Bool) (xs : List X) → count_by q (filter p xs) ≡ count_by (λ x. p x && q x) xs
   count_kept p q [] = refl
   count_kept p q (x ∷ xs) = by_case (count_kept p q xs) (p x) ∙ sym (count-cons (λ y. p y && q y) x xs)
@@ -53,7 +54,7 @@ module _ {X : Type 0} where
       by_case rest true = count-cons q x (filter p xs) ∙ (λ i. cond (q x) (1 + rest i) (rest i))
       by_case rest false = rest
 
-  -- where the tests agree on the items
+  -- tests that agree on the items count the same number of them
   pub count_agree : (p q : X → Bool) (xs : List X) → ((x : X) → Contains xs x → p x ≡ q x) → count_by p xs ≡ count_by q xs
   count_agree p q [] agree = refl
   count_agree p q (x ∷ xs) agree =
@@ -63,7 +64,7 @@ module _ {X : Type 0} where
       ∙ (λ i. cond (agree x (0, omega arith, refl) i) (1 + rest i) (rest i))
       ∙ sym (count-cons q x xs)
 
-  -- the items of either test, of which none passes both
+  -- if no item passes both of two tests, their counts added up are the count of the items that pass one of them
   pub count_either : (p q r : X → Bool) (xs : List X) → ((x : X) → (p x && q x) ≡ false) → ((x : X) → r x ≡ (p x || q x))
       → count_by p xs + count_by q xs ≡ count_by r xs
   count_either p q r [] apart either = refl
@@ -81,7 +82,7 @@ module _ {X : Type 0} where
       by_case rest false true both = omega (arith, rest)
       by_case rest false false both = rest
 
--- whether a key is none of some others
+-- a key that differs from all keys is not among them
 pub none_of : (key : ℕ) (keys : List ℕ) → AllByRecursion (λ other. nat_eq key other ≡ false) keys → has keys key ≡ false
 none_of key [] apart = refl
 none_of key (other ∷ keys) apart = (λ i. (swapped other key ∙ apart.0) i || has keys key) ∙ none_of key keys apart.1
@@ -89,11 +90,13 @@ none_of key (other ∷ keys) apart = (λ i. (swapped other key ∙ apart.0) i ||
     swapped : (a b : ℕ) → (a == b) ≡ (b == a)
     swapped a b = both_ways (a == b) (b == a) (λ told. eq-eqb b a (sym (eqb-true a b told))) (λ told. eq-eqb a b (sym (eqb-true b a told)))
 
--- items key by key, of the keys that are kept
+-- items of kept keys, key by key
 module _ {X : Type 0} (key : X → ℕ) (kept : ℕ → Bool) (test : X → Bool) (xs : List X) where
+  -- the items with a key
   of_key : ℕ → List X
   of_key k = filter (λ x. key x == k) xs
 
+  -- counting the items of the kept keys, key by key, counts the items whose key is one of the keys and kept
   pub count_by_keys : (keys : List ℕ) → IsDistinct nat_eq keys
       → count_by test (flat_map (λ k. filter (λ x. key x == k) xs) (filter kept keys))
       ≡ count_by (λ x. (has keys (key x) && kept (key x)) && test x) xs
@@ -144,11 +147,12 @@ module _ {X : Type 0} (key : X → ℕ) (kept : ℕ → Bool) (test : X → Bool
             | inr other ↦ sym (λ i. ((ne_eqb k (key x) (λ same. other (sym same)) i || has keys (key x)) && kept (key x)) && test x)
           ]
 
--- the types of rows stand once each
+-- the types of rows are distinct
 pub types_apart : (rows : List Attribute) → IsDistinct nat_eq (types_of rows)
 types_apart rows = (keeps_each_number_once (map (λ (row : Attribute). row.type_id) rows)).0
 
--- ---- the rows of some types that count for something are its pairs with one of these types that pass
+-- ---- the rows of kept types that count are pairs that pass
+-- as many mapped items pass a test as items pass the test after the map
 pub count_map : {X Y : Type 0} (test : Y → Bool) (f : X → Y) (xs : List X) → count_by test (map f xs) ≡ count_by (λ x. test (f x)) xs
 count_map test f [] = refl
 count_map test f (x ∷ xs) =
@@ -156,6 +160,7 @@ count_map test f (x ∷ xs) =
     ∙ (λ i. cond (test (f x)) (1 + count_map test f xs i) (count_map test f xs i))
     ∙ sym (count-cons (λ y. test (f y)) x xs)
 
+-- the first of four parts of a conjunction can be put third
 one_inside : (a b c d : Bool) → (a && (b && (c && d))) ≡ (b && (c && (a && d)))
 one_inside true b c d = refl
 one_inside false b c d = sym (by_case b c)
@@ -164,16 +169,18 @@ one_inside false b c d = sym (by_case b c)
     by_case true c = and-false c
     by_case false c = refl
 
+-- a conjunction of three parts does not depend on which two are joined first
 together : (a b c : Bool) → (a && (b && c)) ≡ ((a && b) && c)
 together true b c = refl
 together false b c = refl
 
--- the rows of some types, type by type, are the rows whose type is one of them
+-- the rows of kept types, type by type
 module _ (rows : List Attribute) (one : ℕ → Bool) where
-  -- the types of rows that are kept
+  -- the types of rows that pass `one`
   abbrev pub kept_types : List ℕ
   kept_types = filter one (types_of rows)
 
+  -- the type of a row is one of the types of rows
   pub type_there : (entry : Entry) → Contains (entries_of rows) entry → has (types_of rows) entry.row.type_id ≡ true
   type_there entry there =
       had_contained (types_of rows) entry.row.type_id
@@ -182,6 +189,7 @@ module _ (rows : List Attribute) (one : ℕ → Bool) where
       (subst (λ (all : List Attribute). Contains all entry.row) (rows_of_entries [] rows)
       (Contains-map (λ (e : Entry). e.row) (entries_of rows) entry there))))
 
+  -- the rows of the kept types that count are the rows that count and have a kept type
   pub types_counted : (belongs first passes : Entry → Bool)
       → count_by (λ entry. belongs entry && (first entry && passes entry)) (entries_with_types rows kept_types)
       ≡ count_by (λ entry. belongs entry && (first entry && (one entry.row.type_id && passes entry))) (entries_of rows)
@@ -195,7 +203,7 @@ module _ (rows : List Attribute) (one : ℕ → Bool) where
       (λ i. (type_there entry there i && one entry.row.type_id) && (belongs entry && (first entry && passes entry)))
       ∙ one_inside (one entry.row.type_id) (belongs entry) (first entry) (passes entry))
 
--- those that are the first with their pairs are the pairs
+-- the kept rows that are the first with their pairs are as many as the pairs that pass
 pub pairs_counted : (rows : List Attribute) (belongs first kept : Entry → Bool) (pair : Attribute → Pair) (test : Pair → Bool) (pairs : List Pair)
     → ((entry : Entry) → test (pair entry.row) ≡ kept entry)
     → count_by test pairs ≡ count_by test (map (λ (entry : Entry). pair entry.row) (filter (λ entry. belongs entry && first entry) (entries_of rows)))
@@ -206,15 +214,18 @@ pairs_counted rows belongs first kept pair test pairs tested told =
     ∙ sym (count_map test (λ (entry : Entry). pair entry.row) (filter (λ entry. belongs entry && first entry) (entries_of rows)))
     ∙ sym told
 
--- ---- of a concept
+-- ---- the pairs of a concept
 module _ (indexed : Indexed) (release : Release) (is : IsIndexOf indexed release) (rising : IsStrictlyIncreasing release.concepts)
     (one : ℕ → Bool) (passes : Value → Bool) where
+  -- whether a pair has a type that passes `one` and a value that passes `passes`
   abbrev pub passing_pair : Pair → Bool
   passing_pair pair = one pair.type_id && passes pair.value
 
+  -- the concept with a number is one of the release
   here : (n : ℕ) → n < length release.concepts → Contains release.concepts (get_or release.concepts n 0)
   here n within = Contains-get_or release.concepts n 0 within
 
+  -- the rows that count for concept n as their source are as many as the pairs of n that pass
   pub sources_counted : (n : ℕ) → n < length release.concepts
       → count_by (counts_for_source indexed.concepts (has_pair_in one passes) n) (entries_of indexed.rows)
       ≡ count_by passing_pair (out_pairs release (get_or release.concepts n 0))
@@ -225,6 +236,7 @@ module _ (indexed : Indexed) (release : Release) (is : IsIndexOf indexed release
       ∙ (λ i. count_by passing_pair (map (λ (entry : Entry). pair_of entry.row)
       (filter (λ (entry : Entry). (entry.row.source == get_or (sym is.concepts i) n 0) && entry.is_first) (entries_of (sym is.rows i))))))
 
+  -- the rows that count for concept n as their value are as many as the pairs, read backwards from n, that pass
   pub values_counted : All (λ (row : Attribute). has release.concepts row.source ≡ true) release.attributes → (n : ℕ)
       → count_by (counts_for_value indexed.concepts (has_source_in one passes) n) (entries_of indexed.rows)
       ≡ count_by passing_pair (in_pairs release (get_or release.concepts n 0))
@@ -235,6 +247,7 @@ module _ (indexed : Indexed) (release : Release) (is : IsIndexOf indexed release
       ∙ (λ i. count_by passing_pair (map (λ (entry : Entry). reverse_pair_of entry.row)
       (filter (λ (entry : Entry). value_eq entry.row.value (concept_value (get_or (sym is.concepts i) n 0)) && entry.is_first) (entries_of (sym is.rows i))))))
 
+  -- the rows that count for concept n are as many as its pairs that pass, its own or read backwards
   pub concept_counted : All (λ (row : Attribute). has release.concepts row.source ≡ true) release.attributes
       → (back : Bool) (n : ℕ) → n < length release.concepts
       → count_by (counts_for_concept back indexed.concepts one passes n) (entries_of indexed.rows)
@@ -242,7 +255,8 @@ module _ (indexed : Indexed) (release : Release) (is : IsIndexOf indexed release
   concept_counted known true n within = values_counted known n
   concept_counted known false n within = sources_counted n within
 
-  -- so the numbers that stand among those of the rows as often as is asked are the concepts with so many pairs
+  -- the numbers that the hits have as often as `count` asks are the concepts whose number of matching pairs lies in
+  -- `count`
   pub concepts_found : All (λ (row : Attribute). has release.concepts row.source ≡ true) release.attributes
       → (back : Bool) (count : Cardinality) (bound : ℕ) → bound ≡ length release.concepts → (hits found : List ℕ)
       → ((n : ℕ) → n < bound → times n hits ≡ count_by (counts_for_concept back indexed.concepts one passes n) (entries_of indexed.rows))
@@ -254,14 +268,15 @@ module _ (indexed : Indexed) (release : Release) (is : IsIndexOf indexed release
       (λ n within. ap (lies_in count) (often n within ∙ concept_counted known back n (omega (arith, within, counted))))
       ∙ ap (λ m. numbers_where m (λ n. has_pairs count one passes (pairs_of release back (get_or release.concepts n 0)))) counted
 
--- ---- of a group
--- at a place within a list there is an item
+-- ---- the pairs of a group
+-- a list has an item at each place within it
 pub none_within : {X : Type 0} (xs : List X) (k : ℕ) → k < length xs → slice_get xs k ≡ None → ⊥
 none_within [] k within at = absurd (omega (arith, within))
 none_within (x ∷ xs) k within at = let is : Some (get_or (x ∷ xs) k x) ≡ None = sym (slice_get-get_or (x ∷ xs) k x within) ∙ at in absurd cc
 
 module _ (indexed : Indexed) (release : Release) (is : IsIndexOf indexed release) (rising : IsStrictlyIncreasing release.concepts)
     (one : ℕ → Bool) (passes : Value → Bool) where
+  -- the rows that count for a group are as many as its pairs that pass
   pub group_counted : (n : ℕ) (group : ConceptGroup) → slice_get (groups_in indexed) n ≡ Some group
       → count_by (counts_for_group (groups_in indexed) (has_pair_in one passes) n) (entries_of indexed.rows)
       ≡ count_by (passing_pair indexed release is rising one passes) (pairs_of_group release group)
@@ -280,6 +295,8 @@ module _ (indexed : Indexed) (release : Release) (is : IsIndexOf indexed release
           subst (λ (groups : List ConceptGroup). Contains groups group) (λ i. all_groups (rows_alone (is.concepts i) (is.rows i)))
           (n, slice_get_within (groups_in indexed) n group at, found)
 
+  -- the numbers that the hits have as often as `count` asks are the groups whose number of matching pairs lies in
+  -- `count`
   pub groups_found : (count : Cardinality) (bound : ℕ) → bound ≡ length (groups_in indexed) → (hits found : List ℕ)
       → ((n : ℕ) → n < bound → times n hits ≡ count_by (counts_for_group (groups_in indexed) (has_pair_in one passes) n) (entries_of indexed.rows))
       → found ≡ numbers_where bound (λ n. lies_in count (times n hits))
@@ -299,7 +316,8 @@ module _ (indexed : Indexed) (release : Release) (is : IsIndexOf indexed release
       in_group n within (Some group) at =
           ap (lies_in count) (group_counted n group at) ∙ ap (some_group_in release (has_pairs count one passes)) (sym at)
 
--- ---- where all attribute rows are among those by source, their sources are in force
+-- ---- the sources of attribute rows are in force
+-- if as many items pass as there are, all pass
 count_full : {X : Type 0} (test : X → Bool) (xs : List X) → count_by test xs ≡ length xs → All (λ x. test x ≡ true) xs
 count_full test [] full = All-nil (λ x. test x ≡ true)
 count_full test (x ∷ xs) full = by_case (test x) refl (count_full test xs)
@@ -315,13 +333,14 @@ count_full test (x ∷ xs) full = by_case (test x) refl (count_full test xs)
           count_by-le-length test xs,
         ))
 
--- the concepts differ
+-- rising concepts are distinct
 pub concepts_apart : (concepts : List ℕ) → IsStrictlyIncreasing concepts → IsDistinct nat_eq concepts
 concepts_apart concepts rising = IsDistinct-from_apart nat_eq concepts
     (λ i j d before within. ne_eqb (get_or concepts i d) (get_or concepts j d)
     (λ same. let less : get_or concepts i 0 < get_or concepts j 0 = earlier_below concepts rising i j before within in
     absurd (omega (arith, less, same, get_or_default concepts i d 0 (omega (arith, before, within)), get_or_default concepts j d 0 within))))
 
+-- if the rows by source are all attribute rows, each source is a concept of the release
 pub sources_known : (release : Release) → IsStrictlyIncreasing release.concepts
     → length (attributes_by_source release) ≡ length release.attributes
     → All (λ (row : Attribute). has release.concepts row.source ≡ true) release.attributes

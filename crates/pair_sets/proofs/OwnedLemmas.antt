@@ -25,6 +25,7 @@ use Rattle.candidates.proofs.GroupLemmas.{groups_are}
 use Rattle.pair_sets.proofs.LeafLemmas.{concepts_apart}
 
 -- ---- ranges
+-- a range has each number from its start to its end
 pub has_range : (start n g : ℕ) → start ≤ g → g < start + n → has (range_with_len start n) g ≡ true
 has_range start zero g from within = absurd (omega (arith, from, within))
 has_range start (suc n) g from within = elim (cases_eq start g) [
@@ -34,11 +35,13 @@ has_range start (suc n) g from within = elim (cases_eq start g) [
       ∙ has_range (start + 1) n g (omega (arith, from, apart)) (omega (arith, within))
 ]
 
+-- a range that ends by `bound` has numbers below `bound` alone
 pub range_below : (start end bound : ℕ) → end ≤ bound → All (λ g. g < bound) (range_with_len start (end - start))
 range_below start end bound fits k d within =
     let short : k < end - start = omega (arith, within, length-range_with_len start (end - start)) in
     omega (arith, short, fits, get_or-range_with_len start (end - start) k d short)
 
+-- a range of n + 1 numbers is the range of n numbers and then `start` + n
 pub range_next : (start n : ℕ) → range_with_len start (n + 1) ≡ range_with_len start n ++ (start + n) ∷ []
 range_next start zero = ap (λ (m : ℕ). m ∷ []) (omega arith)
 range_next start (suc n) =
@@ -49,9 +52,11 @@ range_next start (suc n) =
     ∙ ap (λ (m : ℕ). start ∷ (range_with_len (start + 1) n ++ m ∷ [])) last
 
 -- ---- an item of one of two lists
+-- an item of the first list is one of both lists together
 pub has_sooner : (xs ys : List ℕ) (n : ℕ) → has xs n ≡ true → has (xs ++ ys) n ≡ true
 has_sooner xs ys n there = list_any-append (λ x. x == n) xs ys ∙ (λ i. there i || has ys n)
 
+-- an item of the second list is one of both lists together
 pub has_later : (xs ys : List ℕ) (n : ℕ) → has ys n ≡ true → has (xs ++ ys) n ≡ true
 has_later xs ys n there = list_any-append (λ x. x == n) xs ys ∙ (λ i. has xs n || there i) ∙ always (has xs n)
   where
@@ -59,6 +64,7 @@ has_later xs ys n there = list_any-append (λ x. x == n) xs ys ∙ (λ i. has xs
     always true = refl
     always false = refl
 
+-- an item of the first k + 1 is one of the first k or item k
 pub taken_more : (xs : List ℕ) (k n : ℕ) → k < length xs → has (take (k + 1) xs) n ≡ true → (has (take k xs) n ≡ true) ⊎ (get_or xs k 0 ≡ n)
 taken_more xs k n within there = elim (cases_eq (get_or xs k 0) n) [
   | inl same ↦ inr same
@@ -67,12 +73,14 @@ taken_more xs k n within there = elim (cases_eq (get_or xs k 0) n) [
       ∙ sym (item_more (take k xs) (get_or xs k 0) n) ∙ ap (λ (ys : List ℕ). has ys n) (sym (take_more xs k 0 within)) ∙ there)
 ]
 
--- ---- items of lists one behind the other
+-- ---- items of two lists, one after the other
+-- both lists together have at a place within the first list the item of that list
 get_left : {X : Type 0} (xs ys : List X) (k : ℕ) → k < length xs → slice_get (xs ++ ys) k ≡ slice_get xs k
 get_left [] ys k within = absurd (omega (arith, within))
 get_left (x ∷ xs) ys zero within = refl
 get_left (x ∷ xs) ys (suc k) within = get_left xs ys k (omega (arith, within))
 
+-- both lists together have, after the first list, the items of the second list
 get_right : {X : Type 0} (xs ys : List X) (k : ℕ) → slice_get (xs ++ ys) (length xs + k) ≡ slice_get ys k
 get_right [] ys k = ap (slice_get ys) (omega arith)
 get_right (x ∷ xs) ys k = ap (slice_get (x ∷ (xs ++ ys))) next ∙ get_right xs ys k
@@ -80,18 +88,20 @@ get_right (x ∷ xs) ys k = ap (slice_get (x ∷ (xs ++ ys))) next ∙ get_right
     next : length (x ∷ xs) + k ≡ suc (length xs + k)
     next = omega arith
 
+-- a list all of whose items differ from x does not contain x
 absent : (x : ℕ) (xs : List ℕ) → AllByRecursion (λ other. nat_eq x other ≡ false) xs → Contains xs x → ⊥
 absent x [] apart (k, within, is) = omega (arith, within)
 absent x (y ∷ ys) apart (zero, within, is) = false≢true (sym apart.0 ∙ eq-eqb x y (sym is))
 absent x (y ∷ ys) apart (suc k, within, is) = absent x ys apart.1 (k, omega (arith, within), is)
 
 module _ (release : Release) where
+  -- each group of a concept's block has this concept
   of_block : (c : ℕ) (keys : List GroupKey) (g : ℕ) → g < length keys → concept_in (slice_get (map (group_with c) keys) g) ≡ c
   of_block c [] g within = absurd (omega (arith, within))
   of_block c (key ∷ keys) zero within = refl
   of_block c (key ∷ keys) (suc g) within = of_block c keys g (omega (arith, within))
 
-  -- the concept of a group is one of those whose groups these are
+  -- the concept of a group is one of those whose groups are listed
   own_among : (xs : List ℕ) (g : ℕ) → g < length (groups_among release xs) → Contains xs (concept_in (slice_get (groups_among release xs) g))
   own_among [] g within = absurd (omega (arith, within))
   own_among (x ∷ xs) g within =
@@ -113,7 +123,8 @@ module _ (release : Release) where
             (own_among xs (g - length block) (omega (arith, far, within, all))))
       ]
 
-  -- the groups of the concept at a place are behind those of the concepts before it
+  -- a group of the concept at place n comes after the groups of the concepts before n, and before those of the concepts
+  -- after n
   spans : (xs : List ℕ) → IsDistinct nat_eq xs → (g n : ℕ) → g < length (groups_among release xs) → n < length xs
       → concept_in (slice_get (groups_among release xs) g) ≡ get_or xs n 0
       → (length (groups_among release (take n xs)) ≤ g) × (g < length (groups_among release (take (suc n) xs)))
@@ -152,7 +163,8 @@ module _ (release : Release) where
             )
       ]
 
--- ---- of the indexes
+-- ---- the groups in the indexes
+-- the groups of the first concepts are no more than all groups
 pub before_all : (indexed : Indexed) (n : ℕ) → length (groups_before indexed n) ≤ length (groups_in indexed)
 before_all indexed n =
     let alone : Release = rows_alone indexed.concepts indexed.rows in
@@ -164,6 +176,7 @@ before_all indexed n =
     )
 
 module _ (indexed : Indexed) (release : Release) (index : IsIndexOf indexed release) (rising : IsStrictlyIncreasing release.concepts) where
+  -- if the groups found contain, for each item, the range of its groups, they have all groups of the items
   pub owned : (items found : List ℕ)
       → ((concept group : ℕ) → has items concept ≡ true → length (groups_before indexed concept) ≤ group
       → group < length (groups_before indexed (concept + 1)) → has found group ≡ true)

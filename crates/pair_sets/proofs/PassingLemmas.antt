@@ -25,14 +25,14 @@ use Rattle.number_lists.proofs.ListLemmas.{any_agree}
 use Rattle.candidates.proofs.Normal.{concept_number-None, same_by_number}
 
 -- ---- a concept by its number
--- a concept is one of some where its number is
+-- the concept with number n is in a set exactly if the set has n
 pub one_by_number : (concepts : List ℕ) → IsStrictlyIncreasing concepts → (items : List ℕ) → All (λ item. item < length concepts) items
     → (n : ℕ) → n < length concepts → is_one_of concepts items (get_or concepts n 0) ≡ has items n
 one_by_number concepts rising items below n within =
     any_agree items (λ m. slice_index concepts m == get_or concepts n 0) (λ m. m == n) 0
     (λ k there. same_by_number concepts rising (get_or items k 0) n (below k 0 there) within)
 
--- and one without a number is none of them
+-- a concept without a number is in no set
 pub none_by_number : (concepts : List ℕ) (items : List ℕ) → All (λ item. item < length concepts) items → (id : ℕ) → concept_number concepts id ≡ None
     → is_one_of concepts items id ≡ false
 none_by_number concepts [] below id at = refl
@@ -40,7 +40,7 @@ none_by_number concepts (item ∷ items) below id at =
     (λ i. ne_eqb (get_or concepts item 0) id (λ same. concept_number-None concepts id at item (below 0 0 (omega arith)) same) i || is_one_of concepts items id)
     ∙ none_by_number concepts items (All-tail (λ x. x < length concepts) item items below) id at
 
--- a number that is not below a bound is not among some that are
+-- a number that is not below `bound` is not among numbers that are below it
 pub none_past : (bound : ℕ) (items : List ℕ) → All (λ item. item < bound) items → (n : ℕ) → bound ≤ n → has items n ≡ false
 none_past bound [] below n past = refl
 none_past bound (item ∷ items) below n past =
@@ -49,7 +49,7 @@ none_past bound (item ∷ items) below n past =
     ∙ none_past bound items (All-tail (λ x. x < bound) item items below) n past
 
 -- ---- values that are no concepts
--- where no item passes and the default does not, none at a place does
+-- if no item of a list passes, nor the default, the item at a place does not pass
 none_at : {X : Type 0} (test : X → Bool) (xs : List X) → All (λ x. test x ≡ false) xs → (d : X) → test d ≡ false
     → (k : ℕ) → test (get_or xs k d) ≡ false
 none_at test [] none d last k = last
@@ -57,10 +57,11 @@ none_at test (x ∷ xs) none d last zero = none 0 x (omega arith)
 none_at test (x ∷ xs) none d last (suc k) = none_at test xs (All-tail (λ y. test y ≡ false) x xs none) d last k
 
 module _ (test : Value → Bool) (no_text : (text : List ℕ) → test (text_value text) ≡ false) where
+  -- if no text passes, the values of texts do not pass
   texts_fail : (texts : List (List ℕ)) → All (λ value. test value ≡ false) (map text_value texts)
   texts_fail texts = All-map (λ value. test value ≡ false) text_value texts (λ k d within. no_text (get_or texts k d))
 
-  -- a number that is behind the concepts is that of a value that does not pass
+  -- a number after those of the concepts has a value that does not pass, if no decimal and no text passes
   pub behind_fails : (concepts : List ℕ) (decimals : List ℤ) (texts : List (List ℕ)) → ((decimal : ℤ) → test (number_value decimal) ≡ false)
       → (n : ℕ) → length concepts ≤ n → test (value_at (values_among concepts decimals texts) n) ≡ false
   behind_fails [] decimals texts no_decimal n past =
@@ -74,12 +75,15 @@ module _ (test : Value → Bool) (no_text : (text : List ℕ) → test (text_val
 
 -- ---- the tests
 module _ (indexed : Indexed) (rising : IsStrictlyIncreasing indexed.concepts) where
+  -- the value with a number
   abbrev pub value : ℕ → Value
   value n = value_at (values_of indexed) n
 
+  -- the value with the number of a concept is the concept
   concept_here : (n : ℕ) → n < length indexed.concepts → value n ≡ concept_value (get_or indexed.concepts n 0)
   concept_here n within = concept_at indexed.concepts indexed.decimals indexed.texts n (text_value []) within
 
+  -- a set has n exactly if the value with number n is one of its concepts
   pub within_told : (items : List ℕ) → All (λ item. item < length indexed.concepts) items
       → (n : ℕ) → has items n ≡ is_within (is_one_of indexed.concepts items) (value n)
   within_told items below n = elim (cases_lt n (length indexed.concepts)) [
@@ -90,6 +94,8 @@ module _ (indexed : Indexed) (rising : IsStrictlyIncreasing indexed.concepts) wh
         indexed.concepts indexed.decimals indexed.texts (λ decimal. refl) n past)
   ]
 
+  -- n is the number of a concept that a set does not have exactly if the value with number n is a concept outside the
+  -- set
   pub outside_told : (items : List ℕ) → All (λ item. item < length indexed.concepts) items
       → (n : ℕ) → (ltb n (length indexed.concepts) && not (has items n)) ≡ is_outside (is_one_of indexed.concepts items) (value n)
   outside_told items below n = elim (cases_lt n (length indexed.concepts)) [
@@ -102,36 +108,39 @@ module _ (indexed : Indexed) (rising : IsStrictlyIncreasing indexed.concepts) wh
   ]
 
 -- ---- how numbers compare
+-- a natural number is at most another exactly if the other is not below it
 not_less : (a b : ℕ) → leb a b ≡ not (ltb b a)
 not_less a b = elim (cases_lt b a) [
   | inl less ↦ lt-leb a b less ∙ ap not (sym (lt-ltb b a less))
   | inr past ↦ le-leb a b past ∙ ap not (sym (le-ltb b a past))
 ]
 
+-- a natural number is not both below and above another
 not_both : (a b : ℕ) → (ltb a b && ltb b a) ≡ false
 not_both a b = elim (cases_lt a b) [
   | inl less ↦ (λ i. ltb a b && le-ltb b a (omega (arith, less)) i) ∙ and-false (ltb a b)
   | inr past ↦ (λ i. le-ltb a b past i && ltb b a)
 ]
 
--- at most is not more
+-- an integer is at most another exactly if the other is not below it
 pub int_not_more : (x y : ℤ) → int_le x y ≡ not (int_lt y x)
 int_not_more (pos a) (pos b) = not_less a b
 int_not_more (pos a) (negsuc b) = refl
 int_not_more (negsuc a) (pos b) = refl
 int_not_more (negsuc a) (negsuc b) = not_less b a
 
+-- an integer is not both below and above another
 int_not_both : (x y : ℤ) → (int_lt x y && int_lt y x) ≡ false
 int_not_both (pos a) (pos b) = not_both a b
 int_not_both (pos a) (negsuc b) = refl
 int_not_both (negsuc a) (pos b) = refl
 int_not_both (negsuc a) (negsuc b) = not_both b a
 
--- how one number stands to another, by whether it is less, and whether it is more
+-- the order of two numbers, given whether the first is below and whether it is above
 abbrev order_by : Bool → Bool → Ordering
 order_by less more = cond less Less (cond more Greater Equal)
 
--- so two numbers compare as is asked where their order meets it
+-- two numbers compare as is asked exactly if their order meets the comparison
 pub meets_told : (compare : Compare) (x y : ℤ) → meets compare (int_cmp x y) ≡ compares compare x y
 meets_told comparison.Equal x y = refl
 meets_told comparison.NotEqual x y = differs (int_cmp x y)
@@ -167,15 +176,17 @@ meets_told comparison.GreaterOrEqual x y = at_least (int_lt x y) (int_lt y x) �
     at_least false true = refl
     at_least false false = refl
 
--- ---- which numbers compare so
+-- ---- which values are numbers that compare as is asked
 module _ (compare : Compare) (number : ℤ) (indexed : Indexed) where
+  -- whether a value is a number that compares with `number` as is asked
   abbrev asked : Value → Bool
   asked value = is_number_that compare number value
 
+  -- a concept is no number, so it does not pass
   pub concept_fails : (n : ℕ) → n < length indexed.concepts → false ≡ asked (value_of indexed n)
   concept_fails n within = sym (ap asked (concept_at indexed.concepts indexed.decimals indexed.texts n (text_value []) within))
 
-  -- the decimals follow the concepts
+  -- a number of a decimal, which follows those of the concepts, passes exactly if the decimal meets the comparison
   pub decimal_told : (k : ℕ) → k < length indexed.decimals → (decimal : ℤ) → decimal ≡ get_or indexed.decimals k (pos 0)
       → meets compare (int_cmp decimal number) ≡ asked (value_of indexed (length indexed.concepts + k))
   decimal_told k within decimal is =
@@ -183,6 +194,7 @@ module _ (compare : Compare) (number : ℤ) (indexed : Indexed) where
       ∙ ap (λ (own : ℤ). compares compare own number) is
       ∙ sym (ap asked (decimal_at indexed.concepts indexed.decimals indexed.texts k (text_value []) (pos 0) within))
 
+  -- a number after those of the decimals has no decimal, so it does not pass
   pub past_decimals : (k : ℕ) → length indexed.decimals ≤ k → false ≡ asked (value_of indexed (length indexed.concepts + k))
   past_decimals k past =
       sym (ap asked (value_behind indexed.concepts indexed.decimals indexed.texts k (text_value [])

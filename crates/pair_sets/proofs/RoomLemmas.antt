@@ -1,4 +1,4 @@
--- The rows of distinct types, of distinct sources and of distinct values are no more than all rows.
+-- Distinct types, sources, values and groups have no more rows than there are rows in all.
 use Rattle.std.proofs.Common.{ℕ, suc, ◌+◌, ◌∷◌, [], ◌≡◌, ◌≤◌, ◌<◌, ◌∙◌, Bool, true, false, not, cond, List}
 use Rattle.std.proofs.Common.{length, get_or, refl, sym, ap, arith}
 use Rattle.std.specs.Prelude.{Option, None, Some, count_by, filter, slice_get, ◌&&◌, ◌==◌}
@@ -32,11 +32,12 @@ use Rattle.candidates.proofs.Normal.{same_by_number}
 use Rattle.candidates.proofs.SumLemmas.{no_sum, two_sums}
 use Rattle.pair_sets.proofs.LeafLemmas.{count_by_keys, types_apart}
 
+-- the test that is always true counts all items
 pub all_pass : {X : Type 0} (xs : List X) → count_by (λ x. true) xs ≡ length xs
 all_pass [] = refl
 all_pass (x ∷ xs) = omega (arith, sum_by-cons (λ x. 1) x xs, all_pass xs)
 
--- the types of rows are distinct, so the rows of some of them are no more than all rows
+-- distinct types of rows have together no more rows than there are rows in all
 pub type_rows_few : (indexed : Indexed) (one : ℕ → Bool)
     → sum_by (type_row_count indexed) (filter one (types_of indexed.rows)) ≤ length indexed.rows
 type_rows_few indexed one =
@@ -54,8 +55,8 @@ type_rows_few indexed one =
       count_by-le-length (λ (row : Attribute). (has types row.type_id && one row.type_id) && true) rows,
     )
 
--- ---- rows by keys of which each row has one at the most
--- the rows of the keys, key by key, are no more than all
+-- ---- rows by keys, of which each row has at most one
+-- if each row has at most one of the keys, the keys have together no more rows than there are
 rows_once : {X : Type 0} (has_key : X → ℕ → Bool) (keys : List ℕ) → ((x : X) → count_by (has_key x) keys ≤ 1)
     → (xs : List X) → sum_by (λ key. length (filter (λ x. has_key x key) xs)) keys ≤ length xs
 rows_once has_key keys once [] = omega (arith, no_sum keys)
@@ -78,9 +79,10 @@ rows_once has_key keys once (x ∷ xs) =
     by true ys = omega arith
     by false ys = omega arith
 
--- where no number behind one that passes a test does, one of some rising numbers passes at the most
+-- a test that no number passes after one that passes
 module _ (count : ℕ) (test : ℕ → Bool)
     (apart : (n m : ℕ) → n < m → m < count → test n ≡ true → test m ≡ false) where
+  -- if n passes, no number after it among rising numbers passes
   none_behind : (n lowest : ℕ) (numbers : List ℕ) → n < lowest → test n ≡ true → rises_within lowest count numbers ≡ true
       → count_by test numbers ≡ 0
   none_behind n lowest [] before passes rises = refl
@@ -93,6 +95,7 @@ module _ (count : ℕ) (test : ℕ → Bool)
         none_behind n (suc m) numbers (omega (arith, before, on.above)) passes on.rest,
       )
 
+  -- of rising numbers at most one passes
   one_passes : (lowest : ℕ) (numbers : List ℕ) → rises_within lowest count numbers ≡ true → count_by test numbers ≤ 1
   one_passes lowest [] rises = omega arith
   one_passes lowest (n ∷ numbers) rises =
@@ -111,7 +114,7 @@ module _ (count : ℕ) (test : ℕ → Bool)
       by false fails none one rest =
           omega (arith, sum_by-cons (λ k. cond (test k) 1 0) n numbers, ap (λ (b : Bool). cond {A = ℕ} b 1 0) fails, one)
 
--- an identifier is that of one of the numbers of rising concepts at the most
+-- an identifier is that of at most one of rising numbers of concepts
 one_number : (concepts : List ℕ) → IsStrictlyIncreasing concepts → (id lowest : ℕ) (numbers : List ℕ)
     → rises_within lowest (length concepts) numbers ≡ true → count_by (λ n. id == get_or concepts n 0) numbers ≤ 1
 one_number concepts rising id =
@@ -121,7 +124,7 @@ one_number concepts rising id =
     ∙ same_by_number concepts rising n m (omega (arith, before, within)) within
     ∙ ne_eqb n m (λ equal. omega (arith, equal, before)))
 
--- no row has two sources, so the rows of some sources are no more than all rows
+-- no row has two sources, so distinct sources have together no more rows than there are in all
 pub source_rows_few : (indexed : Indexed) → IsStrictlyIncreasing indexed.concepts → (numbers : List ℕ)
     → IsRisingBelow (length indexed.concepts) numbers → sum_by (row_count_of indexed true) numbers ≤ length indexed.rows
 source_rows_few indexed rising numbers rises =
@@ -136,7 +139,7 @@ source_rows_few indexed rising numbers rises =
           (λ row. one_number indexed.concepts rising row.source 0 numbers rises) indexed.rows,
     )
 
--- nor has a row two values, so the rows that have one of some concepts as their value are no more than all rows
+-- no row has two values, so distinct values have together no more rows than there are in all
 pub value_rows_few : (indexed : Indexed) → IsStrictlyIncreasing indexed.concepts → (numbers : List ℕ)
     → IsRisingBelow (length indexed.concepts) numbers → sum_by (row_count_of indexed false) numbers ≤ length indexed.rows
 value_rows_few indexed rising numbers rises =
@@ -155,13 +158,13 @@ value_rows_few indexed rising numbers rises =
     once (number_value number) = omega (arith, no_sum numbers)
     once (text_value bytes) = omega (arith, no_sum numbers)
 
--- the same in either direction
+-- distinct concepts have together no more rows as sources, or as values, than there are in all
 pub rows_few : (indexed : Indexed) → IsStrictlyIncreasing indexed.concepts → (numbers : List ℕ)
     → IsRisingBelow (length indexed.concepts) numbers → (back : Bool) → sum_by (row_count_of indexed back) numbers ≤ length indexed.rows
 rows_few indexed rising numbers rises true = source_rows_few indexed rising numbers rises
 rows_few indexed rising numbers rises false = value_rows_few indexed rising numbers rises
 
--- a row is in at most one group, so distinct groups have no more rows in all than there are
+-- no row is in two groups, so distinct groups have together no more rows than there are in all
 pub group_rows_few : (indexed : Indexed) → IsStrictlyIncreasing indexed.concepts → (numbers : List ℕ)
     → IsRisingBelow (length (groups_in indexed)) numbers → sum_by (group_row_count indexed) numbers ≤ length indexed.rows
 group_rows_few indexed rising numbers rises =
@@ -217,7 +220,7 @@ group_rows_few indexed rising numbers rises =
                   (its_group row n (omega (arith, before, within)) passes ∙ sym (its_group row m within also)),
             ))
 
--- where no more of the candidates is than is said, they and their rows are no more than that
+-- candidates that are concepts, and their rows, are no more items than their extent says
 pub concepts_fit : {S : Type 0} (items_of : S → List ℕ) (indexed : Indexed) (back : Bool) (candidates : Candidates S)
     → HaveExtent items_of (IsExtentOf indexed) candidates
     → full (candidate_items items_of indexed (row_count_of indexed (not back)) candidates) ≤ extent_items (extent_told back candidates)
@@ -225,13 +228,14 @@ concepts_fit items_of indexed back candidates.All extent = omega arith
 concepts_fit items_of indexed true (candidates.Within set extent) is = omega (arith, is.items, is.back_rows)
 concepts_fit items_of indexed false (candidates.Within set extent) is = omega (arith, is.items, is.rows)
 
+-- candidates that are groups, and their rows, are no more items than their extent says
 pub groups_fit : {S : Type 0} (items_of : S → List ℕ) (indexed : Indexed) (candidates : Candidates S)
     → HaveExtent items_of (IsGroupExtentOf indexed) candidates
     → full (candidate_items items_of indexed (group_row_count indexed) candidates) ≤ extent_items (extent_told false candidates)
 groups_fit items_of indexed candidates.All extent = omega arith
 groups_fit items_of indexed (candidates.Within set extent) is = omega (arith, is.items, is.rows)
 
--- what is read of candidates that are listed, and then by so many rows each
+-- listing candidates and reading their rows takes no more items than `candidate_items` says
 pub asked_fit : {S : Type 0} (items_of : S → List ℕ) (indexed : Indexed) (rows : ℕ → ℕ) (candidates : Candidates S) (numbers : List ℕ)
     → AreListedFor items_of candidates numbers → sum_by rows numbers ≤ length indexed.rows
     → candidates_listed items_of candidates + sum_by rows numbers ≤ candidate_items items_of indexed rows candidates

@@ -12,6 +12,7 @@ use Rattle.constraint_tree.specs.declared.operator.Cardinality.{Cardinality}
 use Rattle.constraint_tree.specs.Passing.{is_up_to, lies_in}
 
 -- ---- by recursion on the list
+-- a first item adds one to how often a list has it
 pub times-cons : (number x : ℕ) (xs : List ℕ) → times number (x ∷ xs) ≡ cond (x == number) (1 + times number xs) (times number xs)
 times-cons number x xs =
     sym (length-filter (λ y. y == number) (x ∷ xs))
@@ -21,7 +22,7 @@ times-cons number x xs =
       | false ↦ length-filter (λ y. y == number) xs
     ]
 
--- a number is in a list where it stands there at least once
+-- a list has a number exactly if the number stands in it at least once
 pub has_times : (xs : List ℕ) (number : ℕ) → has xs number ≡ nat_le 1 (times number xs)
 has_times [] number = refl
 has_times (x ∷ xs) number =
@@ -31,16 +32,19 @@ has_times (x ∷ xs) number =
     ] ∙ ap (nat_le 1) (sym (times-cons number x xs))
 
 -- ---- a number more
+-- a list of one item has it once, and no other number
 times_more : (number x : ℕ) → times number (x ∷ []) ≡ cond (x == number) 1 0
 times_more number x = times-cons number x []
 
+-- a number that a list has stands in it at least once
 there_once : (xs : List ℕ) (number : ℕ) → has xs number ≡ true → 1 ≤ times number xs
 there_once xs number there = leb-true 1 (times number xs) (sym (has_times xs number) ∙ there)
 
+-- a number that a list does not have stands in it no time
 not_there : (xs : List ℕ) (number : ℕ) → has xs number ≡ false → times number xs ≡ 0
 not_there xs number absent = omega (arith, leb-false 1 (times number xs) (sym (has_times xs number) ∙ absent))
 
--- of the numbers so far those that were there before are kept: one more that was there, and one that was not
+-- if `left` has each number once less often than `xs`, it still does if an item of `xs` is appended to both
 pub again_step : (xs left : List ℕ) (x number : ℕ) → has xs x ≡ true → times number left ≡ times number xs - 1
     → times number (left ++ x ∷ []) ≡ times number (xs ++ x ∷ []) - 1
 again_step xs left x number there so_far =
@@ -55,6 +59,7 @@ again_step xs left x number there so_far =
           = times_more number x ∙ ap (λ b. cond b 1 0) (ne_eqb x number other) in omega (arith, none, so_far)
     ]
 
+-- if `left` has each number once less often than `xs`, it still does if a new item is appended to `xs` alone
 pub first_step : (xs left : List ℕ) (x number : ℕ) → has xs x ≡ false → times number left ≡ times number xs - 1
     → times number left ≡ times number (xs ++ x ∷ []) - 1
 first_step xs left x number absent so_far = so_far ∙ by_case ∙ sym (ap (λ n. n - 1) (times-append number xs (x ∷ [])))
@@ -69,7 +74,7 @@ first_step xs left x number absent so_far = so_far ∙ by_case ∙ sym (ap (λ n
           = times_more number x ∙ ap (λ b. cond b 1 0) (ne_eqb x number other) in omega (arith, none)
     ]
 
--- a number more among those that there are
+-- a list with x appended has a number exactly if the list has it or it is x
 pub item_more : (xs : List ℕ) (x number : ℕ) → has (xs ++ x ∷ []) number ≡ (has xs number || (x == number))
 item_more [] x number = or-false (x == number)
 item_more (y ∷ xs) x number =
@@ -80,6 +85,7 @@ item_more (y ∷ xs) x number =
     apart true b c = refl
     apart false b c = refl
 
+-- to append an item that a list has already changes nothing in what the list has
 pub marked_again : (xs : List ℕ) (x number : ℕ) → has xs x ≡ true → has xs number ≡ has (xs ++ x ∷ []) number
 marked_again xs x number there = sym (item_more xs x number ∙ by_case)
   where
@@ -90,36 +96,39 @@ marked_again xs x number there = sym (item_more xs x number ∙ by_case)
       | inr other ↦ (λ i. has xs number || ne_eqb x number other i) ∙ or-false (has xs number)
     ]
 
+-- a list of one number below `bound` has numbers below `bound` alone
 pub one_below : (bound x : ℕ) → x < bound → All (λ n. n < bound) (x ∷ [])
 one_below bound x below zero d within = below
 one_below bound x below (suc k) d within = absurd (omega (arith, within))
 
--- a number is beyond so many times in a list where it stands there more often
+-- a number stands in a list more than `least` - 1 times exactly if it stands there at least `least` times
 pub beyond : (least seen : ℕ) → 1 ≤ least → nat_le 1 (seen - (least - 1)) ≡ nat_le least seen
 beyond least seen some = both_ways (nat_le 1 (seen - (least - 1))) (nat_le least seen)
     (λ told. le-leb least seen (omega (arith, leb-true 1 (seen - (least - 1)) told)))
     (λ told. le-leb 1 (seen - (least - 1)) (omega (arith, leb-true least seen told)))
 
--- where all are gone, none is there more often
+-- if nothing of `seen` is left after `done` are taken, nothing is left after `less`, if that is at least `done`
 pub none_left : (left done less seen : ℕ) → left ≡ seen - done → left ≡ 0 → done ≤ less → left ≡ seen - less
 none_left left done less seen is none most = omega arith
 
+-- two numbers that are each at most the other are equal
 pub done_all : (done less : ℕ) → less ≤ done → done ≤ less → done ≡ less
 done_all done less enough most = omega arith
 
--- not one more than the maximum is at most the maximum
+-- not to be at least `most` + 1 is to be at most `most`
 not_more : (most seen : ℕ) → not (nat_le (most + 1) seen) ≡ nat_le seen most
 not_more most seen = elim (cases_lt most seen) [
   | inl more ↦ ap not (le-leb (most + 1) seen (omega (arith, more))) ∙ sym (lt-leb seen most more)
   | inr most_there ↦ ap not (lt-leb (most + 1) seen (omega (arith, most_there))) ∙ sym (le-leb seen most most_there)
 ]
 
+-- a count is at least the minimum and not above the maximum exactly if it lies in the cardinality
 pub up_to : (count : Cardinality) (most seen : ℕ) → count.max ≡ Some most
     → (nat_le count.min seen && not (nat_le (most + 1) seen)) ≡ lies_in count seen
 up_to count most seen is =
     ap (λ (b : Bool). nat_le count.min seen && b) (not_more most seen ∙ ap (λ (m : Option ℕ). is_up_to m seen) (sym is))
 
--- where the maximum allows so many, the minimum alone is asked
+-- if the maximum allows a count, the count lies in the cardinality exactly if it is at least the minimum
 pub allowed : (count : Cardinality) (seen : ℕ) → is_up_to count.max seen ≡ true
     → nat_le count.min seen ≡ lies_in count seen
 allowed count seen up = sym (and-true (nat_le count.min seen)) ∙ ap (λ (b : Bool). nat_le count.min seen && b) (sym up)

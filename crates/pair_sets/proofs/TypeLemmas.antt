@@ -1,4 +1,4 @@
--- The places of the types that are one of some concepts.
+-- The places of the types that are in a set of concepts.
 use Rattle.std.proofs.Common.{ℕ, ◌≡◌, ◌<◌, ◌+◌, ◌++◌, ◌∷◌, [], ◌==◌, ◌||◌, ◌∙◌, Bool, true, false, List, length, get_or, take, inl, inr, refl, sym, ap, arith}
 use Rattle.std.specs.Prelude.{All, None, Option, Some, nat_eq, position}
 use Rattle.std.specs.List.{IsDistinct}
@@ -20,18 +20,18 @@ use Rattle.candidates.proofs.Normal.{concept_number-None, concept_number-Some}
 use Rattle.pair_sets.proofs.PassingLemmas.{none_by_number, one_by_number}
 use Rattle.pair_sets.proofs.TimesLemmas.{item_more}
 
--- with the place of one more, if it has one
+-- the places with one place more, if there is one
 abbrev pub with_place : List ℕ → Option ℕ → List ℕ
 with_place places None = places
 with_place places (Some place) = places ++ place ∷ []
 
--- whether that is a place
+-- whether a place that may have been found is `place`
 abbrev is_place : Option ℕ → ℕ → Bool
 is_place None place = false
 is_place (Some at) place = at == place
 
 module _ (types : List ℕ) (apart : IsDistinct nat_eq types) where
-  -- the place that an identifier is found at is the only one that it has
+  -- the place at which an identifier is found is the only one that it has
   only_place : (id place : ℕ) → place < length types → (found : Option ℕ) → position (nat_eq id) types ≡ found
       → is_place found place ≡ (id == get_or types place 0)
   only_place id place within None at = sym (ne_eqb id (get_or types place 0) (λ same. concept_number-None types id at place within (sym same)))
@@ -52,7 +52,8 @@ module _ (types : List ℕ) (apart : IsDistinct nat_eq types) where
       named : id ≡ get_or types p 0
       named = eqb-true id (get_or types p 0) first.1
 
-  -- one concept more
+  -- if the places tell the types among the first k concepts, with the place of concept k they tell those among the
+  -- first k + 1
   pub places_more : (concepts numbers places : List ℕ) (k : ℕ) → k < length numbers → (id : ℕ) → id ≡ get_or concepts (get_or numbers k 0) 0
       → (found : Option ℕ) → position (nat_eq id) types ≡ found
       → ((place : ℕ) → place < length types → has places place ≡ is_one_of concepts (take k numbers) (get_or types place 0))
@@ -69,7 +70,8 @@ module _ (types : List ℕ) (apart : IsDistinct nat_eq types) where
       added None = sym (or-false (has places place))
       added (Some p) = item_more places p place
 
--- the types of rows stand once each
+-- if the places tell the types of rows among the first k concepts, with the place of concept k they tell those among
+-- the first k + 1
 pub places_more_of : (rows : List Attribute) (concepts numbers places : List ℕ) (k : ℕ) → k < length numbers → (id : ℕ)
     → id ≡ get_or concepts (get_or numbers k 0) 0
     → (found : Option ℕ) → position (nat_eq id) (types_of rows) ≡ found
@@ -78,21 +80,23 @@ pub places_more_of : (rows : List Attribute) (concepts numbers places : List ℕ
     ≡ is_one_of concepts (take (k + 1) numbers) (get_or (types_of rows) place 0)
 places_more_of rows = places_more (types_of rows) (types_apart rows)
 
--- a place that is found is one of them
+-- a place at which an identifier is found is below the number of types
 pub place_below : (types : List ℕ) (id place : ℕ) → position (nat_eq id) types ≡ Some place → place < length types
 place_below types id place at = (position-Some (nat_eq id) types place 0 at).0
 
--- a type of rows is looked up by its place
+-- whether the type of a row is in a set can be told by the place of the type
 pub type_tells : (indexed : Indexed) (numbers : List ℕ) → TellsTypes indexed.rows (is_one_of indexed.concepts numbers) (is_type_in indexed numbers)
 type_tells indexed numbers place within =
     ap (is_one_at indexed.concepts numbers) (slice_get-get_or (types_of indexed.rows) place 0 within)
 
--- and asked for by the number of its concept, if it is one
+-- types of rows, tested by the number of their concept
 module _ (indexed : Indexed) (items : List ℕ) (below : All (λ item. item < length indexed.concepts) items) where
+  -- a type that is no concept is not in a set of concepts
   pub no_typed : (at : Option ℕ) → concept_of_type indexed at ≡ None → false ≡ is_one_at indexed.concepts items at
   no_typed None none = refl
   no_typed (Some id) none = sym (none_by_number indexed.concepts items below id none)
 
+-- a type that is a concept is in a set exactly if the set has the number of the concept
 pub typed : (indexed : Indexed) → IsStrictlyIncreasing indexed.concepts → (items : List ℕ) → All (λ item. item < length indexed.concepts) items
     → (at : Option ℕ) (concept : ℕ) → concept_of_type indexed at ≡ Some concept → has items concept ≡ is_one_at indexed.concepts items at
 typed indexed rising items below None concept none = absurd cc

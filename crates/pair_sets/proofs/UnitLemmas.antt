@@ -33,11 +33,11 @@ use Rattle.pair_sets.proofs.LeafLemmas.{concepts_apart, count_agree, count_kept,
 use Rattle.candidates.proofs.Normal.{same_by_number}
 
 module _ (release : Release) (test : ConceptGroup → Bool) (concept : ℕ) where
-  -- whether a group is of the concept and passes
+  -- whether a group is one of the concept and passes
   abbrev pub is_counted : ConceptGroup → Bool
   is_counted group = (group.concept == concept) && test group
 
-  -- among the groups of the concept all that pass are counted, and among those of another none
+  -- among the groups of the concept, all that pass are counted
   own_groups : (keys : List _) → count_by is_counted (map (group_with concept) keys) ≡ count_by test (map (group_with concept) keys)
   own_groups [] = refl
   own_groups (key ∷ keys) =
@@ -45,6 +45,7 @@ module _ (release : Release) (test : ConceptGroup → Bool) (concept : ℕ) wher
       ∙ (λ i. cond (eq-eqb concept concept refl i && test (group_with concept key)) (1 + own_groups keys i) (own_groups keys i))
       ∙ sym (count-cons test (group_with concept key) (map (group_with concept) keys))
 
+  -- among the groups of another concept none is counted
   other_groups : (other : ℕ) → other ≢ concept → (keys : List _) → count_by is_counted (map (group_with other) keys) ≡ 0
   other_groups other apart [] = refl
   other_groups other apart (key ∷ keys) =
@@ -53,6 +54,7 @@ module _ (release : Release) (test : ConceptGroup → Bool) (concept : ℕ) wher
       (1 + count_by is_counted (map (group_with other) keys)) (count_by is_counted (map (group_with other) keys)))
       ∙ other_groups other apart keys
 
+  -- among the groups of other concepts none is counted
   no_unit_plans : (concepts : List ℕ) → AllByRecursion (λ other. nat_eq concept other ≡ false) concepts
       → count_by is_counted (groups_among release concepts) ≡ 0
   no_unit_plans [] apart = refl
@@ -61,7 +63,7 @@ module _ (release : Release) (test : ConceptGroup → Bool) (concept : ℕ) wher
       ∙ (λ i. other_groups other (λ same. false≢true (sym apart.0 ∙ eq-eqb concept other (sym same)))
       (keys_of release other) i + no_unit_plans concepts apart.1 i)
 
-  -- so among all groups those of the concept are
+  -- among the groups of distinct concepts, as many are counted as groups of the concept pass
   pub own_counted : (concepts : List ℕ) → IsDistinct nat_eq concepts → Contains concepts concept
       → count_by is_counted (groups_among release concepts) ≡ count_by test (groups_among release (concept ∷ []))
   unfolding IsDistinct
@@ -91,8 +93,8 @@ module _ (release : Release) (test : ConceptGroup → Bool) (concept : ℕ) wher
       later (zero, within, is) apart = absurd (apart is)
       later (suc k, within, is) apart = (k, omega (arith, within), is)
 
--- ---- by number
--- as many numbers of a list pass as items
+-- ---- counting by number
+-- the places of a list pass just as often as its items
 pub count_numbers : {X : Type 0} (test : Option X → Bool) (xs : List X)
     → count_by (λ k. test (slice_get xs k)) (range_with_len 0 (length xs)) ≡ count_by (λ x. test (Some x)) xs
 count_numbers {X} test xs =
@@ -108,10 +110,11 @@ count_numbers {X} test xs =
         by_item (Some x) is = get_or-map Some xs k x None within ∙ ap Some (get_or_from_slice_get xs k x x is) ∙ sym is
 
 module _ (release : Release) (rising : IsStrictlyIncreasing release.concepts) (set : List Pair → Bool) where
+  -- all groups of the release
   abbrev all : List ConceptGroup
   all = all_groups release
 
-  -- as many groups in the set are of a concept as of its groups are in the set
+  -- of the groups in the set, as many are of a concept as groups of the concept are in the set
   pub set_counted : (n : ℕ) → n < length release.concepts
       → count_by (λ k. concept_in (slice_get all k) == get_or release.concepts n 0) (groups_where release set)
       ≡ count_by set (groups_of release (get_or release.concepts n 0))
@@ -133,9 +136,10 @@ module _ (release : Release) (rising : IsStrictlyIncreasing release.concepts) (s
       swapped false true = refl
       swapped false false = refl
 
--- ---- the concepts with so many of some groups
+-- ---- the concepts with as many groups as is asked
 module _ (release : Release) (rising : IsStrictlyIncreasing release.concepts) where
-  -- the numbers that stand among the concepts of some groups as often as is asked
+  -- if `concepts` are the concepts of the groups `items`, the numbers that stand there as often as `count` asks are the
+  -- concepts whose number of groups among `items` lies in `count`
   pub owners_found : (count : Cardinality) (bound : ℕ) → bound ≡ length release.concepts → (items concepts found : List ℕ)
       → All (λ concept. concept < length release.concepts) concepts
       → map (λ concept. get_or release.concepts concept 0) concepts ≡ map (λ k. concept_in (slice_get (all_groups release) k)) items
@@ -155,7 +159,8 @@ module _ (release : Release) (rising : IsStrictlyIncreasing release.concepts) wh
           ∙ ap (count_by (λ id. id == get_or release.concepts n 0)) are
           ∙ count_map (λ id. id == get_or release.concepts n 0) (λ k. concept_in (slice_get (all_groups release) k)) items
 
-  -- of groups that are in a set and candidates, where all groups of a concept are candidates, as many are of it as of its groups are in the set
+  -- if all groups of a concept are candidates, as many candidates in the set are of it as groups of the concept are in
+  -- the set
   owned_counted : (set : List Pair → Bool) (may : ℕ → Bool) (n : ℕ) → n < length release.concepts
       → ((k : ℕ) → k < length (all_groups release) → concept_in (slice_get (all_groups release) k) ≡ get_or release.concepts n 0 → may k ≡ true)
       → groups_owned release (groups_within release may set) n ≡ count_by set (groups_of release (get_or release.concepts n 0))
@@ -181,7 +186,8 @@ module _ (release : Release) (rising : IsStrictlyIncreasing release.concepts) wh
           let long : at < length (all_groups release) = omega (arith, below, length-range_with_len 0 (length (all_groups release))) in
           omega (arith, long, sym is ∙ get_or-range_with_len 0 (length (all_groups release)) at k long)
 
-  -- so without candidates they are the concepts with so many groups in the set
+  -- without candidates, the concepts whose number of groups among `items` lies in `count` are those whose number of
+  -- groups in the set does
   pub units_found : (count : Cardinality) (set : List Pair → Bool) (items found : List ℕ) → items ≡ groups_where release set
       → found ≡ numbers_where (length release.concepts) (λ n. lies_in count (groups_owned release items n))
       → found ≡ numbers_in release (has_groups release count set)
@@ -193,7 +199,8 @@ module _ (release : Release) (rising : IsStrictlyIncreasing release.concepts) wh
       (λ n. has_groups release count set (get_or release.concepts n 0))
       (λ n within. ap (lies_in count) (set_counted release rising set n within))
 
-  -- and of candidates those of them with so many
+  -- if all groups of the wanted concepts are candidates, the wanted concepts whose number of groups among `items` lies
+  -- in `count` are those whose number of groups in the set does
   pub units_within : (count : Cardinality) (set : List Pair → Bool) (wanted own items some found : List ℕ) → HaveGroupsOf release wanted own
       → items ≡ groups_within release (has own) set
       → some ≡ numbers_where (length release.concepts) (λ n. lies_in count (groups_owned release items n))
@@ -212,7 +219,7 @@ module _ (release : Release) (rising : IsStrictlyIncreasing release.concepts) wh
       of_wanted true b c same = same refl
       of_wanted false b c same = refl
 
--- the concept of a group that is there
+-- the concept that is read for a group at a place within the list is the concept of that group
 pub concept_told : (groups : List ConceptGroup) (k id : ℕ) → k < length groups
     → IfSome (slice_get groups k) (λ group. id ≡ group.concept) → id ≡ concept_in (slice_get groups k)
 concept_told groups k id within told = by_case (slice_get groups k) refl told

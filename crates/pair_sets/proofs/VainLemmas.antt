@@ -1,4 +1,4 @@
--- Where the value of no row passes, no row counts for anything.
+-- If the value of no row passes, no row counts for anything.
 use Rattle.std.proofs.Common.{ℕ, ℤ, pos, ◌≡◌, ◌<◌, ◌+◌, ◌==◌, ◌&&◌, ◌∷◌, ◌++◌, [], ◌∙◌, Bool, false, cond, List, get_or}
 use Rattle.std.proofs.Common.{refl, sym, ap, subst}
 use Rattle.std.specs.Prelude.{All, Contains, count_by, slice_get, slice_index}
@@ -24,17 +24,19 @@ use Rattle.pair_sets.specs.inside.Hits.{is_in_some}
 use Rattle.pair_sets.proofs.HitLemmas.{count-cons}
 use Rattle.pair_sets.proofs.PassingLemmas.{meets_told}
 
--- ---- a comparison with a number, which none of the decimals of all rows meets
+-- ---- a comparison that none of the decimals of all rows meets
 module _ (compare : Compare) (number : ℤ) where
   abbrev fails : ℤ → Type 0
   fails decimal = compares compare decimal number ≡ false
 
+  -- if none of the decimals of a value and of others meets the comparison, neither the value nor the others do
   of_first : (value : Value) (others : List ℤ) → All fails (decimals_at value ++ others)
       → (is_number_that compare number value ≡ false) × All fails others
   of_first (concept_value concept) others all = (refl, all)
   of_first (number_value decimal) others all = (All-head fails decimal others all, All-tail fails decimal others all)
   of_first (text_value text) others all = (refl, all)
 
+  -- if none of the decimals of rows meets the comparison, the value of no row does
   of_rows : (rows : List Attribute) → All fails (decimals_of rows)
       → All (λ (row : Attribute). is_number_that compare number row.value ≡ false) rows
   of_rows [] all = All-nil (λ (row : Attribute). is_number_that compare number row.value ≡ false)
@@ -43,7 +45,7 @@ module _ (compare : Compare) (number : ℤ) where
       All-cons (λ (row : Attribute). is_number_that compare number row.value ≡ false) row rows parts.0
       (of_rows rows parts.1)
 
-  -- the value of no row passes
+  -- if none of the decimals in the indexes meets the comparison, the value of no row passes
   pub no_row_passes : (release : Release) (indexed : Indexed) → IsIndexOf indexed release
       → All (λ decimal. meets compare (int_cmp decimal number) ≡ false) indexed.decimals
       → All (λ (row : Attribute). is_number_that compare number row.value ≡ false) indexed.rows
@@ -58,7 +60,7 @@ module _ (compare : Compare) (number : ℤ) where
       (Contains-get_or (decimals_of indexed.rows) k (pos 0) within)))
 
 -- ---- rows that are not kept count for nothing
--- what holds of all rows holds of those of their entries
+-- what holds of all rows holds of the row of each entry
 hold_after : (P : Attribute → Type 0) (before rows : List Attribute) → All P rows
     → All (λ (entry : Entry). P entry.row) (entries_after before rows)
 hold_after P before [] all = All-nil (λ (entry : Entry). P entry.row)
@@ -66,6 +68,7 @@ hold_after P before (row ∷ rows) all =
     All-cons (λ (entry : Entry). P entry.row) _ (entries_after (before ++ row ∷ []) rows) (All-head P row rows all)
     (hold_after P (before ++ row ∷ []) rows (All-tail P row rows all))
 
+-- what holds of all rows holds of the row of each entry of some types
 hold_of_types : (P : Attribute → Type 0) (rows : List Attribute) (ids : List ℕ) → All P rows
     → All (λ (entry : Entry). P entry.row) (entries_with_types rows ids)
 hold_of_types P rows ids all =
@@ -73,6 +76,7 @@ hold_of_types P rows ids all =
     (λ id _. All-filter (λ (entry : Entry). entry.row.type_id == id) (λ (entry : Entry). P entry.row)
     (entries_of rows) (hold_after P [] rows all))
 
+-- none is counted if no entry counts
 count_of_none : (counts : Entry → Bool) (entries : List Entry) → All (λ entry. counts entry ≡ false) entries
     → count_by counts entries ≡ 0
 count_of_none counts [] none = refl
@@ -82,11 +86,12 @@ count_of_none counts (entry ∷ entries) none =
     (count_by counts entries))
     ∙ count_of_none counts entries (All-tail (λ entry. counts entry ≡ false) entry entries none)
 
+-- a conjunction fails if its last part does
 neither : (one other : Bool) {last : Bool} → last ≡ false → (one && (other && last)) ≡ false
 neither one other fails =
     (λ i. one && (other && fails i)) ∙ ap (λ (b : Bool). one && b) (and-false other) ∙ and-false one
 
--- no number stands for a row of some types where no row counts
+-- if no row counts, the empty list has the hits of the rows of some types
 none_counts : (rows : List Attribute) (P : Attribute → Type 0) (counts : ℕ → Entry → Bool)
     → ((number : ℕ) (entry : Entry) → P entry.row → counts number entry ≡ false) → (ids : List ℕ) (bound : ℕ)
     → All P rows → AreHits bound counts (entries_with_types rows ids) []
@@ -97,6 +102,7 @@ none_counts rows P counts not_counted ids bound all = record {
       (entries_with_types rows ids) (hold_of_types P rows ids all)));
 }
 
+-- a row that is not kept counts for no owner
 not_kept : (owner : Owner) (indexed : Indexed) (kept : Attribute → Bool) (number : ℕ) (entry : Entry)
     → kept entry.row ≡ false → counts_for_owner owner indexed kept number entry ≡ false
 not_kept owners.Source indexed kept number entry fails =
@@ -104,7 +110,7 @@ not_kept owners.Source indexed kept number entry fails =
 not_kept owners.Group indexed kept number entry fails =
     neither (is_in_some (slice_get (groups_in indexed) number) entry.row) entry.is_first_in_group fails
 
--- where no row is kept, none counts for its source or its group
+-- if no row is kept, the empty list has the hits of the rows of some types for their owners
 pub none_kept : (owner : Owner) (indexed : Indexed) (kept : Attribute → Bool) (ids : List ℕ) (bound : ℕ)
     → All (λ (row : Attribute). kept row ≡ false) indexed.rows
     → AreHits bound (counts_for_owner owner indexed kept) (entries_with_types indexed.rows ids) []
@@ -112,7 +118,7 @@ none_kept owner indexed kept =
     none_counts indexed.rows (λ (row : Attribute). kept row ≡ false) (counts_for_owner owner indexed kept)
     (not_kept owner indexed kept)
 
--- where no row is kept, none counts for its value
+-- if no row is kept, the empty list has the hits of the rows of some types for their values
 pub none_kept_back : (indexed : Indexed) (kept : Attribute → Bool) (ids : List ℕ) (bound : ℕ)
     → ((row : Attribute) → kept row ≡ false)
     → AreHits bound (counts_for_value indexed.concepts kept) (entries_with_types indexed.rows ids) []

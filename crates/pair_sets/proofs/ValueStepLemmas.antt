@@ -16,7 +16,7 @@ use Rattle.pair_sets.proofs.HitLemmas.{count-cons}
 use Rattle.number_lists.proofs.BlockLemmas.{any-filter, any-map}
 use Rattle.candidates.proofs.Normal.{in_force_kept, numbers_in-agree}
 
--- an item passes where at least one does
+-- at least one item is counted exactly if some item passes
 count_any : {X : Type 0} (test : X → Bool) (xs : List X) → nat_le 1 (count_by test xs) ≡ list_any test xs
 count_any test [] = refl
 count_any test (x ∷ xs) =
@@ -26,7 +26,7 @@ count_any test (x ∷ xs) =
       | false ↦ count_any test xs
     ]
 
--- a distinct item passes where an item does
+-- a distinct item passes exactly if an item passes
 any_distinct : (test : Pair → Bool) (pairs : List Pair) → list_any test (distinct pair_eq pairs) ≡ list_any test pairs
 any_distinct test pairs = both_ways (list_any test (distinct pair_eq pairs)) (list_any test pairs)
     (λ told. let found = passing_item test (distinct pair_eq pairs) told in
@@ -34,6 +34,7 @@ any_distinct test pairs = both_ways (list_any test (distinct pair_eq pairs)) (li
     (λ told. let found = passing_item test pairs told in
     some_item_passes test (distinct pair_eq pairs) found.0 (((keeps_each_pair_once pairs).1 found.0).1 found.1) found.2)
 
+-- the first and the third part of a conjunction can be exchanged
 shuffled : (a b c : Bool) → (a && (b && c)) ≡ ((c && b) && a)
 shuffled true true true = refl
 shuffled true true false = refl
@@ -44,10 +45,13 @@ shuffled false true false = refl
 shuffled false false true = refl
 shuffled false false false = refl
 
+-- a conjunction with true is its other part
 with_true : (b : Bool) → (b && true) ≡ b
 with_true true = refl
 with_true false = refl
 
+-- the concepts with at least one pair that is read backwards along `types` to `sources` are the values of the sources
+-- along the types
 pub some_pair_is_value : (release : Release) (sources types : ℕ → Bool)
     → numbers_in release (λ concept. has_pairs (record { min = 1; max = None }) types (is_within sources) (in_pairs release concept))
     ≡ numbers_in release (is_value release sources types)

@@ -16,19 +16,19 @@ passes_of items_of concepts (tests.Within set) value = is_within (is_one_of conc
 passes_of items_of concepts (tests.Outside set) value = is_outside (is_one_of concepts (items_of set)) value
 passes_of items_of concepts (tests.Number compare number) value = is_number_that compare number.0 value
 
--- the set of a test is one of numbers below a count
+-- the set of a test, if it has one, has the bound `count`
 abbrev pub IsTestBelow : {S : Type 0} → (S → ℕ) → ℕ → Tested S → Type 0
 IsTestBelow bound_of count (tests.Within set) = bound_of set ≡ count
 IsTestBelow bound_of count (tests.Outside set) = bound_of set ≡ count
 IsTestBelow bound_of count (tests.Number compare number) = Unit {0}
 
--- how many concepts the set of a test has
+-- how many concepts the set of a test has; 0 for a test of numbers
 abbrev pub found_for : {S : Type 0} → (S → List ℕ) → Tested S → ℕ
 found_for items_of (tests.Within set) = length (items_of set)
 found_for items_of (tests.Outside set) = length (items_of set)
 found_for items_of (tests.Number compare number) = 0
 
--- whether a number that stands so to another compares with it as is asked
+-- whether two numbers in the order `order` compare as is asked
 abbrev pub meets : Compare → Ordering → Bool
 meets Equal order = is_eq order
 meets NotEqual order = is_ne order

@@ -1,4 +1,4 @@
-//! The candidates with so many pairs, by the rows of the candidates.
+//! Keeps the candidates whose number of matching pairs lies in a cardinality, by the rows of the candidates.
 ghost use Rattle.std.specs.Prelude.{◌≡◌, ◌<◌, ◌&&◌, All, List, cond, count_by, not, true, IfOk, filter, length};
 ghost use Rattle.std.specs.Prelude.{slice_get};
 ghost use Rattle.std.specs.List.{sum_by};
@@ -25,7 +25,7 @@ use postings::{FlaggedNumber, RowCells};
 use reading::{Answer, Counter, Reader};
 use std::alloc::AllocError;
 
-// Whether a number lies in a cardinality.
+// Whether `pairs` lies in a cardinality.
 fn lies_in(count: Cardinality, pairs: u64) -> bool
     ensures { result ≡ lies_in_of count pairs }
 {
@@ -36,8 +36,8 @@ fn lies_in(count: Cardinality, pairs: u64) -> bool
     }
 }
 
-// How many of some rows are the first with their pair, in their group or in their concept, and have a type that is one
-// of some and a value that passes.
+// Counts the rows that are the first with their pair and match. If `grouped`, each is the first in its group, and
+// otherwise in its concept. A row matches if `types` has its type and its value passes `tested`.
 fn pairs_among<S: ConceptSet>(
     reader: Reader<'_>,
     rows: &[u32],
@@ -61,7 +61,7 @@ fn pairs_among<S: ConceptSet>(
     pairs
 }
 
-// Whether a row is the first with its pair, its type is in a set and its value passes.
+// Whether a row is the first with its pair, `types` has its type and its value passes `tested`.
 fn counts<S: ConceptSet>(
     reader: Reader<'_>,
     row: RowCells,
@@ -83,8 +83,8 @@ fn counts<S: ConceptSet>(
     first && is_typed(reader, types, row.type_place) && passes(reader, tested, row.value)
 }
 
-// How many of some rows, by their columns, are the first with their pair, and have a type that is one of some and a
-// source that passes.
+// Counts the rows, given by their columns, that are the first with their pair and match. A row matches if `types` has
+// its type and its source passes `tested`.
 fn back_pairs_among<S: ConceptSet>(
     reader: Reader<'_>,
     sources: &[FlaggedNumber],
@@ -100,7 +100,7 @@ fn back_pairs_among<S: ConceptSet>(
         ≡ count_by (λ entry. entry.is_first && has_source_in (is_one_of reader.entry.indexes.now.concepts
         (S.items_of types.now)) (passes_of S.items_of reader.entry.indexes.now.concepts tested.now) entry.row) entries }
 {
-    // the concepts rise, so that none has two numbers
+    // The concepts rise, so that none has two numbers. This call tells the prover.
     reader.concept_count();
     let mut pairs = 0u64;
     for place in 0..sources.len() {
@@ -112,7 +112,7 @@ fn back_pairs_among<S: ConceptSet>(
     pairs
 }
 
-// Whether a row is the first with its pair, its type is in a set and its source passes.
+// Whether a row is the first with its pair, `types` has its type and its source passes `tested`.
 fn counts_back<S: ConceptSet>(
     reader: Reader<'_>,
     source: FlaggedNumber,
@@ -130,7 +130,8 @@ fn counts_back<S: ConceptSet>(
     first && is_typed(reader, types, type_place) && passes(reader, tested, source.number())
 }
 
-// How many pairs of a concept, of its own or read backwards, have a type that is one of some and a value that passes.
+// Counts the matching pairs of a concept: its own or, if `back`, those that are read backwards. A pair matches if
+// `types` has its type and its value passes `tested`.
 fn pairs_of_concept<S: ConceptSet>(
     reader: Reader<'_>,
     back: bool,
@@ -156,8 +157,8 @@ fn pairs_of_concept<S: ConceptSet>(
     }
 }
 
-/// Of some concepts those so many of whose pairs, of their own or read backwards, have a type that is one of some and a
-/// value that passes.
+/// Keeps each concept whose number of matching pairs, its own or those read backwards, lies in `count`. A pair
+/// matches if `types` has its type and its value passes `tested`.
 pub fn concepts_among<S: ConceptSet>(
     reader: Reader<'_>,
     back: bool,
@@ -189,7 +190,8 @@ pub fn concepts_among<S: ConceptSet>(
     Ok(kept)
 }
 
-/// Of some groups those so many of whose pairs have a type that is one of some and a value that passes.
+/// Keeps each group whose number of matching pairs lies in `count`. A pair matches if `types` has its type and its
+/// value passes `tested`.
 pub fn groups_among<S: ConceptSet>(
     reader: Reader<'_>,
     count: Cardinality,

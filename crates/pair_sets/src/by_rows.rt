@@ -1,4 +1,5 @@
-//! The concepts and the groups with so many pairs, by the rows of some values, of some types or of the candidates.
+//! Finds the concepts and the groups whose number of matching pairs lies in a cardinality, by the rows of values, of
+//! types or of the candidates.
 ghost use Rattle.std.specs.Prelude.{ℕ, ◌≡◌, ◌<◌, All, Bool, IfOk, false, filter, length, not};
 ghost use Rattle.std.specs.List.{range_with_len, sum_by};
 ghost use Rattle.constraint_tree.specs.Passing.{is_within};
@@ -28,8 +29,8 @@ use idset::ConceptSet;
 use reading::{Answer, Counter, Reader};
 use std::alloc::{AllocError, Global};
 
-/// By the rows of some concepts, which rise: the concepts so many of whose pairs have a type that is one of some and
-/// one of these as their value; read backwards, as their source.
+/// Finds, by the rows of `values`, the concepts whose number of matching pairs lies in `count`. A pair matches if
+/// `types` has its type and `values` its value or, if `back`, its source. `values` rise.
 pub fn with_pairs_by_value<S: ConceptSet>(
     reader: Reader<'_>,
     back: bool,
@@ -54,8 +55,8 @@ pub fn with_pairs_by_value<S: ConceptSet>(
     as_often(reader.alloc, hits.as_slice(), reader.concept_count(), count)
 }
 
-/// By the rows of some types: the concepts so many of whose pairs have one of these types and a value that passes; read
-/// backwards, a source that passes.
+/// Finds, by the rows of the types `ids`, the concepts whose number of matching pairs lies in `count`. A pair matches
+/// if `ids` has its type and its value passes `tested` or, if `back`, its source does.
 pub fn with_pairs_by_type<S: ConceptSet>(
     reader: Reader<'_>,
     back: bool,
@@ -80,8 +81,9 @@ pub fn with_pairs_by_type<S: ConceptSet>(
     as_often(reader.alloc, hits.as_slice(), reader.concept_count(), count)
 }
 
-/// By the rows of the candidates: those so many of whose pairs have a type that is one of some and a value that passes;
-/// read backwards, a source that passes. Where all are candidates, all rows are read.
+/// Finds, by the rows of the candidates, those whose number of matching pairs lies in `count`. A pair matches if
+/// `types` has its type and its value passes `tested` or, if `back`, its source does. If all are candidates, all rows
+/// are read.
 pub fn with_pairs_among<S: ConceptSet>(
     reader: Reader<'_>,
     back: bool,
@@ -111,8 +113,8 @@ pub fn with_pairs_among<S: ConceptSet>(
     Answer::from_numbers(reader.alloc, kept.as_slice(), concept_count)
 }
 
-/// By the rows of some concepts, which rise: the groups so many of whose pairs have a type that is one of some and one
-/// of these as their value.
+/// Finds, by the rows of `values`, the groups whose number of matching pairs lies in `count`. A pair matches if
+/// `types` has its type and `values` its value. `values` rise.
 pub fn groups_with_pairs_by_value<S: ConceptSet>(
     reader: Reader<'_>,
     count: Cardinality,
@@ -134,7 +136,8 @@ pub fn groups_with_pairs_by_value<S: ConceptSet>(
     as_often(reader.alloc, hits.as_slice(), reader.group_count(), count)
 }
 
-/// By the rows of some types: the groups so many of whose pairs have one of these types and a value that passes.
+/// Finds, by the rows of the types `ids`, the groups whose number of matching pairs lies in `count`. A pair matches
+/// if `ids` has its type and its value passes `tested`.
 pub fn groups_with_pairs_by_type<S: ConceptSet>(
     reader: Reader<'_>,
     count: Cardinality,
@@ -156,8 +159,8 @@ pub fn groups_with_pairs_by_type<S: ConceptSet>(
     as_often(reader.alloc, hits.as_slice(), reader.group_count(), count)
 }
 
-/// By the rows of the candidates: those of these groups so many of whose pairs have a type that is one of some and a
-/// value that passes. Where all are candidates, all rows are read.
+/// Finds, by the rows of the candidates, the groups among them whose number of matching pairs lies in `count`. A pair
+/// matches if `types` has its type and its value passes `tested`. If all are candidates, all rows are read.
 pub fn groups_with_pairs_among<S: ConceptSet>(
     reader: Reader<'_>,
     count: Cardinality,
@@ -184,7 +187,7 @@ pub fn groups_with_pairs_among<S: ConceptSet>(
     Answer::from_numbers(reader.alloc, kept.as_slice(), group_count)
 }
 
-// The numbers of the candidates, which are below a bound.
+// Lists the numbers of the candidates, which are below `bound`.
 fn numbers_asked<S: ConceptSet>(
     alloc: Global,
     bound: u32,
@@ -211,7 +214,7 @@ fn numbers_asked<S: ConceptSet>(
     }
 }
 
-// All numbers below a bound.
+// Lists all numbers below `bound`.
 fn numbers_below(alloc: Global, bound: u32) -> Result<Vec<u32>, AllocError>
     ensures { IfOk result (λ numbers. numbers.items ≡ range_with_len 0 bound) }
 {

@@ -1,6 +1,6 @@
-//! In which way a leaf is read.
+//! Chooses the way in which a leaf is read.
 //!
-//! What is read to find the way is counted too, and is read only where the bound of the leaf has room for it.
+//! What is read to find the way is counted as well. It is read only if the bound of the leaf has room for it.
 ghost use Rattle.std.specs.Prelude.{ℕ, true, ◌≡◌, ◌≤◌, ◌+◌, ◌<◌, All, Bool, IfOk, IfSome, Some, length};
 ghost use Rattle.std.specs.List.{sum_by};
 ghost use Rattle.postings.specs.Indexed.{types_of};
@@ -23,13 +23,15 @@ use reading::{Answer, Counter, Reader};
 use set_algebra::Choice;
 use std::alloc::AllocError;
 
-// To look up a value takes about as long as to read so many rows that stand side by side.
+// To look up a value takes about as long as to read this many rows that stand side by side.
 const VALUE: u64 = 4;
 
-// Where there are as many values as rows, divided by this, all rows are read as soon as those of the values.
+// If there are at least as many values as rows, divided by this, it is as fast to read all rows as the rows of the
+// values.
 const SHARE: u64 = 2;
 
-/// The way in which a leaf is read. What is read to find it is counted, and there is room for what is read then.
+/// Chooses the way in which a leaf is read. What is read to find it is counted, and leaves room for the rows that the
+/// way reads.
 pub fn leaf_way<S: ConceptSet>(
     reader: Reader<'_>,
     reads: LeafReads,
@@ -61,7 +63,8 @@ pub fn leaf_way<S: ConceptSet>(
     }
 }
 
-// Whether so many values pass that the rows of all types are read sooner than those of each value, and may be read.
+// Whether so many values pass that it is faster to read the rows of all types than those of each value, and these may
+// be read.
 fn are_most<S: ConceptSet>(
     reader: Reader<'_>,
     reads: LeafReads,
@@ -76,7 +79,7 @@ fn are_most<S: ConceptSet>(
     u64::from(count_of_test(tested)) >= rows / SHARE && whole <= reads.bound
 }
 
-// By value, or by the candidates where these are read sooner. A test that is not of the concepts of a set is read by a
+// Chooses to read by value, or by the candidates if that is faster. A test that is not `Within` a set is read by a
 // scan.
 fn by_value<S: ConceptSet>(
     reader: Reader<'_>,
@@ -105,7 +108,7 @@ fn by_value<S: ConceptSet>(
     }
 }
 
-// By type, or by the candidates or a few values where these are read sooner.
+// Chooses to read by type, or by the candidates or a few values if that is faster.
 fn by_type<S: ConceptSet>(
     reader: Reader<'_>,
     reads: LeafReads,
@@ -124,7 +127,7 @@ fn by_type<S: ConceptSet>(
         reads.bound visits.old visits.new) }
     ensures counted { CountsWithin reads.bound visits.old visits.new }
 {
-    // 64 bits hold how many types there are, and their rows
+    // 64 bits hold how many types there are, and their rows. These calls tell the prover.
     reader.type_count();
     reader.row_count();
     let left = reads.bound.saturating_sub(types_to_read(reader, types));
@@ -140,7 +143,7 @@ fn by_type<S: ConceptSet>(
     }
 }
 
-// By a scan, or by the candidates or a few values where these are read sooner.
+// Chooses to read by a scan, or by the candidates or a few values if that is faster.
 fn by_scan<S: ConceptSet>(
     reader: Reader<'_>,
     reads: LeafReads,
@@ -168,9 +171,9 @@ fn by_scan<S: ConceptSet>(
     }
 }
 
-// The values that pass, where their rows are read sooner than so many others, for which there is room among so many
-// items that are left. If it is known how many rows they have at most, none is looked up in vain, so no room is needed
-// for them beside the others.
+// Finds the values that pass, if it is faster to read their rows than `rows` others. `left` is how many items may
+// still be read, and has room for these others. If it is known how many rows the values have at most, no value is
+// looked up in vain, so no room is needed for them besides the others.
 fn few_values<S: ConceptSet>(
     reader: Reader<'_>,
     reads: LeafReads,
@@ -197,7 +200,7 @@ fn few_values<S: ConceptSet>(
     }
 }
 
-// The values that pass, where they have no more rows of their own than are told, and so many are read sooner than
+// Finds the values that pass, if it is faster to read them and the `own` rows that they have at most than `rows`
 // others.
 fn values_told<S: ConceptSet>(
     reader: Reader<'_>,
@@ -221,8 +224,8 @@ fn values_told<S: ConceptSet>(
     values_that_pass(reader, back, tested, visits)
 }
 
-// The values that pass, if they are few and their rows are read sooner than others. No more than `most` are looked up
-// in vain.
+// Finds the values that pass, if they are few and it is faster to read their rows than `rows` others. At most `most`
+// of them are looked up in vain.
 fn values_looked_up<S: ConceptSet>(
     reader: Reader<'_>,
     back: bool,
@@ -249,7 +252,7 @@ fn values_looked_up<S: ConceptSet>(
     }
 }
 
-// The values that pass, where these are the concepts of a set, which are counted.
+// Finds the values that pass, if the test is `Within` a set. The items of the set are counted.
 fn values_that_pass<S: ConceptSet>(
     reader: Reader<'_>,
     back: bool,
@@ -272,17 +275,17 @@ fn values_that_pass<S: ConceptSet>(
     }
 }
 
-/// By which rows the values of some sources are read.
+/// The rows by which the values of sources are read.
 #[derive(Drop)]
 pub enum ValuesWay {
-    /// By those of the sources: their numbers.
+    /// Reads the rows of the sources, given by their numbers.
     BySource(Vec<u32>),
-    /// By those of the types: their identifiers.
+    /// Reads the rows of the types, given by their identifiers.
     ByType(Vec<u64>),
 }
 
-/// By which rows the values of the sources in a set are read, along the types in another. What is read to find it is
-/// counted: with these rows no more than there are sources and rows.
+/// Chooses by which rows the values of the sources in `sources` along the types in `types` are read. What is read to
+/// find that is counted: together with these rows, no more than there are sources and rows.
 pub fn values_way<S: ConceptSet>(
     reader: Reader<'_>,
     sources: &Answer<S>,
@@ -317,8 +320,8 @@ pub fn values_way<S: ConceptSet>(
     }
 }
 
-// Whether so many sources have fewer rows than types do, if each has as many as the concepts have in the mean. Where
-// there are no more types of rows than sources, each is asked whether it is in the set.
+// Whether `sources` sources have fewer rows than the types do, if each has as many as the mean concept. It returns
+// false if there are more types of rows than sources, because it tests each type against `types`.
 fn have_few_rows<S: ConceptSet>(reader: Reader<'_>, sources: u64, types: &Answer<S>) -> bool
     requires { S.bound_of types.now ≡ length reader.indexes.now.concepts }
 {
@@ -336,7 +339,7 @@ fn have_few_rows<S: ConceptSet>(reader: Reader<'_>, sources: u64, types: &Answer
     look_ups(sources.saturating_mul(own + 2)) < rows
 }
 
-// The concepts of a set, which are counted, and how many items these and their rows are.
+// Returns the concepts of a set, which are counted, and how many items these and their rows are.
 fn with_rows<S: ConceptSet>(
     reader: Reader<'_>,
     concepts: &Answer<S>,
@@ -350,7 +353,7 @@ fn with_rows<S: ConceptSet>(
         ≤ length reader.entry.indexes.now.rows }
     ensures counted { HandsOut (length (S.items_of concepts.now)) visits.old visits.new }
 {
-    // the concepts rise, so that no row has two numbers for its source
+    // The concepts rise, so that no row has two numbers for its source. This call tells the prover.
     reader.concept_count();
     let own = concepts.items(reader.alloc, visits)?;
     let rows = rows_of_values(reader, true, own.as_slice());
@@ -358,7 +361,7 @@ fn with_rows<S: ConceptSet>(
     Ok((own, items))
 }
 
-/// How many rows have one of some types, or `u64::MAX` where that is more.
+/// Returns how many rows have one of the types `ids`; `u64::MAX` if there are more.
 pub fn rows_of_types(reader: Reader<'_>, ids: &[u64]) -> u64
     ensures { result ≡ full_sum (type_row_count reader.entry.indexes.now) ids.now }
 {
@@ -369,7 +372,7 @@ pub fn rows_of_types(reader: Reader<'_>, ids: &[u64]) -> u64
     rows
 }
 
-// How many rows have one of some concepts as their value, or, read backwards, as their source; `u64::MAX` where that is
+// Returns how many rows have one of `concepts` as their value or, if `back`, as their source; `u64::MAX` if there are
 // more.
 fn rows_of_values(reader: Reader<'_>, back: bool, concepts: &[u32]) -> u64
     requires { All (λ number. number < length reader.indexes.now.concepts) concepts.now }

@@ -1,4 +1,4 @@
-//! How often something is found.
+//! Finds the numbers that stand in a list as often as a cardinality asks.
 ghost use Rattle.std.specs.Prelude.{ℕ, ◌≡◌, ◌-◌, ◌<◌, All, IfOk, nat_le};
 ghost use Rattle.constraint_tree.specs.Passing.{lies_in};
 ghost use Rattle.number_lists.specs.Rising.{numbers_where};
@@ -10,7 +10,7 @@ use idset::{ConceptSet, is_marked, mark, marks_of};
 use reading::Answer;
 use std::alloc::{AllocError, Global};
 
-/// The numbers below a bound that stand in a list as often as a cardinality asks (Expression Constraint Language,
+/// Finds the numbers below `bound` that stand in `numbers` as often as `count` asks (Expression Constraint Language,
 /// "Cardinality").
 pub fn as_often<S: ConceptSet>(
     alloc: Global,
@@ -34,7 +34,7 @@ pub fn as_often<S: ConceptSet>(
     }
 }
 
-// The numbers below a bound that stand so often in a list, or more often.
+// Finds the numbers below `bound` that stand in `numbers` at least `least` times.
 fn at_least<S: ConceptSet>(
     alloc: Global,
     numbers: &[u32],
@@ -56,7 +56,7 @@ fn at_least<S: ConceptSet>(
     }
 }
 
-// The numbers of a list that stand in it more often than so many times, each as often as it stands there beyond these.
+// Takes `less` of each number from a list. What is left has each number as often as it stands there beyond that.
 fn repeated(alloc: Global, numbers: &[u32], bound: u32, less: u64) -> Result<Vec<u32>, AllocError>
     requires within { All (λ number. number < bound) numbers.now }
     requires some { 0 < less }
@@ -72,7 +72,7 @@ fn repeated(alloc: Global, numbers: &[u32], bound: u32, less: u64) -> Result<Vec
     Ok(left)
 }
 
-// The numbers of a list without the first place of each.
+// Takes the first of each number from a list.
 fn repeats(alloc: Global, numbers: &[u32], bound: u32) -> Result<Vec<u32>, AllocError>
     requires { All (λ number. number < bound) numbers.now }
     ensures within { IfOk result (λ left. All (λ number. number < bound) left.items) }

@@ -1,4 +1,4 @@
-//! Numbers that stand in a list once for each attribute row that counts for them.
+//! Lists numbers, each as often as attribute rows count for it.
 ghost use Rattle.std.specs.Prelude.{ℕ, ◌≡◌, ◌<◌, ◌+◌, ◌&&◌, ◌++◌, All, Bool, List, IfOk, OnOk, count_by, false, filter};
 ghost use Rattle.std.specs.Prelude.{length, nat_lt, slice_get, true};
 ghost use Rattle.rf2_rows.specs.Release.{concept_value};
@@ -30,15 +30,16 @@ use postings::{FlaggedNumber, RowCells};
 use reading::{Answer, Counter, Reader};
 use std::alloc::AllocError;
 
-// What a row counts for: its source, or its group.
+// What a row counts for: its source or its group.
 #[derive(Clone, Copy)]
 enum Owner {
     Source,
     Group,
 }
 
-/// By type: for each row with a type that is one of some and a value that passes, and that is the first with its pair,
-/// the number of its source. Read backwards, where its source passes, the number of its value where that is a concept.
+/// Lists, by type, the number of the source of each row that is the first with its pair, has one of the types `ids`,
+/// and has a value that passes `tested`. If `back`, the source must pass, and the number of the value is listed if it
+/// is a concept.
 pub fn hits_by_type<S: ConceptSet>(
     reader: Reader<'_>,
     back: bool,
@@ -62,8 +63,9 @@ pub fn hits_by_type<S: ConceptSet>(
     }
 }
 
-/// By value: the same, where the values that pass are some concepts, which rise. Read backwards, where these are the
-/// sources that pass.
+/// Lists, by value, the number of the source of each row that is the first with its pair, has a type in `types`, and
+/// has one of `values` as its value. If `back`, `values` are sources, and the number of the value is listed if it is
+/// a concept. `values` rise.
 pub fn hits_by_value<S: ConceptSet>(
     reader: Reader<'_>,
     back: bool,
@@ -82,7 +84,7 @@ pub fn hits_by_value<S: ConceptSet>(
         (S.items_of types.now)) (is_within (is_one_of reader.entry.indexes.now.concepts values.now)))
         (entries_of reader.entry.indexes.now.rows) hits.items) }
 {
-    // the concepts rise, so none has two numbers
+    // The concepts rise, so that none has two numbers. This call tells the prover.
     reader.concept_count();
     if back {
         values_by_source(reader, values, types, visits)
@@ -91,8 +93,8 @@ pub fn hits_by_value<S: ConceptSet>(
     }
 }
 
-// By type: for each row of some types that is the first with its pair in its owner and whose value passes, the number
-// of that owner.
+// Lists, by type, the number of the owner of each row that is the first with its pair in its owner, has one of the
+// types `ids`, and has a value that passes `tested`.
 fn owners_by_type<S: ConceptSet>(
     reader: Reader<'_>,
     owner: Owner,
@@ -109,7 +111,7 @@ fn owners_by_type<S: ConceptSet>(
         (λ row. passes_of S.items_of reader.entry.indexes.now.concepts tested.now row.value))
         (entries_with_types reader.entry.indexes.now.rows ids.now) hits.items) }
 {
-    // the concepts rise, so no owner has two numbers
+    // The concepts rise, so that no owner has two numbers. This call tells the prover.
     reader.concept_count();
     let rows = rows_of_types(reader, ids);
     if none_passes(reader, tested, rows) {
@@ -124,8 +126,8 @@ fn owners_by_type<S: ConceptSet>(
     Ok(hits)
 }
 
-// By value: for each row of some values that is the first with its pair in its owner and whose type is one of some, the
-// number of that owner.
+// Lists, by value, the number of the owner of each row that is the first with its pair in its owner, has one of
+// `values` as its value, and has a type in `types`.
 fn owners_by_value<S: ConceptSet>(
     reader: Reader<'_>,
     owner: Owner,
@@ -144,7 +146,7 @@ fn owners_by_value<S: ConceptSet>(
         (λ row. is_one_of reader.entry.indexes.now.concepts (S.items_of types.now) row.type_id))
         (entries_with_values reader.entry.indexes.now values.now) hits.items) }
 {
-    // the concepts rise, so no owner has two numbers
+    // The concepts rise, so that no owner has two numbers. This call tells the prover.
     reader.concept_count();
     let mut hits = Vec::new(reader.alloc);
     for value in values {
@@ -155,7 +157,7 @@ fn owners_by_value<S: ConceptSet>(
     Ok(hits)
 }
 
-// The column of the owners among the columns of some rows.
+// Returns the column of the owners among the columns of some rows.
 fn owners_in<'a>(
     owner: Owner,
     sources: &'a [FlaggedNumber],
@@ -170,8 +172,8 @@ fn owners_in<'a>(
     }
 }
 
-// By type, read backwards: for each row of some types that is the first with its pair and whose source passes, the
-// number of its value where that is a concept.
+// Lists, by type and read backwards, the number of the value of each row that is the first with its pair, has one of
+// the types `ids`, has a source that passes `tested`, and has a concept as its value.
 fn values_by_type<S: ConceptSet>(
     reader: Reader<'_>,
     ids: &[u64],
@@ -188,7 +190,7 @@ fn values_by_type<S: ConceptSet>(
         (entries_with_types reader.entry.indexes.now.rows ids.now) hits.items) }
 {
     reader.concept_count();
-    // the source of a row is a concept
+    // the source of a row is a concept, so no number is asked for
     if asks_for_number(tested) {
         return Ok(Vec::new(reader.alloc));
     }
@@ -200,8 +202,8 @@ fn values_by_type<S: ConceptSet>(
     Ok(hits)
 }
 
-// By value, read backwards: for each row of some sources that is the first with its pair and whose type is one of some,
-// the number of its value where that is a concept.
+// Lists, by value and read backwards, the number of the value of each row that is the first with its pair, has one of
+// `sources` as its source, has a type in `types`, and has a concept as its value.
 fn values_by_source<S: ConceptSet>(
     reader: Reader<'_>,
     sources: &[u32],
@@ -227,8 +229,8 @@ fn values_by_source<S: ConceptSet>(
     Ok(hits)
 }
 
-/// By type: for each row with a type that is one of some and a value that passes, and that is the first with its pair
-/// in its group, the number of that group.
+/// Lists, by type, the number of the group of each row that is the first with its pair in its group, has one of the
+/// types `ids`, and has a value that passes `tested`.
 pub fn group_hits_by_type<S: ConceptSet>(
     reader: Reader<'_>,
     ids: &[u64],
@@ -247,7 +249,8 @@ pub fn group_hits_by_type<S: ConceptSet>(
     owners_by_type(reader, Owner::Group, ids, tested, visits)
 }
 
-/// By value: the same, where the values that pass are some concepts, which rise.
+/// Lists, by value, the number of the group of each row that is the first with its pair in its group, has one of
+/// `values` as its value, and has a type in `types`. `values` rise.
 pub fn group_hits_by_value<S: ConceptSet>(
     reader: Reader<'_>,
     types: &Answer<S>,
@@ -266,12 +269,12 @@ pub fn group_hits_by_value<S: ConceptSet>(
         (is_within (is_one_of reader.entry.indexes.now.concepts values.now))))
         (entries_of reader.entry.indexes.now.rows) hits.items) }
 {
-    // the concepts rise, so none has two numbers
+    // The concepts rise, so that none has two numbers. This call tells the prover.
     reader.concept_count();
     owners_by_value(reader, Owner::Group, values, types, visits)
 }
 
-// Pushes the numbers of the marks that are first and whose cell is the number of a value that passes.
+// Pushes the number of each mark that is first and whose cell is the number of a value that passes `tested`.
 fn push_passing<S: ConceptSet>(
     reader: Reader<'_>,
     hits: &mut Vec<u32>,
@@ -294,7 +297,7 @@ fn push_passing<S: ConceptSet>(
     Ok(())
 }
 
-// Whether a row is the first with its pair, and its value passes.
+// Whether a row is the first with its pair, and its value passes `tested`.
 fn has_passing<S: ConceptSet>(
     reader: Reader<'_>,
     mark: FlaggedNumber,
@@ -308,7 +311,7 @@ fn has_passing<S: ConceptSet>(
     mark.is_first() && passes(reader, tested, value)
 }
 
-// Pushes the numbers of the marks that are first and whose cell is the place of a type in a set.
+// Pushes the number of each mark that is first and whose cell is the place of a type in `types`.
 fn push_typed<S: ConceptSet>(
     reader: Reader<'_>,
     hits: &mut Vec<u32>,
@@ -331,7 +334,7 @@ fn push_typed<S: ConceptSet>(
     Ok(())
 }
 
-// Whether a row is the first with its pair, and its type is in a set.
+// Whether a row is the first with its pair, and its type is in `types`.
 fn has_type<S: ConceptSet>(
     reader: Reader<'_>,
     mark: FlaggedNumber,
@@ -344,7 +347,8 @@ fn has_type<S: ConceptSet>(
     mark.is_first() && is_typed(reader, types, type_place)
 }
 
-// Pushes the cells that are numbers of concepts and whose mark is first and has the number of a source that passes.
+// Pushes each cell that is the number of a concept and whose mark is first and has the number of a source that passes
+// `tested`.
 fn push_cells<S: ConceptSet>(
     reader: Reader<'_>,
     hits: &mut Vec<u32>,
@@ -369,7 +373,7 @@ fn push_cells<S: ConceptSet>(
     Ok(())
 }
 
-// Whether a row is the first with its pair, its value is a concept, and its source passes.
+// Whether a row is the first with its pair, its value is a concept, and its source passes `tested`.
 fn has_passing_source<S: ConceptSet>(
     reader: Reader<'_>,
     mark: FlaggedNumber,
@@ -391,8 +395,8 @@ fn is_concept(reader: Reader<'_>, value: u32) -> bool
     value < reader.concept_count()
 }
 
-// Pushes the number of the value of each row that is the first with its pair, has a type in the set and a concept as
-// its value.
+// Pushes the number of the value of each row that is the first with its pair, has a type in `types`, and has a
+// concept as its value.
 fn push_values<S: ConceptSet>(
     reader: Reader<'_>,
     hits: &mut Vec<u32>,
@@ -410,7 +414,7 @@ fn push_values<S: ConceptSet>(
         (λ row. is_one_of reader.entry.indexes.now.concepts (S.items_of types.now) row.type_id) number)
         (slice_get (entries_of reader.entry.indexes.now.rows) n)) rows.now) }
 {
-    // the concepts rise, so none has two numbers
+    // The concepts rise, so that none has two numbers. This call tells the prover.
     reader.concept_count();
     for n in rows {
         let row = reader.cells(*n);
@@ -421,7 +425,7 @@ fn push_values<S: ConceptSet>(
     Ok(())
 }
 
-// Whether a row is the first with its pair, its type is in a set, and its value is a concept.
+// Whether a row is the first with its pair, its type is in `types`, and its value is a concept.
 fn counts<S: ConceptSet>(reader: Reader<'_>, row: RowCells, types: &Answer<S>) -> bool
     requires { S.bound_of types.now ≡ length reader.indexes.now.concepts }
     ensures { result ≡ (nat_lt row.value (length reader.entry.indexes.now.concepts)

@@ -1,4 +1,5 @@
-//! The concepts and the groups with so many pairs of a type and a value.
+//! Finds the concepts and the groups whose number of matching pairs lies in a cardinality: executes one leaf of a
+//! plan.
 ghost use Rattle.std.specs.Prelude.{ℕ, false, true, ◌≡◌, ◌≤◌, ◌+◌, Bool, IfOk, filter, length};
 ghost use Rattle.std.specs.List.{sum_by};
 ghost use Rattle.postings.specs.Stats.{type_row_count};
@@ -28,10 +29,12 @@ use idset::ConceptSet;
 use reading::{Answer, Counter, Reader};
 use std::alloc::AllocError;
 
-/// The candidates so many of whose distinct pairs, their own or those read backwards, have a type in a set and a value
-/// that passes (Expression Constraint Language, "Refinements", "Cardinality" and "Reverse attributes"). What is read is
-/// counted, within the bound of the node, which has room for its choice, and where that is less than its floor, so
-/// much.
+/// Finds the candidates whose number of distinct matching pairs, their own or those read backwards, lies in the
+/// cardinality of the leaf (Expression Constraint Language, "Refinements", "Cardinality" and "Reverse attributes"). A
+/// pair matches if `types` has its type and its value passes `tested`.
+///
+/// Visits are counted within the bound of the leaf, which has room for its choice. If fewer items are read than the
+/// floor of the leaf, the floor is counted.
 pub fn with_pairs_within<S: ConceptSet>(
     reader: Reader<'_>,
     back: bool,
@@ -68,9 +71,12 @@ pub fn with_pairs_within<S: ConceptSet>(
     Ok(found)
 }
 
-/// The candidates among the groups so many of whose distinct pairs have a type in a set and a value that passes
-/// (Expression Constraint Language, "Attribute groups" and "Cardinality"). What is read is counted, within the bound of
-/// the node, which has room for its choice, and where that is less than its floor, so much.
+/// Finds the candidates among the groups whose number of distinct matching pairs lies in the cardinality of the leaf
+/// (Expression Constraint Language, "Attribute groups" and "Cardinality"). A pair matches if `types` has its type and
+/// its value passes `tested`.
+///
+/// Visits are counted within the bound of the leaf, which has room for its choice. If fewer items are read than the
+/// floor of the leaf, the floor is counted.
 pub fn groups_with_pairs_within<S: ConceptSet>(
     reader: Reader<'_>,
     leaf: LeafRequest,
@@ -106,10 +112,10 @@ pub fn groups_with_pairs_within<S: ConceptSet>(
     Ok(found)
 }
 
-/// The values of the attributes whose source is in a set and whose type is in another (Expression Constraint Language,
-/// "Refinements", dotted attributes). The rows of the sources are read where there are no more sources than types, or
-/// where these are fewer than those of the types. What is read is counted: no more items than there are sources and
-/// rows.
+/// Finds the values of the attributes whose source is in `sources` and whose type is in `types` (Expression
+/// Constraint Language, "Refinements", dotted attributes). It reads the rows of the sources if there are no more
+/// sources than types, or if the sources have fewer rows than the types. Visits are counted: no more than there are
+/// sources and rows.
 pub fn values_along<S: ConceptSet>(
     reader: Reader<'_>,
     sources: Answer<S>,
@@ -130,7 +136,7 @@ pub fn values_along<S: ConceptSet>(
     Ok(found)
 }
 
-// By the rows of the sources or by those of the types.
+// Finds the values by the rows of the sources or of the types, as `way` says.
 fn values_by<S: ConceptSet>(
     reader: Reader<'_>,
     way: ValuesWay,
@@ -160,7 +166,7 @@ fn values_by<S: ConceptSet>(
     }
 }
 
-// By the rows of some types.
+// Finds the values by the rows of the types `ids`.
 fn values_by_type<S: ConceptSet>(
     reader: Reader<'_>,
     sources: Answer<S>,
@@ -180,7 +186,7 @@ fn values_by_type<S: ConceptSet>(
     with_pairs_by_type(reader, true, some, ids, &tested, visits)
 }
 
-// By the rows of some sources.
+// Finds the values by the rows of `sources`.
 fn values_by_source<S: ConceptSet>(
     reader: Reader<'_>,
     sources: &[u32],
@@ -200,8 +206,8 @@ fn values_by_source<S: ConceptSet>(
     with_pairs_by_value(reader, true, some, types, sources, visits)
 }
 
-/// The candidates so many of whose distinct pairs, their own or those read backwards, have a type that is one of some
-/// and a value that passes, read in a way. What is read is counted.
+/// Finds the candidates whose number of distinct matching pairs, their own or those read backwards, lies in `count`.
+/// A pair matches if `types` has its type and its value passes in the way `way`. Each read is a counted visit.
 pub fn with_pairs_by<S: ConceptSet>(
     reader: Reader<'_>,
     way: &Way<S>,
@@ -251,8 +257,8 @@ pub fn with_pairs_by<S: ConceptSet>(
     }
 }
 
-/// The candidates among the groups so many of whose distinct pairs have a type that is one of some and a value that
-/// passes, read in a way. What is read is counted.
+/// Finds the candidates among the groups whose number of distinct matching pairs lies in `count`. A pair matches if
+/// `types` has its type and its value passes in the way `way`. Each read is a counted visit.
 pub fn groups_with_pairs_by<S: ConceptSet>(
     reader: Reader<'_>,
     way: &Way<S>,

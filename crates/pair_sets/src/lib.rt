@@ -1,7 +1,7 @@
-//! The concepts and the groups with so many pairs.
+//! Finds the concepts and the groups whose number of matching pairs lies in a cardinality.
 //!
-//! A pair is a type and a value of an attribute. The concepts, or the groups, so many of whose pairs pass are found as
-//! sets of numbers, of some candidates alone, from the rows that are the fewest; what is read is counted.
+//! A pair is a type and a value of an attribute. The concepts, or the groups, are found as sets of numbers,
+//! restricted to candidates, from the rows that are the fewest. Each read is a counted visit.
 #![tactic(auto)]
 
 mod among;

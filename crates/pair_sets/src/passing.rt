@@ -1,4 +1,4 @@
-//! Whether a value passes a test, by its number.
+//! Whether a value passes a test, by the number of the value.
 ghost use Rattle.std.specs.Prelude.{◌≡◌, All, false, length, true};
 ghost use Rattle.std.specs.Ordering.{int_cmp};
 ghost use Rattle.rf2_rows.specs.Release.{Attribute};
@@ -13,14 +13,14 @@ use reading::Reader;
 use rf2_rows::Decimal;
 use std::cmp::Ordering;
 
-/// Whether a value passes a test (Expression Constraint Language, "Refinements"). Of the set of a test nothing is read:
-/// it is asked for the one concept. Any number may be asked for.
+/// Whether a value passes a test (Expression Constraint Language, "Refinements"). The set of the test is not read,
+/// but tested for the value, so nothing is counted. `value` may be any number.
 pub fn passes<S: ConceptSet>(reader: Reader<'_>, tested: &Tested<S>, value: u32) -> bool
     requires { IsTestBelow S.bound_of (length reader.indexes.now.concepts) tested.now }
     ensures { result ≡ passes_of S.items_of reader.entry.indexes.now.concepts tested.now
         (value_of reader.entry.indexes.now value) }
 {
-    // the concepts rise, so that none has two numbers
+    // The concepts rise, so that none has two numbers. This call tells the prover.
     let concepts = reader.concept_count();
     match tested {
         Tested::Within(set) => set.has(value),
@@ -29,8 +29,8 @@ pub fn passes<S: ConceptSet>(reader: Reader<'_>, tested: &Tested<S>, value: u32)
     }
 }
 
-/// Whether it is known that the value of no row passes a test: one with a number that none of the decimals of all rows
-/// meets. They are gone through where they are no more than so many rows.
+/// Whether it is known that the value of no row passes a test. That can be known of a test with a number that none of
+/// the decimals of all rows meets. The decimals are compared only if there are at most `rows` of them.
 pub fn none_passes<S: ConceptSet>(reader: Reader<'_>, tested: &Tested<S>, rows: u64) -> bool
     ensures { result ≡ true → All (λ (row : Attribute). passes_of S.items_of reader.entry.indexes.now.concepts
         tested.now row.value ≡ false) reader.entry.indexes.now.rows }
@@ -43,7 +43,7 @@ pub fn none_passes<S: ConceptSet>(reader: Reader<'_>, tested: &Tested<S>, rows: 
     }
 }
 
-// Whether none of the decimals of all rows compares so with a number.
+// Whether none of the decimals of all rows compares with `number` as is asked.
 fn none_meets(reader: Reader<'_>, compare: Compare, number: Decimal) -> bool
     ensures { result ≡ true → All (λ decimal. meets_of compare (int_cmp decimal number.0) ≡ false)
         reader.entry.indexes.now.decimals }
@@ -56,7 +56,7 @@ fn none_meets(reader: Reader<'_>, compare: Compare, number: Decimal) -> bool
     true
 }
 
-// Whether a value is a number that compares so with another.
+// Whether a value is a number that compares with `number` as is asked.
 fn is_number(reader: Reader<'_>, compare: Compare, number: Decimal, value: u32) -> bool
     ensures { result ≡ is_number_that compare number.0 (value_of reader.entry.indexes.now value) }
 {
@@ -72,7 +72,7 @@ fn is_number(reader: Reader<'_>, compare: Compare, number: Decimal, value: u32) 
     meets(compare, reader.compare_decimal(place, number))
 }
 
-// Whether a number that stands so to another compares with it as is asked.
+// Whether two numbers in the order `order` compare as is asked.
 fn meets(compare: Compare, order: Ordering) -> bool
     ensures { result ≡ meets_of compare order }
 {

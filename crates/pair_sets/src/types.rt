@@ -1,4 +1,4 @@
-//! The types of attribute rows that are in a set.
+//! Finds the types of attribute rows that are in a set.
 ghost use Rattle.std.specs.Prelude.{ℕ, ◌≡◌, ◌<◌, All, Bool, IfOk, filter, length, slice_index};
 ghost use Rattle.idset.specs.Words.{is_set};
 ghost use Rattle.postings.specs.Indexed.{types_of};
@@ -11,8 +11,8 @@ use idset::{ConceptSet, is_marked, marks_of};
 use reading::{Answer, Counter, Reader};
 use std::alloc::AllocError;
 
-/// The types of rows that are in a set, by their identifiers, each once. As many items are read and counted as the set
-/// has, or as many as there are types of rows where these are fewer.
+/// Finds the types of rows that are in a set. It returns the identifier of each once. It reads and counts the items
+/// of the set, or the types of rows if these are fewer.
 pub fn types_in<S: ConceptSet>(
     reader: Reader<'_>,
     set: &Answer<S>,
@@ -30,14 +30,15 @@ pub fn types_in<S: ConceptSet>(
     Ok(ids)
 }
 
-/// How many items are read to find the types of rows that are in a set.
+/// Returns how many items are read to find the types of rows that are in a set.
 pub fn types_to_read<S: ConceptSet>(reader: Reader<'_>, set: &Answer<S>) -> u64
     ensures { result ≡ types_read reader.entry.indexes.now (S.items_of set.now) }
 {
     u64::from(set.count().min(reader.type_count()))
 }
 
-// The places of the types that are in a set, by the concepts of the set or by the types, whichever are fewer.
+// Finds the places of the types that are in a set. It goes through the concepts of the set or through the types,
+// whichever are fewer.
 fn places_in<S: ConceptSet>(
     reader: Reader<'_>,
     set: &Answer<S>,
@@ -55,7 +56,7 @@ fn places_in<S: ConceptSet>(
     }
 }
 
-// The places of those concepts that are types.
+// Finds the places of the concepts that are types.
 fn places_of_concepts(reader: Reader<'_>, concepts: &[u32]) -> Result<Vec<u32>, AllocError>
     requires below { All (λ concept. concept < length reader.indexes.now.concepts) concepts.now }
     ensures { IfOk result (λ places. ArePlacesOf reader.entry.indexes.now concepts.now places.items) }
@@ -70,7 +71,7 @@ fn places_of_concepts(reader: Reader<'_>, concepts: &[u32]) -> Result<Vec<u32>, 
     Ok(places)
 }
 
-// The places of those types that are in a set. All types are read.
+// Finds the places of the types that are in a set. It reads all types.
 fn places_of_types<S: ConceptSet>(
     reader: Reader<'_>,
     set: &Answer<S>,
@@ -92,7 +93,7 @@ fn places_of_types<S: ConceptSet>(
     Ok(places)
 }
 
-// The identifiers of those types whose place is marked. A type is looked up by its place.
+// Lists the identifiers of the types whose place is marked. A type is looked up by its place.
 fn marked_ids(reader: Reader<'_>, places: &[u64]) -> Result<Vec<u64>, AllocError>
     ensures { IfOk result (λ ids. (one : ℕ → Bool)
         → ((place : ℕ) → place < length (types_of reader.entry.indexes.now.rows)
@@ -108,12 +109,12 @@ fn marked_ids(reader: Reader<'_>, places: &[u64]) -> Result<Vec<u64>, AllocError
     Ok(ids)
 }
 
-// Whether a concept is in a set.
+// Whether the concept with an identifier is in a set.
 fn is_in<S: ConceptSet>(reader: Reader<'_>, id: u64, set: &Answer<S>) -> bool
     requires { S.bound_of set.now ≡ length reader.indexes.now.concepts }
     ensures { result ≡ is_one_of reader.entry.indexes.now.concepts (S.items_of set.now) id }
 {
-    // the concepts rise, so that none has two numbers
+    // The concepts rise, so that none has two numbers. This call tells the prover.
     reader.concept_count();
     match reader.index_of(id) {
         Some(concept) => set.has(concept),
@@ -121,13 +122,13 @@ fn is_in<S: ConceptSet>(reader: Reader<'_>, id: u64, set: &Answer<S>) -> bool
     }
 }
 
-/// Whether the type of a row, by its place among the types of all rows, is in a set. Of the set nothing is read: it is
-/// asked for the one concept. Any place may be asked for.
+/// Whether the type of a row, given by its place among the types of all rows, is in a set. The set is not read, but
+/// tested for the one concept. `place` may be any number.
 pub fn is_typed<S: ConceptSet>(reader: Reader<'_>, types: &Answer<S>, place: u32) -> bool
     requires { S.bound_of types.now ≡ length reader.indexes.now.concepts }
     ensures { result ≡ is_type_in reader.entry.indexes.now (S.items_of types.now) place }
 {
-    // the concepts rise, so that none has two numbers
+    // The concepts rise, so that none has two numbers. This call tells the prover.
     reader.concept_count();
     match reader.type_concept(place) {
         Some(concept) => types.has(concept),

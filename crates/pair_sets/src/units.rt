@@ -1,4 +1,4 @@
-//! The concepts with so many groups.
+//! Finds the concepts whose number of groups lies in a cardinality.
 ghost use Rattle.std.specs.Prelude.{ℕ, ◌≡◌, ◌≤◌, ◌<◌, ◌+◌, ◌-◌, ◌++◌, true, All, IfOk, OnOk, length, map, slice_get};
 ghost use Rattle.std.specs.Prelude.{slice_index};
 ghost use Rattle.postings.specs.Groups.{all_groups, groups_before, groups_in};
@@ -18,8 +18,8 @@ use idset::ConceptSet;
 use reading::{Answer, Counter, Reader};
 use std::alloc::AllocError;
 
-/// The concepts so many of whose groups are among some (Release File Specification, "Relationship file",
-/// relationshipGroup; Expression Constraint Language, "Cardinality").
+/// Finds the concepts whose number of groups in `groups` lies in `count` (Release File Specification, "Relationship
+/// file", relationshipGroup; Expression Constraint Language, "Cardinality").
 pub fn with_groups<S: ConceptSet>(
     reader: Reader<'_>,
     count: Cardinality,
@@ -33,14 +33,14 @@ pub fn with_groups<S: ConceptSet>(
     ensures bound { IfOk result (λ found. S.bound_of found ≡ length reader.entry.snapshot.now.release.concepts) }
     ensures counted { HandsOut (length (S.items_of groups.now)) visits.old visits.new }
 {
-    // the concepts rise, so that each has its groups once
+    // The concepts rise, so that each has its groups once. This call tells the prover.
     let concept_count = reader.concept_count();
     let numbers = groups.items(reader.alloc, visits)?;
     let concepts = concepts_of(reader, numbers.as_slice())?;
     as_often(reader.alloc, concepts.as_slice(), concept_count, count)
 }
 
-// The concept of each of some groups.
+// Lists the concept of each group.
 fn concepts_of(reader: Reader<'_>, groups: &[u32]) -> Result<Vec<u32>, AllocError>
     requires { All (λ group. group < length (groups_in reader.indexes.now)) groups.now }
     ensures within { IfOk result (λ found. All (λ concept. concept < length reader.entry.indexes.now.concepts)
@@ -55,7 +55,7 @@ fn concepts_of(reader: Reader<'_>, groups: &[u32]) -> Result<Vec<u32>, AllocErro
     Ok(found)
 }
 
-/// The groups of some concepts.
+/// Finds the groups of `concepts`.
 pub fn groups_of<S: ConceptSet>(
     reader: Reader<'_>,
     concepts: &Answer<S>,
@@ -69,14 +69,14 @@ pub fn groups_of<S: ConceptSet>(
     ensures bound { IfOk result (λ groups. S.bound_of groups ≡ length (all_groups reader.entry.snapshot.now.release)) }
     ensures counted { HandsOut (length (S.items_of concepts.now)) visits.old visits.new }
 {
-    // the concepts rise, so that each has its groups once
+    // The concepts rise, so that each has its groups once. This call tells the prover.
     reader.concept_count();
     let own = concepts.items(reader.alloc, visits)?;
     let numbers = numbers_of_groups(reader, own.as_slice())?;
     Answer::from_numbers(reader.alloc, numbers.as_slice(), reader.group_count())
 }
 
-// The numbers of the groups of some concepts.
+// Lists the numbers of the groups of `concepts`.
 fn numbers_of_groups(reader: Reader<'_>, concepts: &[u32]) -> Result<Vec<u32>, AllocError>
     requires { All (λ concept. concept < length reader.indexes.now.concepts) concepts.now }
     ensures within { IfOk result (λ found. All (λ group. group < length (groups_in reader.entry.indexes.now))
@@ -95,7 +95,7 @@ fn numbers_of_groups(reader: Reader<'_>, concepts: &[u32]) -> Result<Vec<u32>, A
     Ok(found)
 }
 
-// Pushes the numbers from one on, up to another.
+// Pushes the numbers from `start` on and below `end`.
 fn push_range(found: &mut Vec<u32>, start: u32, end: u32) -> Result<(), AllocError>
     ensures { OnOk result (found.new.items ≡ found.old.items ++ range_with_len start (end - start)) }
 {

@@ -1,4 +1,5 @@
--- How many items of a list pass a test; and that no more pass than there are others, where each of the others counts for one at most.
+-- How many items of a list pass a test. At most as many pass as there are other things, if each of these counts for at
+-- most one item.
 use Rattle.std.proofs.Common.{ℕ, suc, ◌+◌, ◌≡◌, ◌≤◌, ◌∷◌, [], ◌∙◌, ◌&&◌, ◌||◌, not, inl, inr, Bool, true, false, cond, List, Option, Some, length, get_or, refl, sym, ap, subst, arith}
 use Rattle.std.specs.Prelude.{Contains, count_by, filter, slice_get}
 use Rattle.std.specs.List.{flat_map, range_with_len}
@@ -14,10 +15,11 @@ use Rattle.number_lists.proofs.BlockLemmas.{Contains-filter, items_by_place}
 
 -- ---- how many items pass
 module _ {X : Type 0} where
+  -- the count of a list is 1 or 0 for its first item and the count of the rest
   count-cons : (p : X → Bool) (x : X) (xs : List X) → count_by p (x ∷ xs) ≡ cond (p x) 1 0 + count_by p xs
   count-cons p x xs = sum_by-cons (λ x. cond (p x) 1 0) x xs
 
-  -- where some are counted there is one that passes
+  -- if at least one item is counted, an item of the list passes
   pub some_counted : (p : X → Bool) (xs : List X) → 1 ≤ count_by p xs → (x : X) × Contains xs x × (p x ≡ true)
   some_counted p [] some = absurd (omega (arith, some))
   some_counted p (x ∷ xs) some = by (p x) refl (some_counted p xs)
@@ -30,14 +32,14 @@ module _ {X : Type 0} where
           let found = rest (omega (arith, some, none, count-cons p x xs)) in
           (found.0, rest_contained x xs found.0 found.1, found.2)
 
-  -- where none passes none is counted
+  -- if no item of the list passes, none is counted
   pub count_none : (p : X → Bool) (xs : List X) → ((x : X) → Contains xs x → p x ≡ true → ⊥) → count_by p xs ≡ 0
   count_none p xs none = elim (cases_lt (count_by p xs) 1) [
     | inl few ↦ omega arith
     | inr some ↦ let found = some_counted p xs some in absurd (none found.0 found.1 found.2)
   ]
 
-  -- where each that passes one test passes another, no more pass it
+  -- if each item that passes `p` passes `q`, at most as many pass `p` as pass `q`
   pub count_le : (p q : X → Bool) (xs : List X) → ((x : X) → p x ≡ true → q x ≡ true) → count_by p xs ≤ count_by q xs
   count_le p q xs each = sum_by-le-sum_by (λ x. cond (p x) 1 0) (λ x. cond (q x) 1 0) xs (λ x. one (p x) (q x) (each x))
     where
@@ -46,7 +48,7 @@ module _ {X : Type 0} where
       one true false so = absurd (false≢true (so refl))
       one false b so = omega arith
 
-  -- no more pass either of two tests than pass each
+  -- at most as many items pass `p` or `q` as pass `p` and as pass `q`, added
   pub count_either : (p q : X → Bool) (xs : List X) → count_by (λ x. p x || q x) xs ≤ count_by p xs + count_by q xs
   count_either p q [] = omega arith
   count_either p q (x ∷ xs) =
@@ -63,7 +65,7 @@ module _ {X : Type 0} where
       one true b = omega arith
       one false b = omega arith
 
-  -- at most one passes where those that pass are the same, and none stands twice
+  -- at most one item passes if all that pass are equal and none stands twice in the list
   pub count_once : (xs : List X) → IsOnce xs → (p : X → Bool)
       → ((x y : X) → Contains xs x → Contains xs y → p x ≡ true → p y ≡ true → x ≡ y) → count_by p xs ≤ 1
   count_once [] once p same = omega arith
@@ -85,7 +87,7 @@ module _ {X : Type 0} where
           let none : cond {A = ℕ} (p x) 1 0 ≡ 0 = ap (λ (b : Bool). cond {A = ℕ} b 1 0) fails in
           omega (arith, none, count-cons p x xs, rest)
 
-  -- an item of a block is an item of the blocks
+  -- an item of the block of a key is an item of all blocks
   pub Contains-blocks : {K : Type 0} (f : K → List X) (keys : List K) (key : K) (x : X) → Contains keys key → Contains (f key) x
       → Contains (flat_map f keys) x
   Contains-blocks f [] key x there inside = absurd (omega (arith, there.1))
@@ -94,9 +96,9 @@ module _ {X : Type 0} where
     | inr later ↦ Contains-append_right (f first) (flat_map f keys) x (Contains-blocks f keys key x later inside)
   ]
 
--- ---- where each of some others counts for one item at most
+-- ---- if each of the others counts for at most one item
 module _ {X Y : Type 0} (counts : X → Y → Bool) (xs : List X) (once : (y : Y) → count_by (λ x. counts x y) xs ≤ 1) where
-  -- an item for which one counts that is not the first has one behind it
+  -- if the first of the others does not count for an item, one of the rest counts for it
   behind : (y : Y) (ys : List Y) (x : X) → counts x y ≡ false → (z : Y) × Contains (y ∷ ys) z × (counts x z ≡ true)
       → (z : Y) × Contains ys z × (counts x z ≡ true)
   behind y ys x other found = elim (contained_cases y ys found.0 found.1) [
@@ -104,7 +106,7 @@ module _ {X Y : Type 0} (counts : X → Y → Bool) (xs : List X) (once : (y : Y
     | inr later ↦ (found.0, later, found.2)
   ]
 
-  -- no more items pass than there are others, where one counts for each that passes
+  -- at most as many items pass as there are others, if one of the others counts for each item that passes
   pub few_counted : (ys : List Y) (p : X → Bool)
       → ((x : X) → Contains xs x → p x ≡ true → (y : Y) × Contains ys y × (counts x y ≡ true))
       → count_by p xs ≤ length ys
@@ -126,7 +128,8 @@ module _ {X Y : Type 0} (counts : X → Y → Bool) (xs : List X) (once : (y : Y
       either true false passes = refl
       either false b passes = absurd (false≢true passes)
 
-  -- nor than pass a test of their own, where one counts that does
+  -- at most as many items pass `p` as others pass `r`, if one other that passes `r` counts for each item that passes
+  -- `p`
   pub few_passing : (ys : List Y) (r : Y → Bool) (p : X → Bool)
       → ((x : X) → Contains xs x → p x ≡ true → (y : Y) × Contains ys y × (counts x y ≡ true) × (r y ≡ true))
       → count_by p xs ≤ count_by r ys
@@ -140,13 +143,14 @@ module _ {X Y : Type 0} (counts : X → Y → Bool) (xs : List X) (once : (y : Y
 
 -- ---- the numbers of items
 module _ {X : Type 0} where
-  -- so many places have an item that passes as there are items that do
+  -- the places with an item that passes `p` are as many as the items that pass `p`
   pub length-places : (p : X → Bool) (xs : List X) (d : X) → length (numbers_where (length xs) (λ n. p (get_or xs n d))) ≡ count_by p xs
   length-places p xs d =
       length-filter (λ n. p (get_or xs n d)) (range_with_len 0 (length xs))
       ∙ sym (fold-map (λ sum x. sum + cond (p x) 1 0) (λ n. get_or xs n d) 0 (range_with_len 0 (length xs)))
       ∙ ap (count_by p) (sym (items_by_place xs d))
 
+  -- the places at which `slice_get` gives an item that passes `test` are as many as the items that pass `test`
   pub length-places_got : (test : Option X → Bool) (xs : List X)
       → length (numbers_where (length xs) (λ n. test (slice_get xs n))) ≡ count_by (λ x. test (Some x)) xs
   length-places_got test [] = refl

@@ -21,10 +21,11 @@ use Rattle.plan_bounds.specs.Floors.{floor, floor_number, group_own_floor, if_in
 use Rattle.plan_bounds.specs.Nodes.{NodeNumber, group_sum, groups_sum, node_sum, plans_sum, test_sum}
 use Rattle.plan_bounds.specs.Sizes.{size, test_size}
 
--- ---- node by node, and so in sum
+-- ---- sums of numbers that are ordered at each node
 module _ (one other : NodeNumber) (plans : (plan : Physical) → one.of_plan plan ≤ other.of_plan plan)
     (groups : (plan : PhysicalUnits) → one.of_group plan ≤ other.of_group plan) where
   mutual
+    -- the sum of `one` over a plan of concepts is at most the sum of `other`, if it is so at each node
     pub node_sum-le : (plan : Physical) → node_sum one plan ≤ node_sum other plan
     node_sum-le physical_empty = plans physical_empty
     node_sum-le physical_all = plans physical_all
@@ -47,11 +48,13 @@ module _ (one other : NodeNumber) (plans : (plan : Physical) → one.of_plan pla
         )
     node_sum-le (physical_units count units) = omega (arith, plans (physical_units count units), group_sum-le units)
 
+    -- the sum of `one` over several plans of concepts is at most the sum of `other`
     plans_sum-le : (parts : Physicals) → plans_sum one parts ≤ plans_sum other parts
     plans_sum-le no_physicals = omega arith
     plans_sum-le (physical_then first rest) =
         omega (arith, node_sum-le first, plans_sum-le rest)
 
+    -- the sum of `one` over a plan of groups is at most the sum of `other`, if it is so at each node
     pub group_sum-le : (plan : PhysicalUnits) → group_sum one plan ≤ group_sum other plan
     group_sum-le physical_nothing = groups physical_nothing
     group_sum-le physical_every = groups physical_every
@@ -72,23 +75,25 @@ module _ (one other : NodeNumber) (plans : (plan : Physical) → one.of_plan pla
           test_sum-le test,
         )
 
+    -- the sum of `one` over several plans of groups is at most the sum of `other`
     groups_sum-le : (parts : PhysicalUnitsList) → groups_sum one parts ≤ groups_sum other parts
     groups_sum-le no_physical_units = omega arith
     groups_sum-le (physical_units_then first rest) =
         omega (arith, group_sum-le first, groups_sum-le rest)
 
+    -- the sum of `one` over the plan of a test is at most the sum of `other`
     test_sum-le : (test : PhysicalTest) → test_sum one test ≤ test_sum other test
     test_sum-le (physical_within operand) = node_sum-le operand
     test_sum-le (physical_outside operand) = node_sum-le operand
     test_sum-le (physical_number compare number) = omega arith
 
 -- ---- the nodes
--- what is counted of one concept if it is in force is no more than what is counted of it
+-- what is counted of one concept if it is in force is at most what is counted of it
 in_force-le : (number : Option ℕ) (count : ℕ) → if_in_force number count ≤ count
 in_force-le (Some number) count = omega arith
 in_force-le None count = omega arith
 
--- the rows of one concept are no more than those that a set leaves
+-- the rows of the one concept that a plan names are at most the rows that the plan leaves
 one-le-rows_left : (indexed : Indexed) (count : ℕ → ℕ) (all : ℕ) (plan : Physical) → of_one indexed (one_of plan) count ≤ rows_left count all plan
 one-le-rows_left indexed count all physical_empty = omega arith
 one-le-rows_left indexed count all physical_all = omega arith
@@ -102,6 +107,7 @@ one-le-rows_left indexed count all (physical_values start names) = omega arith
 one-le-rows_left indexed count all (physical_pairs back pairs types test choice) = omega arith
 one-le-rows_left indexed count all (physical_units pairs units) = omega arith
 
+-- the floor of a leaf is at most its bound, for each choice
 pub leaf-le : (indexed : Indexed) (all : ℕ) (back : Bool) (count : _) (types : Physical) (test : PhysicalTest) (type_size value_size : ℕ) (choice : Choice)
     → leaf_floor indexed back types test choice ≤ leaf_bound (leaf_of indexed all back count types test type_size value_size) choice
 leaf-le indexed all back count types (physical_within values) type_size value_size ByValue =
@@ -112,6 +118,7 @@ leaf-le indexed all back count types test type_size value_size ByType =
     omega (arith, one-le-rows_left indexed (type_row_count indexed) (length indexed.rows) types)
 leaf-le indexed all back count types test type_size value_size Scan = omega arith
 
+-- the floor of a walk is at most its bound
 pub walk-le : (indexed : Indexed) (operator : Operator) (one : Option ℕ) (size : ℕ)
     → cond (is_extreme operator) 0 (of_one indexed one (list_length indexed operator)) ≤ walk_bound indexed operator one size
 walk-le indexed operator (Some id) size = elim (is_extreme operator) as (λ (b : Bool).
@@ -121,10 +128,12 @@ walk-le indexed operator None size = elim (is_extreme operator) as (λ (b : Bool
     cond b 0 (of_one indexed None (list_length indexed operator)) ≤ walk_bound indexed operator None size)
     [ true ↦ omega arith | false ↦ omega arith ]
 
+-- the floor of a node of reference set members is at most its bound
 pub members-le : (indexed : Indexed) (one : Option ℕ) (size : ℕ) → of_one indexed one (member_count indexed) ≤ members_bound indexed one size
 members-le indexed (Some id) size = omega (arith, in_force-le (concept_number indexed.concepts id) (member_count indexed id))
 members-le indexed None size = omega arith
 
+-- the own floor of a node of concepts is at most its own bound
 own-le : (indexed : Indexed) (plan : Physical) → own_floor indexed plan ≤ own_bound indexed plan
 own-le indexed physical_empty = omega arith
 own-le indexed physical_all = omega arith
@@ -140,6 +149,7 @@ own-le indexed (physical_pairs back count types test choice) =
     (test_size indexed test) choice
 own-le indexed (physical_units count units) = omega arith
 
+-- the own floor of a node of groups is at most its own bound
 group_own-le : (indexed : Indexed) (plan : PhysicalUnits)
     → group_own_floor indexed plan ≤ group_own_bound indexed plan
 group_own-le indexed physical_nothing = omega arith
@@ -151,11 +161,12 @@ group_own-le indexed (physical_units_pairs count types test choice) =
     leaf-le indexed (length (groups_in indexed)) false count types test (size indexed types)
     (test_size indexed test) choice
 
+-- the floor of a plan of concepts is at most its bound
 pub floor-le-bound : (indexed : Indexed) (plan : Physical) → floor indexed plan ≤ bound indexed plan
 floor-le-bound indexed plan =
     node_sum-le (floor_number indexed) (own_number indexed) (own-le indexed) (group_own-le indexed) plan
 
--- the same of groups
+-- the floor of a plan of groups is at most its bound
 pub group_floor-le-bound : (indexed : Indexed) (plan : PhysicalUnits)
     → group_sum (floor_number indexed) plan ≤ group_sum (own_number indexed) plan
 group_floor-le-bound indexed plan =

@@ -52,8 +52,9 @@ use Rattle.plan_bounds.specs.Counts.{counted, leaf_of, list_length, of_concept, 
 use Rattle.plan_bounds.specs.Sizes.{members_size, walk_size}
 use Rattle.plan_bounds.proofs.FewLemmas.{Contains-blocks, count_either, count_le, count_none, count_once, few_counted, few_passing, length-places, some_counted}
 
--- ---- numbers of what is found
--- of all where none may pass, and else of so many
+-- ---- how many concepts or groups are found
+-- `n` is at most `found_by (least == 0) all most` if it is at most `all` and, if `least` is at least 1, at most
+-- `most`
 pub found-le : (least all most n : ℕ) → n ≤ all → (1 ≤ least → n ≤ most) → n ≤ found_by (least == 0) all most
 found-le least all most n within few = by (least == 0) refl
   where
@@ -67,25 +68,25 @@ found-le least all most n within few = by (least == 0) refl
           | inr none ↦ absurd (false≢true (sym other ∙ eq-eqb least 0 (omega (arith, none))))
         ]
 
--- where a count lies in a cardinality of at least one, there is one that is counted
+-- a count that lies in a cardinality with a minimum of at least 1 is at least 1
 some_of : (count : Cardinality) (n : ℕ) → 1 ≤ count.min → lies_in count n ≡ true → 1 ≤ n
 some_of count n some lies = omega (arith, some, leb-true count.min n (and_parts _ _ lies).0)
 
--- a value that passes the test of a set is a concept of it
+-- a value that passes `is_within set` is a concept that `set` contains
 within_value : (set : ℕ → Bool) (value : Value) → is_within set value ≡ true
     → (concept : ℕ) × (value ≡ concept_value concept) × (set concept ≡ true)
 within_value set (concept_value concept) passes = (concept, refl, passes)
 within_value set (number_value number) passes = absurd (false≢true passes)
 within_value set (text_value text) passes = absurd (false≢true passes)
 
--- what is left of a list is of it, and passes
+-- an item of `filter p xs` is an item of `xs` and passes `p`
 left : {X : Type 0} (p : X → Bool) (xs : List X) (x : X) → Contains (filter p xs) x → Contains xs x × (p x ≡ true)
 left p xs x there = (
   All-contains (Contains xs) (filter p xs) x (All-filter p (Contains xs) xs (All-contains_itself xs)) there,
   All-contains (λ x. p x ≡ true) (filter p xs) x (filter_passes p xs) there,
 )
 
--- where pairs of the first rows that belong to something are counted, one of its rows has such a pair
+-- if at least one pair of the kept entries passes `test`, a row of `rows` belongs and has a pair that passes `test`
 row_counted : (belongs : Attribute → Bool) (first : Entry → Bool) (pair : Attribute → Pair) (test : Pair → Bool) (rows : List Attribute)
     → 1 ≤ count_by test (map (λ (entry : Entry). pair entry.row) (filter (λ (entry : Entry). belongs entry.row && first entry) (entries_of rows)))
     → (row : Attribute) × Contains rows row × (belongs row ≡ true) × (test (pair row) ≡ true)
@@ -101,23 +102,24 @@ row_counted belongs first pair test rows some =
       ap test of_entry.2 ∙ counted.2,
     )
 
--- the groups of a concept are its own
+-- each group in the list of a concept's groups has that concept
 is_of : (release : Release) (concept : ℕ) (group : ConceptGroup) → Contains (groups_at release concept) group → (group.concept == concept) ≡ true
 is_of release concept group there =
     let key = from_map (group_with concept) (keys_of release concept) group there in
     eq-eqb group.concept concept (ap (λ (group : ConceptGroup). group.concept) (sym key.2))
 
 -- ---- rows of a leaf
--- the value of a row, or, read backwards, its source
+-- the value of a row, or its source if the row is read backwards
 abbrev value_on : Bool → Attribute → Value
 value_on back row = cond back (concept_value row.source) row.value
 
--- whether a row has a type and a value that pass
+-- whether the type of a row is among `types` and its value, or its source read backwards, passes `test`
 abbrev pub row_passes : Release → Bool → Plan → TestPlan → Attribute → Bool
 row_passes release back types test row = means release types row.type_id && value_passes release test (value_on back row)
 
--- ---- of a release with its indexes
+-- ---- a release with its indexes
 module _ (release : Release) (indexed : Indexed) (is : IsIndexOf indexed release) (rising : IsStrictlyIncreasing release.concepts) where
+  -- the identifier of the concept with a number
   abbrev id : ℕ → ℕ
   id number = get_or release.concepts number 0
 
@@ -125,23 +127,25 @@ module _ (release : Release) (indexed : Indexed) (is : IsIndexOf indexed release
   abbrev many : (ℕ → Bool) → ℕ
   many set = count_by set release.concepts
 
+  -- no concept stands twice in the list of the concepts in force
   concepts_once : IsOnce release.concepts
   concepts_once i j d less below same =
       let up : get_or release.concepts i d < get_or release.concepts j d = AllPairs-from_increasing release.concepts rising i j d less below in
       omega (arith, up, same)
 
-  -- there are no more than all
+  -- a set has at most as many concepts as the indexes have
   pub many-all : (set : ℕ → Bool) → many set ≤ length indexed.concepts
   many-all set = omega (arith, count_by-le-length set release.concepts, ap (λ (ids : List ℕ). length ids) is.concepts)
 
-  -- and of one concept at most one
+  -- the plan of one concept means at most one concept
   pub many-one : (one : ℕ) → many (means release (one_plan one)) ≤ 1
   many-one one =
       count_once release.concepts concepts_once (means release (one_plan one))
       (λ x y there also here too. eqb-true x one (and_parts (has_concept release x) (x == one) here).1
       ∙ sym (eqb-true y one (and_parts (has_concept release y) (y == one) too).1))
 
-  -- what is counted of a concept, where it is in force, is counted of its number
+  -- `n` is at most what `count` says of the concept `one` if it is at most the count of its number, and 0 if the
+  -- concept is not in force
   of_concept-le : (count : ℕ → ℕ) (one n : ℕ) → ((has_concept release one ≡ true → ⊥) → n ≡ 0)
       → ((number : ℕ) → number < length release.concepts → id number ≡ one → n ≤ count number) → n ≤ of_concept indexed count one
   of_concept-le count one n none some = by (concept_number indexed.concepts one) refl
@@ -158,7 +162,7 @@ module _ (release : Release) (indexed : Indexed) (is : IsIndexOf indexed release
           (ap (λ (ids : List ℕ). concept_number ids one) (sym is.concepts) ∙ at) in
           some number found.0 (sym (eqb-true one (id number) found.1))
 
-  -- of a set of what stands to one concept as a test says there is no more than the list of that concept has
+  -- a set whose concepts all pass `test one` has at most as many concepts as the list of `one`
   by_list : (lists : List (List ℕ)) (test : ℕ → ℕ → Bool) → lists ≡ lists_where (length release.concepts) (λ a b. test (id a) (id b))
       → (one : ℕ) (set : ℕ → Bool) → ((concept : ℕ) → set concept ≡ true → (has_concept release one ≡ true) × (test one concept ≡ true))
       → many set ≤ of_concept indexed (λ number. length (list_of lists number)) one
@@ -174,7 +178,7 @@ module _ (release : Release) (indexed : Indexed) (is : IsIndexOf indexed release
       omega (arith, long, count_le set (test one) release.concepts (λ concept passes. (each concept passes).1)))
 
   -- ---- where an operator leads
-  -- from one concept
+  -- at most as many concepts pass `test` from the concept `one` as its list has
   from_one : (lists : List (List ℕ)) (test : ℕ → ℕ → Bool) → lists ≡ lists_where (length release.concepts) (λ a b. test (id a) (id b))
       → (one : ℕ)
       → many (λ concept. some_member release (means release (one_plan one)) (λ member. test member concept))
@@ -188,7 +192,7 @@ module _ (release : Release) (indexed : Indexed) (is : IsIndexOf indexed release
       let same : member.0 ≡ one = eqb-true member.0 one own.1 in
       (ap (has_concept release) (sym same) ∙ own.0, ap (λ (from : ℕ). test from concept) (sym same) ∙ both.1))
 
-  -- and to the concept itself too
+  -- if at most `n` concepts pass `test`, at most `n` of them are in force
   led : (test : ℕ → Bool) (n : ℕ) → many test ≤ n → many (λ concept. has_concept release concept && test concept) ≤ n + 0
   led test n few =
       omega (
@@ -198,6 +202,7 @@ module _ (release : Release) (indexed : Indexed) (is : IsIndexOf indexed release
             (λ concept passes. (and_parts (has_concept release concept) (test concept) passes).1),
       )
 
+  -- if at most `n` concepts pass `test`, these and the concept `one` are at most `n + 1`
   led_or_self : (one : ℕ) (test : ℕ → Bool) (n : ℕ) → many test ≤ n
       → many (λ concept. has_concept release concept && (means release (one_plan one) concept || test concept)) ≤ n + 1
   led_or_self one test n few =
@@ -212,7 +217,7 @@ module _ (release : Release) (indexed : Indexed) (is : IsIndexOf indexed release
             (λ concept passes. (and_parts (has_concept release concept) (self concept || test concept) passes).1),
       )
 
-  -- what is left of a set is no more than the set
+  -- if a set has at most `n` concepts, at most `n` of it pass a test
   left_of : (set test : ℕ → Bool) (n : ℕ) → many set ≤ n
       → many (λ concept. has_concept release concept && (set concept && test concept)) ≤ n
   left_of set test n few =
@@ -224,22 +229,27 @@ module _ (release : Release) (indexed : Indexed) (is : IsIndexOf indexed release
             (and_parts (has_concept release concept) (set concept && test concept) passes).1).0),
       )
 
+  -- a concept has at most as many descendants as its list of descendants is long
   below_one : (one : ℕ) → many (is_below release (means release (one_plan one))) ≤ list_length indexed Descendants one
   below_one one =
       from_one indexed.hierarchy.descendants (λ a b. reaches release.isa b a) (ap (λ (all : Hierarchy). all.descendants) is.hierarchy) one
 
+  -- a concept has at most as many ancestors as its list of ancestors is long
   above_one : (one : ℕ) → many (is_above release (means release (one_plan one))) ≤ list_length indexed Ancestors one
   above_one one =
       from_one indexed.hierarchy.ancestors (λ a b. reaches release.isa a b) (ap (λ (all : Hierarchy). all.ancestors) is.hierarchy) one
 
+  -- a concept has at most as many children as its list of children is long
   just_below_one : (one : ℕ) → many (is_just_below release (means release (one_plan one))) ≤ list_length indexed Children one
   just_below_one one =
       from_one indexed.hierarchy.children (λ a b. is_child release b a) (ap (λ (all : Hierarchy). all.children) is.hierarchy) one
 
+  -- a concept has at most as many parents as its list of parents is long
   just_above_one : (one : ℕ) → many (is_just_above release (means release (one_plan one))) ≤ list_length indexed Parents one
   just_above_one one =
       from_one indexed.hierarchy.parents (λ a b. is_child release a b) (ap (λ (all : Hierarchy). all.parents) is.hierarchy) one
 
+  -- an operator finds at most `walk_size` concepts from one concept
   pub walk_from_one : (operator : Operator) (one n : ℕ)
       → many (means release (walk_plan operator (one_plan one))) ≤ walk_size indexed operator (Some one) n
   walk_from_one Descendants one n = led (is_below release (means release (one_plan one))) _ (below_one one)
@@ -253,7 +263,7 @@ module _ (release : Release) (indexed : Indexed) (is : IsIndexOf indexed release
   walk_from_one Top one n = left_of (means release (one_plan one)) _ 1 (many-one one)
   walk_from_one Bottom one n = left_of (means release (one_plan one)) _ 1 (many-one one)
 
-  -- from any set
+  -- an operator finds at most `walk_size` concepts from a set of at most `n`
   pub walk_from_any : (operator : Operator) (operand : Plan) (n : ℕ) → many (means release operand) ≤ n
       → many (means release (walk_plan operator operand)) ≤ walk_size indexed operator None n
   walk_from_any Top operand n few = left_of (means release operand) _ n few
@@ -261,6 +271,7 @@ module _ (release : Release) (indexed : Indexed) (is : IsIndexOf indexed release
   walk_from_any operator operand n few = many-all (means release (walk_plan operator operand))
 
   -- ---- reference sets
+  -- one reference set has at most `members_size` components
   pub members_of_one : (one : ℕ) → many (means release (members_plan (one_plan one))) ≤ members_size indexed (Some one)
   members_of_one one =
       omega (
@@ -279,6 +290,7 @@ module _ (release : Release) (indexed : Indexed) (is : IsIndexOf indexed release
             )),
       )
 
+  -- the reference sets in a set of concepts in force have at most `members_size` components
   pub members_of_any : (set : ℕ → Bool) → ((concept : ℕ) → set concept ≡ true → has_concept release concept ≡ true)
       → many (is_component release set) ≤ members_size indexed None
   members_of_any set forced =
@@ -311,6 +323,7 @@ module _ (release : Release) (indexed : Indexed) (is : IsIndexOf indexed release
           )
 
   -- ---- rows of the indexes are those of the release by source
+  -- an attribute row with a source in force is among the rows of the indexes
   by_source : (row : Attribute) → Contains release.attributes row → has_concept release row.source ≡ true → Contains indexed.rows row
   by_source row there forced =
       subst (λ (rows : List Attribute). Contains rows row) (sym is.rows)
@@ -318,12 +331,13 @@ module _ (release : Release) (indexed : Indexed) (is : IsIndexOf indexed release
       ((tells_in_force release row.source).0 forced)
       (Contains-filter (λ (other : Attribute). other.source == row.source) release.attributes row (eq-eqb row.source row.source refl) there))
 
-  -- a row has one source, and one value
+  -- a row has at most one concept as its source
   source_once : (row : Attribute) → many (λ concept. row.source == concept) ≤ 1
   source_once row =
       count_once release.concepts concepts_once (λ concept. row.source == concept)
       (λ x y there also here too. sym (eqb-true row.source x here) ∙ eqb-true row.source y too)
 
+  -- a row has at most one concept as its value
   value_once : (row : Attribute) → many (λ concept. value_eq row.value (concept_value concept)) ≤ 1
   value_once row =
       count_once release.concepts concepts_once (λ concept. value_eq row.value (concept_value concept))
@@ -333,6 +347,8 @@ module _ (release : Release) (indexed : Indexed) (is : IsIndexOf indexed release
       cc)
 
   -- ---- values
+  -- at most as many concepts are values of `set` along `types` as the indexes have rows, if all rows from `set` have
+  -- a source in force
   pub many-values : (set types : ℕ → Bool)
       → ((row : Attribute) → Contains release.attributes row → set row.source ≡ true → has_concept release row.source ≡ true)
       → many (is_value release set types) ≤ length indexed.rows
@@ -351,7 +367,8 @@ module _ (release : Release) (indexed : Indexed) (is : IsIndexOf indexed release
     abbrev passing : Pair → Bool
     passing pair = means release types pair.type_id && value_passes release test pair.value
 
-    -- of concepts there are no more than rows that pass
+    -- a leaf of concepts that is read forwards finds at most as many concepts as rows pass, if its minimum is at
+    -- least 1
     forward_rows : 1 ≤ count.min
         → many (means release (pairs_plan false count types test)) ≤ count_by (row_passes release false types test) indexed.rows
     forward_rows some =
@@ -367,6 +384,8 @@ module _ (release : Release) (indexed : Indexed) (is : IsIndexOf indexed release
               (some_of count (count_by passing (out_pairs release concept)) some lies))),
         )
 
+    -- a leaf of concepts that is read backwards finds at most as many concepts as rows pass, if its minimum is at
+    -- least 1
     back_rows : All (λ (row : Attribute). has release.concepts row.source ≡ true) release.attributes → 1 ≤ count.min
         → many (means release (pairs_plan true count types test)) ≤ count_by (row_passes release true types test) indexed.rows
     back_rows known some =
@@ -384,7 +403,7 @@ module _ (release : Release) (indexed : Indexed) (is : IsIndexOf indexed release
               (some_of count (count_by passing (in_pairs release concept)) some lies))),
         )
 
-    -- nor of groups
+    -- a leaf of groups finds at most as many groups as rows pass, if its minimum is at least 1
     pub group_rows : 1 ≤ count.min
         → count_by (λ group. unit_means release (pairs_units count types test) (pairs_of_group release group)) (all_groups release)
         ≤ count_by (row_passes release false types test) indexed.rows
@@ -412,16 +431,17 @@ module _ (release : Release) (indexed : Indexed) (is : IsIndexOf indexed release
                 All-contains (λ (group : ConceptGroup). IsTold group.key) (all_groups release) group
                 (groups_told_apart release release.concepts) there
 
+    -- a leaf of concepts finds at most as many concepts as rows pass in its direction, if its minimum is at least 1
     pub pair_rows : All (λ (row : Attribute). has release.concepts row.source ≡ true) release.attributes → (back : Bool) → 1 ≤ count.min
         → many (means release (pairs_plan back count types test)) ≤ count_by (row_passes release back types test) indexed.rows
     pair_rows known true some = back_rows known some
     pair_rows known false some = forward_rows some
 
-  -- the rows that pass are those of the logical plans
+  -- whether a row passes the logical plans of a leaf's types and test
   abbrev leaf_passes : Bool → Physical → PhysicalTest → Attribute → Bool
   leaf_passes back types test = row_passes release back (logical types) (logical_test test)
 
-  -- rows that pass are no more than those of the types
+  -- at most `type_rows` rows of the indexes pass a leaf
   rows_typed : (back : Bool) (types : Physical) (test : PhysicalTest)
       → count_by (leaf_passes back types test) indexed.rows ≤ type_rows indexed types
   rows_typed back physical_empty test =
@@ -436,7 +456,7 @@ module _ (release : Release) (indexed : Indexed) (is : IsIndexOf indexed release
       )
   rows_typed back types test = count_by-le-length (leaf_passes back types test) indexed.rows
 
-  -- nor than those of the values that the test is within
+  -- at most `value_row_count` rows pass a leaf whose test is within the one concept `one`
   rows_of_value : (back : Bool) (types : Plan) (one : ℕ)
       → count_by (row_passes release back types (within_plan (one_plan one))) indexed.rows ≤ value_row_count indexed back one
   rows_of_value back types one =
@@ -446,13 +466,14 @@ module _ (release : Release) (indexed : Indexed) (is : IsIndexOf indexed release
       (λ row there passes. none (forced row passes)))
       (λ number below same. of_number back number same)
     where
-      -- the value, or the source, of a row that passes is the concept
+      -- the value, or the source, of a row that passes is a concept that the plan of `one` means
       valued : (back : Bool) (row : Attribute) → row_passes release back types (within_plan (one_plan one)) row ≡ true
           → (concept : ℕ) × (value_on back row ≡ concept_value concept) × (means release (one_plan one) concept ≡ true)
       valued back row passes =
           within_value (means release (one_plan one)) (value_on back row)
           (and_parts (means release types row.type_id) (is_within (means release (one_plan one)) (value_on back row)) passes).1
 
+      -- the value, or the source, of a row that passes is the concept `one`
       value_is : (back : Bool) (row : Attribute) → row_passes release back types (within_plan (one_plan one)) row ≡ true
           → value_on back row ≡ concept_value one
       value_is back row passes =
@@ -492,6 +513,7 @@ module _ (release : Release) (indexed : Indexed) (is : IsIndexOf indexed release
                 (value_is false row passes ∙ ap concept_value (in_index number same))),
           )
 
+  -- at most `value_rows` rows of the indexes pass a leaf
   rows_valued : (back : Bool) (types : Physical) (test : PhysicalTest)
       → count_by (leaf_passes back types test) indexed.rows ≤ value_rows indexed back test
   rows_valued back types (physical_within physical_empty) =
@@ -506,7 +528,8 @@ module _ (release : Release) (indexed : Indexed) (is : IsIndexOf indexed release
   rows_valued back types (physical_within (physical_one one)) = rows_of_value back (logical types) one
   rows_valued back types test = count_by-le-length (leaf_passes back types test) indexed.rows
 
-  -- so what a leaf finds is no more than its size, of concepts as of groups
+  -- a leaf finds at most its size: `n` is at most `leaf_size` if it is at most `all` and, if the minimum is at least
+  -- 1, at most the number of rows that pass
   pub leaf-le : (all : ℕ) (back : Bool) (count : Cardinality) (types : Physical) (test : PhysicalTest) (type_size value_size : ℕ) (choice : Choice)
       (n : ℕ) → n ≤ all → (1 ≤ count.min → n ≤ count_by (leaf_passes back types test) indexed.rows)
       → n ≤ leaf_size (leaf_of indexed all back count types test type_size value_size) choice
@@ -522,7 +545,7 @@ module _ (release : Release) (indexed : Indexed) (is : IsIndexOf indexed release
       rows Scan = count_by-le-length (leaf_passes back types test) indexed.rows
 
   -- ---- groups
-  -- there are no more than all
+  -- at most as many groups pass a test as the indexes have
   pub groups-all : (test : ConceptGroup → Bool) → count_by test (all_groups release) ≤ length (groups_in indexed)
   groups-all test =
       let same : length (groups_in indexed) ≡ length (all_groups release) =
@@ -530,7 +553,7 @@ module _ (release : Release) (indexed : Indexed) (is : IsIndexOf indexed release
       ∙ ap (λ (groups : List ConceptGroup). length groups) (all_groups_again release rising) in
       omega (arith, same, count_by-le-length test (all_groups release))
 
-  -- as many concepts have groups in a set as groups are in it, at most
+  -- at most as many concepts have groups in `set` as groups are in `set`, if the minimum is at least 1
   pub many-groups : (count : Cardinality) (set : List Pair → Bool) → 1 ≤ count.min
       → many (λ concept. has_concept release concept && has_groups release count set concept)
       ≤ count_by (λ group. set (pairs_of_group release group)) (all_groups release)

@@ -1,4 +1,4 @@
--- Lists in which a place is written later; numbers that stand still.
+-- Lists in which a place is written later, and numbers that stop at the largest of 64 bits.
 use Rattle.std.proofs.Common.{ℕ, zero, suc, ◌+◌, ◌-◌, ◌*◌, ◌∷◌, ◌++◌, [], ◌≡◌, ◌≤◌, ◌<◌, ◌^◌, ◌∙◌, List, length, length-append, drop, min, sym, ap, arith, append_assoc, inl, inr}
 use Rattle.std.specs.List.{slice_set}
 use Rattle.std.proofs.Math.Nat.{mul-suc, mul_comm}
@@ -7,12 +7,12 @@ use Rattle.std.proofs.lemmas.Bool.{cases_lt}
 use Rattle.std.proofs.lemmas.List.{drop-drop}
 use Rattle.plan_bounds.specs.Bounds.{capped}
 
--- what is written at a place that was kept free
+-- writing `x` at the place that was kept free after `xs` gives `xs`, `x` and `ys`
 pub put_seam : {X : Type 0} (xs ys : List X) (free x : X) → slice_set ((xs ++ free ∷ []) ++ ys) (length xs) x ≡ xs ++ (x ∷ ys)
 put_seam xs ys free x =
     ap (λ (all : List _). slice_set all (length xs) x) (append_assoc xs (free ∷ []) ys) ∙ set-append_seam xs free ys x
 
--- what a node lists whose place was kept free, once its children have added theirs and its own number is put there
+-- a node lists its own number and then those of its children, if it writes its own at the place kept free before them
 pub closed_list : (given : List ℕ) {opened grown listed behind all : List ℕ} {at own number : ℕ} → listed ≡ slice_set grown at own
     → grown ≡ opened ++ behind → opened ≡ given ++ 0 ∷ [] → at ≡ length given → own ≡ number → all ≡ number ∷ behind → listed ≡ given ++ all
 closed_list given {behind = behind} {number = number} listed_is grown_is opened_is at_is own_is all_is =
@@ -21,19 +21,19 @@ closed_list given {behind = behind} {number = number} listed_is grown_is opened_
     ∙ put_seam given behind 0 number
     ∙ ap (λ (xs : List ℕ). given ++ xs) (sym all_is)
 
--- the place that was kept free stands behind what was given, and so it does once children have added theirs
+-- the place that was kept free after `given` lies within the list, once the children have added to it
 pub at_within : {X : Type 0} (given behind : List X) (free : X) {opened grown : List X} {at : ℕ} → at ≡ length given
     → opened ≡ given ++ free ∷ [] → grown ≡ opened ++ behind → at < length grown
 at_within given behind free {opened = opened} at_is opened_is grown_is =
     omega (arith, at_is, ap length opened_is, length-append given (free ∷ []), ap length grown_is, length-append opened behind)
 
--- what two children have added
+-- two children in a row add the list of the first and then that of the last
 pub two_behind : (opened first last : List ℕ) {between grown : List ℕ} → grown ≡ between ++ last → between ≡ opened ++ first
     → grown ≡ opened ++ (first ++ last)
 two_behind opened first last grown_is between_is =
     grown_is ∙ ap (λ (xs : List ℕ). xs ++ last) between_is ∙ append_assoc opened first last
 
--- a product of a number that stands still
+-- the capped product of a capped number and a count is the capped product of the number and the count
 pub capped_product : (number count : ℕ) → capped (capped number * count) ≡ capped (count * number)
 capped_product number count = elim (cases_lt number (2 ^ 64)) [
   | inl small ↦
@@ -51,15 +51,16 @@ capped_product number count = elim (cases_lt number (2 ^ 64)) [
         let right : suc count * number ≡ number * count + number = mul_comm (suc count) number ∙ mul-suc number count in
         omega (arith, left, right)
 
--- the less of a number of 64 bits and one that stands still
+-- the less of a number below 2^64 and a capped sum is the less of the number and the sum
 pub capped_least : (number : ℕ) {found all whole sum : ℕ} → found ≡ min all sum → sum ≡ capped number → all ≡ whole → all < 2 ^ 64
     → found ≡ min whole number
 capped_least number found_is sum_is all_is fits = omega (arith, found_is, sum_is)
 
--- sums of numbers that stand still
+-- the capped sum of two capped numbers is the capped sum of the numbers
 pub capped_two : (a b : ℕ) {sum one two : ℕ} → sum ≡ capped (one + two) → one ≡ capped a → two ≡ capped b → sum ≡ capped (a + b)
 capped_two a b sum_is one_is two_is = omega (arith, sum_is, one_is, two_is)
 
+-- the capped sum of three capped numbers is the capped sum of the numbers
 pub capped_three : (a b c : ℕ) {sum one two three : ℕ} → sum ≡ capped (one + (two + three)) → one ≡ capped a → two ≡ capped b → three ≡ capped c
     → sum ≡ capped (a + (b + c))
 capped_three a b c sum_is one_is two_is three_is = omega (arith, sum_is, one_is, two_is, three_is)

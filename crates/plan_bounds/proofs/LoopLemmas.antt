@@ -1,4 +1,5 @@
--- What loops over the parts of a node keep, of either sort: what is left of the parts, with what was taken, is what all of them are.
+-- Invariants of loops over the parts of a node, of concepts or of groups: what was taken and what is left are together
+-- all parts.
 use Rattle.std.proofs.Common.{ℕ, ◌+◌, ◌-◌, ◌++◌, ◌∷◌, [], ◌≡◌, ◌≤◌, ◌<◌, ◌^◌, ◌∙◌, List, drop, length, get_or, refl, sym, ap, arith, add-one}
 use Rattle.std.proofs.Common.{append-nil, append_assoc}
 use Rattle.std.proofs.Math.Seq.{drop-cons}
@@ -17,23 +18,31 @@ use Rattle.plan_bounds.specs.Sizes.{group_size, group_sizes, size, sizes}
 use Rattle.plan_bounds.specs.Tallies.{IsTallyOf, tally_of, tally_on, tally_with}
 use Rattle.plan_bounds.proofs.TallyLemmas.{is_tally_of}
 
--- ---- what a part gives, and what is joined of what some parts give
+-- ---- what a part gives, and what several parts give, joined
+-- what each part gives, what a list of parts gives, and that the latter is the former joined part by part
 pub record Joined (Part X Y : Type 0) (nothing : Y) (join : X → Y → Y) : Type 0 where
+  -- what one part gives
   pub of_part : Part → X
+  -- what a list of parts gives
   pub of_parts : List Part → Y
+  -- no parts give `nothing`
   pub none : of_parts [] ≡ nothing
+  -- a part and further parts give what the part gives, joined with what the further parts give
   pub more : (part : Part) (parts : List Part) → of_parts (part ∷ parts) ≡ join (of_part part) (of_parts parts)
 
+-- parts that each give a number, joined to the list of the numbers
 abbrev pub Numbers : Type 0 → Type 0
 Numbers Part = Joined Part ℕ (List ℕ) [] (λ number numbers. number ∷ numbers)
 
+-- parts that each give a number, joined to the sum of the numbers
 abbrev pub Sum : Type 0 → Type 0
 Sum Part = Joined Part ℕ ℕ 0 ◌+◌
 
+-- parts that each give a list, joined end to end
 abbrev pub Lists : Type 0 → Type 0 → Type 0
 Lists Part X = Joined Part (List X) (List X) [] ◌++◌
 
--- plans of concepts
+-- the sizes of plans of concepts, as a list
 abbrev pub concept_sizes : Indexed → Numbers ConceptPlan
 concept_sizes indexed = record {
   of_part = λ part. size indexed (physical_of part);
@@ -42,6 +51,7 @@ concept_sizes indexed = record {
   more = λ part parts. refl;
 }
 
+-- the sums of a node number over plans of concepts, added up
 abbrev pub concept_sum : NodeNumber → Sum ConceptPlan
 concept_sum node = record {
   of_part = λ part. node_sum node (physical_of part);
@@ -50,6 +60,7 @@ concept_sum node = record {
   more = λ part parts. refl;
 }
 
+-- the lists of node numbers of plans of concepts, one after the other
 abbrev pub concept_list : NodeList → Lists ConceptPlan ℕ
 concept_list node = record {
   of_part = λ part. node_list node (physical_of part);
@@ -58,6 +69,7 @@ concept_list node = record {
   more = λ part parts. refl;
 }
 
+-- the choices in plans of concepts, one after the other
 abbrev pub concept_choices : Lists ConceptPlan Choice
 concept_choices = record {
   of_part = λ part. choices_in (physical_of part);
@@ -66,7 +78,7 @@ concept_choices = record {
   more = λ part parts. refl;
 }
 
--- the sizes of some plans of groups, added up one by one
+-- the sizes of plans of groups, as a list
 abbrev pub unit_sizes : Indexed → Numbers UnitPlan
 unit_sizes indexed = record {
   of_part = λ part. group_size indexed (physical_units_of part);
@@ -75,6 +87,7 @@ unit_sizes indexed = record {
   more = λ part parts. refl;
 }
 
+-- the sums of a node number over plans of groups, added up
 abbrev pub unit_sum : NodeNumber → Sum UnitPlan
 unit_sum node = record {
   of_part = λ part. group_sum node (physical_units_of part);
@@ -83,6 +96,7 @@ unit_sum node = record {
   more = λ part parts. refl;
 }
 
+-- the lists of node numbers of plans of groups, one after the other
 abbrev pub unit_list : NodeList → Lists UnitPlan ℕ
 unit_list node = record {
   of_part = λ part. group_list node (physical_units_of part);
@@ -91,6 +105,7 @@ unit_list node = record {
   more = λ part parts. refl;
 }
 
+-- the choices in plans of groups, one after the other
 abbrev pub unit_choices : Lists UnitPlan Choice
 unit_choices = record {
   of_part = λ part. choices_in_units (physical_units_of part);
@@ -99,23 +114,27 @@ unit_choices = record {
   more = λ part parts. refl;
 }
 
--- ---- what is left from a place on
--- the tally of all goes on from that so far
+-- ---- invariants: what is left from a place on
+-- loop invariant: the tally so far, continued over the parts from `place` on, is the tally of all parts
 pub record SizesLeft {Part : Type 0} (sizes : Numbers Part) (all : ℕ) (parts : List Part) (place : ℕ) (tally : Tally) : Type 0 where
+  -- `tally` continued over the parts from `place` on is the tally of all parts
   pub more : tally_on place tally (sizes.of_parts (drop place parts)) ≡ tally_of all (sizes.of_parts parts)
 
--- with what was added, what is left adds up to the sum of all
+-- loop invariant: the sum so far and the sum of the parts from `place` on are the sum of all parts, capped
 pub record SumLeft {Part : Type 0} (sum : Sum Part) (parts : List Part) (place so_far : ℕ) : Type 0 where
+  -- the sum so far is a number of 64 bits
   pub fits : so_far ≤ 2 ^ 64 - 1
+  -- the sum so far plus that of the parts from `place` on, capped, is the capped sum of all parts
   pub more : capped (so_far + sum.of_parts (drop place parts)) ≡ capped (sum.of_parts parts)
 
--- behind what was listed, what is left gives the list of all
+-- loop invariant: the list so far and the lists of the parts from `place` on are `given` and the lists of all parts
 pub record ListLeft {Part X : Type 0} (lists : Lists Part X) (given : List X) (parts : List Part) (place : ℕ) (so_far : List X)
     : Type 0 where
+  -- the list so far, followed by what the parts from `place` on list, is `given` followed by what all parts list
   pub more : so_far ++ lists.of_parts (drop place parts) ≡ given ++ lists.of_parts parts
 
 module _ {Part : Type 0} where
-  -- what is joined of what is left: of the part at the place, and of those behind it
+  -- what the parts from `place` on give is what the part at `place` gives, joined with what the later parts give
   pub joined_turn : {X Y : Type 0} {nothing : Y} {join : X → Y → Y} (joined : Joined Part X Y nothing join) (parts : List Part) (place : ℕ)
       (part : Part) → place < length parts → part ≡ get_or parts place part
       → joined.of_parts (drop place parts) ≡ join (joined.of_part part) (joined.of_parts (drop (place + 1) parts))
@@ -123,11 +142,13 @@ module _ {Part : Type 0} where
       ap joined.of_parts (drop-cons parts place part within ∙ (λ i. sym is i ∷ drop (sym (add-one place) i) parts))
       ∙ joined.more part (drop (place + 1) parts)
 
+  -- the parts from a place past the last one on give `nothing`
   pub joined_end : {X Y : Type 0} {nothing : Y} {join : X → Y → Y} (joined : Joined Part X Y nothing join) (parts : List Part) (place : ℕ)
       → length parts ≤ place → joined.of_parts (drop place parts) ≡ nothing
   joined_end joined parts place past = ap joined.of_parts (drop_all place parts past) ∙ joined.none
 
   -- ---- a turn, and the end
+  -- a turn that adds the size of the part at `place` to the tally keeps `SizesLeft`
   pub sizes_turn : {sizes : Numbers Part} {all : ℕ} {parts : List Part} {place : ℕ} {tally : Tally} → SizesLeft sizes all parts place tally
       → {part : Part} {found : ℕ} {next : Tally} → place < length parts → part ≡ get_or parts place part
       → found ≡ sizes.of_part part → next ≡ tally_with place tally found → SizesLeft sizes all parts (place + 1) next
@@ -140,11 +161,13 @@ module _ {Part : Type 0} where
             ∙ left.more;
       }
 
+  -- past the last part, the tally is that of the sizes of all parts
   pub sizes_end : {sizes : Numbers Part} {all : ℕ} {parts : List Part} {place : ℕ} {tally : Tally} → SizesLeft sizes all parts place tally
       → length parts ≤ place → IsTallyOf all (sizes.of_parts parts) tally
   sizes_end {sizes} {all} {parts} {place} {tally} left past =
       is_tally_of all (sizes.of_parts parts) tally (ap (tally_on place tally) (sym (joined_end sizes parts place past)) ∙ left.more)
 
+  -- a turn that adds the capped number of the part at `place` keeps `SumLeft`
   pub sum_turn : {sum : Sum Part} {parts : List Part} {place so_far : ℕ} → SumLeft sum parts place so_far
       → {part : Part} {found next : ℕ} → place < length parts → part ≡ get_or parts place part
       → found ≡ capped (sum.of_part part) → next ≡ capped (so_far + found) → SumLeft sum parts (place + 1) next
@@ -154,10 +177,12 @@ module _ {Part : Type 0} where
         more = omega (arith, left.more, found_is, next_is, joined_turn sum parts place part within is);
       }
 
+  -- past the last part, the sum so far is the capped sum of all parts
   pub sum_end : {sum : Sum Part} {parts : List Part} {place so_far : ℕ} → SumLeft sum parts place so_far → length parts ≤ place
       → so_far ≡ capped (sum.of_parts parts)
   sum_end {sum} {parts} {place} left past = omega (arith, left.fits, left.more, joined_end sum parts place past)
 
+  -- a turn that appends the list of the part at `place` keeps `ListLeft`
   pub list_turn : {X : Type 0} {lists : Lists Part X} {given : List X} {parts : List Part} {place : ℕ} {so_far : List X}
       → ListLeft lists given parts place so_far → {part : Part} {next : List X} → place < length parts → part ≡ get_or parts place part
       → next ≡ so_far ++ lists.of_part part → ListLeft lists given parts (place + 1) next
@@ -170,6 +195,7 @@ module _ {Part : Type 0} where
             ∙ left.more;
       }
 
+  -- past the last part, the list so far is `given` and the lists of all parts
   pub list_end : {X : Type 0} {lists : Lists Part X} {given : List X} {parts : List Part} {place : ℕ} {so_far : List X}
       → ListLeft lists given parts place so_far → length parts ≤ place → so_far ≡ given ++ lists.of_parts parts
   list_end {X} {lists} {given} {parts} {place} {so_far} left past =

@@ -29,28 +29,30 @@ use Rattle.plan_bounds.specs.Sizes.{group_size, group_sizes, least_from, least_o
 use Rattle.plan_bounds.proofs.FewLemmas.{count_either, count_le, count_none, length-places, length-places_got}
 use Rattle.plan_bounds.proofs.FoundLemmas.{found-le, group_rows, groups-all, leaf-le, many-all, many-groups, many-one, many-values, members_of_any, members_of_one, pair_rows, walk_from_any, walk_from_one}
 
--- ---- of what all, or some, of the parts of a node mean
+-- ---- what all parts of a node mean, and what at least one part means
 module _ {X : Type 0} (xs : List X) where
-  -- what one more part leaves is no more than what it means, nor than what the others leave
+  -- if all of `set` is in `part`, `set` is counted at most as often as the less of its bound `most` and the bound `n`
+  -- of `part`
   with_part : (set part : X → Bool) (most n : ℕ) → ((x : X) → set x ≡ true → part x ≡ true) → count_by set xs ≤ most → count_by part xs ≤ n
       → count_by set xs ≤ min most n
   with_part set part most n each within few = omega (arith, within, few, count_le set part xs each)
 
-  -- and one more part adds no more than it means
+  -- the union of a part with at most `n` and others with at most `rest` has at most `n + rest`
   or_part : (part others : X → Bool) (n rest : ℕ) → count_by part xs ≤ n → count_by others xs ≤ rest
       → count_by (λ x. part x || others x) xs ≤ n + rest
   or_part part others n rest few more = omega (arith, few, more, count_either part others xs)
 
--- where there is a type that values are along
+-- values along at least one type are at most the less of all concepts and all rows
 along-le : (others all rows size n : ℕ) → n ≤ all → n ≤ rows → n ≤ cond (suc others == 0) size (min all rows)
 along-le others all rows size n within few =
     subst (λ b. n ≤ cond b size (min all rows)) (sym (ne_eqb (suc others) 0 (λ same. omega (arith, same)))) (omega (arith, within, few))
 
--- where the least is sought from a smaller number on, it is no larger
+-- `least_from one` of a list is at most `least_from other` of it if `one` is at most `other`
 least_from-le : (one other : ℕ) (numbers : List ℕ) → one ≤ other → least_from one numbers ≤ least_from other numbers
 least_from-le one other [] less = less
 least_from-le one other (number ∷ numbers) less = least_from-le (min one number) (min other number) numbers (omega (arith, less))
 
+-- a number that is at most `least_from most numbers` is at most `least_of most numbers`
 least_of-from : (n most : ℕ) (numbers : List ℕ) → n ≤ least_from most numbers → n ≤ least_of most numbers
 least_of-from n most [] within = within
 least_of-from n most (number ∷ numbers) within =
@@ -58,18 +60,21 @@ least_of-from n most (number ∷ numbers) within =
 
 module _ (release : Release) (indexed : Indexed) (is : IsIndexOf indexed release) (rising : IsStrictlyIncreasing release.concepts)
     (known : All (λ (row : Attribute). has release.concepts row.source ≡ true) release.attributes) where
-  -- how many concepts are in a set, and how many groups
+  -- how many concepts are in a set
   abbrev many : (ℕ → Bool) → ℕ
   many set = count_by set release.concepts
 
+  -- whether a set of pairs contains the pairs of a group
   abbrev meant : (List Pair → Bool) → ConceptGroup → Bool
   meant set group = set (pairs_of_group release group)
 
   -- ---- groups
+  -- whether a plan of groups means a group
   abbrev in_groups : PhysicalUnits → ConceptGroup → Bool
   in_groups plan = meant (unit_means release (logical_units plan))
 
   mutual
+    -- a plan of groups means at most `group_size` groups
     pub group_size-le : (plan : PhysicalUnits) → count_by (in_groups plan) (all_groups release) ≤ group_size indexed plan
     group_size-le physical_nothing =
         omega (arith, count_none (in_groups physical_nothing) (all_groups release) (λ group there passes. false≢true passes))
@@ -93,6 +98,8 @@ module _ (release : Release) (indexed : Indexed) (is : IsIndexOf indexed release
         (groups-all release indexed is rising (in_groups (physical_units_pairs count types test choice)))
         (group_rows release indexed is rising count (logical types) (logical_test test))
 
+    -- a set of groups that each of `parts` means has at most as many groups as `least_from most` of the sizes of
+    -- `parts`, if it has at most `most`
     all_groups-le : (parts : PhysicalUnitsList) (set : ConceptGroup → Bool) (most : ℕ)
         → ((group : ConceptGroup) → set group ≡ true → meant (all_units_mean release (logical_units_list parts)) group ≡ true)
         → count_by set (all_groups release) ≤ most → count_by set (all_groups release) ≤ least_from most (group_sizes indexed parts)
@@ -103,6 +110,7 @@ module _ (release : Release) (indexed : Indexed) (is : IsIndexOf indexed release
         (with_part (all_groups release) set (in_groups first) most (group_size indexed first)
         (λ group passes. (and_parts (in_groups first group) _ (each group passes)).0) within (group_size-le first))
 
+    -- the groups that at least one of `parts` means are at most the total of the sizes of `parts`
     some_groups-le : (parts : PhysicalUnitsList)
         → count_by (meant (some_unit_means release (logical_units_list parts))) (all_groups release) ≤ total (group_sizes indexed parts)
     some_groups-le no_physical_units =
@@ -112,17 +120,19 @@ module _ (release : Release) (indexed : Indexed) (is : IsIndexOf indexed release
         (group_size-le first) (some_groups-le rest)
 
   -- ---- concepts
-  -- from one concept, and from any set
+  -- a walk from an operand with at most `n` concepts means at most `walk_size` concepts
   walk-le : (operator : Operator) (operand : Physical) (n : ℕ) → many (means release (logical operand)) ≤ n
       → many (means release (walk_plan operator (logical operand))) ≤ walk_size indexed operator (one_of operand) n
   walk-le operator (physical_one one) n few = walk_from_one release indexed is rising operator one n
   walk-le operator operand n few = walk_from_any release indexed is rising operator (logical operand) n few
 
+  -- the plan of reference set members means at most `members_size` concepts
   members-le : (operand : Physical) → many (means release (members_plan (logical operand))) ≤ members_size indexed (one_of operand)
   members-le (physical_one one) = members_of_one release indexed is rising one
   members-le operand = members_of_any release indexed is rising (means release (logical operand)) (in_force_if_meant release (logical operand))
 
-  -- along types, of which there is one at least
+  -- the values along at least one type, from a set of concepts in force, are at most as many as the rows of the
+  -- indexes
   values-le : (names : Plans) (types : Plan) (set : ℕ → Bool) → ((concept : ℕ) → set concept ≡ true → has_concept release concept ≡ true)
       → many (leads release set (plan_then types names)) ≤ length indexed.rows
   values-le no_plans types set forced =
@@ -131,10 +141,12 @@ module _ (release : Release) (indexed : Indexed) (is : IsIndexOf indexed release
       values-le names others (is_value release set (means release types))
       (λ concept passes. (and_parts (has_concept release concept) _ passes).0)
 
+  -- whether a plan means a concept
   abbrev in_set : Physical → ℕ → Bool
   in_set plan = means release (logical plan)
 
   mutual
+    -- a plan of concepts means at most `size` concepts
     pub size-le : (plan : Physical) → many (in_set plan) ≤ size indexed plan
     size-le physical_empty = omega (arith, count_none (in_set physical_empty) release.concepts (λ concept there passes. false≢true passes))
     size-le physical_all = many-all release indexed is rising (in_set physical_all)
@@ -173,6 +185,8 @@ module _ (release : Release) (indexed : Indexed) (is : IsIndexOf indexed release
           group_size-le units,
         ))
 
+    -- a set of concepts that each of `parts` means has at most as many concepts as `least_from most` of the sizes of
+    -- `parts`, if it has at most `most`
     all-le : (parts : Physicals) (set : ℕ → Bool) (most : ℕ)
         → ((concept : ℕ) → set concept ≡ true → all_mean release (logicals parts) concept ≡ true)
         → many set ≤ most → many set ≤ least_from most (sizes indexed parts)
@@ -183,6 +197,7 @@ module _ (release : Release) (indexed : Indexed) (is : IsIndexOf indexed release
         (with_part release.concepts set (in_set first) most (size indexed first)
         (λ concept passes. (and_parts (in_set first concept) _ (each concept passes)).0) within (size-le first))
 
+    -- the concepts that at least one of `parts` means are at most the total of the sizes of `parts`
     some-le : (parts : Physicals) → many (some_means release (logicals parts)) ≤ total (sizes indexed parts)
     some-le no_physicals =
         omega (arith, count_none (some_means release no_plans) release.concepts (λ concept there passes. false≢true passes))
@@ -190,10 +205,12 @@ module _ (release : Release) (indexed : Indexed) (is : IsIndexOf indexed release
         or_part release.concepts (in_set first) (some_means release (logicals rest)) _ _ (size-le first) (some-le rest)
 
   -- ---- by the numbers of concepts, and of groups
+  -- a plan of concepts means the concepts of at most `size` concept numbers
   pub numbers-le : (plan : Physical)
       → length (numbers_where (length release.concepts) (λ number. in_set plan (get_or release.concepts number 0))) ≤ size indexed plan
   numbers-le plan = omega (arith, length-places (in_set plan) release.concepts 0, size-le plan)
 
+  -- a plan of groups means the groups of at most `group_size` group numbers
   pub group_numbers-le : (plan : PhysicalUnits) (test : Option ConceptGroup → Bool)
       → ((group : ConceptGroup) → test (Some group) ≡ in_groups plan group)
       → length (numbers_where (length (all_groups release)) (λ number. test (slice_get (all_groups release) number))) ≤ group_size indexed plan
@@ -204,6 +221,7 @@ module _ (release : Release) (indexed : Indexed) (is : IsIndexOf indexed release
         group_size-le plan,
       )
 
+-- whatever its choices, a plan of a release finds at most as many concepts, or groups, as its size says
 pub finds_within_size : FindsWithinSize
 finds_within_size release rising known indexed is = (
   λ plan. omega (arith, length-filter (means release (logical plan)) release.concepts, size-le release indexed is rising known plan),

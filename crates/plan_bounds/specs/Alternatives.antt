@@ -5,49 +5,55 @@ use Rattle.set_algebra.specs.declared.choice.Choice.{Choice}
 use Rattle.set_algebra.specs.declared.choice.Choice.TheVariants.{ByValue, ByType, Scan}
 use Rattle.plan_bounds.specs.declared.leaf.Leaf.{Leaf}
 
--- by value a leaf can be answered only where its test says within which set a value is
+-- whether a leaf offers a choice: by value it can be answered only if its test says within which set a value is
 abbrev pub offers : Bool → Choice → Bool
 offers is_within ByValue = is_within
 offers is_within ByType = true
 offers is_within Scan = true
 
--- the rows that are read
+-- how many rows the leaf reads at most under a choice
 abbrev pub leaf_rows : Leaf → Choice → ℕ
 leaf_rows leaf ByValue = leaf.value_rows
 leaf_rows leaf ByType = leaf.type_rows
 leaf_rows leaf Scan = leaf.rows
 
--- where none may pass, what has none is found among all
+-- how many items are read besides: all, if the minimum is 0, because an item without a passing pair is then found
+-- among all
 abbrev pub passed_over : Bool → ℕ → ℕ
 passed_over none_pass all = if none_pass then all else 0
 
--- how many of all are found by so many rows or groups, at most
+-- how many of `all` are found by `found` rows or groups at most: all if the minimum is 0
 abbrev pub found_by : Bool → ℕ → ℕ → ℕ
 found_by none_pass all found = if none_pass then all else min all found
 
+-- how many concepts or groups the leaf finds at most under a choice
 abbrev pub leaf_size : Leaf → Choice → ℕ
 leaf_size leaf choice = found_by leaf.none_pass leaf.all (leaf_rows leaf choice)
 
+-- how many items the leaf visits at most under a choice, besides its sub-plans
 abbrev pub leaf_bound : Leaf → Choice → ℕ
 leaf_bound leaf ByValue = (leaf.value_size + leaf.value_rows) + passed_over leaf.none_pass leaf.all
 leaf_bound leaf ByType = (leaf.type_size + leaf.type_rows) + passed_over leaf.none_pass leaf.all
 leaf_bound leaf Scan = leaf.all + leaf.rows
 
--- the alternative of the least bound
+-- the offered choice with the least bound; of equal bounds the first in the order of `rank`
 abbrev pub least_choice : Leaf → Choice
 least_choice leaf =
     if leaf.is_within && (nat_le (leaf_bound leaf ByValue) (leaf_bound leaf ByType) && nat_le (leaf_bound leaf ByValue) (leaf_bound leaf Scan))
     then ByValue
     else (if nat_le (leaf_bound leaf ByType) (leaf_bound leaf Scan) then ByType else Scan)
 
--- in which order a tie is decided
+-- the order that decides between choices with equal bounds
 abbrev pub rank : Choice → ℕ
 rank ByValue = 0
 rank ByType = 1
 rank Scan = 2
 
--- a choice that the leaf offers, and of all that it offers the first of the least bound
+-- a choice that the leaf offers and, of all choices that it offers, the first with the least bound
 pub record IsLeast (leaf : Leaf) (choice : Choice) : Type 0 where
+  -- the leaf offers the choice
   pub offered : IsTrue (offers leaf.is_within choice)
+  -- no choice that the leaf offers has a smaller bound
   pub least : (other : Choice) → IsTrue (offers leaf.is_within other) → leaf_bound leaf choice ≤ leaf_bound leaf other
+  -- each offered choice with an equal bound comes later in the order of `rank`, or is this choice
   pub first : (other : Choice) → IsTrue (offers leaf.is_within other) → leaf_bound leaf other ≡ leaf_bound leaf choice → rank choice ≤ rank other

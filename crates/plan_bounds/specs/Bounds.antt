@@ -19,26 +19,27 @@ use Rattle.plan_bounds.specs.Leaves.{group_count, plan_count}
 use Rattle.plan_bounds.specs.Nodes.{NodeList, NodeNumber, node_list, node_sum}
 use Rattle.plan_bounds.specs.Sizes.{group_size, group_sizes, leaf_at, size, sizes, total}
 
--- a walk from one concept, and from any set of so many
+-- the own bound of a walk from one concept, or from a set of at most `size` concepts
 abbrev pub walk_bound : Indexed → Operator → Option ℕ → ℕ → ℕ
 walk_bound indexed operator (Some id) size = 1 + list_length indexed operator id
 walk_bound indexed operator None size = size + lists_length indexed operator
 
--- the components of one reference set, and of any in a set of so many
+-- the own bound of the components of one reference set, or of the reference sets in a set of at most `size` concepts
 abbrev pub members_bound : Indexed → Option ℕ → ℕ → ℕ
 members_bound indexed (Some id) size = 1 + member_count indexed id
 members_bound indexed None size = size + (stats_in indexed).m
 
--- the values along so many types, from a set of so many
+-- the own bound of the values along `types` types from a set of at most `size` concepts
 abbrev pub values_bound : Indexed → ℕ → ℕ → ℕ
 values_bound indexed types size =
     if types == 0 then 0
     else (size + length indexed.rows) + (types - 1) * (min (length indexed.concepts) (length indexed.rows) + length indexed.rows)
 
--- a leaf among so many concepts or groups
+-- the own bound of a leaf among `all` concepts or groups
 abbrev pub leaf_bound_at : Indexed → ℕ → Bool → Cardinality → Physical → PhysicalTest → Choice → ℕ
 leaf_bound_at indexed all back count types test choice = leaf_bound (leaf_at indexed all back count types test) choice
 
+-- how many items a node of concepts visits at most, besides its sub-plans
 abbrev pub own_bound : Indexed → Physical → ℕ
 own_bound indexed physical_empty = 0
 own_bound indexed physical_all = 0
@@ -54,6 +55,7 @@ own_bound indexed (physical_pairs back count types test choice) =
 own_bound indexed (physical_units count units) =
     group_size indexed units + passed_over (count.min == 0) (length indexed.concepts)
 
+-- how many items a node of groups visits at most, besides its sub-plans
 abbrev pub group_own_bound : Indexed → PhysicalUnits → ℕ
 group_own_bound indexed physical_nothing = 0
 group_own_bound indexed physical_every = 0
@@ -64,23 +66,25 @@ group_own_bound indexed (physical_units_minus first second) =
 group_own_bound indexed (physical_units_pairs count types test choice) =
     leaf_bound_at indexed (length (groups_in indexed)) false count types test choice
 
--- the bound of a plan is the sum over its nodes
+-- the own bound of each node
 abbrev pub own_number : Indexed → NodeNumber
 own_number indexed = record { of_plan = own_bound indexed; of_group = group_own_bound indexed }
 
+-- the bound of a plan of concepts: the sum of the own bounds of its nodes
 abbrev pub bound : Indexed → Physical → ℕ
 bound indexed plan = node_sum (own_number indexed) plan
 
--- numbers stand still at the largest of 64 bits
+-- a number, or the largest number of 64 bits if it is larger
 abbrev pub capped : ℕ → ℕ
 capped number = min number (2 ^ 64 - 1)
 
--- the own bounds of all nodes, a node before its children
+-- the capped own bound of each node, as a list of one number
 abbrev pub own_list : Indexed → NodeList
 own_list indexed = record {
   of_plan = λ plan. capped (own_bound indexed plan) ∷ [];
   of_group = λ plan. capped (group_own_bound indexed plan) ∷ [];
 }
 
+-- the capped own bounds of all nodes of a plan, a node before its children
 abbrev pub own_bounds : Indexed → Physical → List ℕ
 own_bounds indexed plan = node_list (own_list indexed) plan

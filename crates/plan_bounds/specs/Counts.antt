@@ -1,4 +1,4 @@
--- What is counted of a release for a node of a plan: the lists of a concept, and the rows of a type or a value.
+-- The counts of a release that a node of a plan needs: the lists of a concept, and the rows of a type or a value.
 use Rattle.std.specs.Prelude.{ℕ, ◌==◌, Bool, true, false, if◌then◌else◌, List, Option, None, Some, length}
 use Rattle.constraint_tree.specs.declared.operator.Cardinality.{Cardinality}
 use Rattle.constraint_tree.specs.declared.operator.Operator.{Operator}
@@ -16,15 +16,16 @@ use Rattle.postings.specs.Indexed.{Indexed, rows_by_source, rows_by_value}
 use Rattle.postings.specs.Stats.{stats_in, type_row_count}
 use Rattle.plan_bounds.specs.declared.leaf.Leaf.{Leaf}
 
--- what is counted of a concept by its number, and 0 of one that is not in force
+-- what `count` says of a concept's number, or 0 of a concept that is not in force
 abbrev pub counted : (ℕ → ℕ) → Option ℕ → ℕ
 counted count (Some number) = count number
 counted count None = 0
 
+-- what `count` says of the concept with identifier `id`, or 0 if it is not in force
 abbrev pub of_concept : Indexed → (ℕ → ℕ) → ℕ → ℕ
 of_concept indexed count id = counted count (concept_number indexed.concepts id)
 
--- the lists that an operator goes along
+-- the lists that an operator reads
 abbrev pub lists_along : Hierarchy → Operator → List (List ℕ)
 lists_along hierarchy Descendants = hierarchy.descendants
 lists_along hierarchy DescendantsOrSelf = hierarchy.descendants
@@ -37,11 +38,12 @@ lists_along hierarchy ParentsOrSelf = hierarchy.parents
 lists_along hierarchy Top = hierarchy.ancestors
 lists_along hierarchy Bottom = hierarchy.descendants
 
--- how long the list of a concept is, and all of them together
+-- how long the list of the concept `id` is that an operator reads
 abbrev pub list_length : Indexed → Operator → ℕ → ℕ
 list_length indexed operator id =
     of_concept indexed (λ number. length (list_of (lists_along indexed.hierarchy operator) number)) id
 
+-- how long all lists that an operator reads are together
 abbrev pub lists_length : Indexed → Operator → ℕ
 lists_length indexed Descendants = (stats_in indexed).r
 lists_length indexed DescendantsOrSelf = (stats_in indexed).r
@@ -54,7 +56,7 @@ lists_length indexed ParentsOrSelf = (stats_in indexed).l
 lists_length indexed Top = (stats_in indexed).r
 lists_length indexed Bottom = (stats_in indexed).r
 
--- whether an operator leads to the concepts themselves too, and whether it leaves some of them and leads nowhere
+-- whether an operator finds the concepts of its operand besides those that it leads to
 abbrev pub leads_to_self : Operator → Bool
 leads_to_self Descendants = false
 leads_to_self DescendantsOrSelf = true
@@ -67,6 +69,7 @@ leads_to_self ParentsOrSelf = true
 leads_to_self Top = false
 leads_to_self Bottom = false
 
+-- whether an operator only keeps some of the concepts of its operand (`!!>`, `!!<`)
 abbrev pub is_extreme : Operator → Bool
 is_extreme Descendants = false
 is_extreme DescendantsOrSelf = false
@@ -83,12 +86,12 @@ is_extreme Bottom = true
 abbrev pub member_count : Indexed → ℕ → ℕ
 member_count indexed id = of_concept indexed (λ number. length (list_of indexed.members number)) id
 
--- how many rows have a value, or, read backwards, a source
+-- how many rows have the concept `id` as their value, or, read backwards, as their source
 abbrev pub value_row_count : Indexed → Bool → ℕ → ℕ
 value_row_count indexed back id =
     of_concept indexed (λ number. length (if back then rows_by_source indexed number else rows_by_value indexed number)) id
 
--- the concept of a plan that is one
+-- the concept that a plan names, if the plan is one concept
 abbrev pub one_of : Physical → Option ℕ
 one_of physical_empty = None
 one_of physical_all = None
@@ -102,7 +105,7 @@ one_of (physical_values start names) = None
 one_of (physical_pairs back count types test choice) = None
 one_of (physical_units count units) = None
 
--- of all rows those that a set leaves, at most: of one concept its rows, of no concept none
+-- how many of `all` rows a set leaves at most: none if it is empty, the rows of its concept if it is one, else all
 abbrev pub rows_left : (ℕ → ℕ) → ℕ → Physical → ℕ
 rows_left count all physical_empty = 0
 rows_left count all physical_all = all
@@ -116,21 +119,24 @@ rows_left count all (physical_values start names) = all
 rows_left count all (physical_pairs back plan_count types test choice) = all
 rows_left count all (physical_units plan_count units) = all
 
--- by the types of a leaf, and by the values that its test is within
+-- how many rows have a type of the leaf, at most
 abbrev pub type_rows : Indexed → Physical → ℕ
 type_rows indexed types = rows_left (type_row_count indexed) (length indexed.rows) types
 
+-- how many rows have a value that passes the test, at most; read backwards, a source
 abbrev pub value_rows : Indexed → Bool → PhysicalTest → ℕ
 value_rows indexed back (physical_within values) = rows_left (value_row_count indexed back) (length indexed.rows) values
 value_rows indexed back (physical_outside values) = length indexed.rows
 value_rows indexed back (physical_number compare number) = length indexed.rows
 
+-- whether a test says within which set a value is
 abbrev pub is_within : PhysicalTest → Bool
 is_within (physical_within values) = true
 is_within (physical_outside values) = false
 is_within (physical_number compare number) = false
 
--- a leaf, by how many concepts or groups there are, and by the sizes of its types and of the plan of its test
+-- the counts of a leaf among `all` concepts or groups, if its types find at most `type_size` and the plan of its test
+-- at most `value_size`
 abbrev pub leaf_of : Indexed → ℕ → Bool → Cardinality → Physical → PhysicalTest → ℕ → ℕ → Leaf
 leaf_of indexed all back count types test type_size value_size = record {
   all = all;

@@ -1,4 +1,4 @@
--- How much a physical plan finds is no more than its size, whatever its choices.
+-- A physical plan finds at most its size, whatever its choices.
 use Rattle.std.specs.Prelude.{◌≡◌, ◌≤◌, true, All, List, filter, length}
 use Rattle.std.specs.List.Sorted.{IsStrictlyIncreasing}
 use Rattle.rf2_rows.specs.Release.{Attribute, Release}
@@ -14,8 +14,8 @@ use Rattle.plan_bounds.specs.Sizes.{group_size, size}
 abbrev pub groups_meant : Release → PlanOfUnits → List ConceptGroup
 groups_meant release plan = filter (λ group. unit_means release plan (pairs_of_group release group)) (all_groups release)
 
--- of a release whose concepts rise, and the sources of whose attribute rows are concepts in force: by its indexes, no plan means more
--- concepts than its size, and no plan of groups more groups
+-- if the concepts of a release rise and each attribute row has a source in force, no plan means more concepts than
+-- its size by the indexes of the release, and no plan of groups means more groups than its size
 abbrev pub FindsWithinSize : Type 0
 FindsWithinSize =
     (release : Release) → IsStrictlyIncreasing release.concepts

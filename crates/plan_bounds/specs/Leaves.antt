@@ -1,5 +1,5 @@
--- The leaves of a physical plan: its nodes that count pairs, of concepts and of groups, a node before its children, and these in the
--- order in which the plan has them, the types of a leaf before its test. And how many plans a list has.
+-- The leaves of a physical plan, which are the nodes that count pairs of concepts or of groups. A node comes before
+-- its children, these come in the order of the plan, and the types of a leaf come before its test.
 use Rattle.std.specs.Prelude.{ℕ, suc, List, [], ◌∷◌, ◌++◌}
 use Rattle.set_algebra.specs.declared.choice.Choice.{Choice}
 use Rattle.set_algebra.specs.Physical.{Physical, physical_empty, physical_all, physical_one, physical_walk, physical_members, physical_and}
@@ -11,6 +11,7 @@ use Rattle.set_algebra.specs.Physical.{PhysicalTest, physical_within, physical_o
 
 -- the choices of the leaves
 abbrev mutual
+  -- the choices of the leaves of a plan of concepts
   pub choices_in : Physical → List Choice
   choices_in physical_empty = []
   choices_in physical_all = []
@@ -24,10 +25,12 @@ abbrev mutual
   choices_in (physical_pairs back count types test choice) = choice ∷ (choices_in types ++ choices_in_test test)
   choices_in (physical_units count units) = choices_in_units units
 
+  -- the choices of the leaves of several plans of concepts
   pub choices_in_each : Physicals → List Choice
   choices_in_each no_physicals = []
   choices_in_each (physical_then first rest) = choices_in first ++ choices_in_each rest
 
+  -- the choices of the leaves of a plan of groups
   pub choices_in_units : PhysicalUnits → List Choice
   choices_in_units physical_nothing = []
   choices_in_units physical_every = []
@@ -36,20 +39,23 @@ abbrev mutual
   choices_in_units (physical_units_minus first second) = choices_in_units first ++ choices_in_units second
   choices_in_units (physical_units_pairs count types test choice) = choice ∷ (choices_in types ++ choices_in_test test)
 
+  -- the choices of the leaves of several plans of groups
   pub choices_in_each_units : PhysicalUnitsList → List Choice
   choices_in_each_units no_physical_units = []
   choices_in_each_units (physical_units_then first rest) = choices_in_units first ++ choices_in_each_units rest
 
+  -- the choices of the leaves of the plan of a test, if it has one
   pub choices_in_test : PhysicalTest → List Choice
   choices_in_test (physical_within operand) = choices_in operand
   choices_in_test (physical_outside operand) = choices_in operand
   choices_in_test (physical_number compare number) = []
 
--- how many plans a list has
+-- how many plans of concepts a list has
 abbrev pub plan_count : Physicals → ℕ
 plan_count no_physicals = 0
 plan_count (physical_then first rest) = suc (plan_count rest)
 
+-- how many plans of groups a list has
 abbrev pub group_count : PhysicalUnitsList → ℕ
 group_count no_physical_units = 0
 group_count (physical_units_then first rest) = suc (group_count rest)

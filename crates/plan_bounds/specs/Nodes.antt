@@ -1,5 +1,5 @@
--- Going through the nodes of a physical plan: the sum of a number that each node has, and the list of numbers that each node gives,
--- a node before its children.
+-- Passes over the nodes of a physical plan: the sum of a number that each node has, and the list of the numbers that
+-- each node gives, a node before its children.
 use Rattle.std.specs.Prelude.{ℕ, ◌+◌, List, [], ◌++◌}
 use Rattle.set_algebra.specs.Physical.{Physical, physical_empty, physical_all, physical_one, physical_walk}
 use Rattle.set_algebra.specs.Physical.{physical_members, physical_and, physical_or, physical_minus, physical_values}
@@ -9,16 +9,22 @@ use Rattle.set_algebra.specs.Physical.{physical_units_or, physical_units_minus, 
 use Rattle.set_algebra.specs.Physical.{PhysicalUnitsList, no_physical_units, physical_units_then, PhysicalTest}
 use Rattle.set_algebra.specs.Physical.{physical_within, physical_outside, physical_number}
 
--- what a node has, of either sort
+-- a number for each node, of concepts or of groups
 pub record NodeNumber : Type 0 where
+  -- the number of a node of concepts
   pub of_plan : Physical → ℕ
+  -- the number of a node of groups
   pub of_group : PhysicalUnits → ℕ
 
+-- a list of numbers for each node, of concepts or of groups
 pub record NodeList : Type 0 where
+  -- the numbers of a node of concepts
   pub of_plan : Physical → List ℕ
+  -- the numbers of a node of groups
   pub of_group : PhysicalUnits → List ℕ
 
 abbrev mutual
+  -- the sum of the numbers of all nodes of a plan of concepts
   pub node_sum : NodeNumber → Physical → ℕ
   node_sum node physical_empty = node.of_plan physical_empty
   node_sum node physical_all = node.of_plan physical_all
@@ -36,10 +42,12 @@ abbrev mutual
       + (node_sum node types + test_sum node test)
   node_sum node (physical_units count units) = node.of_plan (physical_units count units) + group_sum node units
 
+  -- the sum of the numbers of all nodes of several plans of concepts
   pub plans_sum : NodeNumber → Physicals → ℕ
   plans_sum node no_physicals = 0
   plans_sum node (physical_then first rest) = node_sum node first + plans_sum node rest
 
+  -- the sum of the numbers of all nodes of a plan of groups
   pub group_sum : NodeNumber → PhysicalUnits → ℕ
   group_sum node physical_nothing = node.of_group physical_nothing
   group_sum node physical_every = node.of_group physical_every
@@ -52,18 +60,20 @@ abbrev mutual
       node.of_group (physical_units_pairs count types test choice)
       + (node_sum node types + test_sum node test)
 
+  -- the sum of the numbers of all nodes of several plans of groups
   pub groups_sum : NodeNumber → PhysicalUnitsList → ℕ
   groups_sum node no_physical_units = 0
   groups_sum node (physical_units_then first rest) =
       group_sum node first + groups_sum node rest
 
-  -- a test is no node
+  -- the sum of the numbers of all nodes of the plan of a test; the test itself is no node
   pub test_sum : NodeNumber → PhysicalTest → ℕ
   test_sum node (physical_within operand) = node_sum node operand
   test_sum node (physical_outside operand) = node_sum node operand
   test_sum node (physical_number compare number) = 0
 
 abbrev mutual
+  -- the lists of all nodes of a plan of concepts, one after the other
   pub node_list : NodeList → Physical → List ℕ
   node_list node physical_empty = node.of_plan physical_empty
   node_list node physical_all = node.of_plan physical_all
@@ -83,10 +93,12 @@ abbrev mutual
       ++ (node_list node types ++ test_list node test)
   node_list node (physical_units count units) = node.of_plan (physical_units count units) ++ group_list node units
 
+  -- the lists of all nodes of several plans of concepts, one after the other
   pub plans_list : NodeList → Physicals → List ℕ
   plans_list node no_physicals = []
   plans_list node (physical_then first rest) = node_list node first ++ plans_list node rest
 
+  -- the lists of all nodes of a plan of groups, one after the other
   pub group_list : NodeList → PhysicalUnits → List ℕ
   group_list node physical_nothing = node.of_group physical_nothing
   group_list node physical_every = node.of_group physical_every
@@ -99,11 +111,13 @@ abbrev mutual
       node.of_group (physical_units_pairs count types test choice)
       ++ (node_list node types ++ test_list node test)
 
+  -- the lists of all nodes of several plans of groups, one after the other
   pub groups_list : NodeList → PhysicalUnitsList → List ℕ
   groups_list node no_physical_units = []
   groups_list node (physical_units_then first rest) =
       group_list node first ++ groups_list node rest
 
+  -- the lists of all nodes of the plan of a test; the test itself is no node
   pub test_list : NodeList → PhysicalTest → List ℕ
   test_list node (physical_within operand) = node_list node operand
   test_list node (physical_outside operand) = node_list node operand

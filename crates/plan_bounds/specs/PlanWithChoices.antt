@@ -1,4 +1,4 @@
--- A plan with how it is to be executed.
+-- A plan with the choices of its leaves, which say how it is executed.
 use Rattle.std.specs.Prelude.{◌≡◌, List}
 use Rattle.set_algebra.specs.declared.plan.ConceptPlan.{ConceptPlan}
 use Rattle.set_algebra.specs.Physical.{physical_of}
@@ -6,12 +6,16 @@ use Rattle.set_algebra.specs.declared.choice.Choice.{Choice}
 use Rattle.plan_bounds.specs.Leaves.{choices_in}
 use Rattle.plan_bounds.specs.Offered.{AreOffered}
 
--- the plan, whose leaves have their choices, and these in a list, a node before its children
+-- a plan whose leaves have their choices, and the list of these choices, a node before its children
 pub record PlanWithChoices : Type 0 where
+  -- the plan
   pub plan : ConceptPlan
+  -- the choices of its leaves
   pub choices : List Choice
 
--- the list has the choices of the leaves, and each leaf offers its own
+-- the list has the choices of the leaves, and each leaf offers its choice
 pub record IsPhysical (physical : PlanWithChoices) : Type 0 where
+  -- the list has the choices of the leaves of the plan
   pub choices_are : physical.choices ≡ choices_in (physical_of physical.plan)
+  -- each leaf of the plan offers its choice
   pub offered : AreOffered (physical_of physical.plan)

@@ -1,4 +1,4 @@
--- How much a physical plan finds at most, in concepts or in groups.
+-- How many concepts or groups a physical plan finds at most.
 use Rattle.std.specs.Prelude.{ℕ, Bool, false, ◌+◌, ◌==◌, if◌then◌else◌, List, [], ◌∷◌, Option, None, Some, length, min}
 use Rattle.constraint_tree.specs.declared.operator.Cardinality.{Cardinality}
 use Rattle.constraint_tree.specs.declared.operator.Operator.{Operator}
@@ -17,35 +17,38 @@ use Rattle.plan_bounds.specs.Alternatives.{found_by, leaf_size}
 use Rattle.plan_bounds.specs.Counts.{is_extreme, leads_to_self, leaf_of, list_length, member_count, one_of}
 use Rattle.plan_bounds.specs.Leaves.{plan_count}
 
--- a walk from one concept, and from any set of so many
+-- how many concepts a walk finds at most from one concept, or from a set of at most `size` concepts
 abbrev pub walk_size : Indexed → Operator → Option ℕ → ℕ → ℕ
 walk_size indexed operator (Some id) size =
     if is_extreme operator then 1 else list_length indexed operator id + (if leads_to_self operator then 1 else 0)
 walk_size indexed operator None size = if is_extreme operator then size else length indexed.concepts
 
--- the components of one reference set, and of any
+-- how many components one reference set has at most, or the reference sets in any set
 abbrev pub members_size : Indexed → Option ℕ → ℕ
 members_size indexed (Some id) = min (length indexed.concepts) (member_count indexed id)
 members_size indexed None = min (length indexed.concepts) (stats_in indexed).m
 
--- the values along so many types, from a set
+-- how many values there are at most along `types` types from a set of at most `size` concepts
 abbrev pub values_size : Indexed → ℕ → ℕ → ℕ
 values_size indexed types size = if types == 0 then size else min (length indexed.concepts) (length indexed.rows)
 
--- the sum of some numbers; and the least, or another number where there is none
+-- the sum of the numbers of a list
 abbrev pub total : List ℕ → ℕ
 total [] = 0
 total (number ∷ numbers) = number + total numbers
 
+-- the least of `least` and the numbers of a list
 abbrev pub least_from : ℕ → List ℕ → ℕ
 least_from least [] = least
 least_from least (number ∷ numbers) = least_from (min least number) numbers
 
+-- the least number of a list, or `other` if the list is empty
 abbrev pub least_of : ℕ → List ℕ → ℕ
 least_of other [] = other
 least_of other (number ∷ numbers) = least_from number numbers
 
 abbrev mutual
+  -- how many concepts a plan of concepts finds at most
   pub size : Indexed → Physical → ℕ
   size indexed physical_empty = 0
   size indexed physical_all = length indexed.concepts
@@ -62,11 +65,12 @@ abbrev mutual
       choice
   size indexed (physical_units count units) = found_by (count.min == 0) (length indexed.concepts) (group_size indexed units)
 
-  -- of each part
+  -- how many concepts each of several plans of concepts finds at most
   pub sizes : Indexed → Physicals → List ℕ
   sizes indexed no_physicals = []
   sizes indexed (physical_then first rest) = size indexed first ∷ sizes indexed rest
 
+  -- how many groups a plan of groups finds at most
   pub group_size : Indexed → PhysicalUnits → ℕ
   group_size indexed physical_nothing = 0
   group_size indexed physical_every = length (groups_in indexed)
@@ -78,17 +82,18 @@ abbrev mutual
       (leaf_of indexed (length (groups_in indexed)) false count types test (size indexed types) (test_size indexed test))
       choice
 
+  -- how many groups each of several plans of groups finds at most
   pub group_sizes : Indexed → PhysicalUnitsList → List ℕ
   group_sizes indexed no_physical_units = []
   group_sizes indexed (physical_units_then first rest) =
       group_size indexed first ∷ group_sizes indexed rest
 
-  -- of the plan of a test
+  -- how many concepts the plan of a test finds at most; 0 if the test has no plan
   pub test_size : Indexed → PhysicalTest → ℕ
   test_size indexed (physical_within operand) = size indexed operand
   test_size indexed (physical_outside operand) = size indexed operand
   test_size indexed (physical_number compare number) = 0
 
--- a leaf among so many concepts or groups
+-- the counts of a leaf among `all` concepts or groups, by the sizes of its types and of the plan of its test
 abbrev pub leaf_at : Indexed → ℕ → Bool → Cardinality → Physical → PhysicalTest → Leaf
 leaf_at indexed all back count types test = leaf_of indexed all back count types test (size indexed types) (test_size indexed test)

@@ -1,4 +1,4 @@
-//! The size and the bound of a plan, node by node, each from those of its children.
+//! Size and bound of a plan, computed node by node from those of its children.
 ghost use Rattle.std.specs.Prelude.{◌≡◌, ◌+◌};
 ghost use Rattle.set_algebra.specs.Physical.{physical_of, physical_test_of, physical_units_list_of, physical_units_of};
 ghost use Rattle.set_algebra.specs.Physical.{physical_values, physicals_of};
@@ -22,7 +22,7 @@ use set_algebra::{Choice, ConceptPlan, UnitPlan, ValueTest};
 pub struct PlanCost {
     /// In concepts or groups; exact.
     pub size: u64,
-    /// The sum over its nodes, or `u64::MAX` where it is larger.
+    /// The sum over its nodes, or `u64::MAX` if it is larger.
     pub bound: u64,
 }
 
@@ -33,7 +33,7 @@ struct PartsCost {
     bound: u64,
 }
 
-/// The cost of a plan of concepts. It takes no memory.
+/// Computes the cost of a plan of concepts. It allocates nothing.
 #[cycle(cost)]
 #[tactic(auto, using(crate::proofs::Rules::costing))]
 pub fn cost(plan: &ConceptPlan, lengths: Lengths<'_>) -> PlanCost
@@ -85,7 +85,7 @@ pub fn cost(plan: &ConceptPlan, lengths: Lengths<'_>) -> PlanCost
     }
 }
 
-// The cost of the values along some types.
+// Computes the cost of a `Values` node: the values along the types `names` from `start`.
 #[cycle(cost)]
 fn values_cost(start: &ConceptPlan, names: &[ConceptPlan], lengths: Lengths<'_>) -> PlanCost
     ensures size { result.size ≡ size_of lengths.entry.indexes.now (physical_values (physical_of start.now)
@@ -99,7 +99,7 @@ fn values_cost(start: &ConceptPlan, names: &[ConceptPlan], lengths: Lengths<'_>)
     with_parts(own, from.bound.saturating_add(types.bound))
 }
 
-// The cost of a leaf, of concepts or of groups.
+// Computes the cost of a leaf among `all` concepts or groups.
 #[cycle(cost)]
 fn pairs_cost(
     all: u64,
@@ -123,7 +123,7 @@ fn pairs_cost(
     with_two(leaf.cost(choice), of_types, of_test)
 }
 
-/// The cost of a plan of groups. It takes no memory.
+/// Computes the cost of a plan of groups. It allocates nothing.
 #[cycle(cost)]
 #[tactic(auto, using(crate::proofs::Rules::costing))]
 pub fn unit_cost(plan: &UnitPlan, lengths: Lengths<'_>) -> PlanCost
@@ -158,7 +158,7 @@ pub fn unit_cost(plan: &UnitPlan, lengths: Lengths<'_>) -> PlanCost
     }
 }
 
-// The cost of the plan of a test, if it has one.
+// Computes the cost of the plan of a test; 0 if the test has no plan.
 #[cycle(cost)]
 fn test_cost(test: &ValueTest, lengths: Lengths<'_>) -> PlanCost
     ensures size { result.size ≡ test_size lengths.entry.indexes.now (physical_test_of test.now) }
@@ -171,7 +171,7 @@ fn test_cost(test: &ValueTest, lengths: Lengths<'_>) -> PlanCost
     }
 }
 
-// The costs of sibling plans of concepts.
+// Adds up the costs of sibling plans of concepts. `all` stands for the least size if there is no part.
 #[cycle(cost)]
 fn parts_cost(parts: &[ConceptPlan], all: u64, lengths: Lengths<'_>) -> PartsCost
     ensures tally { IsTallyOf all (sizes lengths.entry.indexes.now (physicals_of parts.now)) result.tally }
@@ -187,7 +187,7 @@ fn parts_cost(parts: &[ConceptPlan], all: u64, lengths: Lengths<'_>) -> PartsCos
     PartsCost { tally, bound }
 }
 
-// The costs of sibling plans of groups.
+// Adds up the costs of sibling plans of groups. `all` stands for the least size if there is no part.
 #[cycle(cost)]
 fn unit_parts_cost(parts: &[UnitPlan], all: u64, lengths: Lengths<'_>) -> PartsCost
     ensures tally { IsTallyOf all (group_sizes lengths.entry.indexes.now (physical_units_list_of parts.now))
@@ -205,7 +205,7 @@ fn unit_parts_cost(parts: &[UnitPlan], all: u64, lengths: Lengths<'_>) -> PartsC
     PartsCost { tally, bound }
 }
 
-// The cost of a node that reads nothing.
+// Makes the cost of a node that reads nothing.
 fn without_parts(size: u64) -> PlanCost
     ensures size { result.size ≡ size }
     ensures bound { result.bound ≡ 0 }
@@ -213,7 +213,7 @@ fn without_parts(size: u64) -> PlanCost
     PlanCost { size, bound: 0 }
 }
 
-// The cost of a node, by its own cost and the bound of its children.
+// Makes the cost of a node from its own cost and the bound of its children.
 fn with_parts(own: NodeCost, inner: u64) -> PlanCost
     ensures size { result.size ≡ own.size }
     ensures bound { result.bound ≡ capped (own.bound + inner) }
@@ -224,7 +224,7 @@ fn with_parts(own: NodeCost, inner: u64) -> PlanCost
     }
 }
 
-// The cost of a node with two plans.
+// Makes the cost of a node with two sub-plans from its own cost and theirs.
 fn with_two(own: NodeCost, first: PlanCost, second: PlanCost) -> PlanCost
     ensures size { result.size ≡ own.size }
     ensures bound { result.bound ≡ capped (own.bound + (first.bound + second.bound)) }

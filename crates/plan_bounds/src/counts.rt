@@ -1,4 +1,4 @@
-//! What is counted of a release for a node of a plan.
+//! Counts, from the indexes of a release, what a node of a plan finds and visits.
 ghost use Rattle.std.specs.Prelude.{◌≡◌, ◌==◌, ◌<◌, ◌+◌, ◌*◌, if◌then◌else◌, min, ◌^◌, length};
 ghost use Rattle.number_lists.specs.KeyedLists.{list_of};
 ghost use Rattle.set_algebra.specs.Physical.{physical_of, physical_test_of};
@@ -20,30 +20,30 @@ use constraint_tree::{Cardinality, Operator};
 use postings::Lengths;
 use set_algebra::{ConceptPlan, ValueTest};
 
-/// How much a node finds, and how many items it visits beside its sub-plans, at most.
+/// How much a node finds at most, and how many items it visits at most, besides its sub-plans.
 #[derive(Clone, Copy, Debug)]
 pub struct NodeCost {
     /// In concepts or groups; exact.
     pub size: u64,
-    /// The own bound, or `u64::MAX` where it is larger.
+    /// The own bound, or `u64::MAX` if it is larger.
     pub bound: u64,
 }
 
-/// How many concepts are in force.
+/// Returns how many concepts are in force.
 pub fn concepts(lengths: Lengths<'_>) -> u64
     ensures { result ≡ length lengths.entry.indexes.now.concepts }
 {
     lengths.concept_count() as u64
 }
 
-/// How many groups all concepts have.
+/// Returns how many groups all concepts have.
 pub fn groups(lengths: Lengths<'_>) -> u64
     ensures { result ≡ length (groups_in lengths.entry.indexes.now) }
 {
     lengths.group_count() as u64
 }
 
-/// Of a walk from a set of so many concepts.
+/// Computes the cost of a `Walk` node whose operand finds at most `size` concepts.
 pub fn cost_of_walk(
     lengths: Lengths<'_>,
     operator: Operator,
@@ -69,7 +69,7 @@ pub fn cost_of_walk(
     }
 }
 
-// How many concepts an operator finds from one whose list is so long.
+// Returns how many concepts an operator finds at most from one concept whose list has `length` entries.
 fn found_from_one(operator: Operator, length: u64) -> u64
     requires { length < 2 ^ 63 }
     ensures { result ≡ (if is_extreme_of operator then 1 else length + (if leads_to_self_of operator then 1 else 0)) }
@@ -83,7 +83,7 @@ fn found_from_one(operator: Operator, length: u64) -> u64
     }
 }
 
-// How many concepts an operator finds from so many.
+// Returns how many concepts an operator finds at most from `size` concepts.
 fn found_from(lengths: Lengths<'_>, operator: Operator, size: u64) -> u64
     ensures { result ≡ (if is_extreme_of operator then size else length lengths.entry.indexes.now.concepts) }
 {
@@ -94,7 +94,7 @@ fn found_from(lengths: Lengths<'_>, operator: Operator, size: u64) -> u64
     }
 }
 
-/// Whether an operator leaves some of the concepts, and leads nowhere.
+/// Tests whether an operator only keeps some of the concepts of its operand (`!!>`, `!!<`).
 pub fn is_extreme(operator: Operator) -> bool
     ensures { result ≡ is_extreme_of operator }
 {
@@ -111,7 +111,7 @@ pub fn is_extreme(operator: Operator) -> bool
     }
 }
 
-// Whether an operator leads to the concepts themselves too.
+// Tests whether an operator finds the concepts of its operand besides those that it leads to.
 fn leads_to_self(operator: Operator) -> bool
     ensures { result ≡ leads_to_self_of operator }
 {
@@ -129,7 +129,7 @@ fn leads_to_self(operator: Operator) -> bool
     }
 }
 
-/// How long the list of a concept is that an operator goes along.
+/// Returns how long the list of concept `id` is that `operator` reads; 0 if the concept is not in force.
 pub fn list_length(lengths: Lengths<'_>, operator: Operator, id: u64) -> u64
     ensures length { result ≡ list_length_of lengths.entry.indexes.now operator id }
     ensures small { result < 2 ^ 63 }
@@ -140,7 +140,7 @@ pub fn list_length(lengths: Lengths<'_>, operator: Operator, id: u64) -> u64
     }
 }
 
-// How long the list of a concept is that an operator goes along, by the number of the concept.
+// Returns how long the list of the concept with number `number` is that `operator` reads.
 fn length_along(lengths: Lengths<'_>, operator: Operator, number: u32) -> u64
     requires { number < length lengths.indexes.now.concepts }
     ensures length { result ≡ length (list_of (lists_along lengths.entry.indexes.now.hierarchy operator) number) }
@@ -158,7 +158,7 @@ fn length_along(lengths: Lengths<'_>, operator: Operator, number: u32) -> u64
     }
 }
 
-// How long all lists together are that an operator goes along.
+// Returns how long all lists that `operator` reads are together.
 fn lists_length(lengths: Lengths<'_>, operator: Operator) -> u64
     ensures { result ≡ lists_length_of lengths.entry.indexes.now operator }
 {
@@ -176,7 +176,7 @@ fn lists_length(lengths: Lengths<'_>, operator: Operator) -> u64
     }
 }
 
-/// Of the components of the reference sets in a set of so many concepts.
+/// Computes the cost of a `Members` node whose operand finds at most `size` reference sets.
 pub fn cost_of_members(lengths: Lengths<'_>, operand: &ConceptPlan, size: u64) -> NodeCost
     ensures size { result.size ≡ members_size lengths.entry.indexes.now (one_of (physical_of operand.now)) }
     ensures bound { result.bound ≡ capped (members_bound lengths.entry.indexes.now (one_of (physical_of operand.now))
@@ -200,7 +200,7 @@ pub fn cost_of_members(lengths: Lengths<'_>, operand: &ConceptPlan, size: u64) -
     }
 }
 
-/// How many components a reference set has.
+/// Returns how many components reference set `id` has; 0 if it is not in force.
 pub fn member_count(lengths: Lengths<'_>, id: u64) -> u64
     ensures count { result ≡ member_count_of lengths.entry.indexes.now id }
     ensures small { result < 2 ^ 63 }
@@ -211,7 +211,7 @@ pub fn member_count(lengths: Lengths<'_>, id: u64) -> u64
     }
 }
 
-/// Of the values along so many types, from a set of so many concepts.
+/// Computes the cost of a `Values` node with `types` types whose start finds at most `size` concepts.
 pub fn cost_of_values(lengths: Lengths<'_>, types: u64, size: u64) -> NodeCost
     ensures size { result.size ≡ values_size lengths.entry.indexes.now types size }
     ensures bound { result.bound ≡ capped (values_bound lengths.entry.indexes.now types size) }
@@ -228,7 +228,7 @@ pub fn cost_of_values(lengths: Lengths<'_>, types: u64, size: u64) -> NodeCost
     }
 }
 
-/// Of the concepts so many of whose groups are among so many.
+/// Computes the cost of a `Units` node among `all` concepts whose group plan finds at most `size` groups.
 pub fn cost_of_units(count: Cardinality, all: u64, size: u64) -> NodeCost
     ensures size { result.size ≡ found_by (count.min == 0) all size }
     ensures bound { result.bound ≡ capped (size + passed_over (count.min == 0) all) }
@@ -246,7 +246,8 @@ pub fn cost_of_units(count: Cardinality, all: u64, size: u64) -> NodeCost
     }
 }
 
-/// Of what all of some parts find: each is read, and what is left behind each.
+/// Computes the cost of an `And` node. Its factor is 2 because the node reads what each part found and what is
+/// left after each part.
 pub fn cost_of_all(parts: &Tally) -> NodeCost
     ensures size { result.size ≡ parts.now.least }
     ensures bound { result.bound ≡ capped (parts.now.sum * 2) }
@@ -257,7 +258,8 @@ pub fn cost_of_all(parts: &Tally) -> NodeCost
     }
 }
 
-/// Of what one of so many parts finds: what is left is read before each.
+/// Computes the cost of an `Or` node of `count` parts. Its factor is `count` because the node reads what is left
+/// before each part.
 pub fn cost_of_some(all: u64, parts: &Tally, count: u64) -> NodeCost
     ensures size { result.size ≡ min all parts.now.sum }
     ensures bound { result.bound ≡ capped (parts.now.sum * count) }
@@ -268,7 +270,7 @@ pub fn cost_of_some(all: u64, parts: &Tally, count: u64) -> NodeCost
     }
 }
 
-/// Of what the first of two finds and the second does not.
+/// Computes the cost of a `Minus` node whose parts find at most `first` and `second`.
 pub fn cost_of_first(first: u64, second: u64) -> NodeCost
     ensures size { result.size ≡ first }
     ensures bound { result.bound ≡ capped (first + second) }
@@ -279,7 +281,8 @@ pub fn cost_of_first(first: u64, second: u64) -> NodeCost
     }
 }
 
-/// A leaf, by how many concepts or groups there are, and by the sizes of its types and of the plan of its test.
+/// Makes the counts of a leaf among `all` concepts or groups. `sizes` are those of its types and of the plan of
+/// its test.
 pub fn counts_of_leaf(
     lengths: Lengths<'_>,
     all: u64,
@@ -308,7 +311,7 @@ pub fn counts_of_leaf(
     }
 }
 
-// How many rows a test leaves, at most.
+// Returns how many rows have a value that passes `test`, at most; read backwards, a source.
 fn value_rows(lengths: Lengths<'_>, back: bool, test: &ValueTest) -> u64
     ensures { result ≡ value_rows_of lengths.entry.indexes.now back (physical_test_of test.now) }
 {
@@ -318,7 +321,7 @@ fn value_rows(lengths: Lengths<'_>, back: bool, test: &ValueTest) -> u64
     }
 }
 
-// How many rows have values in a set, or, read backwards, sources, at most.
+// Returns how many rows have a value that `values` finds, at most; read backwards, a source.
 fn rows_of_values(lengths: Lengths<'_>, back: bool, values: &ConceptPlan) -> u64
     ensures { result ≡ rows_left (value_row_count_of lengths.entry.indexes.now back)
         (length lengths.entry.indexes.now.rows) (physical_of values.now) }
@@ -338,7 +341,7 @@ fn rows_of_values(lengths: Lengths<'_>, back: bool, values: &ConceptPlan) -> u64
     }
 }
 
-/// How many rows have a value, or, read backwards, a source.
+/// Returns how many rows have concept `id` as their value, or, read backwards, as their source.
 pub fn value_row_count(lengths: Lengths<'_>, back: bool, id: u64) -> u64
     ensures { result ≡ value_row_count_of lengths.entry.indexes.now back id }
 {
@@ -354,7 +357,7 @@ pub fn value_row_count(lengths: Lengths<'_>, back: bool, id: u64) -> u64
     }
 }
 
-// How many rows have a type in a set, at most.
+// Returns how many rows have a type that `types` finds, at most.
 fn type_rows(lengths: Lengths<'_>, types: &ConceptPlan) -> u64
     ensures { result ≡ type_rows_of lengths.entry.indexes.now (physical_of types.now) }
 {
@@ -373,7 +376,7 @@ fn type_rows(lengths: Lengths<'_>, types: &ConceptPlan) -> u64
     }
 }
 
-/// The concept of a plan that is one.
+/// Returns the concept that a plan names, if the plan is one concept.
 pub fn one(plan: &ConceptPlan) -> Option<u64>
     ensures { result ≡ one_of (physical_of plan.now) }
 {

@@ -15,8 +15,8 @@ use constraint_tree::Operator;
 use postings::Lengths;
 use set_algebra::{Choice, ConceptPlan, UnitPlan, ValueTest};
 
-/// How many items a plan of concepts visits at least: the sum over its nodes, or `u64::MAX` where it is larger. It
-/// takes no memory.
+/// Computes how many items a plan of concepts visits at least: the sum over its nodes, or `u64::MAX` if it is
+/// larger. It allocates nothing.
 #[cycle(floor)]
 #[tactic(auto, using(crate::proofs::Rules::costing))]
 pub fn plan_floor(plan: &ConceptPlan, lengths: Lengths<'_>) -> u64
@@ -50,8 +50,8 @@ pub fn plan_floor(plan: &ConceptPlan, lengths: Lengths<'_>) -> u64
     }
 }
 
-/// How many items a plan of groups visits at least: the sum over its nodes, or `u64::MAX` where it is larger. It takes
-/// no memory.
+/// Computes how many items a plan of groups visits at least: the sum over its nodes, or `u64::MAX` if it is
+/// larger. It allocates nothing.
 #[cycle(floor)]
 #[tactic(auto, using(crate::proofs::Rules::costing))]
 pub fn unit_floor(plan: &UnitPlan, lengths: Lengths<'_>) -> u64
@@ -72,7 +72,7 @@ pub fn unit_floor(plan: &UnitPlan, lengths: Lengths<'_>) -> u64
     }
 }
 
-// The floor of a leaf with its types and its test, of concepts or of groups.
+// Computes the floor of a leaf, of concepts or of groups, with its types and its test.
 #[cycle(floor)]
 fn pairs_floor(
     back: bool,
@@ -89,7 +89,7 @@ fn pairs_floor(
     together(leaf_floor(lengths, back, types, test, choice), inner)
 }
 
-// The floor of the plan of a test, if it has one.
+// Computes the floor of the plan of a test; 0 if the test has no plan.
 #[cycle(floor)]
 fn test_floor(test: &ValueTest, lengths: Lengths<'_>) -> u64
     ensures { result ≡ capped (test_sum (floor_number lengths.entry.indexes.now) (physical_test_of test.now)) }
@@ -100,7 +100,7 @@ fn test_floor(test: &ValueTest, lengths: Lengths<'_>) -> u64
     }
 }
 
-// The floors of sibling plans of concepts together.
+// Adds up the floors of sibling plans of concepts.
 #[cycle(floor)]
 fn parts_floor(parts: &[ConceptPlan], lengths: Lengths<'_>) -> u64
     ensures { result ≡ capped (plans_sum (floor_number lengths.entry.indexes.now) (physicals_of parts.now)) }
@@ -112,7 +112,7 @@ fn parts_floor(parts: &[ConceptPlan], lengths: Lengths<'_>) -> u64
     floor
 }
 
-// The floors of sibling plans of groups together.
+// Adds up the floors of sibling plans of groups.
 #[cycle(floor)]
 fn unit_parts_floor(parts: &[UnitPlan], lengths: Lengths<'_>) -> u64
     ensures { result ≡ capped (groups_sum (floor_number lengths.entry.indexes.now)
@@ -125,14 +125,14 @@ fn unit_parts_floor(parts: &[UnitPlan], lengths: Lengths<'_>) -> u64
     floor
 }
 
-// Two floors together.
+// Adds two floors, saturating at `u64::MAX`.
 fn together(one: u64, other: u64) -> u64
     ensures { result ≡ capped (one + other) }
 {
     one.saturating_add(other)
 }
 
-/// The floor of a walk: the list of the concept that it is from, if that is one in force.
+/// Returns the own floor of a `Walk` node: the length of the list of its one concept in force, else 0.
 pub fn walk_floor(lengths: Lengths<'_>, operator: Operator, operand: &ConceptPlan) -> u64
     ensures { result ≡ (if is_extreme_of operator then 0 else of_one lengths.entry.indexes.now
         (one_of (physical_of operand.now)) (list_length_of lengths.entry.indexes.now operator)) }
@@ -146,7 +146,7 @@ pub fn walk_floor(lengths: Lengths<'_>, operator: Operator, operand: &ConceptPla
     }
 }
 
-/// The floor of the components of reference sets: those of the one, if it is in force.
+/// Returns the own floor of a `Members` node: the components of its one reference set in force, else 0.
 pub fn members_floor(lengths: Lengths<'_>, operand: &ConceptPlan) -> u64
     ensures { result ≡ of_one lengths.entry.indexes.now (one_of (physical_of operand.now))
         (member_count_of lengths.entry.indexes.now) }
@@ -157,8 +157,8 @@ pub fn members_floor(lengths: Lengths<'_>, operand: &ConceptPlan) -> u64
     }
 }
 
-/// The floor of a leaf: all rows where it is scanned, else those of the one concept in force that its test or its types
-/// are.
+/// Returns the own floor of a leaf: all rows in a scan, else those of the one concept in force that its test or
+/// its types are.
 pub fn leaf_floor(
     lengths: Lengths<'_>,
     back: bool,
@@ -180,7 +180,7 @@ pub fn leaf_floor(
     }
 }
 
-// The rows with the one value, or, read backwards, the one source that a test is within.
+// Returns how many rows have the one value, or, read backwards, the one source that `test` is within; else 0.
 fn value_floor(lengths: Lengths<'_>, back: bool, test: &ValueTest) -> u64
     ensures { result ≡ within_floor lengths.entry.indexes.now back (physical_test_of test.now) }
 {
@@ -193,7 +193,7 @@ fn value_floor(lengths: Lengths<'_>, back: bool, test: &ValueTest) -> u64
     }
 }
 
-// What is counted of a concept, where it is in force.
+// Returns `count` if concept `id` is in force, else 0.
 fn in_force(lengths: Lengths<'_>, id: u64, count: u64) -> u64
     ensures { result ≡ if_in_force (concept_number lengths.entry.indexes.now.concepts id) count }
 {

@@ -2,13 +2,13 @@
 ghost use Rattle.plan_bounds.specs.Floors.{FloorWithinBound};
 ghost use Rattle.plan_bounds.specs.Found.{FindsWithinSize};
 
-/// Whatever the choices, no plan visits more at least than it does at most.
+/// Law: no plan has a floor above its bound, whatever its choices.
 pub fn floor_within_bound()
     ensures { FloorWithinBound }
 {}
 
-/// Whatever the choices, no plan finds more concepts of a release than its size, and no plan of groups more groups: so
-/// many are found at most, whichever rows are read.
+/// Law: no plan finds more concepts of a release than its size, and no plan of groups more groups, whatever the
+/// choices and whichever rows are read.
 pub fn finds_within_size()
     ensures { FindsWithinSize }
 {}

@@ -1,4 +1,4 @@
-//! The alternatives of a leaf: how many rows each of them reads, and which is chosen.
+//! The alternatives of a leaf: how many rows each reads, and which is chosen.
 ghost use Rattle.std.specs.Prelude.{◌≡◌};
 ghost use Rattle.plan_bounds.specs.Bounds.{capped};
 ghost use Rattle.plan_bounds.specs.Alternatives.{least_choice as least_choice_of, leaf_bound, leaf_size};
@@ -6,20 +6,20 @@ ghost use Rattle.plan_bounds.specs.Alternatives.{least_choice as least_choice_of
 use crate::counts::NodeCost;
 use set_algebra::Choice;
 
-/// What the choice of a leaf rests on, all of it exact.
+/// The counts on which the choice of a leaf rests; all are exact.
 #[derive(Clone, Copy, Debug)]
 pub struct Leaf {
-    /// How many concepts there are, or how many groups.
+    /// How many concepts, or groups, the leaf is among.
     pub all: u64,
-    /// Whether those of which no pair passes are found too: the minimum is 0.
+    /// Whether the leaf finds those of which no pair passes: its minimum is 0.
     pub none_pass: bool,
-    /// How many rows there are.
+    /// How many rows the indexes have.
     pub rows: u64,
-    /// How many of them have values that pass the test, at most.
+    /// How many rows have a value that passes the test, at most.
     pub value_rows: u64,
-    /// How many of them have a type of the leaf, at most.
+    /// How many rows have a type of the leaf, at most.
     pub type_rows: u64,
-    /// How many values pass the test, at most, where it says within which set a value is.
+    /// How many values pass the test, at most, if it says within which set a value is.
     pub value_size: u64,
     /// How many types the leaf has, at most.
     pub type_size: u64,
@@ -28,7 +28,7 @@ pub struct Leaf {
 }
 
 impl Leaf {
-    /// How many concepts, or groups, the leaf finds at most.
+    /// Returns how many concepts, or groups, the leaf finds at most under `choice`.
     pub fn size(&self, choice: Choice) -> u64
         ensures { result ≡ leaf_size self.now choice }
     {
@@ -44,7 +44,8 @@ impl Leaf {
         }
     }
 
-    /// How many items the leaf visits at most, beside its sub-plans. Three numbers of 64 bits make one of 128.
+    /// Returns how many items the leaf visits at most under `choice`, besides its sub-plans. The result has 128
+    /// bits because the sum of three numbers of 64 bits may need 66.
     pub fn bound(&self, choice: Choice) -> u128
         ensures { result ≡ leaf_bound self.now choice }
     {
@@ -60,7 +61,7 @@ impl Leaf {
         }
     }
 
-    /// How much the leaf finds, and how many items it visits beside its sub-plans, at most.
+    /// Returns the size of the leaf under `choice`, and its own bound or `u64::MAX` if the bound is larger.
     pub fn cost(&self, choice: Choice) -> NodeCost
         ensures size { result.size ≡ leaf_size self.now choice }
         ensures bound { result.bound ≡ capped (leaf_bound self.now choice) }
@@ -71,7 +72,8 @@ impl Leaf {
         }
     }
 
-    /// The alternative of the least bound; of two with one bound the first of by value, by type and scan.
+    /// Returns the offered choice with the least bound. Of equal bounds it takes the first of `ByValue`, `ByType`
+    /// and `Scan`.
     pub fn least(&self) -> Choice
         ensures { result ≡ least_choice_of self.now }
     {
@@ -89,7 +91,7 @@ impl Leaf {
     }
 }
 
-// A number of 128 bits, or `u64::MAX` where it is larger.
+// Returns `number`, or `u64::MAX` if it is larger.
 fn capped_number(number: u128) -> u64
     ensures { result ≡ capped number }
 {

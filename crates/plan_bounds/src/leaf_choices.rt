@@ -1,4 +1,4 @@
-//! The choices of the leaves of a plan, in a list.
+//! Lists the choices of the leaves of a plan.
 ghost use Rattle.std.specs.Prelude.{◌≡◌, ◌++◌, ◌∷◌, OnOk};
 ghost use Rattle.set_algebra.specs.Physical.{physical_of, physical_test_of, physical_units_list_of, physical_units_of};
 ghost use Rattle.set_algebra.specs.Physical.{physicals_of};
@@ -8,7 +8,8 @@ ghost use Rattle.plan_bounds.specs.Leaves.{choices_in_units};
 use set_algebra::{Choice, ConceptPlan, UnitPlan, ValueTest};
 use std::alloc::AllocError;
 
-/// Adds the choices of a plan of concepts, a node before its children. The error is want of memory.
+/// Appends the choices of a plan of concepts to `choices`, a node before its children. The error is want of
+/// memory.
 #[cycle(choices)]
 #[tactic(auto, using(crate::proofs::Rules::costing))]
 pub fn add_choices(plan: &ConceptPlan, choices: &mut Vec<Choice>) -> Result<(), AllocError>
@@ -38,7 +39,7 @@ pub fn add_choices(plan: &ConceptPlan, choices: &mut Vec<Choice>) -> Result<(), 
     }
 }
 
-// Adds the choices of a plan of groups.
+// Appends the choices of a plan of groups, a node before its children.
 #[cycle(choices)]
 #[tactic(auto, using(crate::proofs::Rules::costing))]
 fn add_units(plan: &UnitPlan, choices: &mut Vec<Choice>) -> Result<(), AllocError>
@@ -60,7 +61,7 @@ fn add_units(plan: &UnitPlan, choices: &mut Vec<Choice>) -> Result<(), AllocErro
     }
 }
 
-// Adds the choice of a leaf, and those of its types and its test.
+// Appends the choice of a leaf, and then those of its types and its test.
 #[cycle(choices)]
 fn add_leaf(
     types: &ConceptPlan,
@@ -79,7 +80,7 @@ fn add_leaf(
     }
 }
 
-// Adds the choices of sibling plans of concepts.
+// Appends the choices of sibling plans of concepts.
 #[cycle(choices)]
 fn add_each(parts: &[ConceptPlan], choices: &mut Vec<Choice>) -> Result<(), AllocError>
     ensures { OnOk result (choices.new.items ≡ choices.old.items ++ choices_in_each (physicals_of parts.now)) }
@@ -90,7 +91,7 @@ fn add_each(parts: &[ConceptPlan], choices: &mut Vec<Choice>) -> Result<(), Allo
     Ok(())
 }
 
-// Adds the choices of sibling plans of groups.
+// Appends the choices of sibling plans of groups.
 #[cycle(choices)]
 fn add_each_units(parts: &[UnitPlan], choices: &mut Vec<Choice>) -> Result<(), AllocError>
     ensures { OnOk result (choices.new.items ≡ choices.old.items ++ choices_in_each_units

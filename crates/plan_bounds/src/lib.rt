@@ -1,7 +1,6 @@
 //! How much a plan finds at most, and how many items it visits, at least and at most, under its choices.
 //!
-//! Of each node of a plan, of its sum over all nodes, and of what is known of one node where its parts have been
-//! executed.
+//! The crate computes this for each node, for a whole plan, and for one node whose parts have been executed.
 #![tactic(auto)]
 
 mod costs;

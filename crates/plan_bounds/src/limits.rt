@@ -1,4 +1,5 @@
-//! How many items one node of a plan visits beside its sub-plans, at least and at most, by how much these have found.
+//! How many items one node of a plan visits besides its sub-plans, at least and at most, given how much these have
+//! found.
 ghost use Rattle.std.specs.Prelude.{◌≡◌, ◌≤◌, if◌then◌else◌};
 ghost use Rattle.set_algebra.specs.Physical.{physical_units_of, physical_of, physical_test_of};
 ghost use Rattle.plan_bounds.specs.Alternatives.{leaf_bound};
@@ -15,7 +16,7 @@ use constraint_tree::Operator;
 use postings::Lengths;
 use set_algebra::{ConceptPlan, NodeLimits, UnitPlan};
 
-/// Of a walk from a set of so many concepts.
+/// Returns the limits of a `Walk` node whose operand has found `size` concepts.
 pub fn walk_limits(
     lengths: Lengths<'_>,
     operator: Operator,
@@ -34,7 +35,7 @@ pub fn walk_limits(
     }
 }
 
-/// Of the components of the reference sets in a set of so many concepts.
+/// Returns the limits of a `Members` node whose operand has found `size` reference sets.
 pub fn members_limits(lengths: Lengths<'_>, operand: &ConceptPlan, size: u64) -> NodeLimits
     ensures floor { result.floor ≡ of_one lengths.entry.indexes.now (one_of (physical_of operand.now))
         (member_count lengths.entry.indexes.now) }
@@ -48,8 +49,8 @@ pub fn members_limits(lengths: Lengths<'_>, operand: &ConceptPlan, size: u64) ->
     }
 }
 
-/// Of a leaf under its choice, by how many concepts or groups there are, and how many its types and the plan of its test
-/// have found.
+/// Returns the limits of a leaf among `all` concepts or groups under its choice. `sizes` says how many types, and
+/// how many values of the plan of the test, have been found.
 pub fn leaf_limits(
     lengths: Lengths<'_>,
     all: u64,
@@ -71,14 +72,14 @@ pub fn leaf_limits(
     }
 }
 
-/// How many concepts a plan finds at most. It takes no memory.
+/// Returns how many concepts a plan finds at most. It allocates nothing.
 pub fn plan_size(plan: &ConceptPlan, lengths: Lengths<'_>) -> u64
     ensures { result ≡ size_of lengths.entry.indexes.now (physical_of plan.now) }
 {
     cost(plan, lengths).size
 }
 
-/// How many groups a plan of groups finds at most. It takes no memory.
+/// Returns how many groups a plan of groups finds at most. It allocates nothing.
 pub fn unit_size(units: &UnitPlan, lengths: Lengths<'_>) -> u64
     ensures { result ≡ group_size lengths.entry.indexes.now (physical_units_of units.now) }
 {

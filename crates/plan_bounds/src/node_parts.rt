@@ -1,4 +1,4 @@
-//! The parts of a node of a plan, lent.
+//! Nodes of a plan that borrow their parts.
 
 use constraint_tree::{Cardinality, Operator};
 use set_algebra::{Choice, ConceptPlan, ValueTest};
@@ -7,21 +7,21 @@ use set_algebra::{Choice, ConceptPlan, ValueTest};
 /// Language, "Refinements").
 #[derive(Clone, Copy)]
 pub struct LeafParts<'a> {
-    /// How many pairs are to pass ("Cardinality").
+    /// How many pairs must pass ("Cardinality").
     pub count: Cardinality,
     /// The plan of the types.
     pub types: &'a ConceptPlan,
-    /// What is asked of the values.
+    /// The test of the values.
     pub test: &'a ValueTest,
-    /// By which rows the leaf is answered.
+    /// The rows from which the leaf is answered.
     pub choice: Choice,
 }
 
-/// A walk: a node that an operator leads from.
+/// A walk: a node that applies a hierarchy operator to the concepts of its operand.
 #[derive(Clone, Copy)]
 pub struct WalkParts<'a> {
-    /// Where to.
+    /// The hierarchy operator.
     pub operator: Operator,
-    /// The plan of the concepts from which.
+    /// The plan of the concepts that the operator starts from.
     pub operand: &'a ConceptPlan,
 }

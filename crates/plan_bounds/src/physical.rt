@@ -1,4 +1,4 @@
-//! A plan with its choices, and how much it visits.
+//! A plan with its choices, and how many items it visits.
 ghost use Rattle.std.specs.Prelude.{◌≡◌, IfOk};
 ghost use Rattle.set_algebra.specs.Physical.{physical_of};
 ghost use Rattle.plan_bounds.specs.Bounds.{bound as bound_of, capped};
@@ -14,8 +14,8 @@ use set_algebra::{Choice, ConceptPlan};
 use std::alloc::{AllocError, Global};
 use std::marker::Model;
 
-/// A plan with a choice for each of its leaves: whether it is answered by the rows of its values, of its types, or by
-/// all rows. What a plan means does not depend on its choices.
+/// A plan with a choice for each of its leaves. The choice says whether the leaf reads the rows of its values, the
+/// rows of its types, or all rows. What a plan means does not depend on its choices.
 #[derive(Drop)]
 pub struct PhysicalPlan {
     plan: ConceptPlan,
@@ -40,8 +40,8 @@ impl Model for PhysicalPlan {
 }
 
 impl PhysicalPlan {
-    /// A plan whose leaves offer their choices, with the list of these. The error is want of memory, and then the plan
-    /// is spent.
+    /// Makes a plan whose leaves offer their choices, and lists these choices. The error is want of memory; the
+    /// plan is then dropped.
     pub fn new(alloc: Global, plan: ConceptPlan) -> Result<PhysicalPlan, AllocError>
         requires offered { AreOffered (physical_of plan) }
         ensures plan { IfOk result (λ physical. physical.plan ≡ plan) }
@@ -52,7 +52,7 @@ impl PhysicalPlan {
         Ok(PhysicalPlan { plan, choices })
     }
 
-    /// The plan.
+    /// Returns the plan.
     pub fn plan(&self) -> &ConceptPlan
         ensures plan { result.now ≡ self.now.plan }
         ensures offered { AreOffered (physical_of self.now.plan) }
@@ -60,8 +60,9 @@ impl PhysicalPlan {
         &self.plan
     }
 
-    /// The choices of its leaves, which are the nodes that count pairs, of concepts or of groups: a node before its
-    /// children, and these in their order, the types of a leaf before its test. Each leaf has one that it offers.
+    /// Returns the choices of its leaves, which are the nodes that count pairs of concepts or of groups. A node
+    /// comes before its children, these come in their order, and the types of a leaf come before its test. Each
+    /// leaf offers its choice.
     pub fn choices(&self) -> &[Choice]
         ensures choices { result.now ≡ self.now.choices }
         ensures leaves { self.now.choices ≡ choices_in (physical_of self.now.plan) }
@@ -70,16 +71,16 @@ impl PhysicalPlan {
     }
 }
 
-/// How many items a plan visits at most: the sum of the bounds of its nodes, or `u64::MAX` where it is larger. It takes
-/// no memory.
+/// Computes how many items a plan visits at most: the sum of the bounds of its nodes, or `u64::MAX` if it is
+/// larger. It allocates nothing.
 pub fn bound(physical: &PhysicalPlan, indexes: &Indexes) -> u64
     ensures { result ≡ capped (bound_of indexes.now (physical_of physical.now.plan)) }
 {
     cost(physical.plan(), indexes.lengths()).bound
 }
 
-/// How many items a plan visits at least, where none of its nodes is skipped: the sum of the floors of its nodes, or
-/// `u64::MAX` where it is larger. It takes no memory.
+/// Computes how many items a plan visits at least if no node is skipped: the sum of the floors of its nodes, or
+/// `u64::MAX` if it is larger. It allocates nothing.
 pub fn floor(physical: &PhysicalPlan, indexes: &Indexes) -> u64
     ensures { result ≡ capped (floor_of indexes.now (physical_of physical.now.plan)) }
 {

@@ -1,18 +1,18 @@
-//! The sizes of the parts of a node, taken one by one.
+//! Adds up the sizes of the parts of a node, one by one.
 ghost use Rattle.std.specs.Prelude.{◌≡◌};
 ghost use Rattle.plan_bounds.specs.Tallies.{no_tally, tally_with};
 
-/// What is kept of the sizes of some parts.
+/// The sum and the least of the sizes of a node's parts.
 #[derive(Clone, Copy, Debug)]
 pub struct Tally {
-    /// Their sum, or `u64::MAX` where it is larger.
+    /// The sum of the sizes, or `u64::MAX` if it is larger.
     pub sum: u64,
-    /// The least of them, or another number where there is no part.
+    /// The least of the sizes, or another number if there is no part.
     pub least: u64,
 }
 
 impl Tally {
-    /// Of no parts; another number stands for their least size.
+    /// Makes the tally of no parts; `other` stands for their least size.
     pub fn none(other: u64) -> Tally
         ensures { result ≡ no_tally other }
     {
@@ -22,7 +22,7 @@ impl Tally {
         }
     }
 
-    /// With one more part, by its place and its size.
+    /// Adds a part with the size `size` at `place`, the number of parts before it.
     pub fn with(&self, place: u64, size: u64) -> Tally
         ensures { result ≡ tally_with place self.now size }
     {

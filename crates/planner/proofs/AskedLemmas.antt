@@ -1,5 +1,5 @@
--- A plan whose leaves take the choices that are asked for: it is the same logical plan, and its leaves have the choices
--- of the list, each of which they offer.
+-- A plan whose leaves take requested choices: its logical plan does not change, and its leaves have the choices of
+-- the list, if they offer them.
 use Rattle.std.proofs.Common.{◌≡◌, ◌++◌, ◌∷◌, [], ◌∙◌, Bool, cond, inl, inr, List, Option, Some, None, drop, refl, sym}
 use Rattle.std.proofs.Common.{ap, subst, append-nil, append_assoc}
 use Rattle.std.specs.Prelude.{IsTrue}
@@ -26,8 +26,9 @@ use Rattle.planner.specs.Asked.{test_within, within_tests}
 use Rattle.planner.specs.inside.AskedInPlace.{PlanAndRest, all_with_asked, group_with_asked, groups_with_asked}
 use Rattle.planner.specs.inside.AskedInPlace.{test_with_asked, with_asked}
 
--- ---- the logical plan stays
+-- ---- the logical plan does not change
 mutual
+  -- requested choices do not change the logical plan of a plan of concepts
   pub logical-asked : (asked : List Choice) (plan : Physical) → logical (with_asked asked plan).plan ≡ logical plan
   logical-asked asked physical_empty = refl
   logical-asked asked physical_all = refl
@@ -45,12 +46,14 @@ mutual
       (logical_test-asked (with_asked (drop 1 asked) types).rest test i)
   logical-asked asked (physical_units count units) = ap (units_plan count) (logical_units-asked asked units)
 
+  -- requested choices do not change the logical plans of several plans of concepts
   logicals-asked : (asked : List Choice) (parts : Physicals) → logicals (all_with_asked asked parts).plan
       ≡ logicals parts
   logicals-asked asked no_physicals = refl
   logicals-asked asked (physical_then first rest) =
       λ i. plan_then (logical-asked asked first i) (logicals-asked (with_asked asked first).rest rest i)
 
+  -- requested choices do not change the logical plan of a plan of groups
   logical_units-asked : (asked : List Choice) (plan : PhysicalUnits) → logical_units (group_with_asked asked plan).plan
       ≡ logical_units plan
   logical_units-asked asked physical_nothing = refl
@@ -64,6 +67,7 @@ mutual
       λ i. pairs_units count (logical-asked (drop 1 asked) types i)
       (logical_test-asked (with_asked (drop 1 asked) types).rest test i)
 
+  -- requested choices do not change the logical plans of several plans of groups
   logical_units_list-asked : (asked : List Choice) (parts : PhysicalUnitsList)
       → logical_units_list (groups_with_asked asked parts).plan ≡ logical_units_list parts
   logical_units_list-asked asked no_physical_units = refl
@@ -71,21 +75,22 @@ mutual
       λ i. unit_plan_then (logical_units-asked asked first i)
       (logical_units_list-asked (group_with_asked asked first).rest rest i)
 
+  -- requested choices do not change the logical plan of a test
   logical_test-asked : (asked : List Choice) (test : PhysicalTest) → logical_test (test_with_asked asked test).plan
       ≡ logical_test test
   logical_test-asked asked (physical_within operand) = ap within_plan (logical-asked asked operand)
   logical_test-asked asked (physical_outside operand) = ap outside_plan (logical-asked asked operand)
   logical_test-asked asked (physical_number compare number) = refl
 
--- ---- the leaves offer what they then have
--- whether a test says within which set a value is does not change
+-- ---- the leaves offer the choices that they take
+-- requested choices do not change whether a test says within which set a value is
 is_within-asked : (asked : List Choice) (test : PhysicalTest) → is_within (test_with_asked asked test).plan
     ≡ is_within test
 is_within-asked asked (physical_within operand) = refl
 is_within-asked asked (physical_outside operand) = refl
 is_within-asked asked (physical_number compare number) = refl
 
--- the choice of one leaf, the choice of which was offered before
+-- a leaf offers the choice that it takes, if it offered the one that it had
 leaf-offers : (within : Bool) (asked : Option Choice) (own : Choice) → IsTrue (offers within own)
     → IsTrue (offers within (asked_or within asked own))
 leaf-offers within None own offered = offered
@@ -94,6 +99,7 @@ leaf-offers within (Some choice) own offered = elim (cases_Bool (offers within c
   | inr refused ↦ subst (λ (b : Bool). IsTrue (offers within (cond b choice own))) (sym refused) offered
 ]
 
+-- a leaf offers the choice that it takes after its test has taken choices, if it offered the one that it had
 leaf-asked : (asked behind : List Choice) (test : PhysicalTest) (own : Choice) → IsTrue (offers (is_within test) own)
     → IsTrue (offers (is_within (test_with_asked behind test).plan) (asked_or (is_within test) (first_of asked) own))
 leaf-asked asked behind test own offered =
@@ -102,6 +108,7 @@ leaf-asked asked behind test own offered =
     (leaf-offers (is_within test) (first_of asked) own offered)
 
 mutual
+  -- the leaves of a plan offer the choices that they take, if they offered those that they had
   pub asked_are_offered : (asked : List Choice) (plan : Physical) → AreOffered plan
       → AreOffered (with_asked asked plan).plan
   asked_are_offered asked physical_empty own = tt
@@ -126,6 +133,7 @@ mutual
   )
   asked_are_offered asked (physical_units count units) own = offered_in_group asked units own
 
+  -- the leaves of several plans of concepts offer the choices that they take, if they offered those that they had
   offered_in_all : (asked : List Choice) (parts : Physicals) → PlansEach IsOffered parts
       → PlansEach IsOffered (all_with_asked asked parts).plan
   offered_in_all asked no_physicals own = tt
@@ -134,6 +142,7 @@ mutual
     offered_in_all (with_asked asked first).rest rest own.1,
   )
 
+  -- the leaves of a plan of groups offer the choices that they take, if they offered those that they had
   offered_in_group : (asked : List Choice) (plan : PhysicalUnits) → GroupEach IsOffered plan
       → GroupEach IsOffered (group_with_asked asked plan).plan
   offered_in_group asked physical_nothing own = tt
@@ -150,6 +159,7 @@ mutual
     offered_in_test (with_asked (drop 1 asked) types).rest test own.2,
   )
 
+  -- the leaves of several plans of groups offer the choices that they take, if they offered those that they had
   offered_in_groups : (asked : List Choice) (parts : PhysicalUnitsList) → GroupsEach IsOffered parts
       → GroupsEach IsOffered (groups_with_asked asked parts).plan
   offered_in_groups asked no_physical_units own = tt
@@ -158,20 +168,22 @@ mutual
     offered_in_groups (group_with_asked asked first).rest rest own.1,
   )
 
+  -- the leaves of the plan of a test offer the choices that they take, if they offered those that they had
   offered_in_test : (asked : List Choice) (test : PhysicalTest) → TestEach IsOffered test
       → TestEach IsOffered (test_with_asked asked test).plan
   offered_in_test asked (physical_within operand) own = asked_are_offered asked operand own
   offered_in_test asked (physical_outside operand) own = asked_are_offered asked operand own
   offered_in_test asked (physical_number compare number) own = tt
 
--- ---- leaf by leaf of leaves with these tests and choices, in front of any others: which choices they take, and what
--- is left of the list behind them
+-- ---- which choices the leaves take, and what they leave of the list
+-- leaves with `tests` and the choices `own`, before any others, take `taken` from `asked` and leave `rest` for the
+-- others
 abbrev Takes : List Choice → List Bool → List Choice → List Choice → List Choice → Type 0
 Takes asked tests own taken rest =
     (more_tests : List Bool) (more : List Choice)
     → each_asked_or (tests ++ more_tests) asked (own ++ more) ≡ taken ++ each_asked_or more_tests rest more
 
--- the leaves of two parts
+-- the leaves of two parts in a row take what the first takes, followed by what the second takes from the rest
 takes_both : (asked between rest : List Choice) (one two : List Bool)
     (own_one own_two taken_one taken_two : List Choice)
     → Takes asked one own_one taken_one between → Takes between two own_two taken_two rest
@@ -182,7 +194,7 @@ takes_both asked between rest one two own_one own_two taken_one taken_two first 
     ∙ ap (λ (all : List Choice). taken_one ++ all) (second more_tests more)
     ∙ sym (append_assoc taken_one taken_two (each_asked_or more_tests rest more))
 
--- a leaf, and those of its types and its test
+-- a leaf takes the first requested choice if it offers it, and its types and its test take the later ones
 takes_leaf : (asked rest : List Choice) (within : Bool) (choice : Choice) (tests : List Bool) (own taken : List Choice)
     → Takes (drop 1 asked) tests own taken rest
     → Takes asked (within ∷ tests) (choice ∷ own) (asked_or within (first_of asked) choice ∷ taken) rest
@@ -190,6 +202,7 @@ takes_leaf asked rest within choice tests own taken inner more_tests more =
     ap (λ (all : List Choice). asked_or within (first_of asked) choice ∷ all) (inner more_tests more)
 
 mutual
+  -- the leaves of a plan of concepts take the choices that `with_asked` gives them
   takes : (asked : List Choice) (plan : Physical)
       → Takes asked (within_tests plan) (choices_in plan) (choices_in (with_asked asked plan).plan)
       (with_asked asked plan).rest
@@ -212,6 +225,7 @@ mutual
       (takes_test (with_asked (drop 1 asked) types).rest test)) more_tests more
   takes asked (physical_units count units) more_tests more = takes_group asked units more_tests more
 
+  -- the leaves of several plans of concepts take the choices that `all_with_asked` gives them
   takes_all : (asked : List Choice) (parts : Physicals)
       → Takes asked (plans_within parts) (choices_in_each parts) (choices_in_each (all_with_asked asked parts).plan)
       (all_with_asked asked parts).rest
@@ -220,6 +234,7 @@ mutual
       takes_both asked (with_asked asked first).rest _ _ _ _ _ _ _ (takes asked first)
       (takes_all (with_asked asked first).rest rest) more_tests more
 
+  -- the leaves of a plan of groups take the choices that `group_with_asked` gives them
   takes_group : (asked : List Choice) (plan : PhysicalUnits)
       → Takes asked (group_within plan) (choices_in_units plan) (choices_in_units (group_with_asked asked plan).plan)
       (group_with_asked asked plan).rest
@@ -235,6 +250,7 @@ mutual
       (takes_both (drop 1 asked) (with_asked (drop 1 asked) types).rest _ _ _ _ _ _ _ (takes (drop 1 asked) types)
       (takes_test (with_asked (drop 1 asked) types).rest test)) more_tests more
 
+  -- the leaves of several plans of groups take the choices that `groups_with_asked` gives them
   takes_groups : (asked : List Choice) (parts : PhysicalUnitsList)
       → Takes asked (groups_within parts) (choices_in_each_units parts)
       (choices_in_each_units (groups_with_asked asked parts).plan)
@@ -244,6 +260,7 @@ mutual
       takes_both asked (group_with_asked asked first).rest _ _ _ _ _ _ _ (takes_group asked first)
       (takes_groups (group_with_asked asked first).rest rest) more_tests more
 
+  -- the leaves of the plan of a test take the choices that `test_with_asked` gives them
   takes_test : (asked : List Choice) (test : PhysicalTest)
       → Takes asked (test_within test) (choices_in_test test) (choices_in_test (test_with_asked asked test).plan)
       (test_with_asked asked test).rest
@@ -251,7 +268,8 @@ mutual
   takes_test asked (physical_outside operand) more_tests more = takes asked operand more_tests more
   takes_test asked (physical_number compare number) more_tests more = refl
 
--- the choices of a plan that takes asked choices are those of the list, leaf by leaf
+-- the choices of a plan that takes requested choices are the requested ones, leaf by leaf, or the leaf's own if it
+-- does not offer them
 pub choices-asked : (asked : List Choice) (plan : Physical)
     → choices_in (with_asked asked plan).plan ≡ each_asked_or (within_tests plan) asked (choices_in plan)
 choices-asked asked plan =

@@ -1,4 +1,5 @@
--- The plan with the choices of the least bound: it is the plan that was given, and each leaf has the first of the least bound.
+-- The plan with the choices of least bound: its logical plan is the given one, and each leaf has the first choice of
+-- least bound.
 use Rattle.std.proofs.Common.{ℕ, ◌≡◌, ◌∙◌, Bool, List, false, refl, sym, ap}
 use Rattle.constraint_tree.specs.declared.operator.Cardinality.{Cardinality}
 use Rattle.set_algebra.specs.declared.choice.Choice.{Choice}
@@ -22,6 +23,7 @@ use Rattle.planner.proofs.LeastLemmas.{least_is_least}
 module _ (indexed : Indexed) where
   -- ---- the logical plan is the one that was given
   mutual
+    -- the logical plan of a plan with its chosen choices is the given plan
     pub logical-chosen : (plan : Plan) → logical (chosen indexed plan) ≡ plan
     logical-chosen empty_plan = refl
     logical-chosen all_plan = refl
@@ -35,10 +37,12 @@ module _ (indexed : Indexed) where
     logical-chosen (pairs_plan back count types test) = λ i. pairs_plan back count (logical-chosen types i) (logical_test-chosen test i)
     logical-chosen (units_plan count units) = ap (units_plan count) (logical_units-chosen units)
 
+    -- the logical plans of several plans with their chosen choices are the given plans
     logicals-chosen : (parts : Plans) → logicals (all_chosen indexed parts) ≡ parts
     logicals-chosen no_plans = refl
     logicals-chosen (plan_then first rest) = λ i. plan_then (logical-chosen first i) (logicals-chosen rest i)
 
+    -- the logical plan of a plan of groups with its chosen choices is the given plan
     logical_units-chosen : (plan : PlanOfUnits) → logical_units (group_chosen indexed plan) ≡ plan
     logical_units-chosen nothing_unit = refl
     logical_units-chosen every_unit = refl
@@ -47,21 +51,24 @@ module _ (indexed : Indexed) where
     logical_units-chosen (minus_units first second) = λ i. minus_units (logical_units-chosen first i) (logical_units-chosen second i)
     logical_units-chosen (pairs_units count types test) = λ i. pairs_units count (logical-chosen types i) (logical_test-chosen test i)
 
+    -- the logical plans of several plans of groups with their chosen choices are the given plans
     logical_units_list-chosen : (parts : PlansOfUnits) → logical_units_list (groups_chosen indexed parts) ≡ parts
     logical_units_list-chosen no_unit_plans = refl
     logical_units_list-chosen (unit_plan_then first rest) =
         λ i. unit_plan_then (logical_units-chosen first i) (logical_units_list-chosen rest i)
 
+    -- the logical plan of a test with its chosen choices is the given test
     logical_test-chosen : (test : TestPlan) → logical_test (test_chosen indexed test) ≡ test
     logical_test-chosen (within_plan operand) = ap within_plan (logical-chosen operand)
     logical_test-chosen (outside_plan operand) = ap outside_plan (logical-chosen operand)
     logical_test-chosen (number_plan compare number) = refl
 
-  -- ---- what holds of any leaf with its least choice holds of each leaf
+  -- ---- a statement that holds of any leaf with its least choice holds of each leaf
   module _ (Holds : LeafFact)
       (holds : (all : Indexed → ℕ) (back : Bool) (count : Cardinality) (types : Physical) (test : PhysicalTest)
       → Holds all back count types test (least_choice (leaf_at indexed (all indexed) back count types test))) where
     mutual
+      -- a statement that holds of any leaf with its least choice holds of each leaf of a plan of concepts
       each_leaf : (plan : Plan) → EachLeaf Holds (chosen indexed plan)
       each_leaf empty_plan = tt
       each_leaf all_plan = tt
@@ -79,10 +86,12 @@ module _ (indexed : Indexed) where
       )
       each_leaf (units_plan count units) = each_leaf_of_group units
 
+      -- a statement that holds of any leaf with its least choice holds of each leaf of several plans of concepts
       each_leaf_of_all : (parts : Plans) → PlansEach Holds (all_chosen indexed parts)
       each_leaf_of_all no_plans = tt
       each_leaf_of_all (plan_then first rest) = (each_leaf first, each_leaf_of_all rest)
 
+      -- a statement that holds of any leaf with its least choice holds of each leaf of a plan of groups
       each_leaf_of_group : (plan : PlanOfUnits) → GroupEach Holds (group_chosen indexed plan)
       each_leaf_of_group nothing_unit = tt
       each_leaf_of_group every_unit = tt
@@ -95,31 +104,34 @@ module _ (indexed : Indexed) where
         each_leaf_of_test test,
       )
 
+      -- a statement that holds of any leaf with its least choice holds of each leaf of several plans of groups
       each_leaf_of_groups : (parts : PlansOfUnits) → GroupsEach Holds (groups_chosen indexed parts)
       each_leaf_of_groups no_unit_plans = tt
       each_leaf_of_groups (unit_plan_then first rest) = (each_leaf_of_group first, each_leaf_of_groups rest)
 
+      -- a statement that holds of any leaf with its least choice holds of each leaf of the plan of a test
       each_leaf_of_test : (test : TestPlan) → TestEach Holds (test_chosen indexed test)
       each_leaf_of_test (within_plan operand) = each_leaf operand
       each_leaf_of_test (outside_plan operand) = each_leaf operand
       each_leaf_of_test (number_plan compare number) = tt
 
-  -- the choices are of the least bound, and the leaves offer them
+  -- the choice of each leaf of a chosen plan is the first of the least bound
   pub chosen_are_least : (plan : Plan) → AreLeast indexed (chosen indexed plan)
   chosen_are_least plan =
       each_leaf (IsLeastAt indexed)
       (λ all back count types test. least_is_least (leaf_at indexed (all indexed) back count types test)) plan
 
+  -- each leaf of a chosen plan offers its choice
   pub chosen_are_offered : (plan : Plan) → AreOffered (chosen indexed plan)
   chosen_are_offered plan =
       each_leaf IsOffered
       (λ all back count types test. (least_is_least (leaf_at indexed (all indexed) back count types test)).offered) plan
 
-  -- a plan of the code that has become the one with the least choices is the plan that it was, and so it is where choices that are
-  -- asked for are put into it then
+  -- a plan of the code that has become the chosen plan has the logical plan that it had
   pub plan_kept : (plan : Plan) (new : ConceptPlan) → physical_of new ≡ chosen indexed plan → plan_of new ≡ plan
   plan_kept plan new is = sym (logical-physical_of new) ∙ ap logical is ∙ logical-chosen plan
 
+  -- a plan of the code that has become the chosen plan with requested choices has the logical plan that it had
   pub asked_plan_kept : (asked : List Choice) (plan : Plan) (chosen_plan new : ConceptPlan) → physical_of chosen_plan ≡ chosen indexed plan
       → physical_of new ≡ (with_asked asked (physical_of chosen_plan)).plan → plan_of new ≡ plan
   asked_plan_kept asked plan chosen_plan new chosen_is is =

@@ -1,4 +1,4 @@
--- The choice that a leaf takes is one that it offers, and of these the first of the least bound.
+-- The choice that a leaf takes is one that it offers, and of the offered ones the first with the least bound.
 use Rattle.std.proofs.Common.{ℕ, ◌≡◌, ◌≤◌, ◌<◌, ◌&&◌, ◌∙◌, ◌⊎◌, Bool, true, false, cond, inl, inr, refl, sym, ap, subst, arith}
 use Rattle.std.specs.Prelude.{IsTrue, nat_le}
 use Rattle.std.proofs.lemmas.Bool.{and_parts, cases_Bool, leb-false, leb-true}
@@ -7,22 +7,25 @@ use Rattle.set_algebra.specs.declared.choice.Choice.TheVariants.{ByValue, ByType
 use Rattle.plan_bounds.specs.declared.leaf.Leaf.{Leaf}
 use Rattle.plan_bounds.specs.Alternatives.{IsLeast, leaf_bound, least_choice, offers, rank}
 
--- one of two tests fails
+-- if `a && b` is false, `a` or `b` is false
 one_fails : (a b : Bool) → (a && b) ≡ false → (a ≡ false) ⊎ (b ≡ false)
 one_fails true b fails = inr fails
 one_fails false b fails = inl refl
 
 module _ (leaf : Leaf) where
+  -- the bound of the leaf by value
   abbrev value : ℕ
   value = leaf_bound leaf ByValue
 
+  -- the bound of the leaf by type
   abbrev by_type : ℕ
   by_type = leaf_bound leaf ByType
 
+  -- the bound of the leaf in a scan
   abbrev scan : ℕ
   scan = leaf_bound leaf Scan
 
-  -- by value, where the leaf offers it and neither of the others has a smaller bound
+  -- by value is the least choice if the leaf offers it and its bound is at most the other two
   by_value_is_least : IsTrue leaf.is_within → leaf_bound leaf ByValue ≤ leaf_bound leaf ByType → leaf_bound leaf ByValue ≤ leaf_bound leaf Scan
       → IsLeast leaf ByValue
   by_value_is_least offered first second = record {
@@ -36,10 +39,11 @@ module _ (leaf : Leaf) where
       least ByType there = first
       least Scan there = second
 
-  -- the bound by value is larger than that of another, where the leaf offers it
+  -- the bound by value is larger than a number, if the leaf offers by value
   abbrev IsWorse : ℕ → Type 0
   IsWorse bound = IsTrue leaf.is_within → bound < leaf_bound leaf ByValue
 
+  -- by type is the least choice if its bound is at most that of a scan and by value is worse
   by_type_is_least : IsWorse (leaf_bound leaf ByType) → leaf_bound leaf ByType ≤ leaf_bound leaf Scan → IsLeast leaf ByType
   by_type_is_least worse second = record { offered = refl; least = least; first = first }
     where
@@ -53,6 +57,7 @@ module _ (leaf : Leaf) where
       first ByType there same = omega arith
       first Scan there same = omega arith
 
+  -- a scan is the least choice if its bound is below that by type and by value is worse
   scan_is_least : IsWorse (leaf_bound leaf Scan) → leaf_bound leaf Scan < leaf_bound leaf ByType → IsLeast leaf Scan
   scan_is_least worse second = record { offered = refl; least = least; first = first }
     where
@@ -66,7 +71,7 @@ module _ (leaf : Leaf) where
       first ByType there same = absurd (omega (arith, second, same))
       first Scan there same = omega arith
 
-  -- whatever its bounds are
+  -- `least_choice` of a leaf is its least choice, whatever its bounds are
   pub least_is_least : IsLeast leaf (least_choice leaf)
   least_is_least =
       elim (cases_Bool (leaf.is_within && (nat_le value by_type && nat_le value scan))) [

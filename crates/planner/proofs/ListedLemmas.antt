@@ -1,9 +1,9 @@
--- Nodes whose sub-plans are listed.
+-- A node is listed after its sub-plans have been listed.
 use Rattle.std.proofs.Common.{ℕ, ◌≡◌, ◌++◌, ◌∷◌, List, sym, ap}
 use Rattle.plan_bounds.specs.declared.counts.NodeCost.{NodeCost}
 use Rattle.planner.specs.inside.ListedNodes.{IsListed}
 
--- by its own number, and by what its sub-plans add
+-- a node is listed if its sub-plans have added `behind` to the list, its own bound is `number` and its size `found`
 pub listed : {behind : List ℕ} {number found : ℕ} {before after : List ℕ} {own : NodeCost} → after ≡ before ++ behind
     → own.bound ≡ number → own.size ≡ found → IsListed (number ∷ behind) found before after own
 listed {behind = behind} added own_is size_is = record {

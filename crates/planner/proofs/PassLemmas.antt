@@ -1,4 +1,5 @@
--- A pass over the parts of a node, in place, one by one: what each part becomes may depend on a state that those before it leave.
+-- A pass over the parts of a node, in place, one by one: what a part becomes may depend on a state that the parts
+-- before it leave.
 use Rattle.std.proofs.Common.{ℕ, zero, suc, ◌+◌, ◌≡◌, ◌<◌, ◌∷◌, [], ◌∙◌, inl, inr, List, length, get_or, set, take, refl, sym, ap, add-one, arith}
 use Rattle.std.proofs.lemmas.Bool.{cases_lt}
 use Rattle.std.proofs.lemmas.Grind.{get_or-set_at}
@@ -15,29 +16,42 @@ use Rattle.plan_bounds.proofs.LoopLemmas.{Numbers}
 use Rattle.planner.specs.Chosen.{all_chosen, chosen, group_chosen, groups_chosen}
 use Rattle.planner.specs.inside.AskedInPlace.{all_with_asked, group_with_asked, groups_with_asked, with_asked}
 
--- what a part is and what some parts are, what they become, and the state behind them
+-- a pass: what a part and what a list of parts is, what they become from a state, and the state after them
 pub record Pass (Part Out Outs State : Type 0) : Type 0 where
+  -- what one part is
   pub of_part : Part → Out
+  -- what a list of parts is
   pub of_parts : List Part → Outs
+  -- what a part becomes from a state
   pub makes : State → Part → Out
+  -- what a list of parts becomes from a state
   pub makes_all : State → List Part → Outs
+  -- the state after one part
   pub next : State → Part → State
+  -- the state after a list of parts
   pub rest : State → List Part → State
+  -- joins what the first part is with what the other parts are
   pub join : Out → Outs → Outs
+  -- no parts are what no parts become
   pub none : (state : State) → of_parts [] ≡ makes_all state []
+  -- a list of parts is its first part joined with the others
   pub more : (part : Part) (parts : List Part) → of_parts (part ∷ parts) ≡ join (of_part part) (of_parts parts)
+  -- what a list of parts becomes is what its first part becomes, joined with what the others become from the next
+  -- state
   pub made : (state : State) (part : Part) (parts : List Part)
       → makes_all state (part ∷ parts) ≡ join (makes state part) (makes_all (next state part) parts)
+  -- no parts leave the state as it is
   pub still : (state : State) → rest state [] ≡ state
+  -- the state after a list of parts is the state that the others leave after the first part
   pub goes_on : (state : State) (part : Part) (parts : List Part) → rest state (part ∷ parts) ≡ rest (next state part) parts
 
 module _ {Part Out Outs State : Type 0} (pass : Pass Part Out Outs State) where
-  -- those before a place are what they are to become
+  -- each part before `place` is what it must become from the state that the parts before it leave
   abbrev pub Each : State → List Part → List Part → ℕ → Type 0
   Each state now before place =
       (k : ℕ) (d : Part) → k < place → pass.of_part (get_or now k d) ≡ pass.makes (pass.rest state (take k before)) (get_or before k d)
 
-  -- the state behind one part more
+  -- the state after one part more is the next state of that part
   rest_more : (state : State) (before : List Part) (place : ℕ) (old : Part) → place < length before
       → ((d : Part) → old ≡ get_or before place d)
       → pass.rest state (take (suc place) before) ≡ pass.next (pass.rest state (take place before)) old
@@ -51,13 +65,14 @@ module _ {Part Out Outs State : Type 0} (pass : Pass Part Out Outs State) where
       ∙ rest_more (pass.next state first) before place old (omega (arith, within)) is
       ∙ ap (λ (state : State). pass.next state old) (sym (pass.goes_on state first (take place before)))
 
+  -- the state after the parts up to `place + 1` is the next state of the part at `place`
   pub rest_next : (state : State) (before : List Part) (place : ℕ) (old : Part) → place < length before
       → ((d : Part) → old ≡ get_or before place d)
       → pass.rest state (take (place + 1) before) ≡ pass.next (pass.rest state (take place before)) old
   rest_next state before place old within is =
       (λ i. pass.rest state (take (add-one place i) before)) ∙ rest_more state before place old within is
 
-  -- one part more
+  -- a turn that writes what the part at `place` becomes keeps `Each`
   pub each_more : (state : State) (items before : List Part) (place : ℕ) (old new : Part) → Each state items before place
       → place < length items → ((d : Part) → old ≡ get_or before place d)
       → pass.of_part new ≡ pass.makes (pass.rest state (take place before)) old → Each state (set items place new) before (place + 1)
@@ -70,7 +85,7 @@ module _ {Part Out Outs State : Type 0} (pass : Pass Part Out Outs State) where
         ∙ (λ i. pass.makes (pass.rest state (take (sym here i) before)) ((is d ∙ ap (λ (k : ℕ). get_or before k d) (sym here)) i))
   ]
 
-  -- all of them
+  -- past the last part, the parts are what all of them must become
   pub each_all : (state : State) (now before : List Part) → length now ≡ length before → Each state now before (length before)
       → pass.of_parts now ≡ pass.makes_all state before
   each_all state [] [] same each = pass.none state
@@ -86,7 +101,8 @@ module _ {Part Out Outs State : Type 0} (pass : Pass Part Out Outs State) where
       ∙ (λ i. pass.join (here i) (each_all (pass.next state first) now before (omega (arith, same)) later i))
       ∙ sym (pass.made state first before)
 
--- ---- parts that get their choices, which needs no state
+-- ---- passes that give parts their choices of least bound, which needs no state
+-- the pass that gives plans of concepts their choices of least bound; it needs no state
 abbrev pub choosing_concepts : Indexed → Pass ConceptPlan Physical Physicals (Unit {0})
 choosing_concepts indexed = record {
   of_part = physical_of;
@@ -103,6 +119,7 @@ choosing_concepts indexed = record {
   goes_on = λ state part parts. refl;
 }
 
+-- the pass that gives plans of groups their choices of least bound; it needs no state
 abbrev pub choosing_groups : Indexed → Pass UnitPlan PhysicalUnits PhysicalUnitsList (Unit {0})
 choosing_groups indexed = record {
   of_part = physical_units_of;
@@ -119,7 +136,7 @@ choosing_groups indexed = record {
   goes_on = λ state part parts. refl;
 }
 
--- the sizes of some plans with the choices of least bound, added up one by one
+-- the sizes of plans of concepts with the choices of least bound, as a list
 abbrev pub chosen_sizes : Indexed → Numbers ConceptPlan
 chosen_sizes indexed = record {
   of_part = λ part. size indexed (chosen indexed (plan_of part));
@@ -128,6 +145,7 @@ chosen_sizes indexed = record {
   more = λ part parts. refl;
 }
 
+-- the sizes of plans of groups with the choices of least bound, as a list
 abbrev pub group_chosen_sizes : Indexed → Numbers UnitPlan
 group_chosen_sizes indexed = record {
   of_part = λ part. group_size indexed (group_chosen indexed (unit_plan_of part));
@@ -136,7 +154,8 @@ group_chosen_sizes indexed = record {
   more = λ part parts. refl;
 }
 
--- ---- parts that get choices of a list, of which the rest is left to those behind them
+-- ---- passes that give parts requested choices, and leave the rest of the list to later parts
+-- the pass that gives plans of concepts requested choices; its state is the rest of the list
 abbrev pub asking_concepts : Pass ConceptPlan Physical Physicals (List Choice)
 asking_concepts = record {
   of_part = physical_of;
@@ -153,6 +172,7 @@ asking_concepts = record {
   goes_on = λ asked part parts. refl;
 }
 
+-- the pass that gives plans of groups requested choices; its state is the rest of the list
 abbrev pub asking_groups : Pass UnitPlan PhysicalUnits PhysicalUnitsList (List Choice)
 asking_groups = record {
   of_part = physical_units_of;

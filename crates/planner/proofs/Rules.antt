@@ -2,8 +2,8 @@
 use Rattle.set_algebra.proofs.PhysicalLemmas.{physicals_of_items}
 use Rattle.set_algebra.proofs.PlanLemmas.{plans_of_items}
 
--- for those that list bounds
+-- lemmas for the functions that list bounds
 pub ruleset listing = (physicals_of_items)
 
--- for those that choose
+-- lemmas for the functions that put choices into leaves
 pub ruleset choosing = (plans_of_items, physicals_of_items)

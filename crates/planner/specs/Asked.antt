@@ -1,4 +1,4 @@
--- The choices of a plan leaf by leaf, where some are asked for.
+-- The choices of a plan leaf by leaf, if a list of choices is requested.
 use Rattle.std.specs.Prelude.{Bool, if◌then◌else◌, List, [], ◌∷◌, ◌++◌, Option, None, Some, drop}
 use Rattle.set_algebra.specs.declared.choice.Choice.{Choice}
 use Rattle.set_algebra.specs.Physical.{Physical, physical_empty, physical_all, physical_one, physical_walk, physical_members, physical_and}
@@ -16,6 +16,7 @@ use Rattle.planner.specs.Chosen.{chosen}
 
 -- of each leaf whether its test says within which set a value is
 abbrev mutual
+  -- for each leaf of a plan of concepts, whether its test says within which set a value is
   pub within_tests : Physical → List Bool
   within_tests physical_empty = []
   within_tests physical_all = []
@@ -29,10 +30,12 @@ abbrev mutual
   within_tests (physical_pairs back count types test choice) = is_within test ∷ (within_tests types ++ test_within test)
   within_tests (physical_units count units) = group_within units
 
+  -- for each leaf of several plans of concepts, whether its test says within which set a value is
   pub plans_within : Physicals → List Bool
   plans_within no_physicals = []
   plans_within (physical_then first rest) = within_tests first ++ plans_within rest
 
+  -- for each leaf of a plan of groups, whether its test says within which set a value is
   pub group_within : PhysicalUnits → List Bool
   group_within physical_nothing = []
   group_within physical_every = []
@@ -41,34 +44,36 @@ abbrev mutual
   group_within (physical_units_minus first second) = group_within first ++ group_within second
   group_within (physical_units_pairs count types test choice) = is_within test ∷ (within_tests types ++ test_within test)
 
+  -- for each leaf of several plans of groups, whether its test says within which set a value is
   pub groups_within : PhysicalUnitsList → List Bool
   groups_within no_physical_units = []
   groups_within (physical_units_then first rest) = group_within first ++ groups_within rest
 
+  -- for each leaf of the plan of a test, whether its own test says within which set a value is
   pub test_within : PhysicalTest → List Bool
   test_within (physical_within operand) = within_tests operand
   test_within (physical_outside operand) = within_tests operand
   test_within (physical_number compare number) = []
 
--- the first of some choices, if there is one
+-- the first choice of a list, if it has one
 abbrev pub first_of : List Choice → Option Choice
 first_of [] = None
 first_of (choice ∷ choices) = Some choice
 
--- the choice that is asked for, if there is one and the leaf offers it, and else the other
+-- the requested choice if there is one and the leaf offers it, else the other
 abbrev pub asked_or : Bool → Option Choice → Choice → Choice
 asked_or within (Some choice) other = if offers within choice then choice else other
 asked_or within None other = other
 
--- leaf by leaf, where the last list has the other choice of each
+-- leaf by leaf, the requested choice if the leaf offers it, else the leaf's choice in the last list
 abbrev pub each_asked_or : List Bool → List Choice → List Choice → List Choice
 each_asked_or [] asked others = []
 each_asked_or (within ∷ tests) asked [] = []
 each_asked_or (within ∷ tests) asked (other ∷ others) =
     asked_or within (first_of asked) other ∷ each_asked_or tests (drop 1 asked) others
 
--- of each leaf the choice at its place in a list, where the list has one and the leaf offers it, and else the one that it has where
--- nothing is asked for
+-- for each leaf, the choice at its place in `asked` if there is one and the leaf offers it, else the choice of least
+-- bound
 abbrev pub choices_with : Indexed → List Choice → Plan → List Choice
 choices_with indexed asked plan =
     let least = chosen indexed plan in

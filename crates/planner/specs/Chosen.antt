@@ -1,4 +1,5 @@
--- Which choices a plan gets: the leaves of its parts choose first, and then each leaf takes the alternative of the least bound.
+-- Which choices a plan gets: the leaves of its sub-plans choose first, and then each leaf takes the alternative with
+-- the least bound.
 use Rattle.std.specs.Prelude.{false, List, length}
 use Rattle.set_algebra.specs.declared.choice.Choice.{Choice}
 use Rattle.set_algebra.specs.Physical.{Physical, physical_empty, physical_all, physical_one, physical_walk, physical_members, physical_and}
@@ -18,6 +19,7 @@ use Rattle.plan_bounds.specs.Leaves.{choices_in}
 use Rattle.plan_bounds.specs.Sizes.{leaf_at}
 
 abbrev mutual
+  -- a plan of concepts with the choices of least bound
   pub chosen : Indexed → Plan → Physical
   chosen indexed empty_plan = physical_empty
   chosen indexed all_plan = physical_all
@@ -34,10 +36,12 @@ abbrev mutual
       physical_pairs back count inner last (least_choice (leaf_at indexed (length indexed.concepts) back count inner last))
   chosen indexed (units_plan count units) = physical_units count (group_chosen indexed units)
 
+  -- several plans of concepts with the choices of least bound
   pub all_chosen : Indexed → Plans → Physicals
   all_chosen indexed no_plans = no_physicals
   all_chosen indexed (plan_then first rest) = physical_then (chosen indexed first) (all_chosen indexed rest)
 
+  -- a plan of groups with the choices of least bound
   pub group_chosen : Indexed → PlanOfUnits → PhysicalUnits
   group_chosen indexed nothing_unit = physical_nothing
   group_chosen indexed every_unit = physical_every
@@ -49,15 +53,17 @@ abbrev mutual
       let last = test_chosen indexed test in
       physical_units_pairs count inner last (least_choice (leaf_at indexed (length (groups_in indexed)) false count inner last))
 
+  -- several plans of groups with the choices of least bound
   pub groups_chosen : Indexed → PlansOfUnits → PhysicalUnitsList
   groups_chosen indexed no_unit_plans = no_physical_units
   groups_chosen indexed (unit_plan_then first rest) = physical_units_then (group_chosen indexed first) (groups_chosen indexed rest)
 
+  -- a test whose plan has the choices of least bound
   pub test_chosen : Indexed → TestPlan → PhysicalTest
   test_chosen indexed (within_plan operand) = physical_within (chosen indexed operand)
   test_chosen indexed (outside_plan operand) = physical_outside (chosen indexed operand)
   test_chosen indexed (number_plan compare number) = physical_number compare number
 
--- the choices of a plan for which nothing is asked
+-- the choices of a plan for which no choice is requested
 abbrev pub least_choices : Indexed → Plan → List Choice
 least_choices indexed plan = choices_in (chosen indexed plan)

@@ -1,4 +1,4 @@
-//! Choices that are asked for, put into the leaves of a plan.
+//! Puts requested choices into the leaves of a plan.
 ghost use Rattle.std.specs.Prelude.{◌≡◌, drop};
 ghost use Rattle.set_algebra.specs.Physical.{physical_of, physical_test_of, physical_units_list_of, physical_units_of};
 ghost use Rattle.set_algebra.specs.Physical.{physicals_of};
@@ -9,9 +9,9 @@ ghost use Rattle.planner.specs.inside.AskedInPlace.{test_with_asked, with_asked}
 
 use set_algebra::{Choice, ConceptPlan, UnitPlan, ValueTest};
 
-/// Gives each leaf of a plan of concepts the first choice of a list that no leaf before it has had, where the leaf
-/// offers it. A leaf that does not offer it keeps its own. Answers the rest of the list. It goes through the plan once,
-/// and takes no memory.
+/// Gives each leaf of a plan of concepts the first choice of `asked` that no leaf before it has taken. A leaf that
+/// does not offer this choice keeps its own, and the choice counts as taken. Returns the rest of `asked`. It goes
+/// through the plan once and allocates nothing.
 #[cycle(put)]
 #[tactic(auto, using(crate::proofs::Rules::choosing))]
 pub fn put_asked<'a>(plan: &mut ConceptPlan, asked: &'a [Choice]) -> &'a [Choice]
@@ -44,7 +44,7 @@ pub fn put_asked<'a>(plan: &mut ConceptPlan, asked: &'a [Choice]) -> &'a [Choice
     }
 }
 
-// Gives the leaves of a plan of groups their choices.
+// Gives the leaves of a plan of groups the choices of `asked`. Returns the rest.
 #[cycle(put)]
 #[tactic(auto, using(crate::proofs::Rules::choosing))]
 fn put_in_units<'a>(plan: &mut UnitPlan, asked: &'a [Choice]) -> &'a [Choice]
@@ -69,7 +69,7 @@ fn put_in_units<'a>(plan: &mut UnitPlan, asked: &'a [Choice]) -> &'a [Choice]
     }
 }
 
-// Gives a leaf the first choice, and those behind it to its types and its test.
+// Gives a leaf the first choice of `asked`, and the later ones to its types and its test. Returns the rest.
 #[cycle(put)]
 fn put_in_leaf<'a>(
     types: &mut ConceptPlan,
@@ -90,7 +90,7 @@ fn put_in_leaf<'a>(
     put_in_test(test, rest)
 }
 
-// Gives the leaves of the plan of a test their choices.
+// Gives the leaves of the plan of a test the choices of `asked`. Returns the rest.
 #[cycle(put)]
 fn put_in_test<'a>(test: &mut ValueTest, asked: &'a [Choice]) -> &'a [Choice]
     ensures test { physical_test_of test.new ≡ (test_with_asked asked.now (physical_test_of test.old)).plan }
@@ -103,7 +103,7 @@ fn put_in_test<'a>(test: &mut ValueTest, asked: &'a [Choice]) -> &'a [Choice]
     }
 }
 
-// Gives the leaves of sibling plans of concepts their choices.
+// Gives the leaves of sibling plans of concepts the choices of `asked`. Returns the rest.
 #[cycle(put)]
 fn put_in_each<'a>(parts: &mut Vec<ConceptPlan>, asked: &'a [Choice]) -> &'a [Choice]
     ensures parts { physicals_of parts.new.items ≡ (all_with_asked asked.now (physicals_of parts.old.items)).plan }
@@ -116,7 +116,7 @@ fn put_in_each<'a>(parts: &mut Vec<ConceptPlan>, asked: &'a [Choice]) -> &'a [Ch
     rest
 }
 
-// Gives the leaves of sibling plans of groups their choices.
+// Gives the leaves of sibling plans of groups the choices of `asked`. Returns the rest.
 #[cycle(put)]
 fn put_in_each_units<'a>(parts: &mut Vec<UnitPlan>, asked: &'a [Choice]) -> &'a [Choice]
     ensures parts { physical_units_list_of parts.new.items
@@ -130,7 +130,7 @@ fn put_in_each_units<'a>(parts: &mut Vec<UnitPlan>, asked: &'a [Choice]) -> &'a 
     rest
 }
 
-// The choice of a leaf with this test: the first that is asked for, where the leaf offers it, and else the other.
+// Returns the first choice of `asked` if a leaf with this test offers it, else `other`.
 fn own_choice(test: &ValueTest, asked: &[Choice], other: Choice) -> Choice
     ensures { result ≡ asked_or (is_within (physical_test_of test.now)) (first_of asked.now) other }
 {
@@ -144,7 +144,7 @@ fn own_choice(test: &ValueTest, asked: &[Choice], other: Choice) -> Choice
     }
 }
 
-// The choices behind the first.
+// Returns the choices after the first.
 fn after_first(choices: &[Choice]) -> &[Choice]
     ensures { result.now ≡ drop 1 choices.now }
 {

@@ -1,4 +1,4 @@
-//! The own bounds of all nodes of a plan, a node before its children.
+//! Lists the own bounds of all nodes of a plan, a node before its children.
 ghost use Rattle.std.specs.Prelude.{◌≡◌, ◌<◌, ◌++◌, ◌∷◌, [], IfOk, OnOk, length};
 ghost use Rattle.std.specs.List.{slice_set};
 ghost use Rattle.set_algebra.specs.Physical.{physical_and, physical_members, physical_minus, physical_of, physical_or};
@@ -22,7 +22,8 @@ use postings::Lengths;
 use set_algebra::{Choice, ConceptPlan, UnitPlan, ValueTest};
 use std::alloc::AllocError;
 
-/// Adds the own bounds of a plan of concepts. Answers how many concepts it finds at most. The error is want of memory.
+/// Appends the own bounds of a plan of concepts to `bounds`. Returns how many concepts the plan finds at most. The
+/// error is want of memory.
 #[cycle(list)]
 pub fn list(
     plan: &ConceptPlan,
@@ -38,7 +39,7 @@ pub fn list(
     Ok(closed(bounds, at, node))
 }
 
-// Adds those of the sub-plans of a plan of concepts, and answers its own.
+// Appends the own bounds of the sub-plans of a plan of concepts. Returns the cost of its top node.
 #[cycle(list)]
 #[tactic(auto, using(crate::proofs::Rules::listing))]
 fn list_behind(
@@ -73,7 +74,7 @@ fn list_behind(
     }
 }
 
-// Adds those of the sub-plans of a walk.
+// Appends the own bounds of the operand of a `Walk` node. Returns the cost of the node.
 #[cycle(list)]
 fn list_walk(
     operator: Operator,
@@ -89,7 +90,7 @@ fn list_walk(
     Ok(own)
 }
 
-// Adds those of the sub-plans of the components of reference sets.
+// Appends the own bounds of the operand of a `Members` node. Returns the cost of the node.
 #[cycle(list)]
 fn list_members(
     operand: &ConceptPlan,
@@ -104,7 +105,7 @@ fn list_members(
     Ok(own)
 }
 
-// Adds those of the sub-plans of what all of some plans find.
+// Appends the own bounds of the parts of an `And` node of concepts. Returns the cost of the node.
 #[cycle(list)]
 fn list_and(
     parts: &[ConceptPlan],
@@ -118,7 +119,7 @@ fn list_and(
     Ok(cost_of_all(&inner))
 }
 
-// Adds those of the sub-plans of what one of some plans finds.
+// Appends the own bounds of the parts of an `Or` node of concepts. Returns the cost of the node.
 #[cycle(list)]
 fn list_or(
     parts: &[ConceptPlan],
@@ -134,7 +135,7 @@ fn list_or(
     Ok(own)
 }
 
-// Adds those of the sub-plans of what the first of two plans finds and the second does not.
+// Appends the own bounds of both parts of a `Minus` node of concepts. Returns the cost of the node.
 #[cycle(list)]
 fn list_minus(
     first: &ConceptPlan,
@@ -150,7 +151,7 @@ fn list_minus(
     Ok(cost_of_first(left, right))
 }
 
-// Adds those of the sub-plans of the values along some types.
+// Appends the own bounds of the start and the types of a `Values` node. Returns the cost of the node.
 #[cycle(list)]
 fn list_values(
     start: &ConceptPlan,
@@ -167,7 +168,8 @@ fn list_values(
     Ok(own)
 }
 
-// Adds those of the sub-plans of a leaf, of concepts or of groups.
+// Appends the own bounds of the types and the test of a leaf, of concepts or of groups. Returns the cost of the
+// leaf.
 #[cycle(list)]
 fn list_pairs(
     all: u64,
@@ -189,7 +191,7 @@ fn list_pairs(
     Ok(leaf.cost(choice))
 }
 
-// Adds those of the sub-plans of the concepts so many of whose groups a plan finds.
+// Appends the own bounds of the group plan of a `Units` node. Returns the cost of the node.
 #[cycle(list)]
 fn list_of_units(
     count: Cardinality,
@@ -206,7 +208,7 @@ fn list_of_units(
     Ok(own)
 }
 
-// Adds those of a plan of groups.
+// Appends the own bounds of a plan of groups. Returns how many groups the plan finds at most.
 #[cycle(list)]
 fn list_units(
     plan: &UnitPlan,
@@ -223,7 +225,7 @@ fn list_units(
     Ok(closed(bounds, at, node))
 }
 
-// Adds those of the sub-plans of a plan of groups, and answers its own.
+// Appends the own bounds of the sub-plans of a plan of groups. Returns the cost of its top node.
 #[cycle(list)]
 #[tactic(auto, using(crate::proofs::Rules::listing))]
 fn list_units_behind(
@@ -252,7 +254,7 @@ fn list_units_behind(
     }
 }
 
-// Adds those of the sub-plans of what all of some plans of groups find.
+// Appends the own bounds of the parts of an `And` node of groups. Returns the cost of the node.
 #[cycle(list)]
 fn list_units_and(
     parts: &[UnitPlan],
@@ -266,7 +268,7 @@ fn list_units_and(
     Ok(cost_of_all(&inner))
 }
 
-// Adds those of the sub-plans of what one of some plans of groups finds.
+// Appends the own bounds of the parts of an `Or` node of groups. Returns the cost of the node.
 #[cycle(list)]
 fn list_units_or(
     parts: &[UnitPlan],
@@ -282,7 +284,7 @@ fn list_units_or(
     Ok(own)
 }
 
-// Adds those of the sub-plans of what the first of two plans of groups finds and the second does not.
+// Appends the own bounds of both parts of a `Minus` node of groups. Returns the cost of the node.
 #[cycle(list)]
 fn list_units_minus(
     first: &UnitPlan,
@@ -298,7 +300,8 @@ fn list_units_minus(
     Ok(cost_of_first(left, right))
 }
 
-// Adds those of the plan of a test, if it has one.
+// Appends the own bounds of the plan of a test. Returns how many concepts that plan finds at most; 0 if the test
+// has no plan.
 #[cycle(list)]
 fn list_test(
     test: &ValueTest,
@@ -318,7 +321,7 @@ fn list_test(
     }
 }
 
-// Adds those of some plans of concepts.
+// Appends the own bounds of sibling plans of concepts. Returns the tally of their sizes.
 #[cycle(list)]
 fn list_parts(
     parts: &[ConceptPlan],
@@ -340,7 +343,7 @@ fn list_parts(
     Ok(tally)
 }
 
-// Adds those of some plans of groups.
+// Appends the own bounds of sibling plans of groups. Returns the tally of their sizes.
 #[cycle(list)]
 fn list_unit_parts(
     parts: &[UnitPlan],
@@ -361,7 +364,7 @@ fn list_unit_parts(
     Ok(tally)
 }
 
-// A place for the bound of a node, before those of its children.
+// Reserves a place for the bound of a node, before those of its children. Returns the place.
 fn open(bounds: &mut Vec<u64>) -> Result<usize, AllocError>
     ensures bounds { OnOk result (bounds.new.items ≡ bounds.old.items ++ 0 ∷ []) }
     ensures at { IfOk result (λ at. at ≡ length bounds.old.items) }
@@ -371,7 +374,8 @@ fn open(bounds: &mut Vec<u64>) -> Result<usize, AllocError>
     Ok(at)
 }
 
-// Puts the bound of a node in its place, once those of its sub-plans are added.
+// Writes the bound of a node at its place `at`, after its sub-plans have added theirs. Returns the size of the
+// node.
 fn closed(bounds: &mut Vec<u64>, at: usize, node: NodeCost) -> u64
     requires { at < length bounds.old.items }
     ensures bounds { bounds.new.items ≡ slice_set bounds.old.items at node.bound }
@@ -381,7 +385,7 @@ fn closed(bounds: &mut Vec<u64>, at: usize, node: NodeCost) -> u64
     node.size
 }
 
-// A node without sub-plans, which reads nothing.
+// Makes the cost of a node that has no sub-plans and reads nothing.
 fn without_parts(size: u64) -> NodeCost
     ensures size { result.size ≡ size }
     ensures bound { result.bound ≡ 0 }

@@ -1,4 +1,4 @@
-//! The choices of a plan, in its leaves.
+//! Gives the leaves of a plan their choices.
 ghost use Rattle.std.specs.Prelude.{◌≡◌};
 ghost use Rattle.set_algebra.specs.Physical.{physical_of, physical_test_of, physical_units_list_of, physical_units_of};
 ghost use Rattle.set_algebra.specs.Physical.{physicals_of};
@@ -18,8 +18,9 @@ use plan_bounds::{
 use postings::Lengths;
 use set_algebra::{Choice, ConceptPlan, UnitPlan, ValueTest};
 
-/// Gives each leaf of a plan of concepts the choice of the least bound, its sub-plans having chosen first. Answers how
-/// many concepts the plan then finds at most. It goes through the plan once, and takes no memory.
+/// Gives each leaf of a plan of concepts the choice with the least bound, after the leaves of its sub-plans have
+/// theirs. Returns how many concepts the plan then finds at most. It goes through the plan once and allocates
+/// nothing.
 #[cycle(assign)]
 #[tactic(auto, using(crate::proofs::Rules::choosing))]
 pub fn assign_choices(plan: &mut ConceptPlan, lengths: Lengths<'_>) -> u64
@@ -66,7 +67,7 @@ pub fn assign_choices(plan: &mut ConceptPlan, lengths: Lengths<'_>) -> u64
     }
 }
 
-// Gives the leaves of the values along some types their choices. Answers how many values the plan then finds at most.
+// Gives the leaves of a `Values` node their choices. Returns how many values the node then finds at most.
 #[cycle(assign)]
 fn assign_values(start: &mut ConceptPlan, names: &mut Vec<ConceptPlan>, lengths: Lengths<'_>) -> u64
     ensures start { physical_of start.new ≡ chosen lengths.entry.indexes.now (plan_of start.old) }
@@ -80,7 +81,7 @@ fn assign_values(start: &mut ConceptPlan, names: &mut Vec<ConceptPlan>, lengths:
     cost_of_values(lengths, names.len() as u64, from).size
 }
 
-// Gives the leaves of a plan of groups their choices. Answers how many groups the plan then finds at most.
+// Gives the leaves of a plan of groups their choices. Returns how many groups the plan then finds at most.
 #[cycle(assign)]
 #[tactic(auto, using(crate::proofs::Rules::choosing))]
 fn assign_units(plan: &mut UnitPlan, lengths: Lengths<'_>) -> u64
@@ -113,8 +114,8 @@ fn assign_units(plan: &mut UnitPlan, lengths: Lengths<'_>) -> u64
     }
 }
 
-// Gives a leaf its choice, once the leaves of its types and its test have theirs. Answers how much it then finds at
-// most.
+// Gives a leaf its choice, after the leaves of its types and its test have theirs. Returns how many of `all`
+// concepts or groups it then finds at most.
 #[cycle(assign)]
 fn assign_leaf(
     all: u64,
@@ -141,8 +142,8 @@ fn assign_leaf(
     leaf.size(least)
 }
 
-// Gives the leaves of the plan of a test their choices. Answers how many concepts that plan then finds at most, 0 where
-// there is none.
+// Gives the leaves of the plan of a test their choices. Returns how many concepts that plan then finds at most; 0
+// if the test has no plan.
 #[cycle(assign)]
 fn assign_test(test: &mut ValueTest, lengths: Lengths<'_>) -> u64
     ensures test { physical_test_of test.new ≡ test_chosen lengths.entry.indexes.now (test_plan_of test.old) }
@@ -156,7 +157,7 @@ fn assign_test(test: &mut ValueTest, lengths: Lengths<'_>) -> u64
     }
 }
 
-// Gives the leaves of sibling plans of concepts their choices. Answers the sizes of these plans.
+// Gives the leaves of sibling plans of concepts their choices. Returns the tally of the sizes of these plans.
 #[cycle(assign)]
 fn assign_parts(parts: &mut Vec<ConceptPlan>, all: u64, lengths: Lengths<'_>) -> Tally
     ensures parts { physicals_of parts.new.items ≡ all_chosen lengths.entry.indexes.now (plans_of parts.old.items) }
@@ -171,7 +172,7 @@ fn assign_parts(parts: &mut Vec<ConceptPlan>, all: u64, lengths: Lengths<'_>) ->
     tally
 }
 
-// Gives the leaves of sibling plans of groups their choices. Answers the sizes of these plans.
+// Gives the leaves of sibling plans of groups their choices. Returns the tally of the sizes of these plans.
 #[cycle(assign)]
 fn assign_unit_parts(parts: &mut Vec<UnitPlan>, all: u64, lengths: Lengths<'_>) -> Tally
     ensures parts { physical_units_list_of parts.new.items ≡ groups_chosen lengths.entry.indexes.now

@@ -1,8 +1,8 @@
-//! Worked plans: a function that does nothing, with what is so of them as its contract.
+//! Worked plans: a function that does nothing, whose contract states facts about them.
 ghost use Rattle.planner.specs.WorkedBounds.{BoundsByType, BoundsByValue, BoundsInBraces, BoundsOfOne, CountsSample};
 
-/// What is counted of the sample release; and of four plans the choices where none is asked for, the bounds, and the
-/// floors.
+/// Law: the counts of the sample release, and the choices, bounds and floors of four plans for which no choice is
+/// requested.
 pub fn worked_bounds_hold()
     ensures counts { CountsSample }
     ensures by_value { BoundsByValue }

@@ -1,4 +1,4 @@
-//! How a plan is to be executed, so that it visits least at most.
+//! Chooses how a plan is executed, so that the bound of each leaf is least.
 #![tactic(auto)]
 
 mod asking;

@@ -1,4 +1,4 @@
-//! A plan with the choices of least bound, or with those that are asked for.
+//! Makes a plan with the choices of least bound, or with requested ones.
 ghost use Rattle.std.specs.Prelude.{◌≡◌, IfOk};
 ghost use Rattle.set_algebra.specs.Physical.{physical_of};
 ghost use Rattle.set_algebra.specs.Plan.{plan_of};
@@ -15,9 +15,10 @@ use postings::Indexes;
 use set_algebra::{Choice, ConceptPlan};
 use std::alloc::{AllocError, Global};
 
-/// A plan with the choices of least bound: each leaf takes the alternative that visits fewest items, its sub-plans
-/// having chosen first; of two with one bound the first of by value, by type and scan. The plan is kept as it is, but
-/// for the choices in its leaves. It is gone through once. The error is want of memory, and then the plan is spent.
+/// Makes a plan with the choices of least bound: each leaf takes the alternative with the least bound, after the
+/// leaves of its sub-plans have chosen. Of equal bounds it takes the first of `ByValue`, `ByType` and `Scan`. Only
+/// the choices in the leaves change. It goes through the plan once. The error is want of memory; the plan is then
+/// dropped.
 pub fn choose(
     alloc: Global,
     plan: ConceptPlan,
@@ -34,9 +35,9 @@ pub fn choose(
     Ok(physical)
 }
 
-/// A plan with the choices of a list: of each leaf the one at its place, where the list has one and the leaf offers it,
-/// and else the one that `choose` gives that leaf. The plan is kept as it is, but for the choices in its leaves. The
-/// error is want of memory, and then the plan is spent.
+/// Makes a plan with the choices of `asked`: each leaf takes the choice at its place, if the list has one and the
+/// leaf offers it, else the one that `choose` gives it. Only the choices in the leaves change. The error is want
+/// of memory; the plan is then dropped.
 pub fn choose_with(
     alloc: Global,
     plan: ConceptPlan,
@@ -53,8 +54,8 @@ pub fn choose_with(
     Ok(physical)
 }
 
-/// How many items each node of a plan visits at most beside its children, or `u64::MAX` where that is more; a node
-/// before its children, of both sorts. The error is want of memory.
+/// Lists how many items each node of a plan visits at most besides its children, or `u64::MAX` if that is more.
+/// Nodes of concepts and of groups are listed, a node before its children. The error is want of memory.
 pub fn own_bounds(
     alloc: Global,
     physical: &PhysicalPlan,

@@ -1,4 +1,4 @@
-//! The choices and bounds of plans over the sample release, where none is asked for.
+//! Tests of the choices and bounds of plans over the sample release, without choices asked for.
 use ecl_parser::parse;
 use planner::{Choice, PhysicalPlan, bound, choose, floor, own_bounds};
 use postings::Indexes;
@@ -10,7 +10,7 @@ use std::alloc::{AllocError, Global};
 use std::process::Abort;
 use std::test::Fail;
 
-// A query; its choices; its own bounds, a node before its children; the sum of these; and its floor.
+// A query, its choices, its nodes' own bounds (a node before its children), the sum of these, and its floor.
 struct Row {
     line: &'static [u8],
     choices: &'static [Choice],
@@ -48,7 +48,7 @@ const ROWS: [Row; 5] = [
         bound: 0,
         floor: 0,
     },
-    // 3 concepts below A and 1 below X; 2 components of Q; and 9 rows
+    // 3 concepts below A and 1 below X, 2 components of Q, and 9 rows
     Row {
         line: b"((<100005 OR <106004) MINUS ^108003).104001",
         choices: &[],
@@ -58,18 +58,18 @@ const ROWS: [Row; 5] = [
     },
 ];
 
-/// The indexes of the sample release.
+/// Makes the indexes of the sample release.
 pub fn sample_indexes(alloc: Global) -> Result<Indexes, LoadFault> {
     let files: [NamedBytes<'static>; 5] = sample_files();
     let snapshot = Snapshot::load(alloc, &files, "en", Limits::standard())?;
     Ok(Indexes::build(alloc, &snapshot)?)
 }
 
-/// The plan of a query.
+/// Makes the plan of a query.
 pub fn plan_of(alloc: Global, line: &[u8]) -> Result<ConceptPlan, AllocError> {
     match parse(alloc, line) {
         Ok(constraint) => lower(alloc, &constraint),
-        // no constraint, or there was no memory to read it
+        // the text is no constraint, or memory to read it was refused
         Err(_) => Err(AllocError),
     }
 }

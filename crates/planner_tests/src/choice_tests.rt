@@ -1,4 +1,4 @@
-//! The choices of plans over the sample release, where some are asked for.
+//! Tests of the choices of plans over the sample release, with choices asked for.
 use crate::bound_tests::{plan_of, sample_indexes};
 use planner::{Choice, bound, choose_with};
 use postings::Indexes;
@@ -6,7 +6,7 @@ use std::alloc::{AllocError, Global};
 use std::process::Abort;
 use std::test::Fail;
 
-// A query, the choices that are asked for, those that it gets, and its bound under these.
+// A query, the choices that are asked for, the choices that it gets, and its bound under these.
 struct Row {
     line: &'static [u8],
     asked: &'static [Choice],
@@ -21,7 +21,7 @@ const ROWS: [Row; 6] = [
         choices: &[Choice::Scan],
         bound: 47,
     },
-    // by value the leaf offers nothing, so it takes what it has where nothing is asked for
+    // the leaf does not offer `ByValue`, so it takes the choice that it has if none is asked for
     Row {
         line: b"*:105000>#2",
         asked: &[Choice::ByValue],

@@ -13,13 +13,13 @@ use Rattle.held_release.specs.AttributesBySource.{attributes_by_source}
 use Rattle.number_lists.proofs.PlaceLemmas.{place_of, place_of-get_or}
 use Rattle.number_lists.proofs.BlockLemmas.{blocks-same, blocks_by_place, filter-flat_map, filter-none, filter-twice, filter-within, flat_map-within}
 
--- blocks of which the one that is not empty is not there
+-- blocks that are all empty but block `j` have no item, if the range does not have `j`
 none_left : {X : Type 0} (xs : List X) (j from n : ℕ) → j < from → flat_map (λ k. cond (k == j) xs []) (range_with_len from n) ≡ []
 none_left xs j from zero past = refl
 none_left xs j from (suc n) past =
     (λ i. cond (ne_eqb from j (λ same. absurd (omega arith)) i) xs [] ++ none_left xs j (from + 1) n (omega arith) i)
 
--- and of blocks of which one is not empty it is that one
+-- blocks that are all empty but block `j` have the items of that block, if the range has `j`
 one_left : {X : Type 0} (xs : List X) (j from n : ℕ) → from ≤ j → j < from + n
     → flat_map (λ k. cond (k == j) xs []) (range_with_len from n) ≡ xs
 one_left xs j from zero least below = absurd (omega arith)
@@ -31,7 +31,7 @@ one_left xs j from (suc n) least below = ⊎_elim
     further : from ≢ j → from + 1 ≤ j
     further other = omega arith
 
--- the rows of one concept among those of another
+-- the rows of a concept among its rows are its rows
 rows_twice : (rows : List Attribute) (one other : ℕ) → one ≡ other
     → filter (λ (row : Attribute). row.source == other) (filter (λ (row : Attribute). row.source == one) rows)
     ≡ filter (λ (row : Attribute). row.source == other) rows
@@ -45,7 +45,7 @@ rows_twice rows one other same =
     twice true = refl
     twice false = refl
 
--- of another concept there are none among them
+-- no row of a concept is among the rows of another
 rows_apart : (rows : List Attribute) (one other : ℕ) → one ≢ other
     → filter (λ (row : Attribute). row.source == other) (filter (λ (row : Attribute). row.source == one) rows) ≡ []
 rows_apart rows one other apart =

@@ -41,14 +41,14 @@ module _ (concepts types ids : List ℕ) (values : List Value) (coded : List Cod
       )
 
 -- ---- the rows that the indexes stand for
--- they are those that the indexes are of
+-- the rows that the indexes stand for are those that they are made of
 pub rows_told : (concepts all : List ℕ) (rows : List Attribute) (indexes : RowIndexes) → all ≡ concepts
     → AreRowIndexes concepts rows indexes
     → rows_coded all indexes.types indexes.values (rows_kept indexes) ≡ rows
 rows_told concepts all rows indexes same are =
     ap (λ (ids : List ℕ). rows_coded ids indexes.types indexes.values (rows_kept indexes)) same ∙ are.coded.stand_for
 
--- so the indexes are of them
+-- the indexes of rows are those of the rows that they stand for
 pub indexes_of_own : (concepts all : List ℕ) (rows : List Attribute) (indexes : RowIndexes) → all ≡ concepts
     → AreRowIndexes concepts rows indexes
     → AreRowIndexes all (rows_coded all indexes.types indexes.values (rows_kept indexes)) indexes
@@ -57,7 +57,7 @@ indexes_of_own concepts all rows indexes same are =
     (subst (λ (ids : List ℕ). AreRowIndexes ids rows indexes) (sym same) are)
 
 -- ---- the members
--- there is a list for each concept
+-- there is a list of members for each concept
 pub length-members : (concepts all : List ℕ) (count : ℕ) (rows : List (ℕ × ℕ)) (lists : List (List ℕ)) → all ≡ concepts
     → count ≡ length concepts → lists ≡ lists_where count (is_child rows)
     → length lists ≡ length all
@@ -65,7 +65,7 @@ length-members concepts all count rows lists same counted are =
     ap (λ (found : List (List ℕ)). length found) are ∙ length-where count (is_child rows) ∙ counted
     ∙ ap (λ (ids : List ℕ). length ids) (sym same)
 
--- lists by the numbers of some rows are those by their identifiers
+-- lists by the concept numbers in the member rows are those by the identifiers
 pub members_told : (concepts : List ℕ) (count : ℕ) (rows members : List (ℕ × ℕ)) (lists : List (List ℕ))
     → IsStrictlyIncreasing concepts → count ≡ length concepts
     → IsWithin (length concepts) rows → map (row_of_numbers concepts) rows ≡ members → lists ≡ lists_where count (is_child rows)

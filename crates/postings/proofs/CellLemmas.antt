@@ -18,7 +18,7 @@ use Rattle.postings.proofs.IndexLemmas.{rows_of_entries}
 use Rattle.postings.proofs.PlaceLemmas.{places_where-map, places_where-within, rows_at_places}
 
 -- ---- the part of a key
--- of all items, those between the ends of the lists before a key and of these with its own are the list of the key
+-- the items of all lists from the end of the lists before `k` to the end of list `k` are list `k`
 pub span_list : (lists : List (List ℕ)) (k : ℕ) → k < length lists
     → slice_range (concat lists) (length (concat (take k lists))) (length (concat (take (k + 1) lists))) ≡ list_of lists k
 span_list lists k within =
@@ -35,11 +35,11 @@ span_list lists k within =
     ∙ ap (λ (xs : List ℕ). take count xs) (drop_at before (list ++ behind) (length before) refl)
     ∙ take_at list behind count long
 
--- a part of what is made of some items is made of the part of the items
+-- a part of `map f xs` is `map f` of that part of `xs`
 range_map : {X Y : Type 0} (f : X → Y) (xs : List X) (from to : ℕ) → slice_range (map f xs) from to ≡ map f (slice_range xs from to)
 range_map f xs from to = ap (take (to - from)) (drop-map f from xs) ∙ take-map f (to - from) (drop from xs)
 
--- the cells of a key are what is made of its list
+-- the cells of a key in a column made by `f` are `f` of the items of its list
 pub cells_list : {X : Type 0} (lists : List (List ℕ)) (f : ℕ → X) (k : ℕ) → k < length lists
     → cells_of lists (map f (concat lists)) k ≡ map f (list_of lists k)
 cells_list lists f k within =
@@ -54,7 +54,7 @@ long_cells {X} lists marks cells are d =
     ap (λ (xs : List X). length xs) (are d) ∙ length-map (concat lists) (λ place. slice_index_or marks place d)
 
 -- ---- columns at some places
--- columns that say the same of all items say the same of the items at some places
+-- two columns that agree on all items agree on the items at `places`
 pub restricted : {X E A : Type 0} (g : X → A) (h : E → A) (marks : List X) (entries : List E) → map g marks ≡ map h entries
     → (places : List ℕ) → All (λ place. place < length marks) places → (d : X) (e : E)
     → map g (map (λ place. get_or marks place d) places) ≡ map h (map (λ place. get_or entries place e) places)
@@ -70,7 +70,7 @@ restricted {X} {E} {A} g h marks entries same (place ∷ places) within d e =
     let rest = restricted g h marks entries same places (All-tail (λ place. place < length marks) place places within) d e in
     λ i. here i ∷ rest i
 
--- what holds of all items holds of those at some places
+-- a property of all items holds of the items at `places`
 pub all_at : {X : Type 0} (P : X → Type 0) (marks : List X) → All P marks → (places : List ℕ)
     → All (λ place. place < length marks) places → (d : X)
     → All P (map (λ place. get_or marks place d) places)
@@ -93,7 +93,7 @@ module _ (rows : List Attribute) (test : Attribute → Bool) (lists : List (List
       ≡ filter passes (entries_of rows)
   entries_there e = ap (map (λ place. get_or (entries_of rows) place e)) (sym entry_places) ∙ rows_at_places passes (entries_of rows) e
 
-  -- the cells of the key are the items at these places
+  -- the cells of the key are the items at the places of the rows that pass
   cells_there : {X : Type 0} (marks cells : List X) (d : X) → cells ≡ map (λ place. slice_index_or marks place d) (concat lists)
       → cells_of lists cells k ≡ map (λ place. get_or marks place d) (places_where test rows)
   cells_there {X} marks cells d are =
@@ -126,7 +126,7 @@ module _ (rows : List Attribute) (test : Attribute → Bool) (lists : List (List
   abbrev a_mark : Flagged
   a_mark = record { number = 0; is_first = true }
 
-  -- so what such a column says of the entries its cells of the key say of those whose rows pass
+  -- if a column tells something of each entry, its cells of the key tell that of the entries whose rows pass
   said : {X A : Type 0} (g : X → A) (h : Entry → A) (marks cells : List X) (d : X) → map g marks ≡ map h (entries_of rows)
       → cells ≡ map (λ place. slice_index_or marks place d) (concat lists)
       → map g (cells_of lists cells k) ≡ map h (filter passes (entries_of rows))
@@ -135,7 +135,7 @@ module _ (rows : List Attribute) (test : Attribute → Bool) (lists : List (List
       ∙ restricted g h marks (entries_of rows) same (places_where test rows) (places_there g h marks same) d an_entry
       ∙ ap (map h) (entries_there an_entry)
 
-  -- and what holds of all its items holds of these cells
+  -- a property of all items of a column holds of its cells of the key
   kept : {X A : Type 0} (P : X → Type 0) (g : X → A) (h : Entry → A) (marks cells : List X) (d : X)
       → map g marks ≡ map h (entries_of rows)
       → cells ≡ map (λ place. slice_index_or marks place d) (concat lists) → All P marks → All P (cells_of lists cells k)
@@ -143,7 +143,7 @@ module _ (rows : List Attribute) (test : Attribute → Bool) (lists : List (List
       All-same P (cells_of lists cells k) (map (λ place. get_or marks place d) (places_where test rows)) (cells_there marks cells d are)
       (all_at P marks holds (places_where test rows) (places_there g h marks same) d)
 
-  -- the sources
+  -- if a column has the sources of all rows, its cells of the key have those of the rows that pass
   pub sources_at : (concepts : List ℕ) (marks cells : List Flagged) → AreSources concepts (entries_of rows) marks
       → IsColumn marks (concat lists) cells
       → AreSources concepts (filter (λ (entry : Entry). test entry.row) (entries_of rows)) (cells_of lists cells k)
@@ -156,7 +156,7 @@ module _ (rows : List Attribute) (test : Attribute → Bool) (lists : List (List
         firsts = said (λ (mark : Flagged). mark.is_first) (λ (entry : Entry). entry.is_first) marks cells a_mark are.firsts (column a_mark);
       }
 
-  -- the groups
+  -- if a column has the groups of all rows, its cells of the key have those of the rows that pass
   pub groups_at : (groups : List ConceptGroup) (marks cells : List Flagged) → AreGroups groups (entries_of rows) marks
       → IsColumn marks (concat lists) cells
       → AreGroups groups (filter (λ (entry : Entry). test entry.row) (entries_of rows)) (cells_of lists cells k)
@@ -168,7 +168,8 @@ module _ (rows : List Attribute) (test : Attribute → Bool) (lists : List (List
             (column a_mark);
       }
 
-  -- numbers below a bound, of which each tells something of its entry
+  -- if a column has numbers below a bound that tell something of each entry, its cells of the key have those of the
+  -- entries whose rows pass
   numbers_at : {A : Type 0} (bound : ℕ) (tell : ℕ → A) (field : Entry → A) (numbers cells : List ℕ)
       → All (λ number. number < bound) numbers → map tell numbers ≡ map field (entries_of rows)
       → IsColumn numbers (concat lists) cells
@@ -179,7 +180,7 @@ module _ (rows : List Attribute) (test : Attribute → Bool) (lists : List (List
     said tell field numbers cells 0 told (column 0),
   )
 
-  -- the values
+  -- if a column has the values of all rows, its cells of the key have those of the rows that pass
   pub values_at : (values : List Value) (numbers cells : List ℕ) → AreValues values (entries_of rows) numbers
       → IsColumn numbers (concat lists) cells
       → AreValues values (filter (λ (entry : Entry). test entry.row) (entries_of rows)) (cells_of lists cells k)
@@ -187,7 +188,7 @@ module _ (rows : List Attribute) (test : Attribute → Bool) (lists : List (List
       let here = numbers_at (length values) (value_at values) (λ entry. entry.row.value) numbers cells are.within are.values column in
       record { within = here.0; values = here.1 }
 
-  -- the types
+  -- if a column has the types of all rows, its cells of the key have those of the rows that pass
   pub types_at : (types : List ℕ) (numbers cells : List ℕ) → AreTypes types (entries_of rows) numbers
       → IsColumn numbers (concat lists) cells
       → AreTypes types (filter (λ (entry : Entry). test entry.row) (entries_of rows)) (cells_of lists cells k)

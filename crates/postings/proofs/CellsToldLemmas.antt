@@ -79,6 +79,7 @@ module _ (inside : Inside) (are : AreIndexed inside) (now : Indexed) (same : ind
       first_in_group_is = in_group_is ∙ flag inside.rows.by_type.groups.items (λ (entry : Entry). entry.is_first_in_group) are.rows.units.firsts;
     }
 
+  -- cells with the numbers and the flags of a kept row are those of the row's entry
   pub cells_told : IfSome (slice_get (entries_of now.rows) n) (AreRowCells now cells)
   cells_told =
       subst (λ (indexed : Indexed). IfSome (slice_get (entries_of indexed.rows) n) (AreRowCells indexed cells)) same

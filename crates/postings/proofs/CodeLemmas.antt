@@ -17,7 +17,7 @@ use Rattle.postings.specs.Entries.{is_alike, is_alike_in_group}
 use Rattle.postings.specs.Indexed.{value_at}
 use Rattle.postings.specs.declared.rows.CodedRow.{CodedRow}
 
--- two numbers of concepts are the same exactly where the concepts are
+-- two concepts of a rising list are equal exactly if their numbers are
 pub same_concept : (concepts : List ℕ) → IsStrictlyIncreasing concepts → (a b : ℕ) → a < length concepts → b < length concepts
     → (get_or concepts a 0 == get_or concepts b 0) ≡ (a == b)
 same_concept concepts rising a b near far = ⊎_elim
@@ -30,7 +30,7 @@ same_concept concepts rising a b near far = ⊎_elim
     ∙ sym (ne_eqb a b other))
     (cases_eq a b)
 
--- and so for the places of types that do not repeat
+-- two types of a list without repeats are equal exactly if their places are
 pub same_type : (types : List ℕ) → IsDistinct nat_eq types → (a b : ℕ) → a < length types → b < length types
     → (get_or types a 0 == get_or types b 0) ≡ (a == b)
 same_type types once a b near far = by (cases_order a b)
@@ -44,25 +44,25 @@ same_type types once a b near far = by (cases_order a b)
 module _ (concepts types : List ℕ) (values : List Value) (rising : IsStrictlyIncreasing concepts) (once : IsDistinct nat_eq types)
     (exact : (v w : ℕ) → v < length values → w < length values
     → value_eq (value_at values v) (value_at values w) ≡ (v == w)) where
-  -- the pairs of two rows are the same exactly where their numbers are
+  -- the pairs of two rows are equal exactly if their pairs of numbers are
   pub same_pair_coded : (a b : CodedRow) → IsCoded concepts types values a → IsCoded concepts types values b
       → pair_eq (pair_of (row_coded concepts types values a)) (pair_of (row_coded concepts types values b)) ≡ has_same_pair a b
   same_pair_coded a b one other = λ i. same_type types once a.type_place b.type_place one.type_place other.type_place i
       && exact a.value b.value one.value other.value i
 
-  -- and so are the rows of one concept, and of one group
+  -- two rows have one source and one pair exactly if their rows of numbers have
   pub alike_coded : (a b : CodedRow) → IsCoded concepts types values a → IsCoded concepts types values b
       → is_alike (row_coded concepts types values a) (row_coded concepts types values b) ≡ ((a.source == b.source) && has_same_pair a b)
   alike_coded a b one other = λ i. same_concept concepts rising a.source b.source one.source other.source i
       && same_pair_coded a b one other i
 
-  -- and so are those of one concept and one group
+  -- two rows have one source, one group number and one pair exactly if their rows of numbers have
   pub alike_in_group_coded : (a b : CodedRow) → IsCoded concepts types values a → IsCoded concepts types values b
       → is_alike_in_group (row_coded concepts types values a) (row_coded concepts types values b)
       ≡ ((a.group == b.group) && ((a.source == b.source) && has_same_pair a b))
   alike_in_group_coded a b one other = λ i. (a.group == b.group) && alike_coded a b one other i
 
-  -- rows of numbers that stand for one row are one
+  -- rows of numbers that stand for one row are equal
   pub same_coded : (a b : CodedRow) → IsCoded concepts types values a → IsCoded concepts types values b
       → row_coded concepts types values a ≡ row_coded concepts types values b → a ≡ b
   same_coded a b one other same =
@@ -78,7 +78,7 @@ module _ (concepts types : List ℕ) (values : List Value) (rising : IsStrictlyI
       let group : a.group ≡ b.group = ap (λ (row : Attribute). row.group) same in
       λ i. record { source = source i; type_place = type_place i; group = group i; value = value i }
 
-  -- and so are lists of them
+  -- lists of rows of numbers that stand for one list of rows are equal
   pub same_all_coded : (xs ys : List CodedRow) → All (IsCoded concepts types values) xs → All (IsCoded concepts types values) ys
       → map (row_coded concepts types values) xs ≡ map (row_coded concepts types values) ys → xs ≡ ys
   same_all_coded [] [] near far same = refl

@@ -51,7 +51,7 @@ module _ {X : Type 0} (same : X → X → Bool) (laws : IsEquivalence same) (exa
       (λ told. list_any-from_Contains laws q ys ((members q).0 (Contains-from_any exact q xs told)))
       (λ told. list_any-from_Contains laws q xs ((members q).1 (Contains-from_any exact q ys told)))
 
-  -- among the items that pass a test, one is found that passes it
+  -- an item is among the items that pass a test exactly if it passes and is among all items
   any_kept : (test : X → Bool) (q : X) (xs : List X) → list_any (same q) (filter test xs) ≡ (test q && list_any (same q) xs)
   any_kept test q xs = any-filter (same q) test xs ∙ along xs
     where
@@ -67,13 +67,13 @@ module _ {X : Type 0} (same : X → X → Bool) (laws : IsEquivalence same) (exa
       along [] = sym (and-false (test q))
       along (x ∷ xs) = (λ i. here x (same q x) refl i || along xs i) ∙ or_of (test q) (same q x) (list_any (same q) xs)
 
-  -- what is left of items that stand once stands once
+  -- the items that pass a test stand once if all items do
   kept_once : (test : X → Bool) (xs : List X) → IsDistinct same xs → IsDistinct same (filter test xs)
   kept_once test xs once =
       IsDistinct-from_apart same (filter test xs) (AllPairs-filter (λ x y. same x y ≡ false) test xs
       (λ i j d less below. apart_from_distinct same xs i j d once less below))
 
-  -- as many of them pass a test
+  -- two lists with equal members, each once, have equally many that pass a test
   pub count_members : (test : X → Bool) (xs ys : List X) → IsDistinct same xs → IsDistinct same ys
       → ((x : X) → Contains xs x ↔ Contains ys x) → count_by test xs ≡ count_by test ys
   count_members test xs ys once also members =
@@ -83,29 +83,29 @@ module _ {X : Type 0} (same : X → X → Bool) (laws : IsEquivalence same) (exa
       ∙ length-filter test ys
 
 -- ---- the test of pairs, and of sources
--- the test of pairs tells which are the same
+-- the test `pair_eq` is an equivalence
 pair_eq_equiv : IsEquivalence pair_eq
 pair_eq_equiv = equiv (record {
   symm = pair_eq-flips;
   trans = λ x y z one other. (tells_same_pair x z).1 ((tells_same_pair x y).0 one ∙ (tells_same_pair y z).0 other);
 }) (λ x. (tells_same_pair x x).1 refl)
 
--- pairs that it finds the same are
+-- pairs that `pair_eq` finds the same are equal
 same_pair : (x y : Pair) → pair_eq x y ≡ true → x ≡ y
 same_pair x y told = (tells_same_pair x y).0 told
 
--- a number that is another is so in either order
+-- a row of the concept `concept` has the source of another row exactly if that row is of the concept
 swapped : (row_source other_source concept : ℕ) → row_source ≡ concept → (row_source == other_source) ≡ (other_source == concept)
 swapped row_source other_source concept is = ap (λ (id : ℕ). id == other_source) is ∙ nat_eq_equiv.symm concept other_source
 
 -- ---- groups
 
--- a pair without a group number is a pair of its concept
+-- the pair of a group without a number is one of the pairs that its concept has without one
 abbrev HasPair : Release → ℕ → GroupKey → Type 0
 HasPair release concept (numbered number) = Unit {0}
 HasPair release concept (ungrouped pair) = Contains (pairs_in release concept 0) pair
 
--- the groups of some concepts are of these, and have such pairs
+-- each group of `concepts` is of one of these concepts, and its pair, if it has one, is a pair of that concept
 groups_have : (release : Release) (concepts : List ℕ)
     → All (λ (group : ConceptGroup). Contains concepts group.concept × HasPair release group.concept group.key)
     (groups_among release concepts)
@@ -124,7 +124,7 @@ groups_have release concepts =
         (All-map (HasPair release concept) numbered (rising (group_numbers release concept)) (λ k d below. tt))
         (All-map (HasPair release concept) ungrouped (pairs_in release concept 0) (All-contains_itself (pairs_in release concept 0)))
 
--- of items that are all one the distinct ones are that one
+-- a list whose items are all one pair has that pair alone as its distinct items
 distinct_one : (pairs : List Pair) (pair : Pair) → All (λ other. other ≡ pair) pairs → Contains pairs pair
     → distinct pair_eq pairs ≡ pair ∷ []
 distinct_one [] pair all there = absurd (omega (arith, there.1))
@@ -137,7 +137,7 @@ distinct_one (first ∷ pairs) pair all there =
     (λ other same. ap not ((tells_same_pair first other).1 (is ∙ sym same))) (distinct pair_eq pairs) others) i)
 
 module _ (concepts : List ℕ) (rows : List Attribute) where
-  -- the pairs of the group with a key
+  -- the pairs of the group with a key are those of its entries that are first in it
   of_key : (concept : ℕ) (key : GroupKey) → HasPair (rows_alone concepts rows) concept key
       → pairs_of_group (rows_alone concepts rows) (group_with concept key)
       ≡ map (λ (entry : Entry). pair_of entry.row)
@@ -200,7 +200,7 @@ module _ (concepts : List ℕ) (rows : List Attribute) where
           ∙ order (other.group == 0) (other.source == concept) (pair_eq (pair_of row) (pair_of other))
           ∙ (λ i. ((other.source == concept) && ((other.group == 0) && test i)) && pair_eq (pair_of row) (pair_of other))
 
-  -- the pairs of a group are those of its entries that are first in it
+  -- in a release that has rows alone, the pairs of a group are those of its entries that are first in it
   pub first_entries_of_group_alone : (group : ConceptGroup) → Contains (all_groups (rows_alone concepts rows)) group
       → pairs_of_group (rows_alone concepts rows) group
       ≡ map (λ (entry : Entry). pair_of entry.row)
@@ -224,7 +224,7 @@ module _ (release : Release) (increases : IsStrictlyIncreasing release.concepts)
       && pair_eq (pair_of row) (pair_of other))
       (λ (entry : Entry). entry.is_first) (λ row before. refl) (attributes_by_source release))
 
-  -- the groups of some of its concepts are those of its rows by source
+  -- the groups of `concepts` in the rows by source are those in the release
   pub groups_again : (concepts : List ℕ) → ((concept : ℕ) → Contains concepts concept → Contains release.concepts concept)
       → groups_among (rows_alone release.concepts (attributes_by_source release)) concepts ≡ groups_among release concepts
   groups_again concepts among =
@@ -244,7 +244,7 @@ module _ (release : Release) (increases : IsStrictlyIncreasing release.concepts)
   pub all_groups_again : all_groups (rows_alone release.concepts (attributes_by_source release)) ≡ all_groups release
   all_groups_again = groups_again release.concepts (λ concept there. there)
 
-  -- and so are the pairs of a group of one of its concepts
+  -- the pairs of a group in the rows by source are those in the release
   pub pairs_of_group_again : (group : ConceptGroup) → Contains release.concepts group.concept
       → pairs_of_group (rows_alone release.concepts (attributes_by_source release)) group ≡ pairs_of_group release group
   pairs_of_group_again group there = by group.key
@@ -256,7 +256,7 @@ module _ (release : Release) (increases : IsStrictlyIncreasing release.concepts)
           (rows_of_again release increases (attributes_by_source release) refl group.concept there)
       by (ungrouped pair) = refl
 
-  -- the pairs of a group are those of its entries that are first in it
+  -- in any release, the pairs of a group are those of its entries that are first in it
   pub first_entries_of_group : (group : ConceptGroup)
       → Contains (all_groups (rows_alone release.concepts (attributes_by_source release))) group
       → pairs_of_group release group
@@ -277,7 +277,7 @@ module _ (release : Release) (increases : IsStrictlyIncreasing release.concepts)
 
 -- ---- pairs read backwards
 
--- a test passes for some of the rows by source where it does for some of the rows, if their sources are all concepts
+-- a test passes for a row by source exactly if it passes for a row, if the sources of all rows are concepts
 any_by_source : (test : Attribute → Bool) (concepts : List ℕ) (rows : List Attribute)
     → All (λ (row : Attribute). has concepts row.source ≡ true) rows
     → list_any test (flat_map (λ concept. filter (λ (row : Attribute). row.source == concept) rows) concepts) ≡ list_any test rows
@@ -329,7 +329,7 @@ any_by_source test concepts rows known =
         ∙ (λ i. with (λ concept. row.source == concept) (test row) concepts i || rest i)
         ∙ (λ i. (here i && test row) || list_any test rows)
 
--- the distinct pairs of some rows, where a test passes for some of them exactly where it does for some of others
+-- two lists have equal distinct pairs, if each test passes in both lists or in neither
 same_pairs : (one other : List Pair) → ((test : Pair → Bool) → list_any test one ≡ list_any test other) → (pair : Pair)
     → Contains (distinct pair_eq one) pair ↔ Contains (distinct pair_eq other) pair
 same_pairs one other same pair = (across one other same, across other one (λ test. sym (same test)))
@@ -341,7 +341,8 @@ same_pairs one other same pair = (across one other same, across other one (λ te
         (Contains-from_any same_pair pair other (sym (same (pair_eq pair))
         ∙ list_any-from_Contains pair_eq_equiv pair one (((keeps_each_pair_once one).1 pair).0 there)))
 
--- as many pairs of the rows that have a concept as their value pass a test as of the entries of these that are first
+-- the distinct reverse pairs of a concept and the reverse pairs of its entries that are first have equally many that
+-- pass a test
 pub back_count : (release : Release) → All (λ (row : Attribute). has release.concepts row.source ≡ true) release.attributes
     → (test : Pair → Bool) (concept : ℕ)
     → count_by test (in_pairs release concept)
@@ -400,7 +401,7 @@ back_count release known test concept =
 
 -- ---- the groups of a concept
 
--- the numbers of a list in rising order are the distinct ones, so as many pass a test
+-- a list of numbers without repeats has equally many that pass a test after it is put in rising order
 count_rising : (test : ℕ → Bool) (numbers : List ℕ) → IsDistinct nat_eq numbers
     → count_by test (rising numbers) ≡ count_by test numbers
 count_rising test numbers once =
@@ -411,11 +412,11 @@ count_rising test numbers once =
     once
     (keeps_rising numbers).1
 
--- how much of what a function gives passes a test
+-- the items of `map f xs` that pass a test are as many as the items of `xs` that pass it after `f`
 count_map : {X Y : Type 0} (test : Y → Bool) (f : X → Y) (xs : List X) → count_by test (map f xs) ≡ count_by (λ x. test (f x)) xs
 count_map test f xs = fold-map (λ sum y. sum + cond (test y) 1 0) f 0 xs
 
--- as many groups of a concept pass a test, by their keys, as of the groups of the release
+-- a concept has equally many groups that pass a test by their keys as by the definition `groups_of`
 pub groups_count : (release : Release) (test : List Pair → Bool) (concept : ℕ)
     → count_by test (map (pairs_of_group release) (groups_among release (concept ∷ []))) ≡ count_by test (groups_of release concept)
 groups_count release test concept =

@@ -13,7 +13,7 @@ use Rattle.number_lists.proofs.BlockLemmas.{filter-twice}
 
 -- ---- lists, tests and places
 module _ {X : Type 0} where
-  -- of what is made of items, what passes is made of the items that pass, where the tests agree on them
+  -- the items of `map f ys` that pass are `f` of the items of `ys` that pass, if the tests agree
   pub filter-map_agree : {Y : Type 0} (f : Y → X) (one : X → Bool) (other : Y → Bool) (ys : List Y)
       → All (λ y. one (f y) ≡ other y) ys → filter one (map f ys) ≡ map f (filter other ys)
   filter-map_agree f one other [] agree = refl
@@ -23,7 +23,7 @@ module _ {X : Type 0} where
       ∙ (elim (other y) as (λ b. cond b (f y ∷ map f (filter other ys)) (map f (filter other ys))
       ≡ map f (cond b (y ∷ filter other ys) (filter other ys))) [ true ↦ refl | false ↦ refl ])
 
-  -- where an item of a list passes, the first that does stays where it is when the list grows
+  -- if an item of `xs` passes, the first that passes has the same place in `xs ++ ys` as in `xs`
   pub position_or_len-append_found : (test : X → Bool) (xs ys : List X) → list_any test xs ≡ true
       → position_or_len test (xs ++ ys) ≡ position_or_len test xs
   position_or_len-append_found test [] ys found = absurd (cc)
@@ -32,7 +32,7 @@ module _ {X : Type 0} where
       → cond (not b) (1 + position_or_len test (xs ++ ys)) 0 ≡ cond (not b) (1 + position_or_len test xs) 0)
       [ true ↦ (λ _. refl) | false ↦ (λ rest. ap (λ n. 1 + n) (position_or_len-append_found test xs ys rest)) ]) found
 
-  -- where no item of a list passes, the place behind the list is that of an item that does
+  -- if no item of `xs` passes and `y` does, the first that passes in `xs ++ y ∷ ys` has the place at the end of `xs`
   pub position_or_len-append_none : (test : X → Bool) (xs : List X) (y : X) (ys : List X) → list_any test xs ≡ false
       → test y ≡ true → position_or_len test (xs ++ y ∷ ys) ≡ position_or_len test xs
   position_or_len-append_none test [] y ys none here = ap (λ b. cond (not b) (1 + position_or_len test ys) 0) here
@@ -41,20 +41,20 @@ module _ {X : Type 0} where
       → cond (not b) (1 + position_or_len test (xs ++ y ∷ ys)) 0 ≡ cond (not b) (1 + position_or_len test xs) 0)
       [ true ↦ (λ _. refl) | false ↦ (λ rest. ap (λ n. 1 + n) (position_or_len-append_none test xs y ys rest here)) ]) none
 
--- what all items have, all distinct items have
+-- a property of all items is one of all distinct items
 pub All-distinct : {X : Type 0} (same : X → X → Bool) (P : X → Type 0) (xs : List X) → All P xs → All P (distinct same xs)
 All-distinct same P [] all = all
 All-distinct same P (x ∷ xs) all =
     All-cons P x (filter (λ y. not (same x y)) (distinct same xs)) (All-head P x xs all)
     (All-filter (λ y. not (same x y)) P (distinct same xs) (All-distinct same P xs (All-tail P x xs all)))
 
--- items and one more behind them, unless it is the same as one of them
+-- `x` put at the end of a list, unless it is the same as an item of the list
 abbrev pub insert_key : {X : Type 0} → (X → X → Bool) → List X → X → List X
 insert_key same items item = cond (list_any (same item) items) items (items ++ item ∷ [])
 
 -- ---- distinct items
 module _ {X : Type 0} (same : X → X → Bool) where
-  -- the distinct items of two lists, one behind the other: of the second those that are not the same as one of the first
+  -- the distinct items of `xs ++ ys` are those of `xs`, and those of `ys` that are not the same as one of `xs`
   pub distinct-append : (xs ys : List X) → distinct same (xs ++ ys)
       ≡ distinct same xs ++ filter (λ y. not (list_any (λ x. same x y) xs)) (distinct same ys)
   distinct-append [] ys = sym (all (distinct same ys))
@@ -92,7 +92,7 @@ module _ {X : Type 0} (same : X → X → Bool) where
         length-distinct xs,
       )
 
-  -- of what is made of items, the distinct ones are made of the distinct items, where the tests agree on items that have what all have
+  -- the distinct items of `map f ys` are `f` of the distinct items of `ys`, if the tests agree on items that have `P`
   pub distinct-map : {Y : Type 0} (f : Y → X) (alike : Y → Y → Bool) (P : Y → Type 0)
       → ((a b : Y) → P a → P b → same (f a) (f b) ≡ alike a b)
       → (ys : List Y) → All P ys → distinct same (map f ys) ≡ map f (distinct alike ys)
@@ -122,13 +122,14 @@ module _ {X : Type 0} (same : X → X → Bool) where
         ≡ cond b (distinct same xs) (distinct same xs ++ x ∷ []))
         [ true ↦ append-nil (distinct same xs) | false ↦ refl ])
 
-    -- the same for what is made of the items up to behind a place
+    -- one item more of `ys` puts what `f` makes of it at the end of the distinct items, unless it is the same as one
+    -- there
     pub distinct-map_more : {Y : Type 0} (f : Y → X) (ys : List Y) (i : ℕ) (d : Y) → i < length ys
         → distinct same (map f (take (i + 1) ys)) ≡ insert_key same (distinct same (map f (take i ys))) (f (get_or ys i d))
     distinct-map_more f ys i d within = ap (distinct same) (map_more f ys i d within)
         ∙ distinct-more (map f (take i ys)) (f (get_or ys i d))
 
-    -- the place at which an item is put stays its place among the distinct items, whatever comes behind it
+    -- the place at which an item is put stays its place among the distinct items, whatever comes after it
     pub position-distinct : (xs : List X) (x : X) (ys : List X)
         → position_or_len (same x) (distinct same (xs ++ x ∷ ys)) ≡ position_or_len (same x) (distinct same xs)
     position-distinct xs x ys =

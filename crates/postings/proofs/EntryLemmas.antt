@@ -13,14 +13,14 @@ pub rows_of_entries : (before rows : List Attribute) → map (λ (entry : Entry)
 rows_of_entries before [] = refl
 rows_of_entries before (row ∷ rows) = ap (λ (rest : List Attribute). row ∷ rest) (rows_of_entries (before ++ row ∷ []) rows)
 
--- they say which rows are the first with their pair in their concept
+-- the flags of entries say which rows are the first with their pair in their concept
 pub firsts_of_entries : (before rows : List Attribute)
     → map (λ (entry : Entry). entry.is_first) (entries_after before rows) ≡ flags_after is_alike before rows
 firsts_of_entries before [] = refl
 firsts_of_entries before (row ∷ rows) = ap (λ (rest : List Bool). not (list_any (is_alike row) before) ∷ rest)
     (firsts_of_entries (before ++ row ∷ []) rows)
 
--- and which are in their group
+-- the flags of entries say which rows are the first with their pair in their group
 pub firsts_in_group : (before rows : List Attribute)
     → map (λ (entry : Entry). entry.is_first_in_group) (entries_after before rows) ≡ flags_after is_alike_in_group before rows
 firsts_in_group before [] = refl
@@ -34,7 +34,7 @@ numbers_of_marks same number before [] = refl
 numbers_of_marks same number before (row ∷ rows) =
     ap (λ (rest : List ℕ). number row ∷ rest) (numbers_of_marks same number (before ++ row ∷ []) rows)
 
--- and say which rows are the first of those that are the same
+-- the flags of marks say which rows are the first of those that are the same
 pub firsts_of_marks : (same : CodedRow → CodedRow → Bool) (number : CodedRow → ℕ) (before rows : List CodedRow)
     → map (λ (mark : Flagged). mark.is_first) (marks_after same number before rows) ≡ flags_after same before rows
 firsts_of_marks same number before [] = refl

@@ -8,21 +8,21 @@ use Rattle.postings.proofs.DistinctLemmas.{position_or_len-append_found}
 
 -- ---- the first item that passes a test
 module _ {X : Type 0} (test : X → Bool) where
-  -- it is there where its place is one of the list
+  -- an item passes if the place of the first that does is in the list
   passes_there : (xs : List X) → position_or_len test xs < length xs → list_any test xs ≡ true
   passes_there [] below = absurd (omega (arith, below))
   passes_there (x ∷ xs) below =
       (elim (test x) as (λ b. cond (not b) (1 + position_or_len test xs) 0 < suc (length xs) → (b || list_any test xs) ≡ true)
       [ true ↦ (λ _. refl) | false ↦ (λ below. passes_there xs (omega (arith, below))) ]) below
 
-  -- and none is where its place is behind the list
+  -- no item passes if the place of the first that does is past the list
   passes_nowhere : (xs : List X) → length xs ≤ position_or_len test xs → list_any test xs ≡ false
   passes_nowhere [] past = refl
   passes_nowhere (x ∷ xs) past =
       (elim (test x) as (λ b. suc (length xs) ≤ cond (not b) (1 + position_or_len test xs) 0 → (b || list_any test xs) ≡ false)
       [ true ↦ (λ past. absurd (omega (arith, past))) | false ↦ (λ past. passes_nowhere xs (omega (arith, past))) ]) past
 
-  -- where none of a list passes, the first that does is behind it
+  -- if no item of `xs` passes, the first of `xs ++ ys` that passes comes after `xs`, at its place in `ys`
   first_behind : (xs ys : List X) → list_any test xs ≡ false → position_or_len test (xs ++ ys) ≡ length xs + position_or_len test ys
   first_behind [] ys none = omega arith
   first_behind (x ∷ xs) ys none =
@@ -30,31 +30,35 @@ module _ {X : Type 0} (test : X → Bool) where
       → cond (not b) (1 + position_or_len test (xs ++ ys)) 0 ≡ suc (length xs) + position_or_len test ys)
       [ true ↦ (λ some. absurd (cc)) | false ↦ (λ none. omega (arith, first_behind xs ys none)) ]) none
 
--- ---- keys of which the first ones are few, a key, and its place among the few or behind them
+-- ---- keys that are kept as a few and the others, a key, and its place among the few or past them
 module _ (few others : List ℕ) (key place : ℕ) (is : place ≡ position_or_len (nat_eq key) few) where
-  -- one that is among the few
+  -- a key whose place is among the few is among all keys
   pub few_had : place < length few → list_any (nat_eq key) (few ++ others) ≡ true
   few_had below =
       list_any-append (nat_eq key) few others
       ∙ ap (λ had. had || list_any (nat_eq key) others) (passes_there (nat_eq key) few (omega (arith, is, below)))
 
+  -- the place of a key among the few is its place among all keys
   pub few_placed : place < length few → place ≡ position_or_len (nat_eq key) (few ++ others)
   few_placed below =
       is ∙ sym (position_or_len-append_found (nat_eq key) few others (passes_there (nat_eq key) few (omega (arith, is, below))))
 
+  -- a key that is among the few adds no key
   pub few_same : place < length few → few ++ others ≡ keys_behind (few ++ others) key
   few_same below = ap (λ had. cond had (few ++ others) ((few ++ others) ++ key ∷ [])) (sym (few_had below))
 
-  -- one that is not
+  -- a key that is not among the few is among the others exactly if it is among all keys
   pub others_had : length few ≤ place → list_any (nat_eq key) others ≡ list_any (nat_eq key) (few ++ others)
   others_had past =
       ap (λ had. had || list_any (nat_eq key) others) (sym (passes_nowhere (nat_eq key) few (omega (arith, is, past))))
       ∙ sym (list_any-append (nat_eq key) few others)
 
+  -- the place among all keys of a key that is not among the few is its place among the others, counted after the few
   pub others_placed : length few ≤ place
       → length few + position_or_len (nat_eq key) others ≡ position_or_len (nat_eq key) (few ++ others)
   others_placed past = sym (first_behind (nat_eq key) few others (passes_nowhere (nat_eq key) few (omega (arith, is, past))))
 
+  -- a key that is not among the few is added to all keys exactly if it is added to the others
   pub others_more : length few ≤ place → few ++ keys_behind others key ≡ keys_behind (few ++ others) key
   others_more past =
       (elim (list_any (nat_eq key) others) as (λ had. few ++ cond had others (others ++ key ∷ [])
@@ -62,13 +66,15 @@ module _ (few others : List ℕ) (key place : ℕ) (is : place ≡ position_or_l
       [ true ↦ refl | false ↦ sym (append_assoc few others (key ∷ [])) ])
       ∙ ap (λ had. cond had (few ++ others) ((few ++ others) ++ key ∷ [])) (others_had past)
 
-  -- a new one where there are none behind the few
+  -- if there are no others, a key that is not among the few is among no keys
   pub new_had : others ≡ [] → length few ≤ place → list_any (nat_eq key) (few ++ others) ≡ false
   new_had none past = sym (others_had past) ∙ ap (list_any (nat_eq key)) none
 
+  -- if there are no others, the place of a key that is not among the few is the number of the few
   pub new_placed : others ≡ [] → length few ≤ place → length few ≡ position_or_len (nat_eq key) (few ++ others)
   new_placed none past = omega (arith, others_placed past, ap (λ (keys : List ℕ). position_or_len (nat_eq key) keys) none)
 
+  -- if there are no others, a key that is not among the few is added at the end of the few
   pub new_last : others ≡ [] → length few ≤ place → (few ++ key ∷ []) ++ others ≡ keys_behind (few ++ others) key
   new_last none past =
       (λ i. (few ++ key ∷ []) ++ none i)

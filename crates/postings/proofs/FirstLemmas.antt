@@ -14,14 +14,15 @@ use Rattle.number_lists.proofs.ListLemmas.{both_ways}
 use Rattle.postings.specs.Entries.{Entry, entries_after, entries_of, is_alike, is_alike_in_group}
 use Rattle.number_lists.proofs.BlockLemmas.{any-filter, any-map, filter-all, filter-twice}
 
--- those of some items behind others that are not the same as one before
+-- the items of a list that are the same neither as an item of `before` nor as an earlier item of the list
 abbrev pub firsts_after : {X : Type 0} → (X → X → Bool) → List X → List X → List X
 firsts_after same before [] = []
 firsts_after same before (x ∷ xs) =
     cond (not (list_any (same x) before)) (x ∷ firsts_after same (before ++ x ∷ []) xs) (firsts_after same (before ++ x ∷ []) xs)
 
 module _ {X : Type 0} (same : X → X → Bool) (flips : (x y : X) → same x y ≡ same y x) where
-  -- they are what is left of the distinct items without those that stand before
+  -- the first items of a list that comes after `before` are its distinct items that are not the same as one of
+  -- `before`
   firsts_kept : (before xs : List X) → firsts_after same before xs ≡ filter (λ x. not (list_any (same x) before)) (distinct same xs)
   firsts_kept before [] = refl
   firsts_kept before (x ∷ xs) =
@@ -45,7 +46,7 @@ module _ {X : Type 0} (same : X → X → Bool) (flips : (x y : X) → same x y 
           ∙ (λ i. not (list_any (same y) before || (flips y x i || false)))
           ∙ both (list_any (same y) before) (same x y)
 
-  -- of all items these are the distinct ones
+  -- the first items of a list are its distinct items
   pub firsts_distinct : (xs : List X) → firsts_after same [] xs ≡ distinct same xs
   firsts_distinct xs = firsts_kept [] xs ∙ filter-all (λ x. true) (distinct same xs) (λ k d below. refl)
 
@@ -56,7 +57,7 @@ pair_eq-flips one other =
     (λ told. (tells_same_pair other one).1 (sym ((tells_same_pair one other).0 told)))
     (λ told. (tells_same_pair one other).1 (sym ((tells_same_pair other one).0 told)))
 
--- the rows that pass a test, each with a pair, where those of them are alike that have one pair
+-- rows that pass a test, each with a pair, if the rows that pass are alike exactly if they have one pair
 module _ (pick : Attribute → Bool) (give : Attribute → Pair) (alike : Attribute → Attribute → Bool)
     (agree : (row other : Attribute) → pick row ≡ true → alike row other ≡ (pick other && pair_eq (give row) (give other)))
     (first : Entry → Bool)
@@ -67,7 +68,7 @@ module _ (pick : Attribute → Bool) (give : Attribute → Pair) (alike : Attrib
       is_first_in_group =
           not (list_any (is_alike_in_group row) before);
     }) ≡ not (list_any (alike row) before)) where
-  -- behind other rows the first of them have the pairs that are first behind the pairs of those
+  -- the first of the rows that come after `before` have the pairs that are first after the pairs of `before`
   firsts_behind : (before rows : List Attribute)
       → map (λ (entry : Entry). give entry.row) (filter (λ (entry : Entry). pick entry.row && first entry) (entries_after before rows))
       ≡ firsts_after pair_eq (map give (filter pick before)) (map give (filter pick rows))
@@ -132,7 +133,7 @@ module _ (pick : Attribute → Bool) (give : Attribute → Pair) (alike : Attrib
           ∙ ap (λ (all : List Pair). firsts_after pair_eq all later) (more false is ∙ append-nil known)
           ∙ (λ i. firsts_after pair_eq known (map give (cond (sym is i) (row ∷ filter pick rows) (filter pick rows))))
 
-  -- the first of them have the distinct pairs
+  -- the first of the rows that pass have the distinct pairs of all rows that pass
   pub firsts_give_distinct : (rows : List Attribute)
       → map (λ (entry : Entry). give entry.row) (filter (λ (entry : Entry). pick entry.row && first entry) (entries_of rows))
       ≡ distinct pair_eq (map give (filter pick rows))

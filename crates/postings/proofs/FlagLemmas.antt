@@ -8,13 +8,13 @@ use Rattle.std.proofs.lemmas.List.Elements.{All-append, All-head, All-nil, All-p
 use Rattle.std.proofs.lemmas.List.Folds.{list_any-append, list_any_none}
 use Rattle.number_lists.proofs.BlockLemmas.{any-map, any-within}
 
--- of each of some items behind others, whether no item before it is the same
+-- for each item of a list that comes after `before`, whether no item before it is the same
 abbrev pub flags_after : {X : Type 0} → (X → X → Bool) → List X → List X → List Bool
 flags_after same before [] = []
 flags_after same before (x ∷ xs) = not (list_any (same x) before) ∷ flags_after same (before ++ x ∷ []) xs
 
 module _ {X : Type 0} where
-  -- of joined lists the flags of the second count the first among the items before
+  -- the flags of `xs ++ ys` are those of `xs`, and then those of `ys` after the items before
   pub flags-append : (same : X → X → Bool) (before xs ys : List X)
       → flags_after same before (xs ++ ys) ≡ flags_after same before xs ++ flags_after same (before ++ xs) ys
   flags-append same before [] ys = ap (λ (all : List X). flags_after same all ys) (sym (append-nil before))
@@ -23,7 +23,7 @@ module _ {X : Type 0} where
       (flags-append same (before ++ x ∷ []) xs ys
       ∙ ap (λ (all : List X). flags_after same (before ++ x ∷ []) xs ++ flags_after same all ys) (append_assoc before (x ∷ []) xs))
 
-  -- of what a function gives, where the tests agree
+  -- the flags of `map f xs` are those of `xs` by the other test, if the tests agree
   pub flags-map : {Y : Type 0} (P : X → Type 0) (f : X → Y) (same : Y → Y → Bool) (other : X → X → Bool)
       → ((x y : X) → P x → P y → same (f x) (f y) ≡ other x y)
       → (before xs : List X) → All P before → All P xs → flags_after same (map f before) (map f xs) ≡ flags_after other before xs
@@ -38,7 +38,7 @@ module _ {X : Type 0} where
       ∙ flags-map P f same other agree (before ++ x ∷ []) xs (All-push P before x known own) (All-tail P x xs all) in
       λ i. not (here i) ∷ rest i
 
-  -- items before that are never the same do not count
+  -- items before that are never the same do not change the flags
   pub flags-apart : (P Q : X → Type 0) (same other : X → X → Bool) → ((x y : X) → Q x → P y → same x y ≡ false)
       → ((x y : X) → Q x → Q y → same x y ≡ other x y)
       → (before own xs : List X) → All P before → All Q own → All Q xs
@@ -57,7 +57,7 @@ module _ {X : Type 0} where
       ∙ flags-apart P Q same other apart agree before (own ++ x ∷ []) xs known (All-push Q own x mine is) (All-tail Q x xs all) in
       λ i. not (here i) ∷ rest i
 
-  -- block by block, where items of different blocks are never the same
+  -- the flags of blocks are those of each block, if items of different blocks are never the same
   pub flags-blocks : (key : X → ℕ) (same other : X → X → Bool) → ((x y : X) → key y < key x → same x y ≡ false)
       → ((x y : X) → key x ≡ key y → same x y ≡ other x y)
       → (block : ℕ → List X) → ((k : ℕ) → All (λ x. key x ≡ k) (block k))

@@ -25,7 +25,7 @@ use Rattle.postings.proofs.OnceLemmas.{distinct-keeps, position-within}
 use Rattle.postings.proofs.RisingLemmas.{rising_is_listed, some_bound}
 use Rattle.number_lists.proofs.RisingOrderLemmas.{has-rising}
 
--- the members of a list in rising order are the same whether repeats leave before
+-- a list has the same members in rising order if its repeats are removed first
 pub rising_distinct : (numbers : List ℕ) → rising (distinct nat_eq numbers) ≡ rising numbers
 rising_distinct numbers =
     let bound = some_bound numbers in
@@ -37,7 +37,7 @@ rising_distinct numbers =
     (λ told. had_contained (distinct nat_eq numbers) number (((keeps_each_number_once numbers).1 number).1 (contains_had numbers number told))))
     ∙ sym (rising_is_listed bound.0 numbers bound.1)
 
--- the test of pairs of numbers tells which are the same
+-- two pairs of numbers that `code_eq` finds the same are equal
 same_code : (one other : ℕ × ℕ) → code_eq one other ≡ true → one ≡ other
 same_code one other told =
     let parts = and_parts (one.0 == other.0) (one.1 == other.1) told in
@@ -69,7 +69,7 @@ number_place rows row there some =
           (passes_at_first (λ group. row.group == group) (numbers_of_groups rows) 0 within)),
     )
 
--- and one without has its pair among those that have none
+-- a row without a group number has its pair among the pairs of its source that have none
 pair_place : (rows : List CodedRow) (row : CodedRow) → Contains rows row → (row.group == 0) ≡ true
     → (position_or_len (code_eq (pair_code row)) (ungrouped_pairs rows) < length (ungrouped_pairs rows))
     × (get_or (ungrouped_pairs rows) (position_or_len (code_eq (pair_code row)) (ungrouped_pairs rows)) (0, 0) ≡ pair_code row)
@@ -93,15 +93,15 @@ module _ (types : List ℕ) (values : List Value) where
   abbrev pub pair_at : ℕ × ℕ → Pair
   pair_at code = record { type_id = get_or types code.0 0; value = value_at values code.1 }
 
-  -- the keys of numbers and of pairs
+  -- the keys of the groups with `numbers`, and then of the groups of `pairs`
   abbrev pub keys_with : List ℕ → List (ℕ × ℕ) → List GroupKey
   keys_with numbers pairs = map numbered numbers ++ map ungrouped (map pair_at pairs)
 
-  -- and the codes of them
+  -- the codes of the groups with `numbers`, and then of the groups of `pairs`
   abbrev pub codes_with : List ℕ → List (ℕ × ℕ) → List (ℕ × (ℕ × ℕ))
   codes_with numbers pairs = map (λ group. (group, (0, 0))) numbers ++ map (λ (pair : ℕ × ℕ). (0, pair)) pairs
 
-  -- how many keys there are
+  -- there are as many keys as numbers and pairs
   length-keys_with : (numbers : List ℕ) (pairs : List (ℕ × ℕ)) → length (keys_with numbers pairs) ≡ length numbers + length pairs
   length-keys_with numbers pairs =
       omega (
@@ -112,7 +112,7 @@ module _ (types : List ℕ) (values : List Value) where
         length-map {B = Pair} pairs pair_at,
       )
 
-  -- and how many codes, which is as many
+  -- there are as many codes as numbers and pairs
   length-codes_with : (numbers : List ℕ) (pairs : List (ℕ × ℕ))
       → length (codes_with numbers pairs) ≡ length numbers + length pairs
   length-codes_with numbers pairs =
@@ -123,7 +123,7 @@ module _ (types : List ℕ) (values : List Value) where
         length-map {B = ℕ × (ℕ × ℕ)} pairs (λ (pair : ℕ × ℕ). (0, pair)),
       )
 
-  -- a key stands at its place
+  -- the key of a row's group stands at its place among the keys
   key_at : (concepts numbers : List ℕ) (pairs : List (ℕ × ℕ)) (row : CodedRow)
       → ((row.group == 0) ≡ false → (position_or_len (λ group. row.group == group) numbers < length numbers)
       × (get_or numbers (position_or_len (λ group. row.group == group) numbers) 0 ≡ row.group))
@@ -172,12 +172,12 @@ module _ (types : List ℕ) (values : List Value) where
   abbrev pub keys_coded : List CodedRow → List GroupKey
   keys_coded rows = keys_with (numbers_of_groups rows) (ungrouped_pairs rows)
 
-  -- there are as many as codes of the groups
+  -- the groups of a source have as many keys as codes
   pub length-keys_coded : (rows : List CodedRow) → length (keys_coded rows) ≡ length (group_codes rows)
   length-keys_coded rows = length-keys_with (numbers_of_groups rows) (ungrouped_pairs rows)
       ∙ sym (length-codes_with (numbers_of_groups rows) (ungrouped_pairs rows))
 
-  -- the group of a row stands at its place
+  -- the key of a row's group stands at the place of the group in its source
   pub key_at_place : (concepts : List ℕ) (rows : List CodedRow) (row : CodedRow) → Contains rows row
       → (place_in_source rows row < length (keys_coded rows))
       × ((d : GroupKey) → get_or (keys_coded rows) (place_in_source rows row) d ≡ key_of (row_coded concepts types values row))

@@ -21,16 +21,17 @@ use Rattle.postings.proofs.DistinctLemmas.{filter-map_agree, length-distinct, po
 use Rattle.postings.proofs.MarkLemmas.{code_eq_equiv}
 use Rattle.number_lists.proofs.RisingOrderLemmas.{has-rising}
 
--- the numbers of the groups of some rows, row by row, and the rows that have no group
+-- the group numbers of rows, row by row, with 0 for none
 abbrev groups_at : List CodedRow → List ℕ
 groups_at rows = map (λ (row : CodedRow). row.group) rows
 
+-- the rows that have no group number
 abbrev ungrouped_rows : List CodedRow → List CodedRow
 ungrouped_rows rows = filter (λ (row : CodedRow). row.group == 0) rows
 
 -- ---- how many groups there are
 
--- as many as numbers and pairs without one
+-- there are as many groups as group numbers and pairs without one
 pub length-group_codes : (rows : List CodedRow)
     → length (group_codes rows) ≡ length (numbers_of_groups rows) + length (ungrouped_pairs rows)
 length-group_codes rows =
@@ -90,7 +91,7 @@ group_there before row behind numbered =
     ∙ or_right (list_any is_own (groups_at before)) (list_any is_own (groups_at (row ∷ behind)))
     (or_left (row.group == row.group) (list_any is_own (groups_at behind)) (eq-eqb row.group row.group refl))
 
--- the place of a number that is in a rising list is where it stands
+-- in a rising list that has a number, as many numbers are below it as stand before it
 place_of-there : (numbers : List ℕ) (number : ℕ) → IsRising numbers → has numbers number ≡ true
     → place_of numbers number ≡ position_or_len (λ other. number == other) numbers
 place_of-there numbers number rises there =
@@ -122,7 +123,7 @@ numbered_place before row behind numbers numbered rises are =
 
 -- ---- a row without one
 
--- the pairs of the rows without a group, with that of a row, and of rows behind it
+-- the distinct pairs without a group number are those of the rows before a row, of the row, and of the rows after it
 ungrouped_behind : (before : List CodedRow) (row : CodedRow) (behind : List CodedRow) → row.group ≡ 0
     → ungrouped_pairs (before ++ row ∷ behind) ≡ distinct code_eq
     (map pair_code (ungrouped_rows before) ++ pair_code row ∷ map pair_code (ungrouped_rows behind))
@@ -133,7 +134,8 @@ ungrouped_behind before row behind is_zero =
     ap (λ (own : List CodedRow). distinct code_eq (map pair_code own)) more
     ∙ ap (distinct code_eq) (map-append pair_code (ungrouped_rows before) (row ∷ ungrouped_rows behind))
 
--- the place of its pair among those so far is its place among all
+-- the place of a pair without a group number among those so far, counted after the group numbers, is the place of its
+-- row's group
 pub ungrouped_place : (before : List CodedRow) (row : CodedRow) (behind : List CodedRow) (numbers : List ℕ) (pairs : List (ℕ × ℕ))
     → row.group ≡ 0
     → numbers ≡ numbers_of_groups (before ++ row ∷ behind) → pairs ≡ ungrouped_pairs before

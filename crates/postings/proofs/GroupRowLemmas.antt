@@ -33,11 +33,11 @@ module _ (release : Release) (concept : ℕ) where
   own_there test = All-filter test (Contains release.attributes) (rows_of release concept)
       (All-filter is_own (Contains release.attributes) release.attributes (All-contains_itself release.attributes))
 
-  -- and of the concept
+  -- the rows of the concept that pass a test have it as their source
   own_passes : (test : Attribute → Bool) → All (λ row. is_own row ≡ true) (filter test (rows_of release concept))
   own_passes test = All-filter test (λ row. is_own row ≡ true) (rows_of release concept) (filter_passes is_own release.attributes)
 
-  -- those with a number
+  -- each group with a number has a row
   number_has : All (λ number. HasRow (numbered number)) (rising (group_numbers release concept))
   number_has k d below =
       All-contains (λ number. HasRow (numbered number)) (group_numbers release concept) (get_or (rising (group_numbers release concept)) k d)
@@ -58,7 +58,7 @@ module _ (release : Release) (concept : ℕ) where
           ((All-filter is_own (Contains release.attributes) release.attributes (All-contains_itself release.attributes)) k d below)
           (and_from (is_own row) (row.group == row.group) (filter_passes is_own release.attributes k d below) (eq-eqb row.group row.group refl))
 
-  -- and those of a pair
+  -- each group of a pair has a row
   pair_has : All (λ pair. HasRow (ungrouped pair)) (pairs_in release concept 0)
   pair_has =
       All-distinct pair_eq (λ pair. HasRow (ungrouped pair)) (map pair_of (filter alone (rows_of release concept)))
@@ -76,6 +76,7 @@ module _ (release : Release) (concept : ℕ) where
           (and_from (alone row) (pair_eq (pair_of row) (pair_of row)) (filter_passes alone (rows_of release concept) k d below)
           ((tells_same_pair (pair_of row) (pair_of row)).1 refl)))
 
+  -- each group of the concept has a row
   keys_have : All HasRow (keys_of release concept)
   keys_have =
       All-append HasRow (map numbered (rising (group_numbers release concept))) (map ungrouped (pairs_in release concept 0))
@@ -83,6 +84,7 @@ module _ (release : Release) (concept : ℕ) where
       (All-map HasRow ungrouped (pairs_in release concept 0) pair_has)
 
 -- ---- the groups of some concepts
+-- each group of `concepts` has a row
 pub groups_have : (release : Release) (concepts : List ℕ)
     → All (λ (group : ConceptGroup). list_any (is_in_group group) release.attributes ≡ true) (groups_among release concepts)
 groups_have release concepts =
@@ -100,12 +102,15 @@ some_left test (x ∷ xs) any = by (test x) refl (λ later. some_left test xs la
     by false is rest = rest (ap (λ (b : Bool). b || list_any test xs) (sym is) ∙ any)
 
 module _ {X : Type 0} (test : X → Bool) (xs : List X) (any : list_any test xs ≡ true) where
+  -- if an item passes, there is a place of one that does
   pub some_place : 0 < length (places_where test xs)
   some_place = omega (arith, length-places_from test 0 xs, some_left test xs any)
 
+  -- if an item passes, the place of the first that does is in the list
   pub first_within : (d : ℕ) → get_or (places_where test xs) 0 d < length xs
   first_within d = places_where-within test xs 0 d some_place
 
+  -- if an item passes, the item at the first place passes
   pub first_passes : (d : ℕ) (x : X) → test (get_or xs (get_or (places_where test xs) 0 d) x) ≡ true
   first_passes d x =
       ap test (sym (get_or-map (λ place. get_or xs place x) (places_where test xs) 0 d x some_place)

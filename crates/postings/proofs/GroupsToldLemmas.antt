@@ -38,7 +38,7 @@ use Rattle.postings.proofs.SourcesToldLemmas.{apart_by_source, flags_by_source, 
 
 -- ---- lists alone
 
--- what stands at a place of a block, in all blocks
+-- item `j` of a block stands among the items of all blocks at the start of the block plus `j`
 block_place : {X K : Type 0} (f : K → List X) (keys : List K) (k : ℕ) (e : K) (block : List X) (start j : ℕ) (x : X)
     → k < length keys → f (get_or keys k e) ≡ block → length (flat_map f (take k keys)) ≡ start → j < length block
     → get_or block j x ≡ x
@@ -51,7 +51,7 @@ block_place f keys k e block start j x within is begins inside here =
     ∙ ap Some (ap (λ (n : ℕ). get_or (flat_map f keys) (n + j) x) (sym begins) ∙ get_or-flat_map f keys k j e x within own
     ∙ ap (λ xs. get_or xs j x) is ∙ here)
 
--- a group among those of a concept with some keys
+-- group `j` of a concept has key `j` of its keys
 group_in_block : (concept : ℕ) (keys : List GroupKey) (j : ℕ) (key : GroupKey) (d : ConceptGroup) → j < length keys
     → get_or keys j key ≡ key
     → (j < length (map (group_with concept) keys)) × (get_or (map (group_with concept) keys) j d ≡ group_with concept key)
@@ -64,7 +64,7 @@ group_in_block concept keys j key d within here = (
 -- a group by its place among all
 module _ (all : List ConceptGroup) (once : IsOnce all) (told : All (λ (group : ConceptGroup). IsTold group.key) all) (u : ℕ)
     (d : ConceptGroup) (within : u < length all) where
-  -- the number of a row's group is that place exactly where the row is in the group
+  -- the number of a row's group is `u` exactly if the row is in group `u`
   number_tells : (n : ℕ) (row : Attribute) → slice_get all n ≡ Some (group_of row) → (n == u) ≡ is_in_group (get_or all u d) row
   number_tells n row is = ⊎_elim
       (λ (same : n ≡ u).
@@ -82,7 +82,7 @@ module _ (all : List ConceptGroup) (once : IsOnce all) (told : All (λ (group : 
       (cases_Bool (is_in_group (get_or all u d) row))))
       (cases_eq n u)
 
-  -- where that place stands among the numbers of the groups of some rows, the rows of the group stand
+  -- the places of the number `u` among the group numbers of some rows are the places of the rows of group `u`
   rows_at_number : (place : ℕ) (numbers : List ℕ) (rows : List Attribute)
       → map (slice_get all) numbers ≡ map (λ row. Some (group_of row)) rows
       → places_from place (λ number. number == u) numbers ≡ places_from place (is_in_group (get_or all u d)) rows
@@ -101,7 +101,7 @@ module _ (concepts types : List ℕ) (values : List Value) (increases : IsStrict
     (exact : (v w : ℕ) → v < length values → w < length values → value_eq (value_at values v) (value_at values w) ≡ (v == w))
     (coded : List CodedRow) (within : All (IsCoded concepts types values) coded) (rows : List Attribute)
     (are : rows ≡ map (row_coded concepts types values) coded) where
-  -- the numbers of the groups of a concept
+  -- the group numbers of a concept are those of the rows of numbers of its source
   numbers_are : (k : ℕ) → k < length concepts
       → rising (distinct nat_eq (filter (λ group. not (group == 0))
       (map (λ (row : Attribute). row.group) (filter (λ (row : Attribute). row.source == get_or concepts k 0) rows))))
@@ -114,7 +114,7 @@ module _ (concepts types : List ℕ) (values : List Value) (increases : IsStrict
       (map-map (λ (row : Attribute). row.group) (row_coded concepts types values) (of_source coded k))
       ∙ rising_distinct (filter (λ group. not (group == 0)) (map (λ (row : CodedRow). row.group) (of_source coded k)))
 
-  -- its pairs without a group
+  -- the pairs without a group number of a concept are those of the rows of numbers of its source
   pairs_are : (k : ℕ) → k < length concepts
       → distinct pair_eq (map pair_of (filter (λ (row : Attribute). row.group == 0)
       (filter (λ (row : Attribute). row.source == get_or concepts k 0) rows)))
@@ -140,7 +140,7 @@ module _ (concepts types : List ℕ) (values : List Value) (increases : IsStrict
       → keys_of (rows_alone concepts rows) (get_or concepts k 0) ≡ keys_coded types values (of_source coded k)
   keys_are k below = λ i. map numbered (numbers_are k below i) ++ map ungrouped (pairs_are k below i)
 
-  -- how many groups the first concepts have
+  -- the first `s` concepts have as many groups as the rows of numbers of their sources
   pub starts_told : (s : ℕ) → s ≤ length concepts
       → length (groups_among (rows_alone concepts rows) (take s concepts)) ≡ groups_ahead coded s
   starts_told s within =
@@ -150,7 +150,8 @@ module _ (concepts types : List ℕ) (values : List Value) (increases : IsStrict
       ∙ ap length (keys_are k (omega arith))
       ∙ length-keys_coded types values (of_source coded k))
 
-  -- the group of a row stands at its place
+  -- the group of a row stands among all groups at its place in its source, counted after the groups of the sources
+  -- before
   group_at_place : (k : ℕ) → k < length concepts → (row : CodedRow) → Contains (of_source coded k) row
       → slice_get (all_groups (rows_alone concepts rows)) (groups_ahead coded k + place_in_source (of_source coded k) row)
       ≡ Some (group_of (row_coded concepts types values row))
@@ -208,7 +209,7 @@ module _ (concepts types : List ℕ) (values : List Value) (increases : IsStrict
             near : (k : ℕ) → k < 0 + length concepts → k < length concepts
             near k below = omega arith
 
-    -- and their flags are those of the entries
+    -- the flags of the marks by group are those of the entries
     group_firsts : map (λ (mark : Flagged). mark.is_first) (all_group_marks coded (length concepts))
         ≡ map (λ (entry : Entry). entry.is_first_in_group) (entries_of rows)
     group_firsts =

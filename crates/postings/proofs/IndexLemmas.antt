@@ -20,6 +20,7 @@ use Rattle.postings.specs.Places.{places_from, places_where}
 use Rattle.postings.proofs.DistinctLemmas.{length-distinct}
 
 -- ---- lists by numbers
+-- the list of a key below `count` is there, and is what `give` gives for the key
 pub list_at : (lists : List (List ℕ)) (give : ℕ → List ℕ) (count key : ℕ) → lists ≡ map give (range_with_len 0 count)
     → key < count → (key < length lists) × (list_of lists key ≡ give key)
 list_at lists give count key is below = (
@@ -60,14 +61,16 @@ no_entries id before (row ∷ rows) none =
     (λ i. cond ((nat_eq_equiv.symm row.type_id id ∙ parts.0) i) (entry ∷ rest) rest)
     ∙ no_entries id (before ++ row ∷ []) rows parts.1
 
--- where a type is none of those of the rows, no row has it
+-- a type that is none of the types of the rows
 module _ (rows : List Attribute) (id : ℕ) (none : list_any (nat_eq id) (types_of rows) ≡ false) where
   missing : list_any (nat_eq id) (types_in rows) ≡ false
   missing = sym (any_distinct nat_eq nat_eq_equiv id (types_in rows)) ∙ none
 
+  -- no row has a type that is none of the types of the rows
   pub none_by_type : places_where (λ (row : Attribute). row.type_id == id) rows ≡ []
   none_by_type = no_places id 0 rows missing
 
+  -- no entry has a type that is none of the types of the rows
   pub none_with_type : entries_with_type rows id ≡ []
   none_with_type = no_entries id [] rows missing
 
@@ -77,9 +80,11 @@ module _ (keys : List ℕ) (rows : List Attribute) (id type_place : ℕ) (all : 
   told : (type_place < length keys) × (nat_eq id (get_or keys type_place 0) ≡ true)
   told = let first = position-Some (nat_eq id) keys type_place 0 found in (first.0, first.1)
 
+  -- the place found for a type is one in the list of types
   pub type_place_below : type_place < length (types_of rows)
   type_place_below = omega (arith, told.0, ap (λ (xs : List ℕ). length xs) all)
 
+  -- the type at the place found for a type is that type
   pub type_there : get_or (types_of rows) type_place 0 ≡ id
   type_there = (λ i. get_or (sym all i) type_place 0) ∙ sym (eqb-true id (get_or keys type_place 0) told.1)
 
@@ -88,7 +93,7 @@ pub few_types : (rows : List Attribute) → length (types_of rows) ≤ length ro
 few_types rows = omega (arith, length-distinct nat_eq (types_in rows), length-map rows (λ (row : Attribute). row.type_id))
 
 -- ---- items by their places
--- what holds of the item at a place holds if there is one
+-- if an item stands at place `n`, `slice_get` finds one, and what holds of the item holds of it
 pub if_there : {X : Type 0} (xs : List X) (n : ℕ) → n < length xs → (P : X → Type 0) → ((d : X) → P (get_or xs n d))
     → IfSome (slice_get xs n) P
 if_there [] n within P holds = absurd (omega (arith, within))
@@ -100,11 +105,13 @@ length-entries_after : (before rows : List Attribute) → length (entries_after 
 length-entries_after before [] = refl
 length-entries_after before (row ∷ rows) = ap suc (length-entries_after (before ++ row ∷ []) rows)
 
+-- the rows of the entries are the rows that they are made of
 pub rows_of_entries : (before rows : List Attribute) → map (λ (entry : Entry). entry.row) (entries_after before rows) ≡ rows
 rows_of_entries before [] = refl
 rows_of_entries before (row ∷ rows) = ap (λ (rest : List Attribute). row ∷ rest) (rows_of_entries (before ++ row ∷ []) rows)
 
 module _ (groups : List ConceptGroup) (rows : List Attribute) (marks : List Flagged) (are : AreGroups groups (entries_of rows) marks) where
+  -- there is a mark with the group for each row
   pub length-groups : length marks ≡ length rows
   length-groups =
       sym (length-map marks (λ (mark : Flagged). slice_get groups mark.number))
@@ -112,7 +119,7 @@ module _ (groups : List ConceptGroup) (rows : List Attribute) (marks : List Flag
       ∙ length-map (entries_of rows) (λ (entry : Entry). Some (group_of entry.row))
       ∙ length-entries_after [] rows
 
-  -- the group of the row with a number
+  -- the mark of a row leads to the group of the row
   pub group_at : (n : ℕ) (row : Attribute) (mark : Flagged) → n < length rows
       → slice_get groups (get_or marks n mark).number ≡ Some (group_of (get_or rows n row))
   group_at n row mark within =
@@ -126,7 +133,7 @@ module _ (groups : List ConceptGroup) (rows : List Attribute) (marks : List Flag
       (sym (get_or-map (λ (entry : Entry). entry.row) entries n entry row (omega (arith, within, length-entries_after [] rows)))
       ∙ ap (λ (xs : List Attribute). get_or xs n row) (rows_of_entries [] rows))
 
--- there is a mark for each row
+-- there is a mark with the source for each row
 pub length-sources : (concepts : List ℕ) (rows : List Attribute) (marks : List Flagged) → AreSources concepts (entries_of rows) marks
     → length marks ≡ length rows
 length-sources concepts rows marks are =

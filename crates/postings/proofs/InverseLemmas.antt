@@ -11,15 +11,17 @@ use Rattle.postings.specs.inside.Cells.{IsColumn}
 use Rattle.postings.specs.Places.{places_by, places_from, places_where}
 
 -- ---- the places of the numbers, one by one
--- each of the first numbers stands at its place
+-- each of the first `n` numbers stands at its place
 abbrev pub ArePlaced : List ℕ → ℕ → List ℕ → Type 0
 ArePlaced numbers n places =
     (number : ℕ) → Contains (take n numbers) number
     → (slice_index places number < n) × (slice_index numbers (slice_index places number) ≡ number)
 
+-- the first 0 numbers stand at their places
 pub none_placed : (numbers places : List ℕ) → ArePlaced numbers 0 places
 none_placed numbers places number there = absurd (omega (arith, there.1))
 
+-- the first `n + 1` numbers stand at their places once the place of the last one is set to `n`
 pub placed_more : (numbers places : List ℕ) (n : ℕ) → n < length numbers → get_or numbers n 0 < length places
     → ArePlaced numbers n places
     → ArePlaced numbers (n + 1) (set places (get_or numbers n 0) n)
@@ -44,7 +46,7 @@ placed_more numbers places n within room so_far number there = ⊎_elim own othe
         let found = so_far number before in
         (omega (arith, at, found.0), ap (λ (k : ℕ). get_or numbers k 0) at ∙ found.1)
 
--- so a number that stands somewhere is found at its place
+-- a number is found at its place, if all numbers stand at theirs
 pub placed : (numbers places : List ℕ) → ArePlaced numbers (length numbers) places → (number : ℕ)
     → Contains (take (length numbers) numbers) number
     → slice_get numbers (slice_index places number) ≡ Some number
@@ -55,11 +57,11 @@ placed numbers places are number there =
 -- ---- columns that follow the numbers
 module _ (numbers places : List ℕ) (count : ℕ) (long : length places ≡ count)
     (found : (number : ℕ) → number < count → slice_get numbers (slice_index places number) ≡ Some number) where
-  -- the place of a number is among them
+  -- the place of each number below `count` is in the list of numbers
   pub place_within : (number : ℕ) → number < count → get_or places number 0 < length numbers
   place_within number below = slice_get_within numbers (get_or places number 0) number (found number below)
 
-  -- and has the cell of the number
+  -- a column that follows the numbers has at the place of a number the cell of that number
   pub cell_back : {X : Type 0} (cells column : List X) → length cells ≡ count → IsColumn cells numbers column
       → (number : ℕ) → number < count → (d : X)
       → get_or column (get_or places number 0) d ≡ get_or cells number d
@@ -68,7 +70,7 @@ module _ (numbers places : List ℕ) (count : ℕ) (long : length places ≡ cou
       ∙ get_or-map (λ at. get_or cells at d) numbers (get_or places number 0) 0 d (place_within number below)
       ∙ ap (λ (at : ℕ). get_or cells at d) (get_or_from_slice_get numbers (get_or places number 0) number 0 (found number below))
 
-  -- so what the column has at all places are the cells
+  -- the cells of a column that follows the numbers, read at all places, are the cells in order
   pub column_back : {X : Type 0} (cells column : List X) → length cells ≡ count → IsColumn cells numbers column
       → (d : X) → map (λ place. slice_index_or column place d) places ≡ cells
   column_back {X} cells column many is d =
@@ -100,7 +102,7 @@ place_there test place (x ∷ xs) (suc n) d within passes =
     by true there = Contains-append_right (place ∷ []) (places_from (place + 1) test xs) (place + suc n) there
     by false there = there
 
--- what is in the list of a number of a range is in all lists
+-- an item in the list of a number of a range is in all lists joined
 in_lists : (lists : ℕ → List ℕ) (x key from n : ℕ) → from ≤ key → key < from + n → Contains (lists key) x
     → Contains (concat (map lists (range_with_len from n))) x
 in_lists lists x key from zero above below there = absurd (omega (arith, above, below))
@@ -114,7 +116,7 @@ in_lists lists x key from (suc n) above below there =
     (in_lists lists x key (from + 1) n (omega (arith, above, other)) (omega (arith, below)) there))
     (cases_eq key from)
 
--- the places by a key have each place whose key is below the count
+-- the lists by key have each place, if each key is below the count
 pub each_place : (count : ℕ) (keys : List ℕ) → All (λ key. key < count) keys → (place : ℕ) → place < length keys
     → Contains (concat (places_by count keys)) place
 each_place count keys small place within =

@@ -33,11 +33,13 @@ use Rattle.postings.proofs.InverseLemmas.{cell_back, column_back, place_within}
 use Rattle.postings.proofs.RowIndexLemmas.{groups_are, is_sorted, length-codes, length-group_marks, length-source_marks, sources_are, starts_last}
 
 -- ---- the numbers of groups, row by row
+-- `numbers` has for the group of each of the first `bound` rows the group number of the row
 abbrev pub AreNumbered : List Flagged → List CodedRow → ℕ → List ℕ → Type 0
 AreNumbered marks rows bound numbers =
     (n : ℕ) (mark : Flagged) (row : CodedRow) → n < bound
     → slice_index numbers (slice_index_or marks n mark).number ≡ (slice_index_or rows n row).group
 
+-- the numbers fit the first `k + 1` rows once the group number of row `k` is set for its group
 pub numbered_more : (marks : List Flagged) (rows : List CodedRow) (numbers : List ℕ) (k : ℕ) (some : Flagged) (none : CodedRow)
     → k < length rows → length marks ≡ length rows → HaveOneNumber marks rows → (get_or marks k some).number < length numbers
     → AreNumbered marks rows k numbers
@@ -88,9 +90,11 @@ same_number row other same =
     sym (number_of_own row) ∙ ap (λ (group : ConceptGroup). key_number group.key) same ∙ number_of_own other
 
 -- ---- the row with a number
+-- there are as many kept rows as places of types
 pub length-kept : (indexes : RowIndexes) → length (rows_kept indexes) ≡ length indexes.type_places.items
 length-kept indexes = length-map-range_with_len (row_kept indexes) 0 (length indexes.type_places.items)
 
+-- item `n` of the kept rows is the row that is kept with the number `n`
 pub kept_at : (indexes : RowIndexes) (n : ℕ) (d : CodedRow) → n < length indexes.type_places.items
     → get_or (rows_kept indexes) n d ≡ row_kept indexes n
 kept_at indexes n d below =
@@ -118,6 +122,7 @@ module _ (release : Release) (rises : IsStrictlyIncreasing release.concepts) (co
   groups_told : AreGroups groups (entries_of rows) marks.groups.items
   groups_told = subst (AreGroups groups (entries_of rows)) (sym marked.groups) (groups_are release rises coded are)
 
+  -- there are as many marks with groups as rows
   pub many_groups : length marks.groups.items ≡ length codes
   many_groups = ap (λ (xs : List Flagged). length xs) marked.groups ∙ length-group_marks release rises coded are
 
@@ -136,13 +141,13 @@ module _ (release : Release) (rises : IsStrictlyIncreasing release.concepts) (co
       ∙ sym (map-flat_map (λ (row : CodedRow). row.source) (of_source codes) (range_with_len 0 (length release.concepts)))
       ∙ ap (map (λ (row : CodedRow). row.source)) (sym (is_sorted release rises coded are))
 
-  -- the group of a row by its mark
+  -- the mark of a row leads to the group of the row
   pub group_marked : (n : ℕ) (mark : Flagged) (row : Attribute) → n < length codes
       → slice_get groups (get_or marks.groups.items n mark).number ≡ Some (group_of (get_or rows n row))
   group_marked n mark row below =
       group_at groups rows marks.groups.items groups_told n row mark (omega (arith, below, length-codes release rises coded are))
 
-  -- there are no more groups than the last of the starts
+  -- the number of each mark with a group is below the last start, which is the number of groups
   pub units_below : All (λ (mark : Flagged). mark.number < get_or marks.starts.items (length marks.starts.items - 1) 0) marks.groups.items
   units_below n mark inside =
       let row : Attribute = row_coded release.concepts coded.types.numbers (values_in release.concepts coded.values) a_row in
@@ -153,7 +158,7 @@ module _ (release : Release) (rises : IsStrictlyIncreasing release.concepts) (co
         starts_last release rises coded are marks marked,
       )
 
-  -- and rows of one group have one number
+  -- rows of one group have one group number
   pub one_number : HaveOneNumber marks.groups.items codes
   one_number m n mark row near far same =
       let stands : CodedRow → Attribute = row_coded release.concepts coded.types.numbers (values_in release.concepts coded.values) in
@@ -202,7 +207,7 @@ module _ (release : Release) (rises : IsStrictlyIncreasing release.concepts) (co
           long_cells indexes.by_type.rows cells column (follows cells column told) d,
         )
 
-    -- a row is kept as it is
+    -- the kept row with the number `n` is row `n` of the rows by numbers
     row_is : (n : ℕ) → n < length codes → row_kept indexes n ≡ get_or codes n a_row
     unfolding a_mark
     row_is n below =
@@ -228,31 +233,34 @@ module _ (release : Release) (rises : IsStrictlyIncreasing release.concepts) (co
             ap (λ (mark : Flagged). mark.number) (cell_back flat indexes.places.items (length codes) places_len found marks.groups.items
             indexes.by_type.groups.items many_groups (follows marks.groups.items indexes.by_type.groups.items by_type.groups) n below a_mark)
 
+    -- the kept rows are the rows by numbers
     pub rows_are : rows_kept indexes ≡ codes
     rows_are =
         ap (λ (n : ℕ). map (row_kept indexes) (range_with_len 0 n)) long
         ∙ same_maps (row_kept indexes) (λ n. get_or codes n a_row) 0 (length codes) (λ n from below. row_is n (omega (arith, below)))
         ∙ sym (items_by_place codes a_row)
 
-    -- and so are the marks of the groups
+    -- the kept marks of groups are the marks of the rows with their groups
     marks_are : groups_kept indexes ≡ marks.groups.items
     unfolding a_mark
     marks_are = column_back flat indexes.places.items (length codes) places_len found marks.groups.items indexes.by_type.groups.items
         many_groups (follows marks.groups.items indexes.by_type.groups.items by_type.groups) a_mark
 
+    -- the kept marks of groups tell the groups of the attribute rows
     pub units_are : AreGroups groups (entries_of rows) (groups_kept indexes)
     units_are = subst (AreGroups groups (entries_of rows)) (sym marks_are) groups_told
 
-    -- and those of the sources
+    -- the kept marks of sources are the marks of the rows with their sources
     sources_marks_are : sources_kept indexes ≡ marks.sources.items
     unfolding a_mark
     sources_marks_are = column_back flat indexes.places.items (length codes) places_len found marks.sources.items indexes.by_type.sources.items
         many_sources (follows marks.sources.items indexes.by_type.sources.items by_type.sources) a_mark
 
+    -- the kept marks of sources tell the sources of the attribute rows
     pub marked_are : AreSources release.concepts (entries_of rows) (sources_kept indexes)
     marked_are = subst (AreSources release.concepts (entries_of rows)) (sym (sources_marks_are ∙ marked.sources)) (sources_are release rises coded are)
 
-    -- so the kept rows and their tables are those of the attribute rows
+    -- the kept rows and their tables stand for the attribute rows
     pub coded_kept : indexes.types ≡ coded.types → indexes.values ≡ coded.values
         → AreCoded release.concepts rows indexes.types indexes.values (rows_kept indexes)
     coded_kept types values =
@@ -260,7 +268,7 @@ module _ (release : Release) (rises : IsStrictlyIncreasing release.concepts) (co
         (subst (λ (found : Values). AreCoded release.concepts rows coded.types found (rows_kept indexes)) (sym values)
         (subst (λ (found : List CodedRow). AreCoded release.concepts rows coded.types coded.values found) (sym rows_are) are))
 
-    -- and each row can be read
+    -- the indexes keep each row
     pub each_kept : (n : ℕ) → n < length rows → IsKept indexes n
     unfolding a_mark
     each_kept n within =

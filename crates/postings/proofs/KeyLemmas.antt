@@ -26,7 +26,7 @@ use Rattle.number_lists.proofs.ListLemmas.{IsOnce}
 abbrev pub group_with : ℕ → GroupKey → ConceptGroup
 group_with concept key = record { concept = concept; key = key }
 
--- and all groups of a concept
+-- all groups of a concept
 abbrev pub groups_at : Release → ℕ → List ConceptGroup
 groups_at release concept = map (group_with concept) (keys_of release concept)
 
@@ -37,14 +37,14 @@ is_numbered : GroupKey → Bool
 is_numbered (numbered number) = true
 is_numbered (ungrouped pair) = false
 
--- a key of a number is one
+-- `is_numbered` accepts each key that `numbered` makes
 all_numbered : (numbers : List ℕ) (key : GroupKey) → Contains (map numbered numbers) key → is_numbered key ≡ true
 unfolding is_numbered
 all_numbered numbers key there =
     All-contains (λ key. is_numbered key ≡ true) (map numbered numbers) key
     (All-map (λ key. is_numbered key ≡ true) numbered numbers (λ k d below. refl)) there
 
--- and a key of a pair is not
+-- `is_numbered` refuses each key that `ungrouped` makes
 none_numbered : (pairs : List Pair) → All (λ key. is_numbered key ≡ false) (map ungrouped pairs)
 unfolding is_numbered
 none_numbered pairs = All-map (λ key. is_numbered key ≡ false) ungrouped pairs (λ k d below. refl)
@@ -64,7 +64,7 @@ keys_once release concept =
     (λ y is same. absurd (cc (all_numbered (rising (group_numbers release concept)) x there, is, ap is_numbered same)))
     (map ungrouped (pairs_in release concept 0)) (none_numbered (pairs_in release concept 0)))
 
--- and no group of a release
+-- no group of a release stands twice
 pub groups_once : (release : Release) → IsStrictlyIncreasing release.concepts → IsOnce (all_groups release)
 groups_once release increases =
     subst IsOnce (sym (blocks_by_place (groups_at release) release.concepts 0))
@@ -92,12 +92,12 @@ groups_once release increases =
         omega arith
 
 -- ---- numbers that are not 0
--- the number of a key, where it has one, is not 0
+-- the number of a key, if it has one, is not 0
 abbrev pub IsTold : GroupKey → Type 0
 IsTold (numbered number) = (number == 0) ≡ false
 IsTold (ungrouped pair) = Unit {0}
 
--- the keys of a concept have such numbers
+-- the numbers of the keys of a concept are not 0
 pub keys_told : (release : Release) (concept : ℕ) → All IsTold (keys_of release concept)
 keys_told release concept =
     All-append IsTold (map numbered (rising (group_numbers release concept))) (map ungrouped (pairs_in release concept 0))
@@ -116,7 +116,7 @@ keys_told release concept =
         not-true (n == 0) (All-contains (λ group. not (group == 0) ≡ true) numbers n
         (filter_passes (λ group. not (group == 0)) (map (λ (row : Attribute). row.group) (rows_of release concept))) among)
 
--- and so have the groups of all concepts
+-- the numbers of the groups of `concepts` are not 0
 pub groups_told_apart : (release : Release) (concepts : List ℕ)
     → All (λ (group : ConceptGroup). IsTold group.key) (groups_among release concepts)
 groups_told_apart release concepts =
@@ -134,7 +134,7 @@ in_own_group row = and_from (row.source == row.source) (has_key (key_of row) row
     by true is = and_from (row.group == 0) (pair_eq (pair_of row) (pair_of row)) is ((tells_same_pair (pair_of row) (pair_of row)).1 refl)
     by false is = eq-eqb row.group row.group refl
 
--- and in no other
+-- a group that contains a row is that row's own group
 pub in_one_group : (group : ConceptGroup) (row : Attribute) → IsTold group.key → is_in_group group row ≡ true
     → group ≡ group_of row
 in_one_group group row told passes =

@@ -36,12 +36,12 @@ keyed_places-more count keys i within =
     ∙ keyed_places-append count 0 (take i keys) (get_or keys i 0 ∷ [])
     ∙ ap (λ (at : ℕ). keyed_places count 0 (take i keys) ++ keyed_place count at (get_or keys i 0)) (omega (arith, length-take i keys))
 
--- there are no more of them than keys
+-- there are no more keyed places than keys
 pub length-keyed_places : (count place : ℕ) (keys : List ℕ) → length (keyed_places count place keys) ≤ length keys
 length-keyed_places count place [] = omega arith
 length-keyed_places count place (key ∷ keys) = grind (arith, cond, keyed_places, (length-keyed_places count (place + 1) keys))
 
--- all keys are below the count
+-- the keys of keyed places are below the count
 pub keyed_below : (count place : ℕ) (keys : List ℕ) → AreKeysBelow count (keyed_places count place keys)
 keyed_below count place [] = λ k d within. absurd (omega arith)
 keyed_below count place (key ∷ keys) = by (nat_lt key count) refl (keyed_below count (place + 1) keys)
@@ -52,7 +52,7 @@ keyed_below count place (key ∷ keys) = by (nat_lt key count) refl (keyed_below
         (ltb-true key count below) rest
     by false above rest = rest
 
--- the items of a key are the places where it stands
+-- the items of a key among keyed places are the places at which it stands
 items_of-keyed : (count key : ℕ) → key < count → (place : ℕ) (keys : List ℕ)
     → items_of (keyed_places count place keys) key ≡ places_from place (λ other. other == key) keys
 items_of-keyed count key below place [] = refl
@@ -81,6 +81,7 @@ items_of-keyed count key below place (first ∷ keys) =
         (filter (λ (pair : ℕ × ℕ). pair.0 == key) others))
     skipped false others other = refl
 
+-- the lists that keyed places make are the places by key
 pub places_by_keyed : (count : ℕ) (keys : List ℕ) → lists_by count (keyed_places count 0 keys) ≡ places_by count keys
 places_by_keyed count keys =
     same_maps (items_of (keyed_places count 0 keys)) (λ key. places_from 0 (λ other. other == key) keys) 0 count

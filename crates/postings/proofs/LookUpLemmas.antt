@@ -46,21 +46,25 @@ module _ (inside : Inside) (are : AreIndexed inside) (now : Indexed) (same : ind
     named : slice_index types place ≡ id
     named = type_there inside.rows.types.numbers rows id place are.rows.coded.types found
 
+    -- the place of a type that rows have is below 2^31
     pub few_places : place < 2 ^ 31
     few_places = omega (arith, below, few_types rows, are.rows.coded.few)
 
     listed : (place < length by_type.rows) × (list_of by_type.rows place ≡ places_where (has_type types place) rows)
     listed = list_at by_type.rows (λ key. places_where (has_type types key) rows) (length types) place are.rows.by_type.each below
 
+    -- there is a list of rows at the place of a type that rows have
     pub type_listed : place < length by_type.rows
     type_listed = listed.0
 
+    -- the list at the place of a type has the numbers of the rows with the type
     pub rows_with_type : list_of by_type.rows place ≡ rows_by_type now id
     rows_with_type =
         listed.1
         ∙ ap (λ (id : ℕ). places_where (λ (row : Attribute). row.type_id == id) rows) named
         ∙ ap (λ (indexed : Indexed). rows_by_type indexed id) same
 
+    -- the columns at the place of a type are those of the rows with the type
     pub columns_with_type : (columns : TypeColumns) → columns.sources.now ≡ cells_of by_type.rows by_type.sources.items place
         → columns.values.now ≡ cells_of by_type.rows by_type.others.items place
         → columns.groups.now ≡ cells_of by_type.rows by_type.groups.items place → AreTypeColumns now id columns
@@ -83,9 +87,11 @@ module _ (inside : Inside) (are : AreIndexed inside) (now : Indexed) (same : ind
     none : list_any (nat_eq id) types ≡ false
     none = ap (λ (types : List ℕ). list_any (nat_eq id) types) (sym are.rows.coded.types) ∙ missing
 
+    -- no row has a type that is not in the table of types
     pub no_rows_with_type : [] ≡ rows_by_type now id
     no_rows_with_type = sym (none_by_type rows id none) ∙ ap (λ (indexed : Indexed). rows_by_type indexed id) same
 
+    -- empty columns are those of a type that is not in the table of types
     pub no_columns_with_type : (columns : TypeColumns) → columns.sources.now ≡ [] → columns.values.now ≡ []
         → columns.groups.now ≡ []
         → AreTypeColumns now id columns
@@ -109,19 +115,22 @@ module _ (inside : Inside) (are : AreIndexed inside) (now : Indexed) (same : ind
     near : concept < length inside.concepts.items
     near = subst (λ (n : ℕ). concept < n) (ap (λ (indexed : Indexed). length indexed.concepts) (sym same)) inside_now
 
-    -- as a value
+    -- each concept has a list by value, which has the rows whose value it is
     with_value : (concept < length by_value.rows)
         × (list_of by_value.rows concept ≡ places_where (has_value inside.concepts.items concept) rows)
     with_value =
         list_at by_value.rows (λ key. places_where (has_value inside.concepts.items key) rows) (length inside.concepts.items) concept
         are.rows.by_value.each near
 
+    -- there is a list of rows by value for each concept
     pub value_listed : concept < length by_value.rows
     value_listed = with_value.0
 
+    -- the list of a concept by value has the numbers of the rows whose value it is
     pub rows_with_value : list_of by_value.rows concept ≡ rows_by_value now concept
     rows_with_value = with_value.1 ∙ ap (λ (indexed : Indexed). rows_by_value indexed concept) same
 
+    -- the columns of a concept by value are those of the rows whose value it is
     pub columns_with_value : (columns : ValueColumns) → columns.sources.now ≡ cells_of by_value.rows by_value.sources.items concept
         → columns.types.now ≡ cells_of by_value.rows by_value.others.items concept
         → columns.groups.now ≡ cells_of by_value.rows by_value.groups.items concept → AreValueColumns now concept columns
@@ -136,7 +145,7 @@ module _ (inside : Inside) (are : AreIndexed inside) (now : Indexed) (same : ind
               (are.rows.by_value.groups concept near);
         })
 
-    -- and as a source: its groups are between where they start and where those of the next concept do
+    -- the numbers of the rows of each source
     abbrev sources : List (List ℕ)
     sources = rows_by_sources inside.concepts.items rows
 
@@ -154,9 +163,11 @@ module _ (inside : Inside) (are : AreIndexed inside) (now : Indexed) (same : ind
     all_told = ap (λ (concepts : List ℕ). length (groups_among alone concepts))
         (take_all (length inside.concepts.items) inside.concepts.items (omega arith))
 
+    -- the list of starts has a start for the concept, and one after it
     pub starts_within : concept + 1 < length starts
     starts_within = omega (arith, near, are.rows.groups.starts_len)
 
+    -- the groups of a concept start no later than those of the next concept
     pub starts_rise : slice_index starts concept ≤ slice_index starts (concept + 1)
     starts_rise =
         omega (
@@ -166,6 +177,7 @@ module _ (inside : Inside) (are : AreIndexed inside) (now : Indexed) (same : ind
           blocks_rise (groups_at alone) inside.concepts.items concept (concept + 1) (omega arith),
         )
 
+    -- the groups of a concept end no later than all groups
     pub starts_end : slice_index starts (concept + 1) ≤ length inside.rows.groups.rows
     starts_end =
         omega (
@@ -176,7 +188,7 @@ module _ (inside : Inside) (are : AreIndexed inside) (now : Indexed) (same : ind
           all_told,
         )
 
-    -- there are as many numbers of rows as rows of all groups
+    -- the indexes keep as many row numbers as all groups have rows
     pub long_numbers : length inside.rows.row_numbers.items ≡ length (concat inside.rows.groups.rows)
     long_numbers =
         let count : ℕ = length inside.concepts.items in
@@ -190,7 +202,7 @@ module _ (inside : Inside) (are : AreIndexed inside) (now : Indexed) (same : ind
         ∙ ap (λ (lists : List (List ℕ)). length (concat lists))
         (take_all (length inside.rows.groups.rows) inside.rows.groups.rows (omega arith))
 
-    -- and its rows are those between the rows of these groups
+    -- the part of the row numbers that the groups of a concept take has the rows of the concept
     pub rows_with_source : rows_between inside.rows concept ≡ rows_by_source now concept
     rows_with_source =
         let there = list_at sources (λ key. places_where (has_source inside.concepts.items key) rows) (length inside.concepts.items)

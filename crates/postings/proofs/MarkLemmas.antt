@@ -29,7 +29,7 @@ module _ (same : CodedRow → CodedRow → Bool) where
       ++ record { number = number row; is_first = not (list_any (same row) (append_assoc before (first ∷ []) rows i)) } ∷ []) in
       ap (λ marks. record { number = number first; is_first = not (list_any (same first) before) } ∷ marks) rest
 
-  -- the mark of the row at a place, behind those of the rows before it
+  -- the marks of the first `i + 1` rows are those of the first `i`, and the mark of row `i` at the end
   pub marks_more : (number : CodedRow → ℕ) (rows : List CodedRow) (i : ℕ) (d : CodedRow) (mark : Flagged) → i < length rows
       → mark.number ≡ number (get_or rows i d) → mark.is_first ≡ not (list_any (same (get_or rows i d)) (take i rows))
       → marks_after same number [] (take i rows) ++ mark ∷ [] ≡ marks_after same number [] (take (i + 1) rows)

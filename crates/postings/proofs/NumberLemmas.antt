@@ -2,7 +2,7 @@
 use Rattle.std.proofs.Common.{ℕ, zero, suc, ◌+◌, ◌-◌, ◌≡◌, ◌≤◌, ◌<◌, List, length, get_or, subst, arith}
 use Rattle.std.specs.List.Sorted.{IsStrictlyIncreasing}
 
--- identifiers that rise strictly rise
+-- identifiers that rise strictly do not fall over a gap
 further : (concepts : List ℕ) → IsStrictlyIncreasing concepts → (i gap : ℕ) → i + gap < length concepts
     → get_or concepts i 0 ≤ get_or concepts (i + gap) 0
 further concepts rises i zero within = ap_le (omega arith)
@@ -14,6 +14,7 @@ further concepts rises i (suc gap) within =
     subst (λ (n : ℕ). get_or concepts i 0 ≤ get_or concepts n 0) next
     (omega (arith, further concepts rises i gap (omega (arith, within)), rises (i + gap) (omega (arith, within))))
 
+-- in a strictly rising list an identifier is at most any later one
 pub rises_on : (concepts : List ℕ) → IsStrictlyIncreasing concepts → (i j : ℕ) → i ≤ j → j < length concepts
     → get_or concepts i 0 ≤ get_or concepts j 0
 rises_on concepts rises i j above within =

@@ -12,7 +12,7 @@ use Rattle.number_lists.proofs.BlockLemmas.{All-blocks, Contains-filter}
 
 -- ---- the place of an item that passes
 module _ {X : Type 0} where
-  -- where an item passes, the place of the first that does is one of the list's
+  -- if an item passes, the place of the first that does is in the list
   pub position-within : (p : X → Bool) (xs : List X) → list_any p xs ≡ true → position_or_len p xs < length xs
   position-within p [] found = absurd (cc)
   position-within p (x ∷ xs) found = by (p x) refl found (position-within p xs)
@@ -24,7 +24,7 @@ module _ {X : Type 0} where
 
 -- ---- the distinct items of a list
 module _ {X : Type 0} where
-  -- where the test finds the same only what is, each item of the list is among them
+  -- each item of a list is among its distinct items, if the test finds only equal items the same
   pub distinct-keeps : (same : X → X → Bool) → ((x y : X) → same x y ≡ true → x ≡ y) → (xs : List X) (x : X)
       → Contains xs x → Contains (distinct same xs) x
   distinct-keeps same exact [] x there = absurd (omega (arith, there.1))
@@ -38,7 +38,7 @@ module _ {X : Type 0} where
 
 -- ---- pairs of the items of a list
 module _ {X : Type 0} where
-  -- what holds of the pairs of two lists and across them holds of the pairs of both joined
+  -- a relation between any two items of `xs`, any two of `ys`, and across both holds between any two of `xs ++ ys`
   pub AllPairs-append : (R : X → X → Type 0) (xs ys : List X) → AllPairs R xs → AllPairs R ys
       → ((x : X) → Contains xs x → All (R x) ys) → AllPairs R (xs ++ ys)
   AllPairs-append R [] ys left right across = right
@@ -48,7 +48,7 @@ module _ {X : Type 0} where
       (AllPairs-append R xs ys (λ i j d less below. left (suc i) (suc j) d (omega arith) (omega arith)) right
       (λ y there. across y (Contains-append_right (x ∷ []) xs y there)))
 
-  -- what holds of the pairs of a list, of what a function gives
+  -- a relation between any two items of `xs` gives one between any two of `map f xs`, if `f` keeps it
   pub AllPairs-map : {Y : Type 0} (R : X → X → Type 0) (S : Y → Y → Type 0) (f : X → Y)
       → ((x y : X) → R x y → S (f x) (f y)) → (xs : List X) → AllPairs R xs → AllPairs S (map f xs)
   AllPairs-map R S f keeps [] pairs i j e less below = absurd (omega arith)
@@ -60,7 +60,8 @@ module _ {X : Type 0} where
       (subst (λ y. S (f (get_or (x ∷ xs) i x)) y) (sym (get_or-map f (x ∷ xs) j x e far))
       (keeps (get_or (x ∷ xs) i x) (get_or (x ∷ xs) j x) (pairs i j x less far)))
 
-  -- block by block
+  -- a relation that holds between any two items of a block, and from each block to later ones, holds between any two
+  -- items of all blocks
   pub AllPairs-blocks : (R : X → X → Type 0) (block : ℕ → List X) (from n : ℕ)
       → ((k : ℕ) → k < from + n → AllPairs R (block k))
       → ((k l : ℕ) → k < l → l < from + n → (x : X) → Contains (block k) x → All (R x) (block l))

@@ -22,6 +22,7 @@ HaveShort rows = All (λ (row : CodedRow). IsShort (pair_code row)) rows
 
 -- ---- two numbers put together tell each
 module _ (one other : ℕ × ℕ) (short : IsShort one) (other_short : IsShort other) where
+  -- two pairs have one number exactly if they are equal
   pub same_code : nat_eq (key_of_code one) (key_of_code other) ≡ code_eq one other
   same_code = elim (cases_eq one.0 other.0) [
     | inl same ↦ elim (cases_eq one.1 other.1) [
@@ -38,9 +39,11 @@ module _ (one other : ℕ × ℕ) (short : IsShort one) (other_short : IsShort o
   ]
 
 module _ (one other : CodedRow) (short : IsShort (pair_code one)) (other_short : IsShort (pair_code other)) where
+  -- two rows have one key by pair exactly if their pairs are equal
   pub same_pair : nat_eq (pair_key one) (pair_key other) ≡ has_same_pair one other
   same_pair = same_code (pair_code one) (pair_code other) short other_short
 
+  -- two rows have one key by group number and pair exactly if both are equal
   pub same_in_group : nat_eq (grouped_key one) (grouped_key other) ≡ has_same_in_group one other
   same_in_group = elim (cases_eq one.group other.group) [
     | inl same ↦ elim (cases_eq (pair_key one) (pair_key other)) [
@@ -61,7 +64,7 @@ module _ (one other : CodedRow) (short : IsShort (pair_code one)) (other_short :
 module _ (same : CodedRow → CodedRow → Bool) (key : CodedRow → ℕ)
     (told : (one other : CodedRow) → IsShort (pair_code one) → IsShort (pair_code other) → nat_eq (key one) (key other) ≡ same one other)
   where
-    -- a key is among the distinct ones exactly where a row that is the same is among the rows
+    -- a key is among the distinct ones exactly if a row that is the same is among the rows
     pub any-key : (rows : List CodedRow) (row : CodedRow) → HaveShort rows → IsShort (pair_code row)
         → list_any (nat_eq (key row)) (distinct nat_eq (map key rows)) ≡ list_any (same row) rows
     any-key rows row short own = any_distinct nat_eq nat_eq_equiv (key row) (map key rows) ∙ by rows short
@@ -76,7 +79,7 @@ module _ (same : CodedRow → CodedRow → Bool) (key : CodedRow → ℕ)
 abbrev ungrouped_rows : List CodedRow → List CodedRow
 ungrouped_rows rows = filter (λ (row : CodedRow). row.group == 0) rows
 
--- a row with the number of a group leaves them
+-- a row with a group number adds no key to those of the rows without one
 pub ungrouped_keys-numbered : (before : List CodedRow) (row : CodedRow) → row.group ≢ 0
     → ungrouped_keys (before ++ row ∷ []) ≡ ungrouped_keys before
 ungrouped_keys-numbered before row numbered =
@@ -86,7 +89,7 @@ ungrouped_keys-numbered before row numbered =
     ∙ append-nil (ungrouped_rows before) in
     ap (λ (own : List CodedRow). distinct nat_eq (map pair_key own)) same
 
--- that of a row without one is put at the end, unless it is there
+-- a row without a group number puts its key at the end, unless the key is there
 pub ungrouped_keys-more : (before : List CodedRow) (row : CodedRow) → row.group ≡ 0
     → ungrouped_keys (before ++ row ∷ []) ≡ keys_behind (ungrouped_keys before) (pair_key row)
 ungrouped_keys-more before row is_zero =
@@ -102,17 +105,17 @@ module _ (rows : List CodedRow) (short : HaveShort rows) where
   short_codes = All-map IsShort pair_code (ungrouped_rows rows)
       (All-filter (λ (row : CodedRow). row.group == 0) (λ (row : CodedRow). IsShort (pair_code row)) rows short)
 
-  -- they are those of the pairs
+  -- the keys of the rows without a group number are those of their distinct pairs
   keys_of_pairs : ungrouped_keys rows ≡ map key_of_code (ungrouped_pairs rows)
   keys_of_pairs =
       ap (distinct nat_eq) (sym (map-map key_of_code pair_code (ungrouped_rows rows)))
       ∙ distinct-map nat_eq key_of_code code_eq IsShort same_code (map pair_code (ungrouped_rows rows)) short_codes
 
-  -- so they are as many
+  -- the rows without a group number have as many keys as distinct pairs
   pub length-ungrouped_keys : length (ungrouped_keys rows) ≡ length (ungrouped_pairs rows)
   length-ungrouped_keys = ap (λ (keys : List ℕ). length keys) keys_of_pairs ∙ length-map (ungrouped_pairs rows) key_of_code
 
-  -- and have the places of the pairs
+  -- the key of a row has the place among the keys that its pair has among the pairs without a group number
   pub place-ungrouped_keys : (row : CodedRow) → IsShort (pair_code row)
       → position_or_len (nat_eq (pair_key row)) (ungrouped_keys rows) ≡ position_or_len (code_eq (pair_code row)) (ungrouped_pairs rows)
   place-ungrouped_keys row own =

@@ -43,13 +43,13 @@ module _ {X : Type 0} where
       subst (IsRisingBelow (length (x ∷ xs))) (sym (places_where-numbers test (x ∷ xs) x))
       (numbers_where-rising (length (x ∷ xs)) (λ place. test (get_or (x ∷ xs) place x)))
 
-  -- so each is below the length
+  -- each place of an item that passes is below the length
   pub places_where-within : (test : X → Bool) (xs : List X) → All (λ place. place < length xs) (places_where test xs)
   places_where-within test xs k d within =
       subst (λ place. place < length xs) (get_or_default (places_where test xs) k 0 d within)
       (get_or-below 0 (length xs) (places_where test xs) k (places_where-rising test xs) within)
 
-  -- a number below the length is among the places exactly where the item there passes
+  -- a number below the length is among the places exactly if the item there passes
   pub has-places_where : (test : X → Bool) (xs : List X) (place : ℕ) (d : X) → place < length xs
       → has (places_where test xs) place ≡ test (get_or xs place d)
   has-places_where test xs place d within =
@@ -58,7 +58,7 @@ module _ {X : Type 0} where
 
 -- ---- other tests and other items
 module _ {X : Type 0} where
-  -- tests that agree on the items give the same places, from any place on and from 0 on
+  -- tests that agree on the items give equal places, from any first place on
   pub places_from-agree : (one other : X → Bool) (place : ℕ) (xs : List X) → All (λ x. one x ≡ other x) xs
       → places_from place one xs ≡ places_from place other xs
   places_from-agree one other place [] agree = refl
@@ -66,21 +66,24 @@ module _ {X : Type 0} where
       let rest = places_from-agree one other (place + 1) xs (All-tail (λ x. one x ≡ other x) x xs agree) in
       λ i. cond (agree 0 x (omega arith) i) (place ∷ rest i) (rest i)
 
+  -- tests that agree on the items give equal places
   pub places_where-agree : (one other : X → Bool) (xs : List X) → All (λ x. one x ≡ other x) xs
       → places_where one xs ≡ places_where other xs
   places_where-agree one other xs agree = places_from-agree one other 0 xs agree
 
-  -- the places of what is made of the items are those of the items
+  -- the places of what `f` makes of the items are the places of the items that pass after `f`, from any first place
+  -- on
   pub places_from-map : {Y : Type 0} (f : X → Y) (test : Y → Bool) (place : ℕ) (xs : List X)
       → places_from place test (map f xs) ≡ places_from place (λ x. test (f x)) xs
   places_from-map f test place [] = refl
   places_from-map f test place (x ∷ xs) = ap (λ rest. cond (test (f x)) (place ∷ rest) rest) (places_from-map f test (place + 1) xs)
 
+  -- the places of what `f` makes of the items are the places of the items that pass after `f`
   pub places_where-map : {Y : Type 0} (f : X → Y) (test : Y → Bool) (xs : List X)
       → places_where test (map f xs) ≡ places_where (λ x. test (f x)) xs
   places_where-map f test xs = places_from-map f test 0 xs
 
-  -- the places in two lists, one behind the other
+  -- the places in `xs ++ ys` are those in `xs`, and then those in `ys`
   pub places_from-append : (test : X → Bool) (place : ℕ) (xs ys : List X)
       → places_from place test (xs ++ ys) ≡ places_from place test xs ++ places_from (place + length xs) test ys
   places_from-append test place [] ys = ap (λ at. places_from at test ys) (sym (add-zero place))
@@ -103,7 +106,7 @@ module _ {X : Type 0} where
 
 -- ---- the items at the places
 module _ {X : Type 0} where
-  -- what is read at the places of the items that pass are these items
+  -- reading at the places of the items that pass gives the items that pass
   rows_from : (read : ℕ → X) (test : X → Bool) (place : ℕ) (xs : List X)
       → ((k : ℕ) (d : X) → k < length xs → read (place + k) ≡ get_or xs k d)
       → map read (places_from place test xs) ≡ filter test xs
@@ -131,6 +134,7 @@ module _ {X : Type 0} where
       ≡ length (cond b (x ∷ filter test xs) (filter test xs)))
       [ true ↦ ap suc (length-places_from test (place + 1) xs) | false ↦ length-places_from test (place + 1) xs ]
 
+  -- there are as many places as `count_by` counts items
   pub length-places_where : (test : X → Bool) (xs : List X) → length (places_where test xs) ≡ count_by test xs
   length-places_where test xs = length-places_from test 0 xs ∙ length-filter test xs
 

@@ -46,7 +46,7 @@ some_bound (x ∷ xs) =
           (All-weaker (λ id. id < rest.0) (λ id. id < suc x + rest.0) (λ id below. omega (arith, below)) xs rest.1),
     )
 
--- what is the listed numbers of a list, whatever bound they are all below, is the list in rising order
+-- a list that has the listed numbers of `xs` below each bound of `xs` is `xs` in rising order
 pub listed_is_rising : (xs ys : List ℕ) → ((bound : ℕ) → All (λ id. id < bound) xs → ys ≡ listed_numbers bound xs)
     → ys ≡ rising xs
 listed_is_rising xs ys listed = let bound = some_bound xs in listed bound.0 bound.1 ∙ sym (rising_is_listed bound.0 xs bound.1)

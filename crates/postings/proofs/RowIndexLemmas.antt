@@ -32,15 +32,19 @@ use Rattle.postings.proofs.ValueLemmas.{rising_apart, value_of_concept, values_e
 
 module _ (release : Release) (rises : IsStrictlyIncreasing release.concepts) (coded : CodedRows)
     (are : AreCodedRows release.concepts (attributes_by_source release) coded) where
+  -- the attribute rows of the release by source
   abbrev pub rows : List Attribute
   rows = attributes_by_source release
 
+  -- the attribute rows as rows of numbers
   abbrev pub codes : List CodedRow
   codes = coded.rows.items
 
+  -- the table of types
   abbrev pub types : List ℕ
   types = coded.types.numbers
 
+  -- all values, in the order of their numbers
   abbrev pub all : List Value
   all = values_in release.concepts coded.values
 
@@ -51,34 +55,39 @@ module _ (release : Release) (rises : IsStrictlyIncreasing release.concepts) (co
   exact : (v w : ℕ) → v < length all → w < length all → value_eq (value_at all v) (value_at all w) ≡ (v == w)
   exact = values_exact release.concepts coded.values rises are.tables.rising
 
-  -- the rows stand source by source
+  -- the rows of numbers stand source by source
   pub is_sorted : IsBySource (length release.concepts) codes
   is_sorted = by_source_coded release.concepts types all rises once exact codes are.within rows (sym are.stand_for)
       (by_source_again release rises rows refl)
 
+  -- there are as many rows of numbers as attribute rows
   pub length-codes : length codes ≡ length rows
   length-codes = sym (length-map codes (row_coded release.concepts types all)) ∙ ap (λ (xs : List Attribute). length xs) are.stand_for
 
+  -- there are less than 2^31 rows of numbers
   pub few_codes : length codes < 2 ^ 31
   few_codes = omega (arith, length-codes, are.few)
 
-  -- there is a mark for each row
+  -- the marks of the rows with their sources tell the sources of the attribute rows
   pub sources_are : AreSources release.concepts (entries_of rows) (all_source_marks codes (length release.concepts))
   sources_are = sources_told release.concepts types all rises once exact codes are.within rows (sym are.stand_for) is_sorted
 
+  -- the marks of the rows with their groups tell the groups of the attribute rows
   pub groups_are : AreGroups (all_groups (rows_alone release.concepts rows)) (entries_of rows)
       (all_group_marks codes (length release.concepts))
   groups_are = groups_told release.concepts types all rises once exact codes are.within rows (sym are.stand_for) is_sorted
 
+  -- there is a mark with the source for each row
   pub length-source_marks : length (all_source_marks codes (length release.concepts)) ≡ length codes
   length-source_marks = length-sources release.concepts rows (all_source_marks codes (length release.concepts)) sources_are
       ∙ sym length-codes
 
+  -- there is a mark with the group for each row
   pub length-group_marks : length (all_group_marks codes (length release.concepts)) ≡ length codes
   length-group_marks = length-groups (all_groups (rows_alone release.concepts rows)) rows (all_group_marks codes (length release.concepts))
       groups_are ∙ sym length-codes
 
-  -- the places by a key are those of the rows that pass a test, where it tells the key
+  -- the places by a key are those of the rows that pass a test, if the test tells the key
   by_key : (key : CodedRow → ℕ) (count : ℕ) (test : ℕ → Attribute → Bool)
       → ((k : ℕ) (row : CodedRow) → k < count → IsCoded release.concepts types all row
       → (key row == k) ≡ test k (row_coded release.concepts types all row))
@@ -92,37 +101,43 @@ module _ (release : Release) (rises : IsStrictlyIncreasing release.concepts) (co
       ∙ sym (places_where-map (row_coded release.concepts types all) (test k) codes)
       ∙ ap (places_where (test k)) are.stand_for)
 
+  -- the places by the numbers of sources are the numbers of the rows of each source
   pub by_source_are : places_by (length release.concepts) (map (λ (row : CodedRow). row.source) codes)
       ≡ map (λ concept. places_where (has_source release.concepts concept) rows) (range_with_len 0 (length release.concepts))
   by_source_are =
       by_key (λ row. row.source) (length release.concepts) (has_source release.concepts)
       (λ k row below is. sym (rising_apart release.concepts rises row.source k is.source below))
 
+  -- the places by the places of types are the numbers of the rows of each type
   pub by_type_are : places_by (length types) (map (λ (row : CodedRow). row.type_place) codes)
       ≡ map (λ place. places_where (has_type types place) rows) (range_with_len 0 (length types))
   by_type_are =
       by_key (λ row. row.type_place) (length types) (has_type types)
       (λ k row below is. sym (same_type types once row.type_place k is.type_place below))
 
+  -- the places by the numbers of values are, for each concept, the numbers of the rows whose value it is
   pub by_value_are : places_by (length release.concepts) (map (λ (row : CodedRow). row.value) codes)
       ≡ map (λ concept. places_where (has_value release.concepts concept) rows) (range_with_len 0 (length release.concepts))
   by_value_are =
       by_key (λ row. row.value) (length release.concepts) (has_value release.concepts)
       (λ k row below is. sym (value_of_concept release.concepts coded.values rises row.value k is.value below))
 
-  -- where the groups of each concept start
+  -- the marks of the rows
   module _ (marks : RowMarks) (marked : AreRowMarks (length release.concepts) codes marks) where
+    -- the starts of the groups of each concept
     abbrev pub starts : List ℕ
     starts = marks.starts.items
 
     long : length starts ≡ length release.concepts + 1
     long = omega (arith, marked.starts_len)
 
+    -- the start of a concept is the number of groups of the concepts before it
     pub starts_are : (concept : ℕ) → concept ≤ length release.concepts
         → get_or starts concept 0 ≡ length (groups_among (rows_alone release.concepts rows) (take concept release.concepts))
     starts_are concept near = marked.starts concept near
         ∙ sym (starts_told release.concepts types all rises once exact codes are.within rows (sym are.stand_for) concept near)
 
+    -- the last start is the number of all groups
     pub starts_last : get_or starts (length starts - 1) 0 ≡ length (all_groups (rows_alone release.concepts rows))
     starts_last =
         let last : length starts - 1 ≡ length release.concepts = omega (arith, long) in
@@ -145,7 +160,7 @@ module _ (release : Release) (rises : IsStrictlyIncreasing release.concepts) (co
         last : length starts - 1 ≡ length release.concepts
         last = omega (arith, long)
 
-    -- the rows of each group
+    -- the places by the group numbers of the marks are the numbers of the rows of each group
     pub group_rows_are : places_by (get_or starts (length starts - 1) 0)
         (map (λ (mark : Flagged). mark.number) (all_group_marks codes (length release.concepts)))
         ≡ map (λ (group : ConceptGroup). places_where (is_in_group group) rows) (all_groups (rows_alone release.concepts rows))

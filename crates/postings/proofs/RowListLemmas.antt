@@ -46,7 +46,8 @@ module _ (release : Release) (rises : IsStrictlyIncreasing release.concepts) (co
   abbrev groups : List ConceptGroup
   groups = all_groups (rows_alone release.concepts rows)
 
-  -- a field of the rows by the numbers that they have
+  -- if `f` of a row of numbers is `g` of its attribute row, `f` of all rows of numbers is `g` of the rows of the
+  -- entries
   field_of : {X : Type 0} (f : CodedRow → X) (g : Attribute → X)
       → ((row : CodedRow) → f row ≡ g (row_coded release.concepts types all row))
       → map f codes ≡ map (λ (entry : Entry). g entry.row) (entries_of rows)
@@ -75,7 +76,7 @@ module _ (release : Release) (rises : IsStrictlyIncreasing release.concepts) (co
             ∙ field_of (λ row. get_or types row.type_place 0) (λ row. row.type_id) (λ row. refl);
       })
 
-  -- the places of the types are below how many types there are
+  -- the place of the type of each row is below the number of types
   pub type_places_below : (count : ℕ) → count ≡ length types
       → All (λ place. place < count) (map (λ (row : CodedRow). row.type_place) codes)
   type_places_below count same =
@@ -120,7 +121,7 @@ module _ (release : Release) (rises : IsStrictlyIncreasing release.concepts) (co
       mark : Flagged
       mark = record { number = 0; is_first = true }
 
-      -- the lists of the rows that pass a test
+      -- lists that have for each key the rows that pass its test are lists by that test, with their columns
       lists_told : (n : ℕ) (test : ℕ → Attribute → Bool) (AreOthers : List Entry → List ℕ → Type 0)
           → lists.rows ≡ map (λ key. places_where (test key) rows) (range_with_len 0 n)
           → ((key : ℕ) → key < length lists.rows → list_of lists.rows key ≡ places_where (test key) rows
@@ -146,7 +147,7 @@ module _ (release : Release) (rises : IsStrictlyIncreasing release.concepts) (co
           at : (key : ℕ) → key < n → (key < length lists.rows) × (list_of lists.rows key ≡ places_where (test key) rows)
           at key less = list_at lists.rows (λ key. places_where (test key) rows) n key each less
 
-      -- the lists by type
+      -- the lists by the places of types are the lists by type
       pub by_type_told : count ≡ length types → keys ≡ map (λ (row : CodedRow). row.type_place) codes
           → others ≡ map (λ (row : CodedRow). row.value) codes → AreByType release.concepts all rows lists
       by_type_told count_is keys_are others_are =
@@ -158,7 +159,7 @@ module _ (release : Release) (rises : IsStrictlyIncreasing release.concepts) (co
           values_at rows (has_type (types_of rows) key) lists.rows key within here all others lists.others.items
           (subst (AreValues all (entries_of rows)) (sym others_are) values_told) other_cells)
 
-      -- the lists by value
+      -- the lists by the numbers of values are the lists by value
       pub by_value_told : count ≡ length release.concepts → keys ≡ map (λ (row : CodedRow). row.value) codes
           → others ≡ map (λ (row : CodedRow). row.type_place) codes → AreByValue release.concepts rows lists
       by_value_told count_is keys_are others_are =
@@ -173,6 +174,7 @@ module _ (release : Release) (rises : IsStrictlyIncreasing release.concepts) (co
         (starts_is : lists.starts.items ≡ marks.starts.items)
         (rows_is : lists.rows ≡ places_by (get_or marks.starts.items (length marks.starts.items - 1) 0)
         (map (λ (mark : Flagged). mark.number) marks.groups.items)) where
+      -- the lists by the group numbers of the marks are the lists of the groups
       pub group_lists_told : AreGroupLists release.concepts rows lists
       group_lists_told =
           record {

@@ -37,7 +37,7 @@ length-flat_map-le f g le from (suc n) =
       length-flat_map-le f g le (from + 1) n,
     )
 
--- one source more has its groups behind
+-- one source more adds its groups to those ahead
 pub groups_ahead-more : (rows : List CodedRow) (source : ℕ)
     → groups_ahead rows (source + 1) ≡ groups_ahead rows source + length (group_codes (of_source rows source))
 groups_ahead-more rows source =
@@ -71,12 +71,12 @@ rows_left rows count source sorted below =
       ap (λ (own : List CodedRow). length own) sorted,
     )
 
--- the rows of a source have it
+-- the rows of a source have it as their source
 pub of_source-own : (rows : List CodedRow) (source : ℕ) → All (λ (row : CodedRow). row.source ≡ source) (of_source rows source)
 of_source-own rows source k d within =
     eqb-true (get_or (of_source rows source) k d).source source (filter_passes (λ (row : CodedRow). row.source == source) rows k d within)
 
--- one count more at the end of the counts of the groups before each source
+-- starts with the number of groups before the next source at the end are the starts of one source more
 pub starts_more : (rows : List CodedRow) (starts : List ℕ) (source ahead : ℕ) → length starts ≡ source + 1
     → ((k : ℕ) → k ≤ source → get_or starts k 0 ≡ groups_ahead rows k) → ahead ≡ groups_ahead rows (source + 1)
     → (k : ℕ) → k ≤ source + 1 → get_or (starts ++ ahead ∷ []) k 0 ≡ groups_ahead rows k

@@ -36,7 +36,7 @@ none_below : (keys : List ℕ) → length (filter (λ key. nat_lt key 0) keys) �
 none_below keys = ap (λ (xs : List ℕ). length xs)
     (filter-none (λ key. nat_lt key 0) keys (λ k d inside. le-ltb (get_or keys k d) 0 (omega arith)))
 
--- one key more has its items besides
+-- there are as many keys below `k + 1` as below `k` and equal to `k`
 more_below : (k : ℕ) (keys : List ℕ)
     → length (filter (λ key. nat_lt key (k + 1)) keys) ≡ length (filter (λ key. nat_lt key k) keys) + length (filter (λ key. key == k) keys)
 more_below k [] = refl
@@ -70,7 +70,7 @@ more_below k (x ∷ xs) =
         (λ i. length (cond (first i) (x ∷ next) next)) ∙ is
         ∙ (λ i. length (cond (sym second i) (x ∷ before) before) + length (cond (sym third i) (x ∷ own) own))
 
--- the lists of the first keys have the items that have one of them
+-- the lists of the first `k` keys have as many items as there are keys below `k`
 pub length-ahead : (count : ℕ) (keys : List ℕ) (k : ℕ) → k ≤ count
     → length (concat (take k (places_by count keys))) ≡ length (filter (λ key. nat_lt key k) keys)
 length-ahead count keys zero within = sym (none_below keys)
@@ -86,7 +86,7 @@ length-ahead count keys (suc k) within =
     ∙ sym (more_below k keys)
     ∙ ap (λ (n : ℕ). length (filter (λ key. nat_lt key n) keys)) (sym next)
 
--- and all lists no more than there are
+-- the lists of all keys have no more items than there are keys
 pub length-places : (count : ℕ) (keys : List ℕ) → length (concat (places_by count keys)) ≤ length keys
 length-places count keys =
     omega (
@@ -97,7 +97,7 @@ length-places count keys =
       count_by-le-length (λ key. nat_lt key count) keys,
     )
 
--- as many items pass one test as another where each does
+-- two lists have equally many items that pass, if their tests give equal answers item by item
 many_pass : {X Y : Type 0} (p : X → Bool) (q : Y → Bool) (xs : List X) (ys : List Y) → map p xs ≡ map q ys
     → length (filter p xs) ≡ length (filter q ys)
 many_pass p q xs ys same =
@@ -123,12 +123,12 @@ module _ (release : Release) (rises : IsStrictlyIncreasing release.concepts) (co
   abbrev stands : CodedRow → Attribute
   stands = row_coded release.concepts coded.types.numbers (values_in release.concepts coded.values)
 
-  -- a concept that is among some is so at its number
+  -- concepts with equal identifiers have equal numbers
   same_number : (i j : ℕ) → i < length release.concepts → j < length release.concepts → id i ≡ id j → i ≡ j
   same_number i j near far same =
       sym (place_of-get_or release.concepts rises i near) ∙ ap (place_of release.concepts) same ∙ place_of-get_or release.concepts rises j far
 
-  -- the groups of some concepts are of these
+  -- each group of `concepts` is of one of these concepts
   groups_of_own : (concepts : List ℕ) → All (λ (group : ConceptGroup). Contains concepts group.concept) (groups_among alone concepts)
   groups_of_own concepts =
       All-flat_map (λ (group : ConceptGroup). Contains concepts group.concept) (groups_at alone) concepts
@@ -149,7 +149,7 @@ module _ (release : Release) (rises : IsStrictlyIncreasing release.concepts) (co
     split = ap (groups_among alone) (sym (take-append-drop c release.concepts))
         ∙ flat_map-append (groups_at alone) (take c release.concepts) (drop c release.concepts)
 
-    -- a row's group is before where the groups of a concept start exactly where its source is before the concept
+    -- row `n`, its group and its source
     module _ (n : ℕ) (d : Flagged) (e : CodedRow) (below : n < length codes) where
       abbrev unit : ℕ
       unit = (get_or marks.groups.items n d).number
@@ -207,6 +207,7 @@ module _ (release : Release) (rises : IsStrictlyIncreasing release.concepts) (co
           ∙ sym (get_or-drop c release.concepts there.0 (id source)) ∙ there.2 in
           omega (arith, same_number (c + there.0) source near known same)
 
+      -- the number of a row's group is below the start of concept `c` exactly if the row's source is below `c`
       pub before_told : nat_lt unit (get_or marks.starts.items c 0) ≡ nat_lt source c
       before_told = ⊎_elim
           (λ (less : unit < length before).
@@ -215,11 +216,11 @@ module _ (release : Release) (rises : IsStrictlyIncreasing release.concepts) (co
           ap (nat_lt unit) start ∙ le-ltb unit (length before) more ∙ sym (le-ltb source c (later more)))
           (cases_lt unit (length before))
 
-    -- where they start there are at most all groups
+    -- the start of a concept is at most the number of all groups
     pub start_within : get_or marks.starts.items c 0 ≤ length (all_groups alone)
     start_within = omega (arith, start, ap (λ (xs : List ConceptGroup). length xs) split, length-append before behind)
 
-    -- so as many rows are ahead
+    -- the groups before the start of a concept have as many rows as the concepts before it
     pub ahead_told : (count : ℕ) → get_or marks.starts.items c 0 ≤ count
         → length (concat (take (get_or marks.starts.items c 0) (places_by count (map (λ (mark : Flagged). mark.number) marks.groups.items))))
         ≡ length (concat (take c (places_by (length release.concepts) (map (λ (row : CodedRow). row.source) codes))))

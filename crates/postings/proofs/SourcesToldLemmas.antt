@@ -19,22 +19,23 @@ use Rattle.postings.proofs.CodeLemmas.{alike_coded, same_all_coded, same_concept
 use Rattle.postings.proofs.EntryLemmas.{firsts_of_entries, firsts_of_marks, numbers_of_marks, rows_of_entries}
 use Rattle.postings.proofs.FlagLemmas.{flags-blocks, flags-map, flags_after}
 
--- the rows of a source have it
+-- the rows of a source have it as their source
 pub source_of_block : (coded : List CodedRow) (k : ℕ) → All (λ (row : CodedRow). row.source ≡ k) (of_source coded k)
 source_of_block coded k =
     All-weaker (λ (row : CodedRow). (row.source == k) ≡ true) (λ (row : CodedRow). row.source ≡ k)
     (λ row told. eqb-true row.source k told) (of_source coded k)
     (filter_passes (λ (row : CodedRow). row.source == k) coded)
 
--- of rows of different sources a test that asks for one source is false
+-- a test that asks for one source is false for rows of different sources
 pub apart_by_source : (a b : CodedRow) (rest : Bool) → b.source < a.source → ((a.source == b.source) && rest) ≡ false
 apart_by_source a b rest less = ap (λ (test : Bool). test && rest) (ne_eqb a.source b.source (λ same. absurd (omega arith)))
 
--- and of rows of one source it is the rest of the test
+-- a test that asks for one source is the rest of the test for rows of one source
 pub same_by_source : (a b : CodedRow) (rest : Bool) → a.source ≡ b.source → ((a.source == b.source) && rest) ≡ rest
 same_by_source a b rest same = ap (λ (test : Bool). test && rest) (eq-eqb a.source b.source same)
 
--- the flags of rows that stand source by source
+-- the flags of rows that stand source by source are those of the rows of each source, if rows of different sources
+-- are never the same
 pub flags_by_source : (coded : List CodedRow) (count : ℕ) (other : CodedRow → CodedRow → Bool) (same : CodedRow → CodedRow → Bool)
     → ((a b : CodedRow) → b.source < a.source → same a b ≡ false)
     → ((a b : CodedRow) → a.source ≡ b.source → same a b ≡ other a b) → IsBySource count coded
@@ -86,7 +87,7 @@ module _ (concepts types : List ℕ) (values : List Value) (rising : IsStrictlyI
         ∙ sym (map-flat_map (λ (row : CodedRow). row.source) (of_source coded) (range_with_len 0 (length concepts)))
         ∙ ap (map (λ (row : CodedRow). row.source)) (sym sorted)
 
-    -- and their flags are those of the entries
+    -- the flags of the marks by source are those of the entries
     source_firsts : map (λ (mark : Flagged). mark.is_first) (all_source_marks coded (length concepts))
         ≡ map (λ (entry : Entry). entry.is_first) (entries_of rows)
     source_firsts =

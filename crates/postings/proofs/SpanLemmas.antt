@@ -5,7 +5,7 @@ use Rattle.std.proofs.lemmas.Grind.{flat_map-append}
 use Rattle.std.proofs.lemmas.List.{take-append-drop, take-take}
 use Rattle.number_lists.proofs.ListLemmas.{concat-append}
 
--- the first lists have no more items than more lists
+-- the first `i` lists have no more items than the first `j`, if `i` is at most `j`
 pub lengths_rise : (lists : List (List ℕ)) (i j : ℕ) → i ≤ j → length (concat (take i lists)) ≤ length (concat (take j lists))
 lengths_rise lists i j le =
     let whole : concat (take j lists) ≡ _ =
@@ -17,7 +17,7 @@ lengths_rise lists i j le =
       ap (λ (xs : List (List ℕ)). length (concat xs)) (take-take i j lists le),
     )
 
--- and so have the blocks of the first keys
+-- the blocks of the first `i` keys have no more items than those of the first `j`, if `i` is at most `j`
 pub blocks_rise : {X Y : Type 0} (f : X → List Y) (keys : List X) (i j : ℕ) → i ≤ j
     → length (flat_map f (take i keys)) ≤ length (flat_map f (take j keys))
 blocks_rise {X} {Y} f keys i j le =

@@ -37,7 +37,7 @@ kept_of_map test give (x ∷ xs) = elim (test (give x)) as (λ (b : Bool).
     [ true ↦ ap (λ (rest : List ℕ). give x ∷ rest) (kept_of_map test give xs) | false ↦ kept_of_map test give xs ]
 
 module _ (concepts : List ℕ) (test : ℕ → ℕ → Bool) where
-  -- the list of a concept is as long as there are concepts to which it stands so
+  -- the list of a concept has as many items as there are pairs that begin with the concept and pass the test
   length-list : (concept : ℕ)
       → length (filter (λ other. test (get_or concepts concept 0) (get_or concepts other 0)) (range_with_len 0 (length concepts)))
       ≡ length (map (pair_with (get_or concepts concept 0)) (filter (test (get_or concepts concept 0)) concepts))
@@ -77,6 +77,7 @@ length-keys release concept =
     ∙ groups_count release (λ pairs. true) concept
     ∙ all_pass (groups_of release concept)
 
+-- a release has as many groups as its concepts have by `groups_of`
 pub length-groups : (release : Release) → length (all_groups release) ≡ length (flat_map (groups_of release) release.concepts)
 length-groups release =
     let groups : ℕ → List ConceptGroup = λ concept. map (λ key. record { concept = concept; key = key }) (keys_of release concept) in
@@ -86,6 +87,7 @@ length-groups release =
     ∙ sym (length-flat_map (groups_of release) release.concepts)
 
 -- ---- the whole
+-- the counts of the indexes of a release are the counts of the release
 pub stats_told : (indexed : Indexed) (release : Release) → IsStrictlyIncreasing release.concepts → IsIndexOf indexed release
     → stats_in indexed ≡ stats_of release
 stats_told indexed release rises is =
@@ -109,6 +111,7 @@ stats_told indexed release rises is =
     })
 
 -- ---- each concept has its lists in the hierarchy
+-- the hierarchy of a release has its lists for each concept
 pub lists_for : (concepts : List ℕ) (release : Release) (hierarchy : Hierarchy) → concepts ≡ release.concepts → hierarchy ≡ hierarchy_of release
     → HasListsFor (length concepts) hierarchy
 lists_for concepts release hierarchy same is =

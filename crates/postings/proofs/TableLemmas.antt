@@ -28,7 +28,7 @@ module _ {K : Type 0} {R : K → K → Ordering} (order : IsTotalOrder R) (keys 
       ∙ ap ordering_reverse (Less-from_sorted R keys k (k + 1) d rises (omega arith) within))
 
   module _ (key : K) (place : ℕ) (d : K) (below : place < length keys) (is : get_or keys place d ≡ key) where
-    -- those that are less than one of them are those before it
+    -- the keys that are less than the key at `place` are those before it
     pub is_before : (k : ℕ) → k < length keys → is_lt (R (get_or keys k d) key) ≡ ltb k place
     is_before k within = elim (cases_lt k place) [
       | inl before ↦
@@ -46,13 +46,15 @@ module _ {K : Type 0} {R : K → K → Ordering} (order : IsTotalOrder R) (keys 
       ]
     ]
 
-  -- a search by halving finds one that is among them
+  -- a binary search for a key
   module _ (key : K) where
+    -- a binary search that ends with `Ok` has found the place of the key
     pub found_place : ((x y : K) → R x y ≡ Equal → x ≡ y) → (at : ℕ) → at < length keys
         → IsBinarySearchResult (λ y. R y key) keys (Ok at) → slice_get keys at ≡ Some key
     found_place exact at below tied =
         slice_get-get_or keys at key below ∙ ap (λ (x : K). Some x) (exact (get_or keys at key) key (tied key))
 
+    -- a binary search for a key that is in the list does not end with `Err`
     pub never_missed : Contains keys key → (at : ℕ) → IsBinarySearchResult (λ y. R y key) keys (Err at) → {X : Type 0} → X
     never_missed there at found =
         let point = found (searchable_from_sorted order (λ (x : K). x) keys key rising_is_sorted) in
@@ -67,7 +69,7 @@ module _ {X : Type 0} (f : X → List ℕ) (sorted : List X) where
   abbrev same : X → X → Bool
   same one other = bytes_eq (f one) (f other)
 
-  -- they rise
+  -- texts that are sorted rise strictly once repeats are removed
   pub texts_sorted : IsSorted (λ one other. text_cmp (f one) (f other)) sorted → IsStrictlySortedBy text_cmp (map f (dedup same sorted))
   unfolding IsStrictlySortedBy
   texts_sorted in_order =
@@ -83,7 +85,7 @@ module _ {X : Type 0} (f : X → List ℕ) (sorted : List X) where
       by [] rises = tt
       by (x ∷ xs) rises = (less x xs rises.0, by xs rises.1)
 
--- and they are the same as before
+-- sorting texts and removing repeats keeps each text
 pub texts_kept : {X : Type 0} (f : X → List ℕ) (xs sorted : List X) → IsPermutation xs sorted → (text : List ℕ)
     → Contains (map f (dedup (λ one other. bytes_eq (f one) (f other)) sorted)) text ↔ Contains (map f xs) text
 texts_kept {X} f xs sorted moved text = (

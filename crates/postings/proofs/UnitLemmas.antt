@@ -31,18 +31,21 @@ module _ (inside : Inside) (are : AreIndexed inside) (now : Indexed) (same : ind
   abbrev stands : CodedRow → Attribute
   stands = row_coded inside.concepts.items inside.rows.types.numbers (values_in inside.concepts.items inside.rows.values)
 
+  -- there are as many rows as places of types
   pub length-rows : length rows ≡ length inside.rows.type_places.items
   length-rows = length-map (rows_kept inside.rows) stands ∙ length-kept inside.rows
 
   -- ---- a row
   module _ (n : ℕ) (below : n < length now.rows) where
+    -- the number `n` is below the number of rows that the fields stand for
     pub near : n < length rows
     near = subst (λ (count : ℕ). n < count) (ap (λ (indexed : Indexed). length indexed.rows) (sym same)) below
 
+    -- the indexes keep row `n`
     pub row_there : IsKept inside.rows n
     row_there = are.rows.kept n near
 
-    -- its group
+    -- the kept number of a row's group leads to the group of the row
     pub unit_told : (unit : ℕ) → unit ≡ unit_kept inside.rows n
         → IfSome (slice_get now.rows n) (λ row. slice_get (groups_in now) unit ≡ Some (group_of row))
     unit_told unit is =
@@ -57,12 +60,14 @@ module _ (inside : Inside) (are : AreIndexed inside) (now : Indexed) (same : ind
             row_there.place)
 
   -- ---- a row by its place
+  -- row `n` is the attribute row that the kept row with the number `n` stands for
   pub row_at : (n : ℕ) (d : Attribute) → n < length rows → get_or rows n d ≡ stands (row_kept inside.rows n)
   row_at n d below =
       let row : CodedRow = row_kept inside.rows n in
       get_or-map stands (rows_kept inside.rows) n row d (omega (arith, below, length-rows, length-kept inside.rows))
       ∙ ap stands (kept_at inside.rows n row (omega (arith, below, length-rows)))
 
+  -- the numbers of a kept row are within their tables
   pub row_coded_within : (n : ℕ) → n < length rows
       → IsCoded inside.concepts.items inside.rows.types.numbers (values_in inside.concepts.items inside.rows.values)
       (row_kept inside.rows n)
@@ -87,6 +92,7 @@ module _ (inside : Inside) (are : AreIndexed inside) (now : Indexed) (same : ind
     long = ap (λ (xs : List (List ℕ)). length xs) are.rows.groups.each
         ∙ length-map groups (λ (group : ConceptGroup). places_where (is_in_group group) rows)
 
+    -- there is a list of rows for each group
     pub unit_listed : unit < length inside.rows.groups.rows
     unit_listed = omega (arith, here, long)
 
@@ -95,7 +101,7 @@ module _ (inside : Inside) (are : AreIndexed inside) (now : Indexed) (same : ind
         ap (λ (xs : List (List ℕ)). list_of xs unit) are.rows.groups.each
         ∙ get_or-map (λ (group : ConceptGroup). places_where (is_in_group group) rows) groups unit none [] here
 
-    -- the rows listed for it are its rows
+    -- the rows that are listed for a group are its rows
     pub rows_told : (found : List ℕ) → found ≡ list_of inside.rows.groups.rows unit
         → IfSome (slice_get (groups_in now) unit) (λ group. found ≡ rows_of_group now group)
     rows_told found is =
@@ -108,7 +114,7 @@ module _ (inside : Inside) (are : AreIndexed inside) (now : Indexed) (same : ind
     has : list_any (is_in_group group) rows ≡ true
     has = groups_have (rows_alone inside.concepts.items rows) inside.concepts.items unit none here
 
-    -- its first row
+    -- the list of a group's rows is not empty
     pub has_first : 0 < length (list_of inside.rows.groups.rows unit)
     has_first = omega (arith, ap (λ (xs : List ℕ). length xs) unit_rows, some_place (is_in_group group) rows has)
 
@@ -119,9 +125,11 @@ module _ (inside : Inside) (are : AreIndexed inside) (now : Indexed) (same : ind
       first_there : first < length rows
       first_there = subst (λ (n : ℕ). n < length rows) (sym at) (first_within (is_in_group group) rows has d)
 
+      -- the indexes keep the first row of a group
       pub first_kept : IsKept inside.rows first
       first_kept = are.rows.kept first first_there
 
+      -- the source of a group's first row is the number of a concept
       pub source_within : (row_kept inside.rows first).source < length inside.concepts.items
       source_within = (row_coded_within first first_there).source
 
@@ -134,6 +142,7 @@ module _ (inside : Inside) (are : AreIndexed inside) (now : Indexed) (same : ind
           ap (λ (found : Attribute). found.source) (sym (row_at first (stands (row_kept inside.rows first)) first_there))
           ∙ eqb-true row.source group.concept (and_parts (row.source == group.concept) (has_key group.key row) passes).0
 
+      -- the source of a group's first row is the concept of the group
       pub concept_told : (concept : ℕ) → concept ≡ (row_kept inside.rows first).source
           → IfSome (slice_get (groups_in now) unit) (λ group. slice_index now.concepts concept ≡ group.concept)
       concept_told concept told =

@@ -27,7 +27,7 @@ use Rattle.postings.specs.RowValues.{AreTables, decimals_at, decimals_of, text_c
 use Rattle.postings.specs.inside.ValueTables.{values_in}
 use Rattle.postings.specs.declared.values.Values.{Values}
 
--- an item of a list of what a function gives is given for an item
+-- each item of `map f xs` is `f` of an item of `xs`
 pub from_map : {X Y : Type 0} (f : X → Y) (xs : List X) (y : Y) → Contains (map f xs) y → (x : X) × Contains xs x × (f x ≡ y)
 from_map f [] y (k, below, is) = absurd (omega arith)
 from_map f (x ∷ xs) y (zero, below, is) = (x, (0, omega arith, refl), is)
@@ -37,10 +37,11 @@ from_map f (x ∷ xs) y (suc k, below, is) =
 
 -- ---- the values that are no concepts: some decimals and texts
 module _ (decimals : List ℤ) (texts : List (List ℕ)) where
+  -- the values that are no concepts: first the decimals, and then the texts
   abbrev pub values_behind : List Value
   values_behind = map number_value decimals ++ map text_value texts
 
-  -- how many they are
+  -- the values that are no concepts are as many as the decimals and the texts
   length-values_behind : length values_behind ≡ length decimals + length texts
   length-values_behind = omega (
     arith,
@@ -49,14 +50,14 @@ module _ (decimals : List ℤ) (texts : List (List ℕ)) where
     length-map texts text_value,
   )
 
-  -- a decimal at its place
+  -- among the values that are no concepts, value `k` is decimal `k`
   decimal_behind : (k : ℕ) (d : Value) (e : ℤ) → k < length decimals
       → get_or values_behind k d ≡ number_value (get_or decimals k e)
   decimal_behind k d e below =
       get_or_append_left (map number_value decimals) (map text_value texts) d k (omega (arith, below, length-map decimals number_value))
       ∙ get_or-map number_value decimals k e d below
 
-  -- a text at its place behind the decimals
+  -- among the values that are no concepts, value `k` after the decimals is text `k`
   pub text_behind : (k : ℕ) (d : Value) → k < length texts
       → get_or values_behind (length decimals + k) d ≡ text_value (get_or texts k [])
   text_behind k d below =
@@ -69,11 +70,11 @@ module _ (concepts : List ℕ) (decimals : List ℤ) (texts : List (List ℕ)) w
   abbrev values : List Value
   values = values_among concepts decimals texts
 
-  -- those behind the concepts
+  -- the values after the concepts
   abbrev behind : List Value
   behind = values_behind decimals texts
 
-  -- how many they are
+  -- the values are as many as the concepts, the decimals and the texts
   pub length-values : length values ≡ length concepts + (length decimals + length texts)
   length-values = omega (
     arith,
@@ -82,37 +83,41 @@ module _ (concepts : List ℕ) (decimals : List ℤ) (texts : List (List ℕ)) w
     length-values_behind decimals texts,
   )
 
-  -- a value behind the concepts at its place
+  -- value `k` after the concepts is value `k` of the values that are no concepts
   pub value_behind : (k : ℕ) (d : Value) → get_or values (length concepts + k) d ≡ get_or behind k d
   value_behind k d =
       ap (λ (n : ℕ). get_or values (n + k) d) (sym (length-map concepts concept_value))
       ∙ get_or-append-add (map concept_value concepts) behind k d
 
-  -- a concept, a decimal and a text at their places among the values
+  -- value `k` is concept `k`
   pub concept_at : (k : ℕ) (d : Value) → k < length concepts → get_or values k d ≡ concept_value (get_or concepts k 0)
   concept_at k d below =
       get_or_append_left (map concept_value concepts) behind d k (omega (arith, below, length-map concepts concept_value))
       ∙ get_or-map concept_value concepts k 0 d below
 
+  -- value `k` after the concepts is decimal `k`
   pub decimal_at : (k : ℕ) (d : Value) (e : ℤ) → k < length decimals
       → get_or values (length concepts + k) d ≡ number_value (get_or decimals k e)
   decimal_at k d e below = value_behind k d ∙ decimal_behind decimals texts k d e below
 
+  -- value `k` after the concepts and the decimals is text `k`
   pub text_at : (k : ℕ) (d : Value) → k < length texts
       → get_or values (length concepts + (length decimals + k)) d ≡ text_value (get_or texts k [])
   text_at k d below = value_behind (length decimals + k) d ∙ text_behind decimals texts k d below
 
-  -- what is among the concepts, the decimals or the texts is among the values
+  -- a concept of `concepts` is among the values
   pub concept_there : (concept : ℕ) → Contains concepts concept → Contains values (concept_value concept)
   concept_there concept there = Contains-append_left (map concept_value concepts) behind (concept_value concept)
       (Contains-map concept_value concepts concept there)
 
+  -- a decimal of `decimals` is among the values
   pub decimal_there : (decimal : ℤ) → Contains decimals decimal → Contains values (number_value decimal)
   decimal_there decimal there =
       Contains-append_right (map concept_value concepts) behind (number_value decimal)
       (Contains-append_left (map number_value decimals) (map text_value texts) (number_value decimal)
       (Contains-map number_value decimals decimal there))
 
+  -- a text of `texts` is among the values
   pub text_there : (text : List ℕ) → Contains texts text → Contains values (text_value text)
   text_there text there =
       Contains-append_right (map concept_value concepts) behind (text_value text)
@@ -132,7 +137,7 @@ module _ (concepts : List ℕ) (decimals : List ℤ) (texts : List (List ℕ)) w
     ]
   ]
 
-  -- a decimal or a text that is among the values is among the decimals or the texts
+  -- a decimal that is among the values is in `decimals`
   pub had_decimal : (decimal : ℤ) → Contains values (number_value decimal) → Contains decimals decimal
   had_decimal decimal there = elim (cases_of (number_value decimal) there) [
     | inl found ↦ absurd (cc (found.2))
@@ -140,6 +145,7 @@ module _ (concepts : List ℕ) (decimals : List ℤ) (texts : List (List ℕ)) w
     | inr (inr found) ↦ absurd (cc (found.2))
   ]
 
+  -- a text that is among the values is in `texts`
   pub had_text : (text : List ℕ) → Contains values (text_value text) → Contains texts text
   had_text text there = elim (cases_of (text_value text) there) [
     | inl found ↦ absurd (cc (found.2))
@@ -149,7 +155,7 @@ module _ (concepts : List ℕ) (decimals : List ℤ) (texts : List (List ℕ)) w
 
 -- ---- the places of values in their tables
 
--- the number of a concept leads to it
+-- the value with the number of a concept is the concept
 pub concept_placed : (concepts : List ℕ) (decimals : List ℤ) (texts : List (List ℕ)) (number : ℕ) → number < length concepts
     → slice_get (values_among concepts decimals texts) number ≡ Some (concept_value (slice_index concepts number))
 concept_placed concepts decimals texts number below =
@@ -157,7 +163,7 @@ concept_placed concepts decimals texts number below =
     (omega (arith, below, length-values concepts decimals texts))
     ∙ ap (λ (value : Value). Some value) (concept_at concepts decimals texts number (concept_value 0) below)
 
--- behind the concepts the place of a decimal among the decimals leads to it
+-- the value with the place of a decimal, counted after the concepts, is the decimal
 pub decimal_placed : (concepts : List ℕ) (decimals : List ℤ) (texts : List (List ℕ)) (decimal : ℤ) (place : ℕ)
     → slice_get decimals place ≡ Some decimal
     → slice_get (values_among concepts decimals texts) (length concepts + place) ≡ Some (number_value decimal)
@@ -168,7 +174,7 @@ decimal_placed concepts decimals texts decimal place found =
     ∙ ap (λ (value : Value). Some value) (decimal_at concepts decimals texts place (number_value decimal) decimal below
     ∙ ap number_value (get_or_from_slice_get decimals place decimal decimal found))
 
--- and behind the decimals that of a text among the texts
+-- the value with the place of a text, counted after the concepts and the decimals, is the text
 pub text_placed : (concepts : List ℕ) (decimals : List ℤ) (texts : List (List ℕ)) (text : List ℕ) (place : ℕ)
     → slice_get texts place ≡ Some text
     → slice_get (values_among concepts decimals texts) (length concepts + (length decimals + place)) ≡ Some (text_value text)
@@ -180,7 +186,7 @@ text_placed concepts decimals texts text place found =
     ∙ ap text_value (get_or_from_slice_get texts place text [] found))
 
 -- ---- the values of rows
--- what rows by source are is what all rows are
+-- a property of all rows holds of all rows by source
 pub all_by_source : (P : Attribute → Type 0) (concepts : List ℕ) (rows : List Attribute) → All P rows
     → All P (flat_map (λ concept. filter (λ (row : Attribute). row.source == concept) rows) concepts)
 all_by_source P [] rows all = All-nil P
@@ -189,7 +195,7 @@ all_by_source P (concept ∷ concepts) rows all =
     All-append P (filter own rows) (flat_map (λ concept. filter (λ (row : Attribute). row.source == concept) rows) concepts)
     (All-filter own P rows all) (all_by_source P concepts rows all)
 
--- each row has at most one decimal or text
+-- the rows have no more decimals and texts than there are rows
 pub few_values : (rows : List Attribute) → length (decimals_of rows) + length (texts_of rows) ≤ length rows
 few_values [] = omega arith
 few_values (row ∷ rows) =
@@ -206,7 +212,7 @@ few_values (row ∷ rows) =
     one (number_value decimal) = omega arith
     one (text_value text) = omega arith
 
--- the value of each row is among the values where the concepts, the decimals and the texts that rows have are
+-- values of rows, by tables that have the concepts, the decimals and the texts of the rows
 module _ (concepts : List ℕ) (decimals : List ℤ) (texts : List (List ℕ)) where
   value_there : (value : Value) → is_value_among concepts value ≡ true
       → ((decimal : ℤ) → Contains (decimals_at value) decimal → Contains decimals decimal)
@@ -219,6 +225,7 @@ module _ (concepts : List ℕ) (decimals : List ℤ) (texts : List (List ℕ)) w
   value_there (text_value text) among had_decimals had_texts =
       text_there concepts decimals texts text (had_texts text (0, omega arith, refl))
 
+  -- the value of each row is among the values, if its concept, decimal or text is in the tables
   pub values_there : (rows : List Attribute) → All (λ (row : Attribute). is_value_among concepts row.value ≡ true) rows
       → ((decimal : ℤ) → Contains (decimals_of rows) decimal → Contains decimals decimal)
       → ((text : List ℕ) → Contains (texts_of rows) text → Contains texts text)
@@ -233,28 +240,30 @@ module _ (concepts : List ℕ) (decimals : List ℤ) (texts : List (List ℕ)) w
       (λ decimal there. had_decimals decimal (Contains-append_right (decimals_at row.value) (decimals_of rows) decimal there))
       (λ text there. had_texts text (Contains-append_right (texts_at row.value) (texts_of rows) text there)))
 
--- a value that is a concept by its number is no decimal and no text either
+-- a value has the same decimal, if any, whether concepts go by number or by identifier
 pub same_decimals : (concepts : List ℕ) (value : Value) → decimals_at (value_by_identifier concepts value) ≡ decimals_at value
 same_decimals concepts (concept_value number) = refl
 same_decimals concepts (number_value decimal) = refl
 same_decimals concepts (text_value text) = refl
 
--- the decimals and the texts of the rows up to behind a place
+-- row `n`, which comes after the first `n`
 module _ (rows : List Attribute) (n : ℕ) (row : Attribute) (here : slice_get rows n ≡ Some row) where
   read_next : take (n + 1) rows ≡ take n rows ++ row ∷ []
   read_next =
       take_more rows n row (slice_get_within rows n row here)
       ∙ ap (λ (next : Attribute). take n rows ++ next ∷ []) (get_or_from_slice_get rows n row row here)
 
+  -- the decimals of the first `n + 1` rows are those of the first `n`, and the decimal of row `n` at the end
   pub decimals_more : decimals_of (take (n + 1) rows) ≡ decimals_of (take n rows) ++ decimals_at row.value
   decimals_more = ap decimals_of read_next ∙ sym (flat_map_more (λ (row : Attribute). decimals_at row.value) [] (take n rows) row)
 
+  -- the texts of the first `n + 1` rows are those of the first `n`, and the text of row `n` at the end
   pub texts_more : texts_of (take (n + 1) rows) ≡ texts_of (take n rows) ++ texts_at row.value
   texts_more = ap texts_of read_next ∙ sym (flat_map_more (λ (row : Attribute). texts_at row.value) [] (take n rows) row)
 
 -- ---- no value is there twice
 
--- items of which a function gives what differs give a list of what differs
+-- `map f xs` has no repeats, if `f` of any two items of `xs` differs
 pub distinct_map : {X Y : Type 0} (same : Y → Y → Bool) (f : X → Y) (xs : List X) → IsDistinct (λ x y. same (f x) (f y)) xs
     → IsDistinct same (map f xs)
 unfolding IsDistinct
@@ -266,7 +275,7 @@ distinct_map {X} same f (x ∷ xs) apart = (all_map xs apart.0, distinct_map sam
     all_map [] all = tt
     all_map (y ∷ ys) all = (all.0, all_map ys all.1)
 
--- concepts that rise differ
+-- two concepts of a rising list are equal exactly if their numbers are
 pub rising_apart : (concepts : List ℕ) → IsStrictlyIncreasing concepts → (v w : ℕ) → v < length concepts → w < length concepts
     → (get_or concepts v 0 == get_or concepts w 0) ≡ (v == w)
 rising_apart concepts rising v w in' there = elim (cases_order v w) [
@@ -279,7 +288,7 @@ rising_apart concepts rising v w in' there = elim (cases_order v w) [
       ne_eqb (get_or concepts v 0) (get_or concepts w 0) (λ is. omega arith) ∙ sym (ne_eqb v w (λ is. omega arith))
 ]
 
--- items of two lists that differ stay so in one, where none of the first is the same as one of the second
+-- two lists without repeats have none when joined, if no item of the first is the same as one of the second
 apart_both : {X : Type 0} (same : X → X → Bool) (xs ys : List X) → IsDistinct same xs → IsDistinct same ys
     → AllByRecursion (λ x. AllByRecursion (λ y. same x y ≡ false) ys) xs → IsDistinct same (xs ++ ys)
 unfolding IsDistinct
@@ -290,10 +299,11 @@ apart_both {X} same (x ∷ xs) ys first later cross = (all_both xs first.0, apar
     all_both [] all = cross.0
     all_both (z ∷ zs) all = (all.0, all_both zs all.1)
 
--- decimals and texts that rise differ
+-- decimals that rise strictly have no repeats
 decimals_differ : (decimals : List ℤ) → IsStrictlySortedBy int_cmp decimals → IsDistinct int_eq decimals
 decimals_differ decimals rises = IsDistinct-from_sorted int_cmp decimals rises
 
+-- texts that rise strictly have no repeats
 texts_differ : (texts : List (List ℕ)) → IsStrictlySortedBy text_cmp texts → IsDistinct bytes_eq texts
 texts_differ texts rises = subst (λ (same : List ℕ → List ℕ → Bool). IsDistinct same texts) (λ i one other. sym (texts_ties one other) i)
     (IsDistinct-from_sorted text_cmp texts rises)
@@ -305,7 +315,7 @@ module _ (concepts : List ℕ) (values : Values) (rising : IsStrictlyIncreasing 
   abbrev numbers : List ℤ
   numbers = values.decimals.items
 
-  -- what is behind the concepts is no concept
+  -- no value after the concepts is a concept
   no_concept : (concept : ℕ) → All (λ value. value_eq value (concept_value concept) ≡ false)
       (values_behind numbers values.texts)
   no_concept concept =
@@ -350,7 +360,7 @@ module _ (concepts : List ℕ) (values : Values) (rising : IsStrictlyIncreasing 
       decimals_apart)
       concepts_apart
 
-  -- two values are the same exactly where their numbers are
+  -- two values are equal exactly if their numbers are
   pub values_exact : AreTables numbers values.texts → (v w : ℕ) → v < length all → w < length all
       → value_eq (value_at all v) (value_at all w) ≡ (v == w)
   values_exact tables v w in' there = elim (cases_order v w) [
@@ -367,7 +377,7 @@ module _ (concepts : List ℕ) (values : Values) (rising : IsStrictlyIncreasing 
         ∙ sym (ne_eqb v w (λ is. omega arith))
   ]
 
-  -- a value is a concept exactly where its number is that of the concept
+  -- a value is a concept exactly if its number is that of the concept
   pub value_of_concept : (v c : ℕ) → v < length all → c < length concepts
       → value_eq (value_at all v) (concept_value (slice_index concepts c)) ≡ (v == c)
   value_of_concept v c in' there = elim (cases_lt v (length concepts)) [

@@ -9,41 +9,47 @@ use Rattle.number_lists.specs.RisingOrder.{rising}
 use Rattle.postings.specs.Indexed.{Indexed}
 use Rattle.postings.specs.Places.{places_where}
 
--- what tells the groups of a concept apart: a number, or of the rows without one the pair
+-- the key of a group within its concept: its number, or the pair of a row without a number
 pub data GroupKey : Type 0 where
   numbered : ℕ → GroupKey
   ungrouped : Pair → GroupKey
 
 -- a group of a concept
 pub record ConceptGroup : Type 0 where
+  -- the identifier of the concept
   pub concept : ℕ
+  -- the key that tells the group from the other groups of its concept
   pub key : GroupKey
 
--- the groups of a concept: those with a number, rising, and then the pairs without one, each where it is first
+-- the keys of the groups of a concept: first the numbers, rising, and then the pairs without a number, in the order
+-- of their first rows
 abbrev pub keys_of : Release → ℕ → List GroupKey
 keys_of release concept =
     map numbered (rising (group_numbers release concept)) ++ map ungrouped (pairs_in release concept 0)
 
--- the groups of some concepts, and of all: a group's number is its place in this list
+-- the groups of `concepts`, concept by concept
 abbrev pub groups_among : Release → List ℕ → List ConceptGroup
 groups_among release concepts =
     flat_map (λ concept. map (λ key. record { concept = concept; key = key }) (keys_of release concept)) concepts
 
+-- the groups of all concepts of a release; a group's number is its place in this list
 abbrev pub all_groups : Release → List ConceptGroup
 all_groups release = groups_among release release.concepts
 
--- the group that a row belongs to
+-- the key of the group that a row belongs to
 abbrev pub key_of : Attribute → GroupKey
 key_of row = if row.group == 0 then ungrouped (pair_of row) else numbered row.group
 
+-- the group that a row belongs to
 abbrev pub group_of : Attribute → ConceptGroup
 group_of row = record { concept = row.source; key = key_of row }
 
--- whether a row belongs to a group
+-- whether a row has the group number of a key, or no number and the pair of the key
 abbrev pub has_key : GroupKey → Attribute → Bool
 has_key (numbered number) row = row.group == number
 has_key (ungrouped pair) row = (row.group == 0) && pair_eq (pair_of row) pair
 
+-- whether a row belongs to `group`: it has the concept of the group as its source, and the key
 abbrev pub is_in_group : ConceptGroup → Attribute → Bool
 is_in_group group row = (row.source == group.concept) && has_key group.key row
 
@@ -55,14 +61,15 @@ pairs_of_group release group = pairs_with group.key
     pairs_with (numbered number) = pairs_in release group.concept number
     pairs_with (ungrouped pair) = pair ∷ []
 
--- some concepts and attribute rows as a release
+-- the release that has `concepts` and the attribute rows `rows`, and nothing else
 abbrev pub rows_alone : List ℕ → List Attribute → Release
 rows_alone concepts rows = record { concepts = concepts; isa = []; attributes = rows; members = []; names = [] }
 
--- the groups of the indexes, and those of the concepts before one
+-- the groups of all concepts of the indexes, in the order of their numbers
 abbrev pub groups_in : Indexed → List ConceptGroup
 groups_in indexed = all_groups (rows_alone indexed.concepts indexed.rows)
 
+-- the groups of the concepts whose numbers are below `concept`
 abbrev pub groups_before : Indexed → ℕ → List ConceptGroup
 groups_before indexed concept = groups_among (rows_alone indexed.concepts indexed.rows) (take concept indexed.concepts)
 

@@ -12,14 +12,20 @@ use Rattle.ancestor_index.specs.HierarchyLists.{Hierarchy, hierarchy_of, is_chil
 use Rattle.postings.specs.Places.{places_where}
 use Rattle.postings.specs.RowValues.{AreTablesOf}
 
--- the concepts in force; their hierarchy; the attribute rows; for each concept the components of the reference set that it is;
--- and of the values of the rows the decimals, as so many times 10^-18, and the other texts, rising and each once
+-- what the indexes of a release hold: its concepts, their hierarchy, its attribute rows, the members of its
+-- concepts, and the values of its rows that are no concepts
 pub record Indexed : Type 0 where
+  -- the identifiers of the concepts in force, by the numbers of the concepts
   pub concepts : List ℕ
+  -- for each concept the lists of its ancestors, descendants, parents and children
   pub hierarchy : Hierarchy
+  -- the attribute rows, by their numbers
   pub rows : List Attribute
+  -- for each concept the numbers of the components of the reference set that it is
   pub members : List (List ℕ)
+  -- the decimals among the values of the rows, in units of 10^-18, rising and each once
   pub decimals : List ℤ
+  -- the other texts among the values of the rows, rising by their bytes and each once
   pub texts : List (List ℕ)
 
 -- for each concept the components of the member rows whose reference set it is, in rising order and once each
@@ -28,12 +34,17 @@ members_of release =
     let id : ℕ → ℕ = slice_index release.concepts in
     lists_where (length release.concepts) (λ refset component. is_child release.members (id refset) (id component))
 
--- the indexes are those of a release
+-- `indexed` is what the indexes of `release` hold
 pub record IsIndexOf (indexed : Indexed) (release : Release) : Type 0 where
+  -- the concepts are those of the release
   pub concepts : indexed.concepts ≡ release.concepts
+  -- the hierarchy is that of the release
   pub hierarchy : indexed.hierarchy ≡ hierarchy_of release
+  -- the rows are the attribute rows of the release by source
   pub rows : indexed.rows ≡ attributes_by_source release
+  -- the members are the components of the reference sets of the release
   pub members : indexed.members ≡ members_of release
+  -- the decimals and the texts are those among the values of the release's attribute rows
   pub values : AreTablesOf (attributes_by_source release) indexed.decimals indexed.texts
 
 -- a concept has members: its list of them is not empty
@@ -48,29 +59,35 @@ with_members members = numbers_where (length members) (has_members members)
 abbrev pub reference_sets_of : Indexed → List ℕ
 reference_sets_of indexed = with_members indexed.members
 
--- each concept below a count has a list in each of the four families of a hierarchy
+-- each of the four families of a hierarchy has a list for each of `count` concepts
 pub record HasListsFor (count : ℕ) (hierarchy : Hierarchy) : Type 0 where
+  -- there is a list of ancestors for each concept
   pub ancestors : length hierarchy.ancestors ≡ count
+  -- there is a list of descendants for each concept
   pub descendants : length hierarchy.descendants ≡ count
+  -- there is a list of parents for each concept
   pub parents : length hierarchy.parents ≡ count
+  -- there is a list of children for each concept
   pub children : length hierarchy.children ≡ count
 
--- the numbers of the rows of a type, of those whose value is a concept, and of those of a source
+-- the numbers of the rows whose type is `id`
 abbrev pub rows_by_type : Indexed → ℕ → List ℕ
 rows_by_type indexed id = places_where (λ (row : Attribute). row.type_id == id) indexed.rows
 
+-- the numbers of the rows whose value is the concept with the number `concept`
 abbrev pub rows_by_value : Indexed → ℕ → List ℕ
 rows_by_value indexed concept =
     places_where (λ (row : Attribute). value_eq row.value (concept_value (slice_index indexed.concepts concept))) indexed.rows
 
+-- the numbers of the rows whose source is the concept with the number `concept`
 abbrev pub rows_by_source : Indexed → ℕ → List ℕ
 rows_by_source indexed concept = places_where (λ (row : Attribute). row.source == slice_index indexed.concepts concept) indexed.rows
 
--- the types of the rows, each where it is first
+-- the types of the rows, each once, in the order of their first rows
 abbrev pub types_of : List Attribute → List ℕ
 types_of rows = distinct nat_eq (map (λ (row : Attribute). row.type_id) rows)
 
--- the number of the concept in force that a type is, where there is such a type
+-- the number of the concept in force that a type is, or none if there is no type or it is no concept in force
 abbrev pub concept_of_type : Indexed → Option ℕ → Option ℕ
 concept_of_type indexed None = None
 concept_of_type indexed (Some id) = concept_number indexed.concepts id
@@ -79,9 +96,10 @@ concept_of_type indexed (Some id) = concept_number indexed.concepts id
 abbrev pub values_among : List ℕ → List ℤ → List (List ℕ) → List Value
 values_among concepts decimals texts = map concept_value concepts ++ (map number_value decimals ++ map text_value texts)
 
+-- the values that the rows of the indexes can have, in the order of their numbers
 abbrev pub values_of : Indexed → List Value
 values_of indexed = values_among indexed.concepts indexed.decimals indexed.texts
 
--- the value with a number
+-- the value with the number `number` among `values`
 abbrev pub value_at : List Value → ℕ → Value
 value_at values number = slice_index_or values number (text_value [])

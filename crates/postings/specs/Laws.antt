@@ -26,7 +26,8 @@ AreFirstOfGroup =
     ≡ map (λ (entry : Entry). pair_of entry.row)
     (filter (λ (entry : Entry). is_in_group group entry.row && entry.is_first_in_group) (entries_of (attributes_by_source release)))
 
--- read backwards, as many distinct pairs of a value pass a test as of its rows that are the first with their pair in their concept
+-- read backwards, the distinct pairs of a value that pass a test are as many as the rows with the value that are the
+-- first with their pair in their concept and whose pair passes
 abbrev pub CountsFirstBack : Type 0
 CountsFirstBack =
     (release : Release) → All (λ (row : Attribute). has release.concepts row.source ≡ true) release.attributes
@@ -36,7 +37,8 @@ CountsFirstBack =
     (filter (λ (entry : Entry). value_eq entry.row.value (concept_value concept) && entry.is_first)
     (entries_of (attributes_by_source release))))
 
--- the groups of a concept, in the order in which they are numbered, are its groups
+-- any test of their pairs passes for as many groups of a concept in `groups_among`, which numbers them, as in
+-- `groups_of`
 abbrev pub CountsGroups : Type 0
 CountsGroups =
     (release : Release) (test : List Pair → Bool) (concept : ℕ)

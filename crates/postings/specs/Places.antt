@@ -2,7 +2,7 @@
 use Rattle.std.specs.Prelude.{ℕ, ◌+◌, ◌==◌, Bool, if◌then◌else◌, List, [], ◌∷◌, map}
 use Rattle.std.specs.List.{range_with_len}
 
--- the places of the items that pass a test, in rising order, where the first item has a place
+-- the places of the items that pass `test`, in rising order, if the first item has the place `place`
 abbrev pub places_from : {X : Type 0} → ℕ → (X → Bool) → List X → List ℕ
 places_from place test [] = []
 places_from place test (item ∷ items) =
@@ -12,6 +12,6 @@ places_from place test (item ∷ items) =
 abbrev pub places_where : {X : Type 0} → (X → Bool) → List X → List ℕ
 places_where test items = places_from 0 test items
 
--- of the keys of some items, for each key below a count the places of the items that have it
+-- for each number below `count` the places of `keys` at which it stands
 abbrev pub places_by : ℕ → List ℕ → List (List ℕ)
 places_by count keys = map (λ key. places_where (λ other. other == key) keys) (range_with_len 0 count)

@@ -7,20 +7,23 @@ use Rattle.std.specs.Ordering.{int_cmp, nat_cmp}
 use Rattle.std.specs.declared.cmp.Ordering.{Ordering}
 use Rattle.rf2_rows.specs.Release.{Attribute, Value, concept_value, number_value, text_value}
 
--- those of some rows, row by row
+-- the decimal that a value is, as a list of one; an empty list for any other value
 abbrev pub decimals_at : Value → List ℤ
 decimals_at (concept_value concept) = []
 decimals_at (number_value decimal) = decimal ∷ []
 decimals_at (text_value text) = []
 
+-- the text that a value is, as a list of one; an empty list for any other value
 abbrev pub texts_at : Value → List (List ℕ)
 texts_at (concept_value concept) = []
 texts_at (number_value decimal) = []
 texts_at (text_value text) = text ∷ []
 
+-- the decimals among the values of `rows`, row by row
 abbrev pub decimals_of : List Attribute → List ℤ
 decimals_of rows = flat_map (λ (row : Attribute). decimals_at row.value) rows
 
+-- the texts among the values of `rows`, row by row
 abbrev pub texts_of : List Attribute → List (List ℕ)
 texts_of rows = flat_map (λ (row : Attribute). texts_at row.value) rows
 
@@ -28,13 +31,18 @@ texts_of rows = flat_map (λ (row : Attribute). texts_at row.value) rows
 abbrev pub text_cmp : List ℕ → List ℕ → Ordering
 text_cmp = slice_cmp nat_cmp
 
--- decimals and texts that rise, so that none is there twice
+-- `decimals` and `texts` rise strictly, so that none is there twice
 pub record AreTables (decimals : List ℤ) (texts : List (List ℕ)) : Type 0 where
+  -- the decimals rise strictly
   pub decimals_rise : IsStrictlySortedBy int_cmp decimals
+  -- the texts rise strictly by their bytes
   pub texts_rise : IsStrictlySortedBy text_cmp texts
 
--- they are those that some rows have
+-- `decimals` and `texts` are those among the values of `rows`, rising and each once
 pub record AreTablesOf (rows : List Attribute) (decimals : List ℤ) (texts : List (List ℕ)) : Type 0 where
+  -- the decimals and the texts rise strictly
   pub rising : AreTables decimals texts
+  -- a decimal is in `decimals` exactly if it is the value of a row
   pub decimals_are : (decimal : ℤ) → ∥ Contains decimals decimal ↔ Contains (decimals_of rows) decimal ∥₁
+  -- a text is in `texts` exactly if it is the value of a row
   pub texts_are : (text : List ℕ) → ∥ Contains texts text ↔ Contains (texts_of rows) text ∥₁

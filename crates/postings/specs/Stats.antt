@@ -10,13 +10,13 @@ use Rattle.postings.specs.Groups.{groups_in}
 use Rattle.postings.specs.Indexed.{Indexed, rows_by_type}
 use Rattle.postings.specs.declared.stats.Stats.{Stats}
 
--- the pairs of concepts in force of which the first stands to the second as a test says, each once
+-- the pairs of two concepts of `concepts` that pass `test`, each once
 abbrev pub pairs_where : List ℕ → (ℕ → ℕ → Bool) → List (ℕ × ℕ)
 pairs_where concepts test =
     flat_map (λ concept. map (λ other. (concept, other)) (filter (test concept) concepts)) concepts
 
--- of a release: its concepts; its attribute rows; the groups of its concepts; its pairs of a concept and one that it reaches by
--- is-a rows, of a concept and one that a row leads to, and of a reference set and a component
+-- the counts of a release: its concepts; its attribute rows; the groups of its concepts; and its pairs of a
+-- concept and an ancestor, of a concept and a parent, and of a reference set and a component
 abbrev pub stats_of : Release → Stats
 stats_of release = record {
   n = length release.concepts;
@@ -27,7 +27,7 @@ stats_of release = record {
   m = length (pairs_where release.concepts (is_child release.members));
 }
 
--- of the indexes of a release: the same, by their lists
+-- the counts of the indexes by their lists: concepts, rows, groups, ancestors, parents and members
 abbrev pub stats_in : Indexed → Stats
 stats_in indexed = record {
   n = length indexed.concepts;
@@ -38,6 +38,6 @@ stats_in indexed = record {
   m = length (concat indexed.members);
 }
 
--- how many rows have a type
+-- how many rows have the type `id`
 abbrev pub type_row_count : Indexed → ℕ → ℕ
 type_row_count indexed id = length (rows_by_type indexed id)

@@ -50,7 +50,8 @@ pub struct RowsByKey {
     pub groups: Vec<FlaggedNumber>,
 }
 
-/// The rows of each of so many keys, by the keys of all rows, with the columns of their marks and their other cells.
+/// Makes the list of the rows of each key below `count`, with columns. `keys`, `others` and `marks` have for each
+/// row its key, its other cell and its marks.
 pub fn row_lists(
     alloc: Global,
     count: u32,

@@ -7,18 +7,18 @@ use first_met::{FirstMet, Seed};
 use std::alloc::{AllocError, Global};
 use std::marker::Model;
 
-// So many keys are looked through one by one, which takes less time than to hash one.
+// Up to this many keys are compared one by one, which takes less time than to hash one.
 const FEW: usize = 16;
 
-/// Keys in the order in which they were first met, each once. Contracts see the list of them. The first few ask for
-/// memory once alone, however often they are cleared.
+/// Keys in the order in which they were first met, each once. Contracts see the list of them. The first few keys
+/// take memory only once, however often the keys are cleared.
 #[derive(Drop)]
 pub struct FirstKeys {
-    // the first ones
+    // the first keys, at most `FEW`
     few: Vec<u128>,
-    // those behind them
+    // the keys after the first `FEW`
     others: FirstMet,
-    // over which the others are hashed
+    // the seed of the hash over the others
     seed: Seed,
 }
 
@@ -35,7 +35,7 @@ impl Model for FirstKeys {
 }
 
 impl FirstKeys {
-    /// No key. Those that are met are hashed over `seed`.
+    /// Creates a list without a key. The keys will be hashed over `seed`.
     pub fn new(alloc: Global, seed: Seed) -> FirstKeys
         ensures { result ≡ [] }
     {
@@ -46,11 +46,11 @@ impl FirstKeys {
         }
     }
 
-    /// Leaves no key.
+    /// Removes all keys.
     pub fn clear(&mut self, alloc: Global)
         ensures { self.new ≡ [] }
     {
-        // none is behind the few where these have room for more
+        // there are no others while the few have room for more
         if self.few.len() >= FEW {
             self.others = FirstMet::new(alloc, self.seed);
         }
@@ -65,7 +65,7 @@ impl FirstKeys {
         self.few.len() + self.others.len()
     }
 
-    /// The place of a key, which comes last if it was not met before, and whether it was not.
+    /// Returns the place of `key`, and whether the key is new. A new key comes last.
     pub fn meet(&mut self, key: u128) -> Result<(usize, bool), AllocError>
         ensures place { IfOk result (λ met. met.0 ≡ position_or_len (nat_eq key) self.old) }
         ensures new { IfOk result (λ met. met.1 ≡ not (list_any (nat_eq key) self.old)) }
@@ -86,7 +86,7 @@ impl FirstKeys {
     }
 }
 
-// The place of a key among some, or how many they are.
+// Returns the place of `key` among `keys`, or the number of keys if it is not there.
 fn place_among(keys: &[u128], key: u128) -> usize
     ensures { result ≡ position_or_len (nat_eq key) keys.now }
 {

@@ -7,7 +7,7 @@ use std::marker::Model;
 /// type and a value.
 #[derive(Clone, Copy, Debug)]
 pub struct FlaggedNumber {
-    // twice the number, and one more for the first row
+    // twice the number, and one more if the row is the first with its pair
     packed: u32,
 }
 
@@ -26,7 +26,7 @@ impl Model for FlaggedNumber {
 }
 
 impl FlaggedNumber {
-    /// A number, which is below 2^31, with a flag.
+    /// Packs a number below 2^31 with a flag.
     #[inline]
     pub fn new(number: u32, is_first: bool) -> FlaggedNumber
         requires { number < 2 ^ 31 }

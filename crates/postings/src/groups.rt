@@ -27,7 +27,7 @@ pub struct RowMarks {
     pub starts: Vec<u32>,
 }
 
-// What one source after another is looked at in, so that none asks for memory of its own.
+// Working memory for one source after another, so that no source takes memory of its own.
 #[derive(Drop)]
 struct Room {
     // the rows of the source
@@ -35,7 +35,7 @@ struct Room {
     tables: Tables,
 }
 
-// What tells the groups of a source apart.
+// The tables that tell the groups of a source apart.
 #[derive(Drop)]
 struct Tables {
     // the numbers of its groups, rising
@@ -46,8 +46,8 @@ struct Tables {
     ungrouped: FirstKeys,
 }
 
-/// The marks of rows that stand source by source. `by_source` has for each source the places of its rows. Pairs are
-/// hashed over `seed`.
+/// Makes the marks of rows that stand source by source. `by_source` has for each source the places of its rows.
+/// Pairs are hashed over `seed`.
 pub fn row_marks(
     alloc: Global,
     rows: &[CodedRow],
@@ -73,7 +73,7 @@ pub fn row_marks(
     marks
 }
 
-// These marks, with room for the rows of a source.
+// Makes the marks of all rows, with `room` as working memory.
 fn marks_in(
     alloc: Global,
     rows: &[CodedRow],
@@ -103,7 +103,7 @@ fn marks_in(
     Ok(marks)
 }
 
-// Puts the rows at some places in place of those that were there.
+// Empties `own`, and fills it with the rows at `places`.
 fn gather(rows: &[CodedRow], places: &[u32], own: &mut Vec<CodedRow>) -> Result<(), AllocError>
     requires { All (λ place. place < length rows.now) places.now }
     ensures { OnOk result ((default : CodedRow) → own.new.items ≡ map (λ place. slice_index_or rows.now place default) places.now) }
@@ -115,7 +115,7 @@ fn gather(rows: &[CodedRow], places: &[u32], own: &mut Vec<CodedRow>) -> Result<
     Ok(())
 }
 
-// Adds the marks of the rows of a source with the source.
+// Adds to `sources` the marks of the rows of one source with the source.
 fn push_sources(
     alloc: Global,
     rows: &[CodedRow],
@@ -133,7 +133,8 @@ fn push_sources(
     Ok(())
 }
 
-// Adds the marks of the rows of a source with their groups, and tells how many groups there are.
+// Adds to `groups` the marks of the rows of one source with their groups, and returns how many groups the source
+// has. The sources before it have `ahead` groups.
 fn push_groups(
     alloc: Global,
     rows: &[CodedRow],
@@ -157,8 +158,9 @@ fn push_groups(
     Ok((tables.numbers.len() + tables.ungrouped.len()) as u32)
 }
 
-// The place of a row's group among those of its source. `numbers` has the numbers of these groups, and `ungrouped` the
-// pairs of the rows before it that have no group; its own pair is added if it has none.
+// Returns the place of a row's group among the groups of its source. `numbers` has the numbers of these groups, and
+// `ungrouped` the pairs of the rows before it that have no group. Adds the row's pair to `ungrouped` if it has no
+// group.
 fn group_place(
     numbers: &[u32],
     ungrouped: &mut FirstKeys,
@@ -180,7 +182,7 @@ fn group_place(
     Ok(numbers.len() + place)
 }
 
-// Puts the numbers of the groups of some rows, rising and once each, without 0, in place of those that were there.
+// Empties `numbers`, and fills it with the group numbers of `rows`, without 0, rising and each once.
 fn put_group_numbers(rows: &[CodedRow], numbers: &mut Vec<u32>) -> Result<(), AllocError>
     ensures numbers { OnOk result (numbers.new.items ≡ numbers_of_groups rows.now) }
     ensures rising { OnOk result (IsRising numbers.new.items) }
@@ -195,7 +197,7 @@ fn put_group_numbers(rows: &[CodedRow], numbers: &mut Vec<u32>) -> Result<(), Al
     Ok(())
 }
 
-// How many of some rising numbers are below one.
+// Returns how many of the rising `numbers` are below `number`.
 fn place_of(numbers: &[u32], number: u32) -> usize
     requires { IsRising numbers.now }
     ensures { result ≡ place_of numbers.now number }

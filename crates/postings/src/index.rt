@@ -27,7 +27,7 @@ use std::alloc::{AllocError, Global};
 use std::marker::Model;
 use std::ops::Range;
 
-/// What a query tests of a row.
+/// The cells of a row: what a query tests of it.
 #[derive(Clone, Copy, Debug)]
 pub struct RowCells {
     /// The place of its type among the types of all rows.
@@ -40,11 +40,11 @@ pub struct RowCells {
     pub is_first_in_group: bool,
 }
 
-/// The indexes of a release: its hierarchy, its attribute rows by what queries ask of them, and its reference
-/// sets. Concepts go by their numbers, which rise with their identifiers. Attribute rows are numbered by source,
-/// those of one source in the order of the files and their lines. Groups are numbered over all concepts: of each
-/// concept first those with a number, rising, and then each distinct pair of its rows without one, in the order of
-/// the first rows. A look-up takes no memory.
+/// The indexes of a release: its hierarchy, its attribute rows by what queries ask of them, and its reference sets.
+/// Concepts go by their numbers, which rise with their identifiers. Attribute rows are numbered by source, and the
+/// rows of one source in the order of the files and their lines. Groups are numbered concept by concept: first the
+/// groups with a number, rising, and then each distinct pair of the rows without one, in the order of the first
+/// rows. A look-up takes no memory.
 #[derive(Drop)]
 pub struct Indexes {
     concepts: Vec<SctId>,
@@ -53,7 +53,7 @@ pub struct Indexes {
     members: KeyedLists,
     // the concepts that have members, in rising order
     reference_sets: Vec<u32>,
-    // of each type of rows, by its place, the number of the concept that it is
+    // for each type of rows, by its place, the number of the concept that it is
     type_concepts: Vec<Option<u32>>,
 }
 
@@ -70,11 +70,11 @@ impl Model for Indexes {
 }
 
 impl Indexes {
-    /// The indexes of a release.
+    /// Builds the indexes of a release.
     pub fn build(alloc: Global, snapshot: &Snapshot) -> Result<Indexes, AllocError>
         ensures { IfOk result (λ indexes. IsIndexOf indexes snapshot.now.release) }
     {
-        // The hierarchy takes most memory while it is made, so nothing else is held then.
+        // The hierarchy takes most memory while it is made, so it is made before anything else is held.
         let hierarchy = AncestorIndex::build(alloc, snapshot)?;
         let members = linked_lists(alloc, snapshot.concept_count(), snapshot.member_rows())?;
         let reference_sets = with_members(alloc, &members)?;
@@ -97,16 +97,16 @@ impl Indexes {
         &self.hierarchy
     }
 
-    /// The indexes, of which only numbers are asked.
+    /// Lends the indexes for calls that return numbers alone.
     pub fn lengths(&self) -> Lengths<'_>
         ensures { result.indexes.now ≡ self.now }
     {
-        // each concept has its lists, and its components
+        // each concept has its lists in the hierarchy, and a list of components
         let _ = &self.hierarchy;
         Lengths { indexes: self }
     }
 
-    /// How much there is in the release. It costs no more than reading six numbers.
+    /// Counts what is in the release. The call only reads six numbers.
     pub fn stats(&self) -> Stats
         ensures counts { result ≡ stats_in self.now }
         ensures release { (release : Release) → IsIndexOf self.now release → result ≡ stats_of release }
@@ -132,15 +132,15 @@ impl Indexes {
         self.concepts.len() as u32
     }
 
-    /// The number of the concept with an identifier, or `None` where there is none in force.
+    /// Returns the number of the concept with the identifier `id`, or `None` if no concept in force has it.
     pub fn index_of(&self, id: u64) -> Option<u32>
         ensures { result ≡ concept_number self.now.concepts id }
     {
         number_of(id, self.concepts.as_slice())
     }
 
-    /// The components of the reference set that a concept is, in rising order and once each. `concept` is below
-    /// the number of concepts (Release File Specification, "Simple reference set").
+    /// Lists the components of the reference set `concept`, in rising order and once each. `concept` is below the
+    /// number of concepts (Release File Specification, "Simple reference set").
     pub fn members(&self, concept: u32) -> &[u32]
         requires { concept < length self.now.concepts }
         ensures { result.now ≡ list_of self.now.members concept }
@@ -164,7 +164,7 @@ impl Indexes {
         self.rows.type_places.len() as u32
     }
 
-    /// An attribute row by its number, which is below `row_count`.
+    /// Returns the attribute row with the number `n`, which is below `row_count`.
     pub fn row(&self, n: u32) -> AttributeRow<'_>
         requires { n < length self.now.rows }
         ensures row { slice_get self.now.rows n ≡ Some (with_source self.now.concepts (attribute_of result)) }
@@ -179,7 +179,7 @@ impl Indexes {
         }
     }
 
-    /// What a query tests of a row, whose number is below `row_count`.
+    /// Returns what a query tests of the row with the number `n`, which is below `row_count`.
     pub fn cells(&self, n: u32) -> RowCells
         requires { n < length self.now.rows }
         ensures { IfSome (slice_get (entries_of self.now.rows) n) (AreRowCells self.now result) }
@@ -194,7 +194,7 @@ impl Indexes {
         }
     }
 
-    /// The numbers of the rows of a type, rising. Any number may be asked for.
+    /// Lists the numbers of the rows of the type `id`, rising. `id` may be any number.
     pub fn by_type(&self, id: u64) -> &[u32]
         ensures { result.now ≡ rows_by_type self.now id }
     {
@@ -255,7 +255,7 @@ impl Indexes {
         self.rows.of_source(concept)
     }
 
-    /// The place of a type among the types of all rows, or `None` where no row has it. Any number may be asked for.
+    /// Returns the place of the type `id` in `types`, or `None` if no row has it. `id` may be any number.
     pub fn type_place(&self, id: u64) -> Option<u32>
         ensures { result ≡ position (nat_eq id) (types_of self.now.rows) }
     {
@@ -272,8 +272,8 @@ impl Indexes {
         self.rows.types.ids.as_slice()
     }
 
-    /// The number of the concept that is a type of rows, by the place of the type among the types of all rows; `None` where it is
-    /// no concept in force. Any place may be asked for.
+    /// Returns the number of the concept that is the type at `place` in `types`, or `None` if that type is no
+    /// concept in force. `place` may be any number.
     pub fn type_concept(&self, place: u32) -> Option<u32>
         ensures { result ≡ concept_of_type self.now (slice_get (types_of self.now.rows) place) }
     {
@@ -283,7 +283,7 @@ impl Indexes {
         }
     }
 
-    /// The decimals among the values of the rows in rising order and once each, as so many times 10^-18. Their
+    /// Lists the decimals among the values of the rows in rising order and once each, in units of 10^-18. Their
     /// numbers as values begin at the number of concepts.
     pub fn decimals(&self) -> &[i128]
         ensures decimals { result.now ≡ self.now.decimals }
@@ -293,8 +293,8 @@ impl Indexes {
         self.rows.values.decimals.as_slice()
     }
 
-    /// The value with a number: of a concept its own number, of a decimal its place in `decimals` behind the
-    /// concepts. The number is that of a value.
+    /// Returns the value with the number `number`, which is that of a value. A concept has its own number. The
+    /// number of a decimal, less the number of concepts, is its place in `decimals`.
     pub fn value(&self, number: u32) -> Value<'_>
         requires { number < length (values_of self.now) }
         ensures { value_lent result ≡ value_at (values_of self.now) number }
@@ -345,7 +345,7 @@ impl Indexes {
         self.rows.by_type.sources[at as usize].number()
     }
 
-    /// The group of a row, whose number is below `row_count`.
+    /// Returns the group of the row with the number `n`, which is below `row_count`.
     pub fn unit_of(&self, n: u32) -> u32
         requires { n < length self.now.rows }
         ensures { IfSome (slice_get self.now.rows n) (λ row. slice_get (groups_in self.now) result ≡ Some (group_of row)) }
@@ -355,7 +355,7 @@ impl Indexes {
     }
 }
 
-// The concepts that have members, in rising order.
+// Lists the concepts that have members, in rising order.
 fn with_members(alloc: Global, members: &KeyedLists) -> Result<Vec<u32>, AllocError>
     requires { length members.now < 2 ^ 32 }
     ensures { IfOk result (λ concepts. concepts.items ≡ with_members members.now) }
@@ -370,7 +370,7 @@ fn with_members(alloc: Global, members: &KeyedLists) -> Result<Vec<u32>, AllocEr
     Ok(concepts)
 }
 
-// The identifiers of the concepts in force.
+// Lists the identifiers of the concepts in force.
 fn identifiers(alloc: Global, snapshot: &Snapshot) -> Result<Vec<SctId>, AllocError>
     ensures { IfOk result (λ concepts. concepts.items ≡ snapshot.now.release.concepts) }
 {
@@ -381,7 +381,7 @@ fn identifiers(alloc: Global, snapshot: &Snapshot) -> Result<Vec<SctId>, AllocEr
     Ok(concepts)
 }
 
-// The attribute rows, and of each type the number of the concept that it is.
+// Indexes the attribute rows, and finds for each type the number of the concept that it is.
 fn typed_rows(
     alloc: Global,
     snapshot: &Snapshot,
@@ -397,7 +397,7 @@ fn typed_rows(
     Ok((rows, type_concepts))
 }
 
-// The numbers of the concepts with some identifiers, among those in force.
+// Finds the numbers of the concepts with the identifiers `ids` in `concepts`, the concepts in force.
 fn numbers_of(
     alloc: Global,
     ids: &[SctId],
@@ -414,7 +414,7 @@ fn numbers_of(
     Ok(numbers)
 }
 
-// The number of the concept with an identifier, among those in force.
+// Finds the number of the concept with the identifier `id` in `concepts`, the concepts in force.
 fn number_of(id: u64, concepts: &[SctId]) -> Option<u32>
     requires rising { IsStrictlyIncreasing concepts.now }
     requires few { length concepts.now < 2 ^ 31 }

@@ -9,7 +9,7 @@ pub fn first_rows_tell_the_pairs()
     ensures back { CountsFirstBack }
 {}
 
-/// The groups of a concept by their numbers are its groups: as many of them pass any test of their pairs.
+/// Any test of their pairs passes for as many groups of a concept by their numbers as by their definition.
 pub fn groups_are_counted()
     ensures { CountsGroups }
 {}

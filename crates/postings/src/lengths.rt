@@ -1,4 +1,4 @@
-//! What is asked of the indexes without reading a list.
+//! Numbers that the indexes give without handing out a list.
 ghost use Rattle.std.specs.Prelude.{◌≡◌, ◌<◌, ◌^◌, length, pos, slice_index_or};
 ghost use Rattle.std.specs.Ordering.{int_cmp};
 ghost use Rattle.std.specs.List.Sorted.{IsStrictlyIncreasing};
@@ -14,18 +14,19 @@ use crate::stats::Stats;
 use rf2_rows::Decimal;
 use std::cmp::Ordering;
 
-/// The indexes, of which only numbers are asked: how long a list is, how much there is, and the number of a concept. No
-/// call gives a list or an item of one. Sizes, bounds and estimates of plans are computed from these numbers.
+/// The indexes, for calls that return numbers alone: how long a list is, how much there is, and the number of a
+/// concept. No call gives a list or an item of one. Sizes, bounds and estimates of plans are computed from these
+/// numbers.
 #[derive(Clone, Copy)]
 pub struct Lengths<'a> {
     pub(crate) indexes: &'a Indexes,
-    // each concept has its lists, and its components
+    // each concept has its lists in the hierarchy, and a list of components
     pub ghost lists: { HasListsFor (length indexes.now.concepts) indexes.now.hierarchy } by { Prim.hlevel props },
     pub ghost members: { length indexes.now.members ≡ length indexes.now.concepts },
 }
 
 impl<'a> Lengths<'a> {
-    /// How much there is in the release.
+    /// Counts what is in the release.
     pub fn stats(self) -> Stats
         ensures { result ≡ stats_in self.entry.indexes.now }
     {
@@ -41,7 +42,7 @@ impl<'a> Lengths<'a> {
         self.indexes.concept_count()
     }
 
-    /// The number of the concept with an identifier, or `None` where there is none in force.
+    /// Returns the number of the concept with the identifier `id`, or `None` if no concept in force has it.
     pub fn index_of(self, id: u64) -> Option<u32>
         ensures { result ≡ concept_number self.entry.indexes.now.concepts id }
     {
@@ -80,7 +81,7 @@ impl<'a> Lengths<'a> {
         self.indexes.by_value(concept).len() as u64
     }
 
-    /// How many rows have a type. Any number may be asked for.
+    /// Returns how many rows have the type `id`, which may be any number.
     pub fn type_row_count(self, id: u64) -> u64
         ensures { result ≡ length (rows_by_type self.entry.indexes.now id) }
     {
@@ -94,7 +95,7 @@ impl<'a> Lengths<'a> {
         self.indexes.decimals().len() as u32
     }
 
-    /// How a decimal, by its place among the decimals of all values, which rise, stands to a number.
+    /// Compares the decimal at `place` in the rising list of all decimals with `number`.
     pub fn compare_decimal(self, place: u32, number: Decimal) -> Ordering
         requires { place < length self.indexes.now.decimals }
         ensures { result ≡ int_cmp (slice_index_or self.entry.indexes.now.decimals place (pos 0)) number.0 }

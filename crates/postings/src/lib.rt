@@ -1,8 +1,8 @@
 //! Indexes of the attribute rows and the reference sets of a release.
 //!
-//! `Indexes` has for each type, for each value that is a concept and for each source the rows with it, for each group of a
-//! concept its rows, and for each reference set its components. Beside the lists of rows stand columns with what a query
-//! tests of them. `Lengths` gives of all this numbers alone.
+//! `Indexes` has the rows of each type, of each value that is a concept, of each source and of each group of a
+//! concept, and the components of each reference set. Besides the lists of rows it has columns with what a query
+//! tests of the rows. `Lengths` gives only numbers, for example how long a list is.
 #![tactic(auto)]
 
 mod columns;

@@ -1,4 +1,4 @@
-//! Lists of rows by a key, and columns beside them.
+//! Lists of rows by a key, and columns that follow them.
 ghost use Rattle.std.specs.Prelude.{ℕ, ◌≡◌, ◌<◌, ◌^◌, All, Contains, IfOk, Some, length, slice_get, slice_index, vec_len};
 ghost use Rattle.postings.specs.inside.Cells.{IsColumn};
 ghost use Rattle.postings.specs.inside.KeyedPlaces.{keyed_places};
@@ -7,7 +7,7 @@ ghost use Rattle.postings.specs.Places.{places_by};
 use number_lists::KeyedLists;
 use std::alloc::{AllocError, Global};
 
-/// Of the keys of some rows, for each key below `count` the places of the rows that have it, in rising order.
+/// Makes for each key below `count` the list of the places at which it stands in `keys`, in rising order.
 pub fn places_by_key(alloc: Global, count: u32, keys: &[u32]) -> Result<KeyedLists, AllocError>
     requires { length keys.now < 2 ^ 32 }
     ensures { IfOk result (λ lists. lists ≡ places_by count keys.now) }
@@ -16,7 +16,7 @@ pub fn places_by_key(alloc: Global, count: u32, keys: &[u32]) -> Result<KeyedLis
     KeyedLists::from_pairs(alloc, count, pairs.as_slice())
 }
 
-// Each key below a count with its place.
+// Pairs each key below `count` with its place in `keys`.
 fn key_places(alloc: Global, count: u32, keys: &[u32]) -> Result<Vec<(u32, u32)>, AllocError>
     requires { length keys.now < 2 ^ 32 }
     ensures { IfOk result (λ pairs. pairs.items ≡ keyed_places count 0 keys.now) }
@@ -30,7 +30,7 @@ fn key_places(alloc: Global, count: u32, keys: &[u32]) -> Result<Vec<(u32, u32)>
     Ok(pairs)
 }
 
-/// The cells of a column at the places of some rows.
+/// Copies the cells at `places` into a column.
 pub fn column<T: Copy>(alloc: Global, cells: &[T], places: &[u32]) -> Result<Vec<T>, AllocError>
     requires { All (λ place. place < length cells.now) places.now }
     ensures { IfOk result (λ column. IsColumn cells.now places.now column.items) }
@@ -42,7 +42,7 @@ pub fn column<T: Copy>(alloc: Global, cells: &[T], places: &[u32]) -> Result<Vec
     Ok(column)
 }
 
-/// For each number below a count its place among some, which have each of them.
+/// Finds for each number below `count` its place in `numbers`, which has each of them.
 pub fn places_among(alloc: Global, count: usize, numbers: &[u32]) -> Result<Vec<u32>, AllocError>
     requires few { length numbers.now < 2 ^ 32 }
     requires within { All (λ number. number < count) numbers.now }

@@ -20,21 +20,21 @@ use held_release::{Snapshot, Types};
 use number_lists::KeyedLists;
 use std::alloc::{AllocError, Global};
 
-/// The attribute rows of a release, and the rows of each source, type, value and group. A row is told by the place
-/// of its type and by the columns by type: at its place among them stand its source, its value and its group.
+/// The attribute rows of a release, and the rows of each source, type, value and group. A row is kept by the place
+/// of its type and by its place in the columns by type, which have its source, its value and its group there.
 #[derive(Drop)]
 pub struct RowIndexes {
     pub types: Types,
     pub values: Values,
     /// For each row the place of its type among all types.
     pub type_places: Vec<u32>,
-    /// For each row its place among the rows of all types, one type behind the other.
+    /// For each row its place among the rows of all types, one type after the other.
     pub places: Vec<u32>,
     /// The numbers of all rows, rising. The rows of a source are a part of them.
     pub row_numbers: Vec<u32>,
-    /// The columns have the values.
+    /// The rows of each type. The other cells are the numbers of the values.
     pub by_type: RowsByKey,
-    /// The columns have the types.
+    /// The rows of each value that is a concept. The other cells are the places of the types.
     pub by_value: RowsByKey,
     pub groups: GroupLists,
 }
@@ -42,7 +42,7 @@ pub struct RowIndexes {
 /// The groups of all concepts.
 #[derive(Drop)]
 pub struct GroupLists {
-    /// The number of each group, 0 where it has none.
+    /// The group number of each group, or 0 if it has none.
     pub numbers: Vec<u32>,
     /// The first group of each concept, and at the end how many groups there are.
     pub starts: Vec<u32>,
@@ -51,7 +51,7 @@ pub struct GroupLists {
 }
 
 impl RowIndexes {
-    /// A row by its number.
+    /// Returns the row with the number `n`.
     #[inline]
     pub fn row(&self, n: u32) -> CodedRow
         requires { IsKept self.now n }
@@ -67,7 +67,7 @@ impl RowIndexes {
         }
     }
 
-    /// Whether a row is the first with its pair in its concept, and in its group.
+    /// Returns whether row `n` is the first with its pair in its concept, and whether it is the first in its group.
     #[inline]
     pub fn firsts(&self, n: u32) -> (bool, bool)
         requires { IsKept self.now n }
@@ -80,8 +80,8 @@ impl RowIndexes {
         (source, unit)
     }
 
-    /// The rows of a source. Groups stand source by source as rows do, so they begin behind the rows of the groups
-    /// of the sources before it.
+    /// Lists the rows of the source `concept`. Both rows and groups stand source by source, so these rows begin
+    /// after the rows of the groups of the sources before it.
     pub fn of_source(&self, concept: u32) -> &[u32]
         requires starts { concept + 1 < vec_len self.now.groups.starts }
         requires rise { slice_index self.now.groups.starts.items concept ≤ slice_index self.now.groups.starts.items (concept + 1) }
@@ -100,7 +100,7 @@ impl RowIndexes {
     }
 }
 
-/// The indexes of the attribute rows of a release.
+/// Makes the indexes of the attribute rows of a release.
 pub fn row_indexes(alloc: Global, snapshot: &Snapshot) -> Result<RowIndexes, AllocError>
     ensures { IfOk result (AreRowIndexes snapshot.now.release.concepts (attributes_by_source snapshot.now.release)) }
 {
@@ -128,7 +128,7 @@ pub fn row_indexes(alloc: Global, snapshot: &Snapshot) -> Result<RowIndexes, All
     })
 }
 
-// Of each row the place of its type, and the number of its value.
+// For each row the place of its type, and the number of its value.
 #[derive(Drop)]
 struct TypesAndValues {
     type_places: Vec<u32>,
@@ -143,6 +143,7 @@ struct ListsByKeys {
     by_value: RowsByKey,
 }
 
+// Takes the place of the type and the number of the value out of each row.
 fn row_keys(alloc: Global, rows: &[CodedRow]) -> Result<TypesAndValues, AllocError>
     ensures types { IfOk result (λ keys. keys.type_places.items ≡ map (λ (row : CodedRow). row.type_place) rows.now) }
     ensures values { IfOk result (λ keys. keys.values.items ≡ map (λ (row : CodedRow). row.value) rows.now) }
@@ -155,7 +156,7 @@ fn row_keys(alloc: Global, rows: &[CodedRow]) -> Result<TypesAndValues, AllocErr
     })
 }
 
-// The rows of so many types, and of so many concepts as their values.
+// Lists the rows of each of `types` types, and of each of `concepts` concepts as a value.
 fn lists_by_keys(
     alloc: Global,
     types: u32,
@@ -183,7 +184,8 @@ fn lists_by_keys(
     })
 }
 
-// The marks of the rows, whose pairs are hashed over `seed`, and the rows of all sources, one source behind the other.
+// Makes the marks of the rows, whose pairs are hashed over `seed`, and lists the rows of all sources, one source
+// after the other.
 fn marks_by_source(
     alloc: Global,
     count: u32,
@@ -203,26 +205,28 @@ fn marks_by_source(
     Ok((marks, numbers))
 }
 
-// The sources of some rows, the places of their types, and the numbers of their values.
+// Takes the number of the source out of each row.
 fn sources_of(alloc: Global, rows: &[CodedRow]) -> Result<Vec<u32>, AllocError>
     ensures { IfOk result (λ keys. keys.items ≡ map (λ (row : CodedRow). row.source) rows.now) }
 {
     rows.iter().map(|row| row.source).collect(alloc)
 }
 
+// Takes the place of the type out of each row.
 fn type_places_of(alloc: Global, rows: &[CodedRow]) -> Result<Vec<u32>, AllocError>
     ensures { IfOk result (λ keys. keys.items ≡ map (λ (row : CodedRow). row.type_place) rows.now) }
 {
     rows.iter().map(|row| row.type_place).collect(alloc)
 }
 
+// Takes the number of the value out of each row.
 fn values_of(alloc: Global, rows: &[CodedRow]) -> Result<Vec<u32>, AllocError>
     ensures { IfOk result (λ keys. keys.items ≡ map (λ (row : CodedRow). row.value) rows.now) }
 {
     rows.iter().map(|row| row.value).collect(alloc)
 }
 
-// The groups by the groups of the rows.
+// Makes the lists of groups. `marks` has the group of each row.
 fn group_lists(alloc: Global, marks: &RowMarks, rows: &[CodedRow]) -> Result<GroupLists, AllocError>
     requires few { length rows.now < 2 ^ 32 }
     requires some { 0 < vec_len marks.now.starts }
@@ -249,7 +253,7 @@ fn group_lists(alloc: Global, marks: &RowMarks, rows: &[CodedRow]) -> Result<Gro
     })
 }
 
-// The number of each group, which all its rows have.
+// Finds the group number of each group, which all its rows have.
 fn numbers_by_group(
     alloc: Global,
     count: u32,
@@ -269,7 +273,7 @@ fn numbers_by_group(
     Ok(numbers)
 }
 
-// The numbers of some marks.
+// Takes the numbers out of marks.
 fn numbers_of(alloc: Global, marks: &[FlaggedNumber]) -> Result<Vec<u32>, AllocError>
     ensures { IfOk result (λ numbers. numbers.items ≡ map (λ (mark : Flagged). mark.number) marks.now) }
 {

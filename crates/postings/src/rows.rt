@@ -18,7 +18,7 @@ pub struct CodedRow {
     pub value: u32,
 }
 
-/// Attribute rows by numbers, with the tables that their numbers lead into.
+/// Attribute rows by numbers, with the tables of types and values that the numbers are places in.
 #[derive(Drop)]
 pub struct CodedRows {
     pub rows: Vec<CodedRow>,
@@ -26,7 +26,7 @@ pub struct CodedRows {
     pub values: Values,
 }
 
-/// The attribute rows of a release by numbers.
+/// Translates the attribute rows of a release into numbers.
 pub fn coded_rows(alloc: Global, snapshot: &Snapshot) -> Result<CodedRows, AllocError>
     ensures { IfOk result (AreCodedRows snapshot.now.release.concepts (attributes_by_source snapshot.now.release)) }
 {
@@ -57,7 +57,7 @@ pub fn coded_rows(alloc: Global, snapshot: &Snapshot) -> Result<CodedRows, Alloc
 }
 
 impl CodedRow {
-    /// The pair of the row, of the place of its type and the number of its value, as one number.
+    /// Returns the pair of the row as one number, made of the place of its type and the number of its value.
     pub fn pair_key(&self) -> u128
         ensures key { result ≡ pair_key self.now }
         ensures short { IsShort (pair_code self.now) }
@@ -65,7 +65,7 @@ impl CodedRow {
         self.type_place as u128 * 2u128.pow(32) + self.value as u128
     }
 
-    /// The same with the number of its group.
+    /// Returns the group number and the pair of the row as one number.
     pub fn grouped_key(&self) -> u128
         ensures key { result ≡ grouped_key self.now }
         ensures short { IsShort (pair_code self.now) }
@@ -75,7 +75,7 @@ impl CodedRow {
 }
 
 impl CodedRows {
-    /// The tables without the rows, whose memory is given back.
+    /// Returns the tables without the rows, whose memory is given back.
     pub fn into_tables(self) -> (Types, Values)
         ensures types { result.0 ≡ self.types }
         ensures values { result.1 ≡ self.values }

@@ -1,6 +1,7 @@
 //! How much there is in a release.
 
-/// How much there is in a release: what bounds on the work of a query are made of. Each distinct pair counts once.
+/// How much there is in a release. Bounds on the work of a query are computed from these counts. Each distinct pair
+/// counts once.
 #[derive(Clone, Copy, Debug, PartialEq, Eq)]
 pub struct Stats {
     /// The concepts in force.
@@ -9,10 +10,10 @@ pub struct Stats {
     pub a: u64,
     /// The groups of all concepts (Release File Specification, "Relationship file", relationshipGroup).
     pub g: u64,
-    /// The pairs of a concept and one that it reaches by is-a rows.
+    /// The pairs of a concept and one of its ancestors.
     pub r: u64,
-    /// The pairs of a concept and one that an is-a row leads to.
+    /// The pairs of a concept and one of its parents.
     pub l: u64,
-    /// The pairs of a reference set and a component of it.
+    /// The pairs of a reference set and one of its components.
     pub m: u64,
 }

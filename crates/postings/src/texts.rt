@@ -8,7 +8,7 @@ use held_release::{NumberedValue, Snapshot};
 use std::alloc::{AllocError, Global};
 use std::marker::Model;
 
-/// Texts, one behind the other. Contracts see the list of them.
+/// Texts in one vector, one after the other. Contracts see the list of them.
 #[derive(Drop)]
 pub struct Texts {
     // where each text starts, and where the last one ends
@@ -29,7 +29,7 @@ impl Model for Texts {
 }
 
 impl Texts {
-    // Some texts.
+    // Copies `texts`.
     fn new(alloc: Global, texts: &[&[u8]]) -> Result<Texts, AllocError>
         ensures { IfOk result (λ own. own ≡ map (λ text. text.now) texts.now) }
     {
@@ -40,7 +40,7 @@ impl Texts {
         Ok(own)
     }
 
-    // No text, with room for where so many start.
+    // Creates a list without a text, with room for the starts of `count` texts.
     fn none(alloc: Global, count: usize) -> Result<Texts, AllocError>
         ensures { IfOk result (λ texts. texts ≡ []) }
     {
@@ -50,7 +50,7 @@ impl Texts {
         Ok(Texts { starts, bytes })
     }
 
-    // The texts and one more.
+    // Adds a text at the end.
     fn push(self, text: &[u8]) -> Result<Texts, AllocError>
         ensures { IfOk result (λ texts. texts ≡ self ++ text.now ∷ []) }
     {
@@ -64,14 +64,14 @@ impl Texts {
         Ok(Texts { starts, bytes })
     }
 
-    /// How many there are.
+    /// Returns how many texts there are.
     pub fn len(&self) -> usize
         ensures { result ≡ length self.now }
     {
         self.starts.len() - 1
     }
 
-    /// The text at a place, which is below their number.
+    /// Returns the text at `place`, which is below the number of texts.
     pub fn of(&self, place: usize) -> &[u8]
         requires { place < length self.now }
         ensures { result.now ≡ slice_index_or self.now place [] }
@@ -81,7 +81,7 @@ impl Texts {
         &self.bytes[from..to]
     }
 
-    /// The place of a text that is among them, where they rise by their bytes.
+    /// Returns the place of `text`, which is among the texts, by binary search. The texts rise by their bytes.
     pub fn place_of(&self, text: &[u8]) -> usize
         requires rising { IsStrictlySortedBy text_cmp self.now }
         requires there { Contains self.now text.now }
@@ -101,7 +101,7 @@ impl Texts {
     }
 }
 
-/// The other texts among the values of the attribute rows of a release, rising by their bytes and each once.
+/// Lists the other texts among the values of the attribute rows of a release, rising by their bytes and each once.
 pub fn texts_among(alloc: Global, snapshot: &Snapshot) -> Result<Texts, AllocError>
     ensures rising { IfOk result (λ texts. IsStrictlySortedBy text_cmp texts) }
     ensures members { IfOk result (λ texts. (text : List ℕ)
@@ -115,7 +115,7 @@ pub fn texts_among(alloc: Global, snapshot: &Snapshot) -> Result<Texts, AllocErr
     Ok(texts)
 }
 
-// These texts row by row, lent from the snapshot.
+// Lists the other texts among the values of the attribute rows, row by row, lent from the snapshot.
 fn lent_texts(alloc: Global, snapshot: &Snapshot) -> Result<Vec<&[u8]>, AllocError>
     ensures { IfOk result (λ texts. map (λ text. text.now) texts.items ≡ texts_of (attributes_by_source snapshot.now.release)) }
 {

@@ -15,18 +15,18 @@ use held_release::{NumberedValue, Snapshot};
 use rf2_rows::{Decimal, Value};
 use std::alloc::{AllocError, Global};
 
-/// The decimals and the other texts among the values of attribute rows, rising and each once. Together with the concepts
-/// they number all values: first come the concepts, then the decimals, and then the texts. They are found by halving, and
-/// not by a hash, so that no choice of values makes them slow.
+/// The decimals and the other texts among the values of attribute rows, rising and each once. Together with the
+/// concepts they number all values: first the concepts, then the decimals, and then the texts. A binary search
+/// finds them, not a hash, so that no choice of values makes the search slow.
 #[derive(Drop)]
 pub struct Values {
-    /// The decimals, as so many times 10^-18.
+    /// The decimals, in units of 10^-18.
     pub decimals: Vec<i128>,
     /// The texts, which rise by their bytes.
     pub texts: Texts,
 }
 
-/// The values of the attribute rows of a release.
+/// Lists the values of the attribute rows of a release.
 pub fn row_values(alloc: Global, snapshot: &Snapshot) -> Result<Values, AllocError>
     ensures all { IfOk result (λ values.
         All (λ (row : Attribute). Contains (values_in snapshot.now.release.concepts values) row.value)
@@ -42,7 +42,7 @@ pub fn row_values(alloc: Global, snapshot: &Snapshot) -> Result<Values, AllocErr
     Ok(Values { decimals, texts })
 }
 
-// The decimals among the values of the attribute rows of a release.
+// Lists the decimals among the values of the attribute rows of a release, rising and each once.
 fn decimals_among(alloc: Global, snapshot: &Snapshot) -> Result<Vec<i128>, AllocError>
     ensures rising { IfOk result (λ decimals. IsStrictlySortedBy int_cmp decimals.items) }
     ensures members { IfOk result (λ decimals. (decimal : ℤ)
@@ -59,7 +59,7 @@ fn decimals_among(alloc: Global, snapshot: &Snapshot) -> Result<Vec<i128>, Alloc
     Ok(decimals)
 }
 
-// Adds a value that is a decimal.
+// Adds the value if it is a decimal.
 fn add_decimal(decimals: &mut Vec<i128>, value: &NumberedValue<'_>) -> Result<(), AllocError>
     ensures { OnOk result (decimals.new.items ≡ decimals.old.items ++ decimals_at (numbered_lent value.now)) }
 {
@@ -70,7 +70,7 @@ fn add_decimal(decimals: &mut Vec<i128>, value: &NumberedValue<'_>) -> Result<()
 }
 
 impl Values {
-    /// The number of a value that is among those of the table: a concept has its own.
+    /// Returns the number of a value that is in the tables. A concept has its own number.
     pub fn number(&self, snapshot: &Snapshot, value: &NumberedValue<'_>) -> u32
         requires there { Contains (values_in snapshot.now.release.concepts self.now)
             (value_by_identifier snapshot.now.release.concepts (numbered_lent value.now)) }
@@ -93,7 +93,7 @@ impl Values {
         }
     }
 
-    /// The value at a place behind the concepts.
+    /// Returns the value at a place after the concepts.
     pub fn value(&self, place: usize) -> Value<'_>
         requires { place < length self.now.decimals.items + length self.now.texts }
         ensures { value_lent result ≡ value_at (map number_value self.now.decimals.items ++ map text_value self.now.texts) place }
@@ -106,7 +106,7 @@ impl Values {
     }
 }
 
-// The place of a decimal that is among rising ones.
+// Returns the place of `decimal`, which is among the rising `decimals`.
 fn place_of(decimals: &[i128], decimal: &i128) -> usize
     requires rising { IsStrictlySortedBy int_cmp decimals.now }
     requires there { Contains decimals.now decimal.now }

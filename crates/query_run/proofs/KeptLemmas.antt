@@ -1,4 +1,4 @@
--- What is kept of a line that has not ended is answered, with what ends it, as the whole line is.
+-- The kept front of a line, with the bytes that end the line, has the answers of the whole line.
 use Rattle.std.proofs.Common.{◌≡◌, ◌≢◌, ℕ, ◌⊎◌, List, [], ◌∷◌, ◌++◌, length, inl, inr, sym, ap, ◌∙◌, subst, append-nil, Option, min, arith}
 use Rattle.std.proofs.lemmas.Bool.{cases_lt}
 use Rattle.std.proofs.lemmas.List.{length-take, length-take-le, nil_from_length, take_all, take-append-le}
@@ -10,7 +10,7 @@ use Rattle.query_run.specs.declared.running.RunFault.{RunFault}
 use Rattle.query_run.specs.declared.running.RunFault.TheVariants as run
 use Rattle.query_run.proofs.LineLemmas.{query_lines_pending}
 
--- what is kept of what is kept of a line and of what follows is what is kept of both
+-- the kept front of a line, extended by `bytes` and cut again, is the kept front of `line ++ bytes`
 kept_twice : (line bytes : List ℕ) → kept_of (kept_of line ++ bytes) ≡ kept_of (line ++ bytes)
 kept_twice line bytes = elim (cases_lt 65536 (length line)) [
   | inl many ↦
@@ -21,17 +21,20 @@ kept_twice line bytes = elim (cases_lt 65536 (length line)) [
   | inr few ↦ ap (λ (kept : List ℕ). kept_of (kept ++ bytes)) (take_all 65536 line few)
 ]
 
+-- if `kept` is kept of `line`, the front kept of `kept ++ bytes` is that of `line ++ bytes`
 pub kept_more : (line kept bytes more : List ℕ) → kept ≡ kept_of line → more ≡ kept_of (kept ++ bytes) → more ≡ kept_of (line ++ bytes)
 kept_more line kept bytes more is now = now ∙ ap (λ (front : List ℕ). kept_of (front ++ bytes)) is ∙ kept_twice line bytes
 
 module _ (line kept : List ℕ) (is : kept ≡ kept_of line) (clear : HasNoFeed line) where
+  -- the kept front of a line without a line feed has no line feed
   pub kept_clear : HasNoFeed kept
   kept_clear = subst HasNoFeed (sym is) (All-take (λ byte. byte ≢ 10) 65536 line clear)
 
+  -- the kept front of a line has its length, at most 65,536
   kept_length : length kept ≡ min 65536 (length line)
   kept_length = ap length is ∙ length-take 65536 line
 
-  -- no line is kept of none, and one of one
+  -- a line and its kept front are both empty, or each is one query line
   last_line : ((line ≡ []) × (kept ≡ [])) ⊎ ((query_lines line ≡ (line ++ []) ∷ []) × (query_lines kept ≡ (kept ++ []) ∷ []))
   last_line = elim (cases_lt 0 (length line)) [
     | inl some ↦ inr (
@@ -41,24 +44,27 @@ module _ (line kept : List ℕ) (is : kept ≡ kept_of line) (clear : HasNoFeed 
     | inr none ↦ inl (nil_from_length line (omega (arith, none)), nil_from_length kept (omega (arith, none, kept_length)))
   ]
 
+  -- a line and its kept front are equally many query lines
   pub last_count : length (query_lines kept) ≡ length (query_lines line)
   last_count = elim last_line [
     | inl none ↦ ap (λ (text : List ℕ). length (query_lines text)) (none.1 ∙ sym none.0)
     | inr one ↦ ap length one.1 ∙ sym (ap length one.0)
   ]
 
--- where lines that begin alike have the same answers
+-- ---- lines whose first 65,536 bytes are equal have the same answers
 module _ (answers : Answers) (same_front : (one other text : List ℕ) → kept_of one ≡ kept_of other → answers one text → answers other text)
     (line kept : List ℕ) (is : kept ≡ kept_of line) where
-  -- a line is answered, with what ends it, as what is kept of it
+  -- a text that answers the kept front and `end` answers the line and `end`
   answer_kept : (end text : List ℕ) → answers (kept ++ end) text → answers (line ++ end) text
   answer_kept end text = same_front (kept ++ end) (line ++ end) text (ap (λ (front : List ℕ). kept_of (front ++ end)) is ∙ kept_twice line end)
 
+  -- if the answer to the kept front and `end` is written, the answer to the line and `end` is written
   pub written_kept : (end : List ℕ) (before after : Option (List ℕ))
       → AreWritten answers ((kept ++ end) ∷ []) before after → AreWritten answers ((line ++ end) ∷ []) before after
   written_kept end before after (text, (first, rest, answered, none, joined), wrote) =
       (text, (first, rest, answer_kept end first answered, none, joined), wrote)
 
+  -- what a fault leaves of the answer to the kept front and `end` is what it leaves of that to the line and `end`
   pub leaves_kept : (end : List ℕ) (fault : RunFault) (before after : Option (List ℕ))
       → LeavesWritten answers ((kept ++ end) ∷ []) 0 fault before after → LeavesWritten answers ((line ++ end) ∷ []) 0 fault before after
   leaves_kept end (run.Read count) before after leaves = (omega arith, leaves.1)
@@ -68,7 +74,7 @@ module _ (answers : Answers) (same_front : (one other text : List ℕ) → kept_
   leaves_kept end (run.Turns count) before after leaves = (omega arith, leaves.1)
 
   module _ (clear : HasNoFeed line) where
-    -- the last line of an input
+    -- if the answer to the kept front of the last line is written, the answer to the last line is written
     pub last_written : (before after : Option (List ℕ)) → AreWritten answers (query_lines kept) before after
         → AreWritten answers (query_lines line) before after
     last_written before after wrote = elim (last_line line kept is clear) [
@@ -78,6 +84,7 @@ module _ (answers : Answers) (same_front : (one other text : List ℕ) → kept_
           (written_kept [] before after (subst (λ (lines : List (List ℕ)). AreWritten answers lines before after) one.1 wrote))
     ]
 
+    -- what a fault leaves of the answer to the kept front of the last line is what it leaves of that to the last line
     pub last_leaves : (fault : RunFault) (before after : Option (List ℕ)) → LeavesWritten answers (query_lines kept) 0 fault before after
         → LeavesWritten answers (query_lines line) 0 fault before after
     last_leaves fault before after leaves = elim (last_line line kept is clear) [

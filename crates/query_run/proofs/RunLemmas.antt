@@ -1,4 +1,4 @@
--- What a run has read and written, piece by piece and at its end.
+-- Lemmas on what a run has read and written, piece by piece and at its end.
 use Rattle.std.proofs.Common.{◌≡◌, ℕ, ◌+◌, Bool, List, ◌++◌, length, take, Option, Result, Ok, Err, IfOk, IfErr, IfSome, OnOk, sym, ap, ◌∙◌, subst, length-append, add-zero, arith}
 use Rattle.std.specs.Io.KnownBytes.{Consumes, IsAtEnd}
 use Rattle.std.proofs.KnownBytes.{Consumes-whole}
@@ -9,7 +9,7 @@ use Rattle.query_run.specs.declared.running.RunFault.{RunFault}
 use Rattle.query_run.proofs.LineLemmas.{query_lines_cut}
 use Rattle.query_run.proofs.FaultLemmas.{answers_then, LeavesWritten_after, AnswerFault-count, AnswerFault-ended}
 
--- what a run that has ended at a fault says of the bytes that it has read
+-- what a run that stopped at a fault has read, and what it has written of the answers to the lines read
 abbrev pub HasStopped : Answers → Option (List ℕ) → Option (List ℕ) → Option (List ℕ) → Option (List ℕ) → RunFault → Type 0
 HasStopped answers input_old input_new output_old output_new fault =
     (read : List ℕ)
@@ -20,7 +20,7 @@ HasStopped answers input_old input_new output_old output_new fault =
 module _ (answers : Answers) (read : List ℕ) (lines : List (List ℕ)) (pending : List ℕ)
     (cut : IsCutInto read lines pending) (answered : ℕ) (count : answered ≡ length lines)
     (output_old mid : Option (List ℕ)) (wrote : AreWritten answers lines output_old mid) where
-  -- the lines that have ended are the first ones
+  -- the lines that have ended are the first query lines, and their answers are written
   pub WritesFirst_cut : WritesFirst answers (query_lines read) answered output_old mid
   WritesFirst_cut =
       let all = query_lines_cut read lines pending cut in
@@ -29,10 +29,11 @@ module _ (answers : Answers) (read : List ℕ) (lines : List (List ℕ)) (pendin
         subst (λ (found : List (List ℕ)). AreWritten answers found output_old mid) (sym front) wrote,
       )
 
+  -- the number of answered lines is the number of line feeds read
   pub feeds_cut : answered ≡ line_feed_count read
   feeds_cut = count ∙ cut.feeds
 
-  -- a fault of an answer to one of the lines that follow
+  -- a fault of the answer to a later line stops the run, with the answers before it written
   pub HasStopped_in : (fault : RunFault) (more : List (List ℕ)) (further : ℕ) (failed : Bool) (bytes : List ℕ)
       (input_old input_new output_new : Option (List ℕ))
       → Consumes input_old input_new bytes → query_lines bytes ≡ lines ++ more → IsAnswerFault fault (answered + further) failed
@@ -48,7 +49,7 @@ module _ (answers : Answers) (read : List ℕ) (lines : List (List ℕ)) (pendin
       )
 
   module _ (input_old input_new output_new : Option (List ℕ)) (consumed : Consumes input_old input_new read) where
-    -- at the end the pending bytes were answered too
+    -- at the end of the input the count of answers is the number of its query lines
     pub finish_count : (result : Result ℕ RunFault) → IsAtEnd input_new → IfOk result (λ count. count ≡ answered + length (query_lines pending))
         → IfOk result (λ count. IfSome input_old (λ bytes. count ≡ length (query_lines bytes)))
     finish_count (Ok total) at_end is =
@@ -57,6 +58,7 @@ module _ (answers : Answers) (read : List ℕ) (lines : List (List ℕ)) (pendin
         (omega (arith, ap length all, length-append lines (query_lines pending), count))
     finish_count (Err fault) at_end is = is
 
+    -- at the end of the input the answers to all its query lines are written
     pub finish_answers : (result : Result ℕ RunFault) → IsAtEnd input_new → OnOk result (AreWritten answers (query_lines pending) mid output_new)
         → OnOk result (IfSome input_old (λ bytes. AreWritten answers (query_lines bytes) output_old output_new))
     finish_answers (Ok total) at_end is =
@@ -66,6 +68,7 @@ module _ (answers : Answers) (read : List ℕ) (lines : List (List ℕ)) (pendin
         (answers_then answers output_old mid output_new lines (query_lines pending) wrote is))
     finish_answers (Err fault) at_end is = is
 
+    -- a fault of the last answer stops the run, with the answers before it written
     pub finish_fault : (result : Result ℕ RunFault) (failed : Bool)
         → IfErr result (λ fault. IsAnswerFault fault answered failed
         × LeavesWritten answers (query_lines pending) 0 fault mid output_new)

@@ -1,4 +1,4 @@
--- What a run that ends at a fault leaves behind.
+-- The reads and writes of a run that ends at a fault.
 use Rattle.std.specs.Prelude.{◌≡◌, ◌⊎◌, ℕ, ◌+◌, ◌-◌, ◌^◌, ◌<◌, ◌≤◌, Bool, true, false, List, [], ◌++◌, length, take, slice_index_or, Option, ⊤}
 use Rattle.std.specs.Io.KnownBytes.{Appends, Consumes}
 use Rattle.query_run.specs.Lines.{Answers, AreAnswers, AreWritten, line_feed_count, query_lines}
@@ -7,26 +7,26 @@ use Rattle.query_run.specs.declared.running.RunFault.TheVariants.{Read, Write, M
 use Rattle.streams.specs.declared.fault.AnswerFault.{AnswerFault}
 use Rattle.streams.specs.declared.fault.AnswerFault.TheVariants as answer
 
--- the numbers of the faults
+-- the number of each fault of a run
 abbrev pub run_fault_number : RunFault → ℕ
 run_fault_number (Read count) = 1
 run_fault_number (Write count) = 2
 run_fault_number (Memory count) = 3
 run_fault_number (Turns count) = 4
 
--- how many answers were written whole
+-- how many answers were written whole before a fault
 abbrev pub whole_answers : RunFault → ℕ
 whole_answers (Read count) = count
 whole_answers (Write count) = count
 whole_answers (Memory count) = count
 whole_answers (Turns count) = count
 
--- the answers to the first lines were written, and nothing else
+-- the answers to the first `count` lines were written, and nothing else
 abbrev pub WritesFirst : Answers → List (List ℕ) → ℕ → Option (List ℕ) → Option (List ℕ) → Type 0
 WritesFirst answers lines count before after =
     (count ≤ length lines) × AreWritten answers (take count lines) before after
 
--- the answers to the first lines were written and then a front of the next answer, not all of it
+-- the answers to the first `count` lines were written, and then a proper front of the next answer
 abbrev pub WritesPart : Answers → List (List ℕ) → ℕ → Option (List ℕ) → Option (List ℕ) → Type 0
 WritesPart answers lines count before after =
     (whole : List ℕ) × (next : List ℕ) × (place : ℕ)
@@ -36,28 +36,28 @@ WritesPart answers lines count before after =
     × (place < length next)
     × Appends before after (whole ++ take place next)
 
--- what was written of the answers to some lines, `count` of them whole, where a fault came
+-- what was written of the answers to `lines`, `count` of them whole, when the fault came
 abbrev pub LeavesWritten : Answers → List (List ℕ) → ℕ → RunFault → Option (List ℕ) → Option (List ℕ) → Type 0
 LeavesWritten answers lines count (Read answered) before after = WritesFirst answers lines count before after
 LeavesWritten answers lines count (Write answered) before after = WritesPart answers lines count before after
 LeavesWritten answers lines count (Memory answered) before after = WritesFirst answers lines count before after
 LeavesWritten answers lines count (Turns answered) before after = WritesFirst answers lines count before after
 
--- where no answer was under way, each line that ended was answered
+-- at `Read` and `Turns`, when no answer is under way, each line that ended was answered
 abbrev pub AnswersEnded : RunFault → List ℕ → Type 0
 AnswersEnded (Read count) read = count ≡ line_feed_count read
 AnswersEnded (Write count) read = ⊤
 AnswersEnded (Memory count) read = ⊤
 AnswersEnded (Turns count) read = count ≡ line_feed_count read
 
--- at `Read` the input alone has failed, at `Write` the output alone, at the others neither
+-- at `Read` only the input has failed, at `Write` only the output, at other faults neither
 abbrev pub HaveFailed : RunFault → Bool → Bool → Type 0
 HaveFailed (Read count) input output = (input ≡ true) × (output ≡ false)
 HaveFailed (Write count) input output = (input ≡ false) × (output ≡ true)
 HaveFailed (Memory count) input output = (input ≡ false) × (output ≡ false)
 HaveFailed (Turns count) input output = (input ≡ false) × (output ≡ false)
 
--- at `Turns` the input was read 2^40 times, unless the count of its reads stands still at its end
+-- at `Turns` the input was read 2^40 times, or the count of reads stands still at its greatest number
 abbrev pub CountsTurns : RunFault → ℕ → ℕ → Type 0
 CountsTurns (Read count) before after = ⊤
 CountsTurns (Write count) before after = ⊤
@@ -71,13 +71,13 @@ IsAnswerFault (Write answered) count output = (answered ≡ count) × (output �
 IsAnswerFault (Memory answered) count output = (answered ≡ count) × (output ≡ false)
 IsAnswerFault (Turns answered) count output = ⊥
 
--- the fault of a run at that of an answer
+-- the fault that a run reports for a fault of an answer, after `count` whole answers
 abbrev pub run_fault_of : AnswerFault → ℕ → RunFault
 run_fault_of answer.Memory count = Memory count
 run_fault_of answer.Write count = Write count
 
--- a run has ended at a fault: some bytes were read, and of the answers to their lines the
--- first were written, as many whole as the fault says
+-- a run ended at a fault: it read some bytes, and wrote the answers to their first lines, as many whole ones as the
+-- fault says
 abbrev pub EndsAt : RunFault → Answers → Option (List ℕ) → Option (List ℕ) → Option (List ℕ) → Option (List ℕ) → Type 0
 EndsAt fault answers given left before after =
     (read : List ℕ)

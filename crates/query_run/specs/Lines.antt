@@ -1,4 +1,4 @@
--- The query lines of an input, and what answers them.
+-- The query lines of an input, and the texts that answer them.
 use Rattle.std.specs.Prelude.{◌≡◌, ◌≢◌, ℕ, ◌==◌, List, [], ◌∷◌, ◌++◌, length, All, Option, count_by}
 use Rattle.std.specs.Io.KnownBytes.{Appends}
 use Rattle.std.specs.List.{slice_split}
@@ -7,26 +7,25 @@ use Rattle.std.specs.List.{slice_split}
 abbrev pub line_feed : ℕ
 line_feed = 10
 
--- lines without a last one that is empty
+-- the lines without the last one, if that is empty
 unfoldable pub without_empty_last : List (List ℕ) → List (List ℕ)
 without_empty_last [] = []
 without_empty_last ([] ∷ []) = []
 without_empty_last (line ∷ lines) = line ∷ without_empty_last lines
 
--- the query lines of an input: what stands before each line feed, and what stands behind the last
--- unless it is empty
+-- the query lines of an input: the text before each line feed, and the text after the last one unless it is empty
 unfoldable pub query_lines : List ℕ → List (List ℕ)
 query_lines bytes = without_empty_last (slice_split (λ byte. byte == line_feed) bytes)
 
--- how many line feeds there are
+-- how many line feeds the bytes have
 abbrev pub line_feed_count : List ℕ → ℕ
 line_feed_count bytes = count_by (λ byte. byte == line_feed) bytes
 
--- which texts answer a query line
+-- a relation between a query line and the texts that answer it
 abbrev pub Answers : Type 1
 Answers = List ℕ → List ℕ → Type 0
 
--- a text answers query lines: the answers to them, one behind the other
+-- a text answers query lines if it is their answers, one after the other
 abbrev pub AreAnswers : Answers → List (List ℕ) → List ℕ → Type 0
 AreAnswers answers [] text = text ≡ []
 AreAnswers answers (line ∷ lines) text =
@@ -42,9 +41,12 @@ AreWritten answers lines before after =
 abbrev pub HasNoFeed : List ℕ → Type 0
 HasNoFeed bytes = All (λ byte. byte ≢ line_feed) bytes
 
--- the first bytes of an input are some lines and then `pending`, which waits for its line feed:
--- whatever comes later, it is read as if it followed `pending`
+-- the first bytes of an input are `lines` and then `pending`, which waits for its line feed. Whatever comes later, it
+-- is read as if it followed `pending`
 pub record IsCutInto (bytes : List ℕ) (lines : List (List ℕ)) (pending : List ℕ) : Type 0 where
+  -- the pending bytes have no line feed
   pub unended : HasNoFeed pending
+  -- there is one line for each line feed
   pub feeds : length lines ≡ line_feed_count bytes
+  -- with any later bytes, the query lines are `lines` and then those of `pending` and these bytes
   pub goes_on : (later : List ℕ) → query_lines (bytes ++ later) ≡ lines ++ query_lines (pending ++ later)

@@ -1,4 +1,4 @@
-//! What answers the query lines of a run.
+//! The trait of whatever answers the query lines of a run.
 ghost use Rattle.std.specs.Prelude.{◌≡◌, ℕ, false, IfErr, List, OnOk};
 ghost use Rattle.streams.specs.Waiting.{LeavesAnswer, Puts, is_write};
 ghost use Rattle.query_run.specs.KeptLine.{kept_of};
@@ -6,13 +6,13 @@ ghost use Rattle.query_run.specs.KeptLine.{kept_of};
 use std::alloc::Global;
 use streams::{AnswerFault, AnswerOutput, Piece};
 
-/// What answers query lines, one by one.
+/// Answers query lines, one by one.
 pub trait AnswerLine {
     /// Whether a text answers a query line.
     ghost answers: { Self → List ℕ → List ℕ → Type 0 };
 
-    /// Puts a text that answers a query line into a piece of the output. Where memory is refused the piece and the output
-    /// are as they were.
+    /// Puts a text that answers a query line into a piece of the output. If memory is refused, the piece and the
+    /// output are unchanged.
     fn answer_line<W: AnswerOutput>(
         &self,
         alloc: Global,
@@ -27,7 +27,7 @@ pub trait AnswerLine {
         ensures sound { OnOk result (W.has_failed output.new ≡ false) }
         ensures failed { IfErr result (λ fault. W.has_failed output.new ≡ is_write fault) };
 
-    /// Lines that begin with the same 65,536 bytes have the same answers, so that no more is kept of a line.
+    /// Lines with the same first 65,536 bytes have the same answers, so a run need keep no more of a line.
     ghost same_front: { (answerer : Self) (one other text : List ℕ) → kept_of one ≡ kept_of other
         → answers answerer one text → answers answerer other text };
 }

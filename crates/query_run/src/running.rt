@@ -1,4 +1,4 @@
-//! The run: answers the query lines of an input one after the other.
+//! The run: it answers the query lines of an input, one after the other.
 ghost use Rattle.std.specs.Prelude.{◌≡◌, ℕ, ◌+◌, ◌^◌, ◌<◌, ◌≤◌, ◌∷◌, ◌++◌, false, IfErr, IfOk, IfSome, List, MatchOption, OnOk, [], length, vec_len};
 ghost use Rattle.std.specs.Io.KnownBytes.{Appends, IsAtEnd};
 ghost use Rattle.streams.specs.Waiting.{LeavesAnswer, is_write};
@@ -11,8 +11,8 @@ use bstr::ByteSlice;
 use std::alloc::{AllocError, Global};
 use streams::{AnswerFault, AnswerOutput, Piece, QueryInput};
 
-/// Why a run ended before its input did, and how many answers were written whole. After `Write` a
-/// front of the next answer may have gone out too, after the others nothing of it.
+/// Why a run ended before its input did, and how many answers were written whole. After `Write` a front of the next
+/// answer may have been written; after other faults nothing of it was.
 #[derive(Clone, Copy, Debug, PartialEq, Eq)]
 pub enum RunFault {
     /// The input failed.
@@ -38,7 +38,7 @@ impl RunFault {
         }
     }
 
-    // The fault of a run at that of an answer, behind so many whole answers.
+    // Returns the run's fault for the fault of an answer, after `answered` whole answers.
     fn of(fault: AnswerFault, answered: u64) -> RunFault
         ensures { result ≡ run_fault_of fault answered }
     {
@@ -49,24 +49,25 @@ impl RunFault {
     }
 }
 
-// How often an input is read.
+// How often an input is read at most.
 const TURNS: u64 = 1 << 40;
 
-// How many bytes are read at once.
+// How many bytes are read at once at most.
 const PIECE_LENGTH: usize = 65_536;
 
-// How many bytes of a line are kept until it ends: one more than a line may have.
+// How many bytes of a line are kept until it ends: one more than a line may have, so that a line which is too long
+// can be told.
 const KEPT_LENGTH: usize = 65_536;
 
 const LINE_FEED: u8 = b'\n';
 
-/// Answers each query line of an input, in order: what stands before a line feed, and what stands
-/// behind the last one unless it is empty. Answers how many they were. The answers to the lines
-/// that have ended are written before more is read.
+/// Answers each query line of an input, in order. A query line is the text before a line feed, or the text after the
+/// last one unless it is empty. Returns how many lines were answered. The answers to the lines that have ended are
+/// written before more is read.
 ///
-/// A fault says how many answers were written whole: `Read` where the input fails, `Write` where
-/// the output fails, `Memory` where memory is refused, and `Turns` where the input has not ended
-/// after 2^40 reads, which is how often it is read at the most.
+/// A fault says how many answers were written whole: `Read` if the input fails, `Write` if the output fails,
+/// `Memory` if memory is refused, and `Turns` if the input has not ended after 2^40 reads. The input is never read
+/// more often.
 pub fn run<A: AnswerLine, R: QueryInput, W: AnswerOutput>(
     alloc: Global,
     answerer: &A,
@@ -109,15 +110,15 @@ pub fn run<A: AnswerLine, R: QueryInput, W: AnswerOutput>(
     Err(RunFault::Turns(progress.answered))
 }
 
-// So many bytes of 0. Apart, so that a proof about them knows no more than how many they are.
+// Returns `count` bytes of 0. A function of its own, so that proofs about `run` know only the number of bytes.
 fn zeros(alloc: Global, count: usize) -> Result<Vec<u8>, AllocError>
     ensures { IfOk result (λ bytes. vec_len bytes ≡ count) }
 {
     vec![in alloc; 0u8; count]
 }
 
-// What a run carries from one piece of the input to the next: the first bytes of a line that has not
-// ended, the piece in which an answer waits to be written, and how many answers were written.
+// What a run carries from one piece of the input to the next: the front of a line that has not ended, the piece in
+// which an answer waits to be written, and how many answers were written.
 #[derive(Drop)]
 struct Progress {
     pending: Vec<u8>,
@@ -126,6 +127,7 @@ struct Progress {
 }
 
 impl Progress {
+    // Makes the state of a run before its first read.
     fn new(alloc: Global) -> Result<Progress, AllocError>
         ensures pending { IfOk result (λ progress. progress.pending.items ≡ []) }
         ensures waiting { IfOk result (λ progress. progress.waiting ≡ []) }
@@ -139,8 +141,8 @@ impl Progress {
         })
     }
 
-    // Answers the lines that end in a piece of the input, and keeps what is behind them, as far as it
-    // is kept of a line. Whatever the line was of which the pending bytes are kept, its answer is that.
+    // Answers the lines that end in a piece of the input, and keeps the front of what follows them. The pending
+    // bytes are the kept front of a line; the answer holds for every line with that front.
     fn take_piece<A: AnswerLine, W: AnswerOutput>(
         &mut self,
         alloc: Global,
@@ -177,7 +179,7 @@ impl Progress {
         }
     }
 
-    // Adds bytes to those that are kept of a line.
+    // Adds bytes to the kept front of a line, up to `KEPT_LENGTH` bytes.
     fn keep(&mut self, bytes: &[u8]) -> Result<(), AllocError>
         ensures pending { OnOk result (self.new.pending.items ≡ kept_of (self.old.pending.items ++ bytes.now)) }
         ensures waiting { self.new.waiting ≡ self.old.waiting }
@@ -188,7 +190,7 @@ impl Progress {
         Ok(())
     }
 
-    // Answers the line that the pending bytes begin and that `line` ends, and counts the answer.
+    // Answers the line that consists of the pending bytes and `line`, and counts the answer.
     fn answer_line<A: AnswerLine, W: AnswerOutput>(
         &mut self,
         alloc: Global,
@@ -217,7 +219,7 @@ impl Progress {
         }
     }
 
-    // Writes the answer to a line to its end, and forgets the line.
+    // Writes the whole answer to the pending bytes and `line`, and forgets the pending bytes.
     fn write_answer<A: AnswerLine, W: AnswerOutput>(
         &mut self,
         alloc: Global,
@@ -250,7 +252,7 @@ impl Progress {
         }
     }
 
-    // Answers a last line that no line feed ended, unless it is empty, and counts the answers.
+    // Answers the last line if no line feed ended it, unless it is empty. Returns the count of answers.
     fn finish<A: AnswerLine, W: AnswerOutput>(
         &mut self,
         alloc: Global,
@@ -278,7 +280,7 @@ impl Progress {
     }
 }
 
-// What stands before the first line feed and what stands behind it, if there is one.
+// Returns the text before the first line feed and the text after it, if there is one.
 fn first_line(bytes: &[u8]) -> Option<(&[u8], &[u8])>
     ensures { MatchOption result (HasNoFeed bytes.now) (λ found.
         (bytes.now ≡ found.0.now ++ line_feed ∷ found.1.now) × HasNoFeed found.0.now) }

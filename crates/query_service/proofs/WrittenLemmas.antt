@@ -1,8 +1,8 @@
--- What answers lines by one relation does so by a weaker one.
+-- Lines that are answered by one relation are answered by a weaker one.
 use Rattle.std.proofs.Common.{ℕ, List, [], ◌∷◌}
 use Rattle.query_run.specs.Lines.{Answers, AreAnswers}
 
--- a text that answers some lines by the one answers them by the other
+-- a text that answers lines by one relation answers them by a weaker one
 pub AreAnswers-weaker : (one other : Answers) → ((line text : List ℕ) → one line text → other line text)
     → (lines : List (List ℕ)) (text : List ℕ) → AreAnswers one lines text → AreAnswers other lines text
 AreAnswers-weaker one other weaker [] text none = none

@@ -8,18 +8,19 @@ use Rattle.held_release.specs.Contents.{Contents}
 use Rattle.held_release.specs.Name.{name_of}
 use Rattle.answer_printer.specs.AnswerText.{answer_text, refusal_text}
 
--- what answers a constraint: `OK` and the concepts that it denotes, with their names
+-- the answer to a constraint: `OK` and the concepts that it denotes, with their names
 abbrev pub constraint_answer : Contents → Tree → List ℕ
 constraint_answer contents tree =
     answer_text (name_of contents.release contents.language) (denotation contents.release tree)
 
--- a text is for a query line: it is for the constraint that the line is, or is the refusal of the line
+-- a text is for a query line if `IsFor` holds for the line's constraint and the text, or the text is the line's
+-- refusal
 abbrev pub IsForLine : (Tree → List ℕ → Type 0) → List ℕ → List ℕ → Type 0
 IsForLine IsFor line text =
     ((tree : Tree) × IsConstraint line tree × IsFor tree text)
     ⊎ ((fault : QueryFault) × IsRefusalOf line fault × (text ≡ refusal_text fault))
 
--- a text answers a query line: it answers the constraint that the line is, or is the refusal of the line
+-- a text answers a query line if it answers the line's constraint, or is the line's refusal
 abbrev pub IsAnswer : Contents → List ℕ → List ℕ → Type 0
 IsAnswer contents line text = IsForLine (λ tree text. text ≡ constraint_answer contents tree) line text
 

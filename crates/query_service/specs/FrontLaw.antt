@@ -1,4 +1,4 @@
--- Lines that begin alike have the same answers, in each mode. So a run need keep no more of a line.
+-- In each mode, lines with the same first 65,536 bytes have the same answers. So a run need keep no more of a line.
 use Rattle.std.proofs.Common.{◌≡◌, ℕ, ◌<◌, List, Some, codes, cond, length, inl, inr, sym, ap, ◌∙◌, subst, min, arith}
 use Rattle.std.proofs.lemmas.Bool.{cases_lt, lt-ltb}
 use Rattle.std.proofs.lemmas.List.{length-take, take_all}
@@ -23,7 +23,7 @@ use Rattle.command_line.specs.declared.words.Mode.{Mode}
 use Rattle.command_line.specs.declared.words.Mode.TheVariants.{Sample, Query, QueryWith, Explain, Describe, Session}
 use Rattle.command_line.specs.declared.words.Mode.TheVariants.{Check}
 
--- a line that is too long has no text but that
+-- a line that is too long has only one text: the refusal `Long`
 long_text : (IsFor : Tree → List ℕ → Type 0) (line text : List ℕ) → most_bytes < length line
     → IsForLine IsFor line text → text ≡ refusal_text Long
 long_text IsFor line text long (inl (tree, is, found)) = absurd (omega (arith, long, is.readable.0))
@@ -39,8 +39,8 @@ long_text IsFor line text long (inr (fault, is, same)) = by fault is same
     by Syntax is same = absurd (omega (arith, long, is.0.0))
     by Memory is same = absurd is
 
--- lines with the same first bytes, one more than a line may have, are one line, or both are too long: so they have the
--- same answers where any two lines that are too long have
+-- lines with the same first 65,536 bytes have the same answers, if any two lines that are too long have. Two such
+-- lines are equal, or both are too long
 same_front_of : (answers : List ℕ → List ℕ → Type 0)
     → ((one other text : List ℕ) → most_bytes < length one → most_bytes < length other
     → answers one text → answers other text)
@@ -56,19 +56,21 @@ same_front_of answers alike one other text same answered =
           subst (λ (line : List ℕ). answers line text) whole answered
     ]
 
+-- lines with the same first 65,536 bytes have the same texts by `IsForLine`
 same_front_for : (IsFor : Tree → List ℕ → Type 0) (one other text : List ℕ) → kept_of one ≡ kept_of other
     → IsForLine IsFor one text → IsForLine IsFor other text
 same_front_for IsFor =
     same_front_of (IsForLine IsFor)
     (λ one other text long also answered. inr (Long, also, long_text IsFor one text long answered))
 
--- a line of `describe` that is too long has no text but that
+-- a line of `describe` that is too long is answered by `ERR long` alone
 long_described : (contents : Contents) (line : List ℕ) → most_bytes < length line
     → description_text contents line ≡ codes "ERR long\n"
 long_described contents line long =
     ap (told_unless contents line)
     (λ i. cond (lt-ltb most_bytes (length line) long i) (Some TooLong) (short_fault line))
 
+-- lines with the same first 65,536 bytes have the same descriptions
 same_front_described : (contents : Contents) (one other text : List ℕ) → kept_of one ≡ kept_of other
     → IsDescription contents one text → IsDescription contents other text
 same_front_described contents =
@@ -76,6 +78,7 @@ same_front_described contents =
     (λ one other text long also told.
     told ∙ long_described contents one long ∙ sym (long_described contents other also))
 
+-- lines with the same first 65,536 bytes have the same answers in a session
 same_front_requested : (contents : Contents) (one other text : List ℕ) → kept_of one ≡ kept_of other
     → IsSessionAnswer contents one text → IsSessionAnswer contents other text
 same_front_requested contents =
@@ -85,7 +88,7 @@ same_front_requested contents =
       asked_is = λ short. absurd (omega (arith, also, short));
     })
 
--- lines that begin alike have the same answers
+-- in each mode, lines with the same first 65,536 bytes have the same answers
 pub same_front_in : (mode : Mode) (contents : Contents) (one other text : List ℕ) → kept_of one ≡ kept_of other
     → answers_in mode contents one text → answers_in mode contents other text
 same_front_in Sample contents = same_front_for (λ tree text. text ≡ constraint_answer contents tree)

@@ -11,11 +11,11 @@ use Rattle.query_service.specs.Explanation.{IsExplanation}
 use Rattle.query_service.specs.LimitedAnswer.{IsAnswerWithin}
 use Rattle.query_service.specs.SessionAnswer.{IsDescription, IsSessionAnswer}
 
--- the form of the answers that options ask for
+-- the form of the answers that the options of a query ask for
 abbrev pub form_of : QueryOptions → AnswerForm
 form_of options = record { offset = 0; first = options.first; names = options.names }
 
--- a text answers a line in a mode. `check` reads no line, so the text for one is empty
+-- whether a text answers a line in a mode. `check` reads no line, so the text for one is empty
 abbrev pub answers_in : Mode → Contents → List ℕ → List ℕ → Type 0
 answers_in Sample = IsAnswer
 answers_in Query = IsAnswer

@@ -1,9 +1,9 @@
--- What a report says of a loaded release.
+-- The report of a loaded release.
 use Rattle.std.specs.Prelude.{length}
 use Rattle.held_release.specs.Contents.{Contents}
 use Rattle.held_release.specs.declared.report.Report.{Report}
 
--- the number of files, the lengths of the five lists, and the number of rows in none of them
+-- the report of a release: the number of files, the lengths of its five lists, and the number of rows in none of them
 abbrev pub report_of : Contents → Report
 report_of contents = record {
   files = contents.files;

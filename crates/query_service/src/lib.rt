@@ -1,4 +1,4 @@
-//! What the program does with a request, its files and its streams, over any engine that answers queries.
+//! The service of the program: it serves a request over files and streams, with any engine that answers queries.
 #![tactic(auto)]
 
 mod lines;

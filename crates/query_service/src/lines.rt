@@ -12,7 +12,7 @@ use query_run::{AnswerLine, RunFault, run};
 use std::alloc::Global;
 use streams::{AnswerFault, AnswerOutput, Piece, QueryInput};
 
-// What answers the lines of an input in a mode.
+// Answers the lines of an input in one mode, by an engine.
 #[derive(Drop)]
 struct LinesIn<'a, Q: QueryEngine> {
     engine: &'a Q,
@@ -35,7 +35,8 @@ impl<'a, Q: QueryEngine> AnswerLine for LinesIn<'a, Q> {
     }
 }
 
-/// Answers each line of an input, in order, in a mode. It reads, writes and ends as `run` of `query_run` does.
+/// Answers each line of an input, in order, in a mode. Its reads, writes and faults are those of `run` of the crate
+/// `query_run`.
 pub fn run_in<Q: QueryEngine, R: QueryInput, W: AnswerOutput>(
     alloc: Global,
     engine: &Q,

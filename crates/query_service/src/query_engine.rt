@@ -1,4 +1,4 @@
-//! What the service needs of an engine.
+//! The trait of an engine for the service.
 ghost use Rattle.std.specs.Prelude.{◌≡◌, ◌⊎◌, ◌+◌, ◌≤◌, ℕ, false, IfErr, IfOk, IfSome, List, Ok, OnOk, map, max};
 ghost use Rattle.std.specs.Prelude.{string_bytes};
 ghost use Rattle.release_files.specs.Source.{file_text};
@@ -17,14 +17,13 @@ use snapshot::{Limits, LoadFault, Report};
 use std::alloc::Global;
 use streams::{AnswerFault, AnswerOutput, Piece};
 
-/// A loaded release that answers lines. That changes nothing in it.
+/// A loaded release that answers lines. Answering changes nothing in it.
 pub trait QueryEngine: Drop {
-    /// What the release contains.
+    /// The contents of the release.
     ghost contents: { Self → Contents };
 
-    /// Loads the Snapshot files of a list, with the names of a language first, or answers the first fault, as
-    /// `Snapshot::load` does, or want of memory.
-    /// As `Snapshot::load` it is for files that one trusts.
+    /// Loads the Snapshot files of a list, with the names of a language first. Returns the fault that
+    /// `Snapshot::load` returns, or want of memory. Like `Snapshot::load` it is for files that the caller trusts.
     fn load(
         alloc: Global,
         files: &[NamedBytes<'_>],
@@ -34,8 +33,8 @@ pub trait QueryEngine: Drop {
         ensures ok { IfOk result (λ engine. load_of limits lang.now (map file_text files.now) ≡ Ok (contents engine)) }
         ensures err { IfErr result (λ fault. IsFaultOf fault (load_of limits lang.now (map file_text files.now))) };
 
-    /// Loads the files that a source lists, in the byte order of their names, as `Snapshot::load_from` does, and
-    /// leaves these in `names`.
+    /// Loads the files that a source lists, in the byte order of their names, as `Snapshot::load_from` does. Leaves
+    /// the names in `names`.
     fn load_from<S: FileSource>(
         alloc: Global,
         source: &mut S,
@@ -55,7 +54,8 @@ pub trait QueryEngine: Drop {
         ensures bounded { (S.history source.new).most
             ≤ max (S.history source.old).most ((limits_in_force limits).bytes + 1) };
 
-    /// Loads the same release, leaves the same names, and answers what the release has, in place of an engine.
+    /// Loads the files that a source lists, as `load_from` does, and leaves their names in `names`. Returns a report
+    /// of the release in place of an engine.
     fn report_from<S: FileSource>(
         alloc: Global,
         source: &mut S,
@@ -76,8 +76,8 @@ pub trait QueryEngine: Drop {
         ensures bounded { (S.history source.new).most
             ≤ max (S.history source.old).most ((limits_in_force limits).bytes + 1) };
 
-    /// Puts a text that answers a line in a mode into a piece of the output. Where memory is refused the piece and the
-    /// output are as they were.
+    /// Puts a text that answers a line in a mode into a piece of the output. If memory is refused, the piece and the
+    /// output are unchanged.
     fn write_in<W: AnswerOutput>(
         &self,
         alloc: Global,

@@ -1,4 +1,4 @@
-//! What the program does with a request, its files and its streams.
+//! The service: it serves a request over files and streams.
 ghost use Rattle.std.specs.Prelude.{◌≡◌, ◌≢◌, ◌⊎◌, ◌+◌, ◌≤◌, false, Err, IfErr, IfOk, IfSome, Ok, map, max};
 ghost use Rattle.std.specs.Prelude.{string_bytes};
 ghost use Rattle.text_parts.specs.Parts.{texts_of};
@@ -30,7 +30,7 @@ use streams::{AnswerOutput, QueryInput, write_all};
 /// How the program ended.
 #[derive(Clone, Copy, Debug, PartialEq, Eq)]
 pub enum Status {
-    /// All that was asked for was done.
+    /// The request was done.
     Done,
     /// A folder, a file or a stream failed, or the input did not end.
     DeviceFault,
@@ -43,7 +43,7 @@ pub enum Status {
 }
 
 impl Status {
-    /// The number that the program ends with, from 0 to 4.
+    /// Returns the number with which the program ends, from 0 to 4.
     pub fn code(self) -> u8
         ensures { result ≡ status_code self }
     {
@@ -57,11 +57,11 @@ impl Status {
     }
 }
 
-/// Does what is asked of a release, by an engine `Q`: of the one that is built in, or of that of the files of a source.
-/// Answers the query lines of an input, at `QueryWith` under its options; at `Explain` tells the plan of each; at
-/// `Describe` tells what the release has of the concept that each names; at `Session` answers the request in each; or,
-/// at `Check`, writes what the release has, and reads nothing. Nothing is written before the release is loaded. What is
-/// refused, and a fault, is told by one line on `errors`, whose own failure changes nothing.
+/// Serves a request by an engine `Q`, over the built-in release or the release of a source's files. `Sample` and
+/// `Query` answer the query lines of the input, `QueryWith` answers them under its options, `Explain` writes the
+/// plan of each, `Describe` writes what the release has of the concept that each names, and `Session` answers the
+/// request in each. `Check` writes what the release has, and reads nothing. Nothing is written before the release is
+/// loaded. A refusal or a fault is told by one line on `errors`, whose own failure changes nothing.
 pub fn serve<Q: QueryEngine, S: FileSource, R: QueryInput, W: AnswerOutput, E: AnswerOutput>(
     alloc: Global,
     request: &Request,
@@ -96,7 +96,7 @@ pub fn serve<Q: QueryEngine, S: FileSource, R: QueryInput, W: AnswerOutput, E: A
     }
 }
 
-// Answers the query lines of an input over the release that is built in.
+// Answers the query lines of an input over the built-in release.
 fn answer_sample<Q: QueryEngine, R: QueryInput, W: AnswerOutput, E: AnswerOutput>(
     alloc: Global,
     input: &mut R,
@@ -115,7 +115,7 @@ fn answer_sample<Q: QueryEngine, R: QueryInput, W: AnswerOutput, E: AnswerOutput
     }
 }
 
-// The engine of the release that is built in.
+// Loads the built-in release into an engine.
 fn sample_engine<Q: QueryEngine>(alloc: Global) -> Result<Q, LoadFault>
     ensures ok { IfOk result (λ engine. Q.contents engine ≡ sample_contents) }
     ensures err { IfErr result (λ fault. IsFaultOf fault (Ok sample_contents)) }
@@ -150,7 +150,7 @@ fn answer_source<Q: QueryEngine, S: FileSource, R: QueryInput, W: AnswerOutput, 
     }
 }
 
-// Answers the lines of an input over a release, and lets the release go.
+// Answers the lines of an input over a release, and drops the release.
 fn answer_lines<Q: QueryEngine, R: QueryInput, W: AnswerOutput, E: AnswerOutput>(
     alloc: Global,
     mode: Mode,
@@ -193,7 +193,7 @@ fn serve_lines<Q: QueryEngine, R: QueryInput, W: AnswerOutput, E: AnswerOutput>(
     }
 }
 
-// Writes what the release of a source's files has.
+// Writes the report of the release of a source's files.
 fn report_source<Q: QueryEngine, S: FileSource, R: QueryInput, W: AnswerOutput, E: AnswerOutput>(
     alloc: Global,
     lang: &str,
@@ -220,7 +220,7 @@ fn report_source<Q: QueryEngine, S: FileSource, R: QueryInput, W: AnswerOutput, 
     }
 }
 
-// The text of the report of the release of a source's files, and their names.
+// Returns the text of the report of the release of a source's files, and leaves their names in `names`.
 fn report<Q: QueryEngine, S: FileSource>(
     alloc: Global,
     lang: &str,
@@ -244,7 +244,7 @@ fn report<Q: QueryEngine, S: FileSource>(
     }
 }
 
-// The text of a report.
+// Returns the text of a report.
 fn printed(alloc: Global, report: &Report) -> Result<Vec<u8>, AllocError>
     ensures { IfOk result (λ text. text.items ≡ report_text report.now) }
 {
@@ -253,8 +253,8 @@ fn printed(alloc: Global, report: &Report) -> Result<Vec<u8>, AllocError>
     Ok(text)
 }
 
-// Tells why files of some names are no release, or could not be read. Want of memory for the line is
-// told as want of memory.
+// Tells why the files are no release, or could not be read. If memory for the line is refused, it tells want of
+// memory.
 fn refuse<E: AnswerOutput>(
     alloc: Global,
     fault: LoadFault,
@@ -273,7 +273,7 @@ fn refuse<E: AnswerOutput>(
     }
 }
 
-// The line that tells why files of some names are no release, or could not be read.
+// Returns the line that tells why the files are no release, or could not be read.
 fn refusal(alloc: Global, fault: LoadFault, names: &[String]) -> Result<Vec<u8>, AllocError>
     ensures { IfOk result (λ line. line.items ≡ load_refusal (map string_bytes names.now) fault) }
 {
@@ -283,7 +283,7 @@ fn refusal(alloc: Global, fault: LoadFault, names: &[String]) -> Result<Vec<u8>,
     Ok(line)
 }
 
-// Texts, lent one by one.
+// Returns the texts as references.
 fn lent_texts<'a>(alloc: Global, texts: &'a [String]) -> Result<Vec<&'a str>, AllocError>
     ensures { IfOk result (λ lent. texts_of lent.items ≡ map string_bytes texts.now) }
 {
@@ -294,8 +294,8 @@ fn lent_texts<'a>(alloc: Global, texts: &'a [String]) -> Result<Vec<&'a str>, Al
     Ok(lent)
 }
 
-/// Writes the help or the version that was called for, or tells on `errors` why words are no request.
-/// Where the output fails, that is told.
+/// Writes the help or the version that was called for, or tells on `errors` why the words are no request. If the
+/// output fails, it tells that on `errors`.
 pub fn refuse_words<W: AnswerOutput, E: AnswerOutput>(
     fault: &WordFault,
     output: &mut W,
@@ -319,7 +319,7 @@ pub fn refuse_words<W: AnswerOutput, E: AnswerOutput>(
     }
 }
 
-// Tells of a fault by its line, and answers the status that it ends with.
+// Tells a fault by its line, and returns the status with which it ends.
 fn tell_fault<E: AnswerOutput>(fault: RunFault, errors: &mut E) -> Status
     requires { E.AnswerOutput.has_failed errors.old ≡ false }
     ensures status { result ≡ status_of fault }
@@ -339,7 +339,7 @@ fn tell_memory<E: AnswerOutput>(errors: &mut E) -> Status
     Status::MemoryRefused
 }
 
-// Writes a line as far as it can be written.
+// Writes a line as far as the stream takes it; a failure is dropped, because there is nowhere left to tell it.
 fn tell<E: AnswerOutput>(line: &[u8], errors: &mut E)
     requires { E.AnswerOutput.has_failed errors.old ≡ false }
     ensures { IsTold E.AnswerOutput errors.old errors.new line.now }
@@ -347,6 +347,7 @@ fn tell<E: AnswerOutput>(line: &[u8], errors: &mut E)
     let _ = write_all(line, errors);
 }
 
+// Returns the status with which a fault of a load ends.
 fn refusal_status(fault: &LoadFault) -> Status
     ensures { result ≡ refusal_status_of fault.now }
 {
@@ -357,6 +358,7 @@ fn refusal_status(fault: &LoadFault) -> Status
     }
 }
 
+// Returns the line that tells a fault of a run.
 fn fault_line(fault: RunFault) -> &'static [u8]
     ensures { result.now ≡ fault_text fault }
 {
@@ -368,6 +370,7 @@ fn fault_line(fault: RunFault) -> &'static [u8]
     }
 }
 
+// Returns the status with which a fault of a run ends.
 fn fault_status(fault: RunFault) -> Status
     ensures { result ≡ status_of fault }
 {

@@ -1,5 +1,5 @@
-//! Tests of what the program does, from outside: its words, queries and their answers, refused releases, runs
-//! and streams.
+//! Tests of what the program does, from outside: its words, queries and their answers, refused releases, runs and
+//! streams.
 //!
 //! They stand in a crate of their own, so that `query_tool` is not proved once more with them.
 #![tactic(auto)]

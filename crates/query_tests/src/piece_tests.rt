@@ -1,4 +1,4 @@
-//! Answers that are longer than a piece of the output, and bytes that are put into a piece.
+//! Tests of answers that are longer than a piece of the output, and of bytes that are put into a piece.
 ghost use Rattle.std.specs.Prelude.{◌≡◌, false};
 
 use crate::test_release::sample_with;
@@ -10,13 +10,13 @@ use std::process::Abort;
 use std::test::Fail;
 use streams::{IoFault, Piece};
 
-// How many bytes wait in a piece at the most.
+// How many bytes wait in a piece at most.
 const PIECE: usize = 65_536;
 
-// How many bytes are put, one after another: some wait, some go out as they are.
+// How many bytes each put has. The short ones wait, and the long ones are written directly.
 const LENGTHS: [usize; 9] = [1, 65_535, 1, 65_536, 0, 70_000, 65_000, 536, 3];
 
-// Bytes that differ from those beside them.
+// Makes bytes of which neighbours differ.
 fn bytes_of(alloc: Global, count: usize) -> Result<Vec<u8>, AllocError> {
     let mut bytes = Vec::new(alloc);
     for at in 0..count {
@@ -25,7 +25,7 @@ fn bytes_of(alloc: Global, count: usize) -> Result<Vec<u8>, AllocError> {
     Ok(bytes)
 }
 
-// How many bytes are put.
+// Returns how many bytes are put in all.
 fn byte_count() -> usize {
     let mut count = 0usize;
     for length in LENGTHS {
@@ -34,7 +34,7 @@ fn byte_count() -> usize {
     count
 }
 
-// Puts bytes, and writes those that wait.
+// Puts the bytes in parts of these lengths, then writes those that wait.
 fn put_all(piece: &mut Piece, bytes: &[u8], output: &mut PieceOutput) -> Result<(), IoFault> {
     let mut rest = bytes;
     for length in LENGTHS {
@@ -51,7 +51,7 @@ fn put_all(piece: &mut Piece, bytes: &[u8], output: &mut PieceOutput) -> Result<
     piece.flush(output)
 }
 
-// Whether all bytes go out in their order, or so many of them where the output fails behind these.
+// Whether all bytes are written in their order, or the first `sound` bytes if the output fails after them.
 fn goes_out(alloc: Global, bytes: &[u8], most: usize, sound: usize) -> Result<bool, AllocError> {
     let mut piece = Piece::new(alloc)?;
     let mut output = PieceOutput::new(alloc, most, sound);
@@ -75,14 +75,14 @@ fn check_pieces(rt: &impl Abort, alloc: Global) -> Result<(), AllocError> {
     Ok(())
 }
 
-// Bytes are put that are shorter and longer than a piece, and that fill it.
+// Bytes that are shorter and longer than a piece are put, and some fill it exactly.
 #[test]
 fn puts_bytes_of_any_length(rt: HostRuntime) -> Result<(), Fail> {
     check_pieces(&rt, rt.alloc())?;
     Ok(())
 }
 
-// What waits has not gone out; as many bytes as there is room for wait.
+// Whether bytes that wait are not yet written, even if they fill the piece.
 fn waits_until_full(alloc: Global) -> Result<bool, AllocError> {
     let bytes = bytes_of(alloc, PIECE)?;
     let (front, last) = bytes
@@ -110,8 +110,8 @@ const DESCRIPTIONS: usize = 2;
 const HEADER: &[u8] =
     b"id\teffectiveTime\tactive\tmoduleId\tconceptId\tlanguageCode\ttypeId\tterm\tcaseSignificanceId\r\n";
 
-// Long names: what stands before each in its row and in its line, and how many bytes it has. The first line waits, the
-// second is longer than a piece, and the third is as long as one.
+// Long names: the text before each in its row, the text before it in its line, and its length. The first line waits,
+// the second is longer than a piece, and the third is as long as a piece.
 const NAMES: [(&[u8], &[u8], usize); 3] = [
     (
         b"102018\t20240101\t1\t900000000000207008\t101009\ten\t900000000000003001\t",
@@ -138,7 +138,7 @@ fn push_name(count: usize, text: &mut Vec<u8>) -> Result<(), AllocError> {
     Ok(())
 }
 
-// The rows of the names.
+// Makes the rows of the names.
 fn name_rows(alloc: Global) -> Result<Vec<u8>, AllocError> {
     let mut text = Vec::from_slice(alloc, HEADER)?;
     for (before, _, count) in &NAMES {
@@ -149,7 +149,7 @@ fn name_rows(alloc: Global) -> Result<Vec<u8>, AllocError> {
     Ok(text)
 }
 
-// The answer of the three concepts.
+// Makes the answer of the three concepts with long names.
 fn long_answer(alloc: Global) -> Result<Vec<u8>, AllocError> {
     let mut text = Vec::from_slice(alloc, b"OK 3\n")?;
     for (_, before, count) in &NAMES {
@@ -160,7 +160,8 @@ fn long_answer(alloc: Global) -> Result<Vec<u8>, AllocError> {
     Ok(text)
 }
 
-// Whether a run over the query twice writes the answer twice, or so many bytes where the output fails behind these.
+// Whether a run over the query twice writes the answer twice, or its first `sound` bytes if the output fails after
+// them.
 fn is_long_run(alloc: Global, engine: &Engine, answers: &[u8], most: usize, sound: usize) -> bool {
     let mut input = PieceInput::new(b"<100005\n<100005\n", ROOM, ROOM);
     let mut output = PieceOutput::new(alloc, most, sound);
@@ -174,7 +175,7 @@ fn is_long_run(alloc: Global, engine: &Engine, answers: &[u8], most: usize, soun
     ended == wanted && output.bytes.as_slice() == front
 }
 
-// Looks at runs whose output fails within the first answer, between the answers, within the second and behind it.
+// Checks runs whose output fails within the first answer, between the answers, within the second, and after it.
 fn check_long_runs(rt: &impl Abort, alloc: Global, engine: &Engine, answers: &[u8]) {
     for most in [1_000, 100_000] {
         for sound in [
@@ -188,7 +189,7 @@ fn check_long_runs(rt: &impl Abort, alloc: Global, engine: &Engine, answers: &[u
     }
 }
 
-// An engine with the long names, whose answers are looked at, and which is dropped.
+// Checks the answers of an engine with the long names, and drops the engine.
 fn check_long_and_drop(rt: &impl Abort, alloc: Global, engine: Engine, answers: &[u8]) {
     check_long_runs(rt, alloc, &engine, answers);
     drop(engine);
@@ -215,7 +216,7 @@ fn check_long_answers(rt: &impl Abort, alloc: Global) -> Result<(), LoadFault> {
     check_long_names(rt, alloc, rows.as_slice(), answers.as_slice())
 }
 
-// Lines that wait, go out as they are, and fill a piece.
+// Checks answers with lines that wait, that are written directly, and that fill a piece.
 #[test]
 fn writes_long_answers_in_pieces(rt: HostRuntime) -> Result<(), Fail> {
     check_long_answers(&rt, rt.alloc())?;

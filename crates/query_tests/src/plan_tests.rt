@@ -1,4 +1,4 @@
-//! How queries are answered over the sample release, and what other plans answer.
+//! Tests of the plans of queries over the sample release, and of the answers by other plans.
 use crate::test_release::sample;
 use crate::test_streams::{PieceInput, PieceOutput, ROOM};
 use query_tool::{Choice, Engine, Rule, Step, run_explain};
@@ -22,7 +22,7 @@ const IN_BRACES: &[u8] = b"PLAN 50\nand 12\n descendants 4\n  one 100005 0\n uni
 
 const TWICE_THE_SAME: &[u8] = b"PLAN 0\none 100005 0\n";
 
-// The lines of a run, and what is told of them.
+// The lines of a run, for which the plans are written.
 const LINES: &[u8] =
     b"<100005:104001=106004\n*:105000>#2\n<100005:{104001=<<106004,105000=*}\n\n100005,100005";
 
@@ -42,14 +42,15 @@ const PLANS: [Row; 5] = [
     (b"100005,100005", TWICE_THE_SAME),
 ];
 
-// Nodes that those have not. There are 10 concepts, 9 attribute rows, 8 groups, 15 pairs of a concept and an ancestor.
+// Plans with other nodes. There are 10 concepts, 9 attribute rows, 8 groups, and 15 pairs of a concept and an
+// ancestor.
 const OTHER_PLANS: [Row; 8] = [
     (
         b"((<100005 OR <106004) MINUS ^108003).104001",
         b"PLAN 36\nvalues 13\n minus 6\n  or 8\n   descendants 4\n    one 100005 0\n   descendants 2\n    one 106004 0\n\
 \x20 members 3\n   one 108003 0\n one 104001 0\n",
     ),
-    // 10 are passed over where none may pass: one type and its 6 rows, and these
+    // because no pair need pass, all 10 concepts are visited, besides one type and its 6 rows
     (
         b"*:[0..1]R 105000!=<100005",
         b"PLAN 61\nand 40\n all 0\n pairs in 0..1 outside by type 17\n  one 105000 0\n  descendants 4\n   one 100005 0\n",
@@ -109,26 +110,26 @@ const ATTRIBUTES: [&[u8]; 15] = [
     b"*:105000<#+2.6",
 ];
 
-// A rule at the second child.
+// Makes the step of a rule at the second child.
 fn at_second(rule: Rule) -> Step<'static> {
     Step { rule, place: &[1] }
 }
 
-// What an engine tells of a line, behind what the vector holds before.
+// Returns the explanation of a line by an engine, after what the vector holds before.
 fn explained_by(alloc: Global, engine: &Engine, line: &[u8]) -> Result<Vec<u8>, AllocError> {
     let mut output = Vec::from_slice(alloc, b"before\n")?;
     engine.explain(alloc, line, &mut output)?;
     Ok(output)
 }
 
-// What it answers.
+// Returns the answer of an engine to a line, after what the vector holds before.
 fn answered_by(alloc: Global, engine: &Engine, line: &[u8]) -> Result<Vec<u8>, AllocError> {
     let mut output = Vec::from_slice(alloc, b"before\n")?;
     engine.answer(alloc, line, &mut output)?;
     Ok(output)
 }
 
-// What it answers by another plan.
+// Returns the answer of an engine to a line by another plan, after what the vector holds before.
 fn answered_with(
     alloc: Global,
     engine: &Engine,
@@ -141,7 +142,7 @@ fn answered_with(
     Ok(output)
 }
 
-// Looks at the plans of lines.
+// Checks the plans of lines.
 fn look_at_plans(
     rt: &impl Abort,
     alloc: Global,
@@ -155,7 +156,7 @@ fn look_at_plans(
     Ok(())
 }
 
-// Looks at whether a line that is refused is explained as it is answered.
+// Checks that a line that is refused is explained by its refusal.
 fn look_at_refusals(
     rt: &impl Abort,
     alloc: Global,
@@ -169,7 +170,7 @@ fn look_at_refusals(
     Ok(())
 }
 
-// Looks at whether lines are answered alike whichever rows all their leaves are answered from.
+// Checks that lines are answered alike, whichever choice all their leaves have.
 fn look_at_choices(
     rt: &impl Abort,
     alloc: Global,
@@ -186,7 +187,7 @@ fn look_at_choices(
     Ok(())
 }
 
-// Looks at the answer by a plan that is rewritten, where all leaves are scanned. The first of the steps applies.
+// Checks the answer by a rewritten plan in which all leaves are scanned. Only the first of the steps applies.
 fn look_at_steps(rt: &impl Abort, alloc: Global, engine: &Engine) -> Result<(), AllocError> {
     let steps = [
         at_second(Rule::BraceGuard),
@@ -207,7 +208,7 @@ fn look(rt: &impl Abort, alloc: Global, engine: &Engine) -> Result<(), AllocErro
     look_at_steps(rt, alloc, engine)
 }
 
-// The same, of an engine that is dropped: a function that owns one and has several ends is dear to prove.
+// Checks an engine and drops it. A function that owns an engine and has several exits is slow to prove.
 fn look_and_drop(rt: &impl Abort, alloc: Global, engine: Engine) -> Result<(), AllocError> {
     let looked = look(rt, alloc, &engine);
     drop(engine);
@@ -227,7 +228,7 @@ fn tells_plans_and_answers_by_others(rt: HostRuntime) -> Result<(), Fail> {
     Ok(())
 }
 
-// Whether a run of an engine, whose streams give and take so many bytes at once, writes the texts.
+// Whether a run, whose streams give and take at most `most` bytes at once, writes the plans.
 fn is_run(alloc: Global, engine: &Engine, most: usize) -> bool {
     let mut input = PieceInput::new(LINES, most, ROOM);
     let mut output = PieceOutput::new(alloc, most, ROOM);
@@ -241,7 +242,7 @@ fn is_run_and_drop(alloc: Global, engine: Engine, most: usize) -> bool {
     is_run
 }
 
-// The same of an engine that has loaded the sample release.
+// Whether a run over the sample release, whose streams give and take at most `most` bytes at once, writes the plans.
 fn is_written(alloc: Global, most: usize) -> bool {
     match Engine::load(alloc, &sample(), "en", Limits::standard()) {
         Ok(engine) => is_run_and_drop(alloc, engine, most),

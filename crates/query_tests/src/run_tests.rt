@@ -1,4 +1,4 @@
-//! Runs over streams in pieces, and over streams that fail.
+//! Tests of runs over streams in pieces, and over streams that fail.
 ghost use Rattle.std.specs.Prelude.{◌≡◌, false};
 
 use crate::test_release::sample;
@@ -20,10 +20,10 @@ const ANSWER_AND_REFUSAL: &[u8] =
 const LONG_AND_ANSWER: &[u8] =
     b"ERR long\nOK 3\n101009 |Beta (finding)|\n102002 |Gamma (finding)|\n103007 |Delta (finding)|\n";
 
-// The plan of the same query.
+// The plan of the query `<100005`.
 const PLAN: &[u8] = b"PLAN 4\ndescendants 4\n one 100005 0\n";
 
-// The query twice, what answers both, and what explains both.
+// The query twice, the answers to both, and the plans of both.
 const TWICE: &[u8] = b"<100005\n<100005\n";
 
 const ANSWERS: &[u8] =
@@ -33,16 +33,17 @@ OK 3\n101009 |Beta (finding)|\n102002 |Gamma (finding)|\n103007 |Delta (finding)
 const PLANS: &[u8] =
     b"PLAN 4\ndescendants 4\n one 100005 0\nPLAN 4\ndescendants 4\n one 100005 0\n";
 
-// What an input gives, how many bytes of it at once, and how many before it fails.
+// An input: its bytes, how many it gives at once, and how many it gives before it fails.
 type Given<'a> = (&'a [u8], usize, usize);
 
-// How many bytes an output takes at once, and how many before it fails.
+// An output: how many bytes it takes at once, and how many it takes before it fails.
 type Taken = (usize, usize);
 
-// What a run answers, and what it writes.
+// The result of a run, and the bytes that it writes.
 type Ended<'a> = (Result<u64, RunFault>, &'a [u8]);
 
-// Whether a run of an engine ends so, and the engine is dropped: a function that owns one and has several ends is dear to prove.
+// Whether a run of an engine ends with `ended`; then the engine is dropped. A function that owns an engine and has
+// several exits is slow to prove.
 fn is_run_and_drop(
     alloc: Global,
     engine: Engine,
@@ -55,7 +56,7 @@ fn is_run_and_drop(
     is_run
 }
 
-// Looks at whether a run over the sample release ends so.
+// Checks the end of a run over the sample release.
 fn check_run(
     rt: &impl Abort,
     alloc: Global,
@@ -72,7 +73,7 @@ fn check_run(
     }
 }
 
-// Runs over streams that give and take few bytes at once, and many.
+// Checks runs over streams that give and take few bytes at once, and many.
 fn check_runs(
     rt: &impl Abort,
     alloc: Global,
@@ -85,7 +86,7 @@ fn check_runs(
     Ok(())
 }
 
-// An empty line is a query too, though no text of one; a last line needs no line feed.
+// An empty line is a query line, although it is no constraint; a last line needs no line feed.
 fn check_lines(rt: &impl Abort, alloc: Global) -> Result<(), LoadFault> {
     check_runs(rt, alloc, b"", (Ok(0), b""))?;
     check_runs(rt, alloc, b"<100005\n\n", (Ok(2), ANSWER_AND_REFUSAL))?;
@@ -99,7 +100,7 @@ fn answers_each_line(rt: HostRuntime) -> Result<(), Fail> {
     Ok(())
 }
 
-// Blanks, as many as are asked for, and a query behind them.
+// Makes a line of `blanks` blanks and a query after them.
 fn behind_blanks(alloc: Global, blanks: usize) -> Result<Vec<u8>, AllocError> {
     let mut bytes = Vec::new(alloc);
     for _ in 0..blanks {
@@ -109,7 +110,7 @@ fn behind_blanks(alloc: Global, blanks: usize) -> Result<Vec<u8>, AllocError> {
     Ok(bytes)
 }
 
-// Runs over a line that is too long and one that is not.
+// Checks runs over a line that is too long and one that is not.
 fn check_long(rt: &impl Abort, alloc: Global, bytes: &[u8]) -> Result<(), LoadFault> {
     for most in [1_000, 70_000] {
         let given = (bytes, most, usize::MAX);
@@ -138,18 +139,18 @@ fn refuses_lines_longer_than_are_kept(rt: HostRuntime) -> Result<(), Fail> {
     Ok(())
 }
 
-// Whether a run answers its lines, or tells their plans.
+// Whether a run answers its lines, or explains them.
 #[derive(Clone, Copy)]
 enum Task {
     Answer,
     Explain,
 }
 
-// Between two numbers of bytes, the second left out, what a run over the query twice answers where a stream fails behind
-// so many.
+// Two numbers of bytes, the second excluded, and the result of a run over the query twice if a stream fails after a
+// number of bytes between them.
 type Stretch = (usize, usize, Result<u64, RunFault>);
 
-// By the bytes that the output takes: an answer has 79, and a plan 35.
+// Stretches of the bytes that the output takes: an answer has 79, and a plan 35.
 const BY_ANSWERS: [Stretch; 3] = [
     (0, 79, Err(RunFault::Write(0))),
     (79, 158, Err(RunFault::Write(1))),
@@ -162,14 +163,14 @@ const BY_PLANS: [Stretch; 3] = [
     (70, 72, Ok(2)),
 ];
 
-// By the bytes that the input gives: a line has 8.
+// Stretches of the bytes that the input gives: a line has 8.
 const BY_INPUT: [Stretch; 3] = [
     (0, 8, Err(RunFault::Read(0))),
     (8, 16, Err(RunFault::Read(1))),
     (16, 17, Err(RunFault::Read(2))),
 ];
 
-// Whether a run of an engine over an input and an output ends so.
+// Whether a run of an engine over an input and an output ends with `ended`.
 fn is_run(
     alloc: Global,
     engine: &Engine,
@@ -190,7 +191,8 @@ fn is_run(
         && output.failed() == matches!(ended.0, Err(RunFault::Write(_)))
 }
 
-// Whether all runs of a stretch of the output end so. The bytes that were taken are a front of both texts.
+// Whether all runs of a stretch of the output end with its result. The bytes that were taken are a front of both
+// texts.
 fn end_by_output(
     alloc: Global,
     engine: &Engine,
@@ -216,7 +218,7 @@ fn end_by_output(
     true
 }
 
-// The same of the input, where what was written are so many texts.
+// Whether all runs of a stretch of the input end with its result, and write `texts`.
 fn end_by_input(
     alloc: Global,
     engine: &Engine,
@@ -234,7 +236,7 @@ fn end_by_input(
     true
 }
 
-// Looks at all stretches of the output.
+// Checks all stretches of the output.
 fn check_output(
     rt: &impl Abort,
     alloc: Global,
@@ -249,7 +251,7 @@ fn check_output(
     }
 }
 
-// Looks at all stretches of the input, at each of which one text more was written.
+// Checks all stretches of the input. At each of them one text more was written.
 fn check_input(rt: &impl Abort, alloc: Global, engine: &Engine, task: Task, fronts: &[&[u8]]) {
     for (stretch, texts) in BY_INPUT.iter().zip(fronts) {
         assert!(rt; end_by_input(alloc, engine, task, texts, stretch, 1));
@@ -279,14 +281,14 @@ fn check_sample_ends(rt: &impl Abort, alloc: Global) -> Result<(), LoadFault> {
     }
 }
 
-// A stream fails behind each number of bytes.
+// Lets a stream fail after each number of bytes.
 #[test]
 fn stops_where_a_stream_fails(rt: HostRuntime) -> Result<(), Fail> {
     check_sample_ends(&rt, rt.alloc())?;
     Ok(())
 }
 
-// What a run over the sample release answers.
+// Runs over the sample release, and returns the result.
 fn run_sample<R: QueryInput, W: AnswerOutput>(
     alloc: Global,
     input: &mut R,
@@ -322,7 +324,7 @@ fn runs_over_streams(rt: HostRuntime) -> Result<(), Fail> {
     let mut written = Vec::new(rt.alloc());
     let mut output = StreamOutput::new(&mut written);
     let answer = run_sample(rt.alloc(), &mut input, &mut output)?;
-    // one read gave the line, and one the end
+    // one read gave the line, and one found the end
     assert!(rt; answer == Ok(1) && input.reads() == 2);
     assert!(rt; !input.failed() && !output.failed());
     assert!(rt; written.as_slice() == ANSWER);

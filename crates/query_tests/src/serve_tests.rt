@@ -1,4 +1,4 @@
-//! What the program answers to its words, and to releases that are refused.
+//! Tests of what the program answers to its words, and to releases that are refused.
 use crate::test_release::{sample, sample_and, sample_with};
 use crate::test_streams::{PieceInput, PieceOutput, ROOM};
 use query_tool::{
@@ -25,7 +25,7 @@ const REPORT: &[u8] =
 const DANISH: &[u8] =
     b"OK 3\n101009 |Beta (finding)|\n102002 |Gamma (finding)|\n103007 |Delta (fund)|\n";
 
-// The report where a row stands twice.
+// The report if a row stands twice.
 const LONGER_REPORT: &[u8] =
     b"FILES 5\nCONCEPTS 10\nISA 10\nATTRIBUTES 9\nMEMBERS 2\nNAMES 10\nPASSED 7\n";
 
@@ -33,25 +33,25 @@ const LONGER_REPORT: &[u8] =
 const SHORT_REPORT: &[u8] =
     b"FILES 3\nCONCEPTS 10\nISA 0\nATTRIBUTES 0\nMEMBERS 2\nNAMES 10\nPASSED 3\n";
 
-// What serving no file ends with.
+// The end of serving no file.
 const NO_CONCEPT_FILE: Ended<'static> = (Status::ReleaseRefused, b"", b"REFUSED no-concept-file\n");
 
-// The lines that tell that the files could not be listed, and that the first could not be read.
+// The lines for files that can't be listed, and for a first file that can't be read.
 const LISTING: &[u8] = b"REFUSED device\n";
 
 const FIRST_FILE: &[u8] = b"REFUSED device der2_Refset_SimpleSnapshot_INT_20240101.txt\n";
 
-// A file of concepts and one of relationships behind those of the sample.
+// The names of a file of concepts and of one of relationships, which come after those of the sample.
 const CONCEPTS: &str = "xsct2_Concept_Snapshot_XX.txt";
 
 const RELATIONSHIPS: &str = "xsct2_Relationship_Snapshot_XX.txt";
 
-// Ten folders behind a command.
+// The command `check` with ten folders.
 const TEN_FOLDERS: [&str; 12] = [
     "hosecrag", "check", "1", "2", "3", "4", "5", "6", "7", "8", "9", "10",
 ];
 
-// And behind another.
+// The command `explain` with ten folders.
 const TEN_EXPLAINED: [&str; 12] = [
     "hosecrag", "explain", "1", "2", "3", "4", "5", "6", "7", "8", "9", "10",
 ];
@@ -141,7 +141,7 @@ const REQUESTS: [Requested<'static>; 12] = [
     ),
 ];
 
-// Whether words are read as the request that they are.
+// Whether words are read as their request.
 fn is_request(alloc: Global, row: Requested<'_>) -> bool {
     let (words, mode, folders, lang) = row;
     match read_words(alloc, words) {
@@ -205,7 +205,7 @@ fn refuses_words(rt: HostRuntime) {
     }
 }
 
-// Words, and what the text that answers them names.
+// Words, and what the text that answers them has to name.
 type Named<'a> = (&'a [&'a str], &'a [&'a str]);
 
 const HELP: [Named<'static>; 5] = [
@@ -231,7 +231,7 @@ const HELP: [Named<'static>; 5] = [
     (&["hosecrag", "--version"], &["hosecrag 0.1.0"]),
 ];
 
-// Whether what is told for help names what there is.
+// Whether the text for help names all that it has to name.
 fn is_helped(alloc: Global, row: Named<'_>) -> bool {
     match read_words(alloc, row.0) {
         Err(WordFault::Help(text)) => has_all(text.as_str(), row.1),
@@ -239,7 +239,7 @@ fn is_helped(alloc: Global, row: Named<'_>) -> bool {
     }
 }
 
-// What help tells names each command, each flag and each value of the command that it is asked of.
+// Help names each command, each option and each value of the command for which it is asked.
 #[test]
 fn help_names_what_there_is(rt: HostRuntime) {
     for row in HELP {
@@ -287,7 +287,7 @@ const WRONG: [Named<'static>; 16] = [
     (&["hosecrag", "--"], &["query", "explain", "check"]),
 ];
 
-// Whether what is told of words that are wrong names the wrong ones.
+// Whether the text for wrong words names the wrong ones.
 fn is_named(alloc: Global, row: Named<'_>) -> bool {
     match read_words(alloc, row.0) {
         Err(WordFault::Usage(text)) => has_all(text.as_str(), row.1),
@@ -295,7 +295,7 @@ fn is_named(alloc: Global, row: Named<'_>) -> bool {
     }
 }
 
-// What is told of words that are wrong names the wrong one, or what is missing.
+// The text for wrong words names the wrong one, or what is missing.
 #[test]
 fn wrong_words_are_named(rt: HostRuntime) {
     for row in WRONG {
@@ -303,7 +303,7 @@ fn wrong_words_are_named(rt: HostRuntime) {
     }
 }
 
-// Whether each of these stands in a text.
+// Whether each of `names` stands in a text.
 fn has_all(text: &str, names: &[&str]) -> bool {
     names.iter().all(|name| text.contains(*name))
 }
@@ -318,10 +318,10 @@ fn refuses_ten_folders(rt: HostRuntime) {
     }
 }
 
-// The status that serving ends with, and what it writes as answers and as errors.
+// The status with which serving ends, and the bytes that it writes as answers and as errors.
 type Ended<'a> = (Status, &'a [u8], &'a [u8]);
 
-// Whether serving lines ends so, where the output has room for so many bytes. At `check` no query is read.
+// Whether serving lines ends with `ended`, if the output has room for `room` bytes. `check` reads no query.
 fn is_served(
     alloc: Global,
     request: &Request,
@@ -340,7 +340,7 @@ fn is_served(
         && (request.mode != Mode::Check || input.reads() == 0)
 }
 
-// What is asked of the files of no folder.
+// Makes a request without folders.
 fn asked(alloc: Global, mode: Mode, lang: &str) -> Result<Request, AllocError> {
     Ok(Request {
         mode,
@@ -349,7 +349,7 @@ fn asked(alloc: Global, mode: Mode, lang: &str) -> Result<Request, AllocError> {
     })
 }
 
-// Looks at how serving over files ends, where the call with a number fails; 0 is none.
+// Checks the end of serving over files, if the call `fail_at` of the source fails; 0 lets none fail.
 fn check_served(
     rt: &impl Abort,
     alloc: Global,
@@ -369,7 +369,7 @@ fn check_served(
     }
 }
 
-// Looks at how answering over files ends, with the names of a language.
+// Checks the end of answering over files, with the names of a language.
 fn check_query(
     rt: &impl Abort,
     alloc: Global,
@@ -381,7 +381,7 @@ fn check_query(
     check_served(rt, alloc, asked, files, 0, ROOM, ended)
 }
 
-// Looks at how the report of files ends, where the output has room for so many bytes.
+// Checks the end of the report of files, if the output has room for `room` bytes.
 fn check_report(
     rt: &impl Abort,
     alloc: Global,
@@ -393,7 +393,7 @@ fn check_report(
     check_served(rt, alloc, asked, files, 0, room, ended)
 }
 
-// Looks at how telling the plan of a query over files ends.
+// Checks the end of explaining a query over files.
 fn check_explained(
     rt: &impl Abort,
     alloc: Global,
@@ -437,7 +437,7 @@ fn reports_releases(rt: HostRuntime) -> Result<(), Fail> {
     Ok(())
 }
 
-// How many bytes are cut from the end of the sample's concept file, and how the report of what is left ends.
+// How many bytes are cut from the end of the sample's concept file, and the end of the report of the rest.
 const CUTS: [(usize, Ended<'static>); 4] = [
     (
         usize::MAX,
@@ -447,7 +447,7 @@ const CUTS: [(usize, Ended<'static>); 4] = [
             b"REFUSED header sct2_Concept_Snapshot_INT_20240101.txt\n",
         ),
     ),
-    // its last LF, and the CR before it
+    // cut are the last LF, and the CR before it
     (1, (Status::Done, REPORT, b"")),
     (2, (Status::Done, REPORT, b"")),
     (
@@ -460,7 +460,7 @@ const CUTS: [(usize, Ended<'static>); 4] = [
     ),
 ];
 
-// Looks at how the report of the sample with other bytes for the file at a place ends.
+// Checks the end of the report of the sample with other bytes for the file at `place`.
 fn check_changed(
     rt: &impl Abort,
     alloc: Global,
@@ -487,7 +487,7 @@ fn check_cuts(
     Ok(())
 }
 
-// The report of the sample with a row once more behind its relationships.
+// Checks the report of the sample with one of its relationships repeated at the end.
 fn check_repeated(rt: &impl Abort, alloc: Global, whole: &[u8]) -> Result<(), AllocError> {
     let ended = (Status::Done, LONGER_REPORT, b"".as_slice());
     match with_repeated_row(alloc, whole) {
@@ -496,7 +496,7 @@ fn check_repeated(rt: &impl Abort, alloc: Global, whole: &[u8]) -> Result<(), Al
     }
 }
 
-// The first of the sample's relationships, behind the others.
+// Makes the sample's relationships with the first one repeated at the end.
 fn with_repeated_row(alloc: Global, whole: &[u8]) -> Result<Vec<u8>, AllocError> {
     let mut bytes = Vec::from_slice(alloc, whole)?;
     bytes.extend_from_slice(REPEATED)?;
@@ -507,7 +507,7 @@ const REPEATED: &[u8] =
     b"100022\t20240101\t1\t900000000000207008\t100005\t138875005\t0\t116680003\t\
 900000000000011006\t900000000000451002\r\n";
 
-// A file that is cut, and one with a row twice, which counts once.
+// Checks a file that is cut, and a file with a row twice, which counts once.
 #[test]
 fn reports_cut_and_repeated_rows(rt: HostRuntime) -> Result<(), Fail> {
     let [_, concepts, _, _, relationships] = sample();
@@ -516,7 +516,7 @@ fn reports_cut_and_repeated_rows(rt: HostRuntime) -> Result<(), Fail> {
     Ok(())
 }
 
-// Adds a text so many times.
+// Adds a text `count` times.
 fn push_times(lines: &mut Vec<u8>, text: &[u8], count: usize) -> Result<(), AllocError> {
     for _ in 0..count {
         lines.extend_from_slice(text)?;
@@ -524,8 +524,8 @@ fn push_times(lines: &mut Vec<u8>, text: &[u8], count: usize) -> Result<(), Allo
     Ok(())
 }
 
-// Adds lines that an attacker would send: braces and brackets as deep as may be and deeper, a line that is refused for
-// more than one reason, one that is long and no text, and numbers that are too long.
+// Adds lines that an attacker would send: braces and brackets as deep as allowed and deeper, a line with more than
+// one reason to be refused, a long line that is no text, and numbers that are too long.
 fn push_hostile_lines(lines: &mut Vec<u8>) -> Result<(), AllocError> {
     lines.extend_from_slice(b"*:")?;
     push_times(lines, b"{ ", 64)?;
@@ -543,7 +543,7 @@ fn push_hostile_lines(lines: &mut Vec<u8>) -> Result<(), AllocError> {
 const REFUSALS: &[u8] = b"ERR syntax\nERR depth\nERR token 65\nERR utf8\nERR long\n\
 ERR limit 9\nERR limit 9\nERR token 9\n";
 
-// Looks at what is answered to lines of which each is refused.
+// Checks that each of the lines is refused.
 fn check_hostile(rt: &impl Abort, alloc: Global, lines: &[u8]) -> Result<(), AllocError> {
     match asked(alloc, Mode::Query, "en") {
         Ok(request) => {
@@ -565,7 +565,7 @@ fn refuses_hostile_lines(rt: HostRuntime) -> Result<(), Fail> {
     Ok(())
 }
 
-// The sample release with one file more is refused by a line.
+// Checks that the sample release with one file more is refused by a line.
 fn check_refused(
     rt: &impl Abort,
     alloc: Global,
@@ -585,7 +585,7 @@ fn check_refused(
     }
 }
 
-// What stands in the file more, and the line that refuses it.
+// The name and the bytes of the additional file, and the line that refuses the release.
 const REFUSED: [(&str, &[u8], &[u8]); 7] = [
     (
         CONCEPTS,
@@ -650,7 +650,7 @@ fn ends_with_its_status(rt: HostRuntime) {
     assert!(rt; Status::MemoryRefused.code() == 4);
 }
 
-// Whether words that are no request end so, where the output takes so many bytes.
+// Whether words that are no request end with `ended`, if the output takes `sound` bytes.
 fn is_refused(alloc: Global, fault: &WordFault, sound: usize, ended: Ended<'_>) -> bool {
     let mut output = PieceOutput::new(alloc, ROOM, sound);
     let mut errors = PieceOutput::new(alloc, ROOM, ROOM);
@@ -658,7 +658,7 @@ fn is_refused(alloc: Global, fault: &WordFault, sound: usize, ended: Ended<'_>) 
     status == ended.0 && output.bytes.as_slice() == ended.1 && errors.bytes.as_slice() == ended.2
 }
 
-// What a call for help or for the version writes, and where it is told that it could not.
+// Checks what a call for help or for the version writes, and where a failure of that is told.
 #[test]
 fn writes_what_is_called_for(rt: HostRuntime) -> Result<(), Fail> {
     let alloc = rt.alloc();
@@ -673,7 +673,7 @@ fn writes_what_is_called_for(rt: HostRuntime) -> Result<(), Fail> {
     Ok(())
 }
 
-// Where it is told of words that are wrong.
+// Checks where wrong words are told.
 #[test]
 fn tells_of_wrong_words(rt: HostRuntime) -> Result<(), Fail> {
     let alloc = rt.alloc();
@@ -693,7 +693,7 @@ fn tells_of_wrong_words(rt: HostRuntime) -> Result<(), Fail> {
     Ok(())
 }
 
-// What the sample ends with where a call of its source fails, and what is told.
+// Checks the end of serving the sample if a call of its source fails, and the line that tells it.
 fn check_failed(
     rt: &impl Abort,
     alloc: Global,
@@ -706,7 +706,7 @@ fn check_failed(
     check_served(rt, alloc, asked, &sample(), fail_at, ROOM, ended)
 }
 
-// The first call lists the files, the second opens the first of them, and the next ones read it.
+// The first call lists the files, the second opens the first of them, and the later ones read it.
 fn check_devices(rt: &impl Abort, alloc: Global) -> Result<(), AllocError> {
     check_failed(rt, alloc, Mode::Query, 1, LISTING)?;
     check_failed(rt, alloc, Mode::Check, 1, LISTING)?;

@@ -1,4 +1,4 @@
-//! Engines that are loaded from a source that fails.
+//! Tests of engines that are loaded from a source that fails.
 use crate::test_release::sample;
 use query_tool::Engine;
 use release_files::MemoryFiles;
@@ -8,8 +8,9 @@ use std::alloc::Global;
 // How many bytes the source reads at once.
 const PIECE: usize = 1_000;
 
-// Which of the sample's files is at hand at a call of its source, counted from 1, if there are so many calls.
-// The first call lists the files. Of each file one call opens it, one reads each piece, and one finds the end.
+// Returns which of the sample's files is in use at a call of its source, or `None` after the last call. Calls count
+// from 1. The first one lists the files. For each file, one call opens it, one reads each piece, and one finds the
+// end.
 fn file_at_call(call: u64) -> Option<usize> {
     let mut calls = 1u64;
     for (place, file) in sample().iter().enumerate() {
@@ -21,7 +22,7 @@ fn file_at_call(call: u64) -> Option<usize> {
     None
 }
 
-// The fault of an engine that is loaded from a source whose call of a number fails.
+// Returns the fault of an engine that is loaded from a source whose call `fail_at` fails.
 fn fault_at(alloc: Global, fail_at: u64) -> Option<LoadFault> {
     let files = sample();
     let mut source = MemoryFiles::new(alloc, &files, PIECE, fail_at);
@@ -29,8 +30,8 @@ fn fault_at(alloc: Global, fail_at: u64) -> Option<LoadFault> {
     Engine::load_from(alloc, &mut source, &mut names, "en", Limits::standard()).err()
 }
 
-// Each call of a source fails in turn, until there are no more. The device is told with the file at hand, and with none
-// where the files were not listed.
+// Each call of a source fails in turn, until there are no more. The fault names the file in use, or no file if the
+// files were not listed.
 #[test]
 fn fails_with_its_source(rt: HostRuntime) {
     let unlisted = Some(LoadFault::Device { file: None });

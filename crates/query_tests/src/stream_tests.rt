@@ -1,11 +1,11 @@
-//! Streams of the standard library that are interrupted, and that are used many times.
+//! Tests of streams of the standard library that are interrupted, and that are used many times.
 use query_tool::{AnswerOutput, IoFault, QueryInput, StreamInput, StreamOutput};
 use std::alloc::{AllocError, Global};
 use std::io::{self, ErrorKind, Read, Write};
 use std::test::Fail;
 
-// Gives or takes one byte at a call, and is interrupted so many times before each. Once `sound` bytes
-// have gone through, it fails.
+// A stream that gives or takes one byte at a call, and is interrupted `interruptions` times before each. Once
+// `sound` calls have gone through, it fails.
 #[derive(Drop)]
 struct Patchy {
     bytes: Vec<u8>,
@@ -31,7 +31,7 @@ impl Patchy {
         })
     }
 
-    // Whether a call goes through, after so many that were interrupted.
+    // Lets a call through after `interruptions` calls that were interrupted.
     fn turn(&mut self) -> io::Result<()> {
         if self.waited < self.interruptions {
             self.waited += 1;
@@ -96,7 +96,7 @@ fn takes_the_text(output: &mut StreamOutput<Patchy>) -> bool {
     output.write(b"") == Ok(0) && !output.failed()
 }
 
-// However often the streams are used and interrupted.
+// The streams give and take the whole text, however often they are used and interrupted.
 #[test]
 fn goes_to_the_end(rt: HostRuntime) -> Result<(), Fail> {
     for interruptions in [0, 1, 2, 999] {
@@ -121,7 +121,7 @@ fn fails_to_take(output: &mut StreamOutput<Patchy>) -> bool {
     output.write(TEXT) == Err(IoFault) && output.failed()
 }
 
-// A stream fails where it tells of another fault, and where it is interrupted without end.
+// A stream fails if the stream below has a fault other than an interruption, or is interrupted without end.
 #[test]
 fn fails_where_the_stream_fails(rt: HostRuntime) -> Result<(), Fail> {
     for (interruptions, sound) in [(0, 0), (3, 0), (1_000, 10)] {

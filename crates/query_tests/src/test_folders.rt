@@ -1,4 +1,4 @@
-//! A file system of a test: its folders and files fail where the test asks it.
+//! A file system for tests: its folders and files fail where a test asks for it.
 ghost use Rattle.std.specs.Prelude.{IsErr, None, ⊤};
 
 use std::alloc::{Alloc, Allocator, Global};
@@ -8,7 +8,7 @@ use std::random::RandomSource;
 use std::{fs, io};
 use streams::{FolderSystem, Standing, names_at, open_plain_at, standing_at};
 
-/// What stands at a path.
+/// The node at a path.
 #[derive(Clone, Copy)]
 pub enum Node {
     /// A file with its bytes.
@@ -17,21 +17,21 @@ pub enum Node {
     Unopened(ErrorKind),
     /// A file that can't be read.
     Unread(ErrorKind),
-    /// A folder with its names, each ended by a NUL, and the folder of the system as which it is told
-    /// apart from others.
+    /// A folder with its names, each ended by a NUL, and the identity by which the system tells it apart from other
+    /// folders.
     Folder(&'static [u8], &'static str),
     /// A folder that can't be listed.
     Unlisted(ErrorKind),
-    /// What can't be looked at.
+    /// A node that can't be looked at.
     Unseen(ErrorKind),
 }
 
-/// A file system of what stands at some paths, with random bytes.
+/// A file system of nodes at paths, with random bytes.
 #[derive(Clone, Drop)]
 pub struct TestFolders {
     rt: HostRuntime,
     nodes: &'static [(&'static str, Node)],
-    // what each random byte is; none where they fail
+    // the value of each random byte; `None` if random bytes fail
     random: Option<u8>,
 }
 
@@ -44,7 +44,7 @@ impl TestFolders {
         TestFolders { rt, nodes, random }
     }
 
-    // What stands at a path, which may end in a `/`.
+    // Returns the node at a path, which may end in a `/`.
     fn node(&self, path: &str) -> io::Result<Node> {
         let wanted = path.strip_suffix('/').unwrap_or(path);
         for (known, node) in self.nodes {
@@ -56,14 +56,14 @@ impl TestFolders {
     }
 }
 
-/// The bytes of a file, or the names of a folder; or why they can't be read.
+/// The bytes of a file, or the names of a folder, or why they can't be read.
 #[derive(Drop)]
 pub struct TestFile {
     bytes: &'static [u8],
     fault: Option<ErrorKind>,
 }
 
-// What no source asks of a file system.
+// Fails: no source asks this of a file system.
 fn unsupported<T>() -> io::Result<T>
     ensures { IsErr result }
 {

@@ -1,15 +1,15 @@
-//! The release that tests are run over.
+//! The release over which the tests run.
 use release_files::NamedBytes;
 use sample_release::sample_files;
 use std::alloc::{AllocError, Global};
 
-/// The files of the sample release, of which nothing is known beforehand: a test that knew the bytes of a
-/// literal release would be dear to prove.
+/// Returns the files of the sample release, without a contract: a test that knew the bytes of the release would be
+/// slow to prove.
 pub fn sample() -> [NamedBytes<'static>; 5] {
     sample_files()
 }
 
-/// The files of the sample release and one more behind them.
+/// Returns the files of the sample release and one more after them.
 pub fn sample_and<'a>(
     alloc: Global,
     name: &'a str,
@@ -23,7 +23,7 @@ pub fn sample_and<'a>(
     Ok(files)
 }
 
-/// The files of the sample release, with other bytes for the one at a place.
+/// Returns the files of the sample release, with other bytes for the file at a place.
 pub fn sample_with(
     alloc: Global,
     place: usize,

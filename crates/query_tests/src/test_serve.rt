@@ -1,4 +1,4 @@
-//! What `serve` answers over the sample release.
+//! Serving over the sample release, for the tests.
 use crate::test_release::sample;
 use crate::test_streams::{PieceInput, PieceOutput, ROOM};
 use query_tool::{Mode, Request, Status, serve};
@@ -8,7 +8,8 @@ use std::alloc::{AllocError, Global};
 // How many bytes a source reads at once.
 const PIECE: usize = 4_096;
 
-/// Whether lines are answered so in a mode, over the files of the sample, and nothing is told on the stream of errors.
+/// Whether lines over the files of the sample are answered by `wanted` in a mode, and nothing is written on the
+/// stream of errors.
 pub fn is_answered(
     alloc: Global,
     mode: Mode,

@@ -1,4 +1,4 @@
-//! Streams that give and take bytes in pieces, and fail where a test asks it.
+//! Streams for tests that give and take bytes in pieces, and fail where a test asks for it.
 ghost use Rattle.std.specs.Prelude.{◌≡◌, None, false};
 
 use query_tool::{AnswerOutput, IoFault, QueryInput};

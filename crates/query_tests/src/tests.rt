@@ -1,4 +1,4 @@
-//! Queries and their answers over small releases.
+//! Tests of queries and their answers over small releases.
 use crate::test_release::sample;
 use query_tool::Engine;
 use release_files::NamedBytes;
@@ -28,7 +28,7 @@ const Q: &[u8] = b"108003\n";
 
 const ROOT: &[u8] = b"138875005 |Root (test)|\n";
 
-// The answer of all concepts.
+// The answer to a query for all concepts.
 const EVERYTHING: &[u8] = b"OK 10\n\
 100005 |Alpha (finding)|\n101009 |Beta (finding)|\n102002 |Gamma (finding)|\n103007 |Delta (finding)|\n\
 104001 |Type T (attribute)|\n105000 |Type U (attribute)|\n106004 |Value X (value)|\n107008 |Value Y (value)|\n\
@@ -40,14 +40,15 @@ const NAMES: [(&str, &[u8], &[u8]); 5] = [
     ("da", b"100005", b"OK 1\n100005 |Alpha (finding)|\n"),
     ("en", b"103007", b"OK 1\n103007 |Delta (finding)|\n"),
     ("en", b"108003", b"OK 1\n108003\n"),
-    // in no language that is asked: the least identifier, whatever its language
+    // no name is in the language that is asked for: the description with the least identifier counts, whatever its
+    // language
     ("fr", b"103007", b"OK 1\n103007 |Delta (finding)|\n"),
 ];
 
 // A query line, and the lines of the concepts that answer it.
 type Row = (&'static [u8], &'static [&'static [u8]]);
 
-// One concept or all, alone or behind an operator.
+// One concept or all, alone or after an operator.
 const HIERARCHY: [Row; 24] = [
     (b"*", &[A, B, C, D, T, U, X, Y, Q, ROOT]),
     (b"100005", &[A]),
@@ -134,7 +135,7 @@ const ATTRIBUTES: [Row; 29] = [
     (b"<100005:[0..*]105000=*", &[B, C, D]),
 ];
 
-// Lines that are no constraint, and why. A place counts the bytes before it.
+// Lines that are no constraint, and their refusals. An offset counts the bytes before it.
 const REFUSALS: [(&[u8], &[u8]); 33] = [
     (b"", b"ERR syntax\n"),
     (b"99", b"ERR syntax\n"),
@@ -157,7 +158,7 @@ const REFUSALS: [(&[u8], &[u8]); 33] = [
     (b"1234567890123456789", b"ERR limit 0\n"),
     (b"<< 1234567890123456789", b"ERR limit 3\n"),
     (b"\xff", b"ERR utf8\n"),
-    // of two refusals the one at the least place, however many tokens stand before it
+    // of two refusals the one with the lower offset counts, however many tokens stand before it
     (b"007 x", b"ERR token 0\n"),
     (b"x 1234567890123456789", b"ERR token 0\n"),
     (b"1234567890123456789 x", b"ERR limit 0\n"),
@@ -178,21 +179,22 @@ const TWO_CONCEPTS: &[u8] = b"id\teffectiveTime\tactive\tmoduleId\tdefinitionSta
 1000004\t20240101\t1\t900000000000207008\t900000000000074008\r\n\
 100005\t20240101\t1\t900000000000207008\t900000000000074008\r\n";
 
-// What an engine answers to a line, behind what the vector holds before.
+// Returns the answer of an engine to a line, after what the vector holds before.
 fn answered_by(alloc: Global, engine: &Engine, line: &[u8]) -> Result<Vec<u8>, AllocError> {
     let mut output = Vec::from_slice(alloc, b"before\n")?;
     engine.answer(alloc, line, &mut output)?;
     Ok(output)
 }
 
-// The same, of an engine that is dropped: a function that owns one and has several ends is dear to prove.
+// Returns the answer of an engine to a line, and drops the engine. A function that owns an engine and has several
+// exits is slow to prove.
 fn answered_and_drop(alloc: Global, engine: Engine, line: &[u8]) -> Result<Vec<u8>, AllocError> {
     let answered = answered_by(alloc, &engine, line);
     drop(engine);
     answered
 }
 
-// What a release with the names of a language answers to a line.
+// Returns the answer to a line over a release, with the names of a language.
 fn answered(
     rt: &impl Abort,
     alloc: Global,
@@ -209,7 +211,7 @@ fn answered(
     }
 }
 
-// The answer of some concepts, by their lines.
+// Makes the answer of concepts from their lines.
 fn answer_of(alloc: Global, lines: &[&[u8]]) -> Result<Vec<u8>, AllocError> {
     let mut digits = itoa::Buffer::new();
     let mut answer = Vec::from_slice(alloc, b"before\nOK ")?;
@@ -221,7 +223,7 @@ fn answer_of(alloc: Global, lines: &[&[u8]]) -> Result<Vec<u8>, AllocError> {
     Ok(answer)
 }
 
-// Whether some bytes are the answer of some concepts.
+// Whether the bytes are the answer of the concepts with these lines.
 fn is_answer(alloc: Global, bytes: &[u8], lines: &[&[u8]]) -> Result<bool, AllocError> {
     let answer = answer_of(alloc, lines)?;
     Ok(bytes == answer.as_slice())
@@ -253,7 +255,7 @@ fn answers_queries_of_attributes(rt: HostRuntime) -> Result<(), Fail> {
     Ok(())
 }
 
-// Looks at what the sample release with the names of a language answers to a line.
+// Checks the answer to a line over the sample release, with the names of a language.
 fn check_answer(
     rt: &impl Abort,
     alloc: Global,
@@ -283,7 +285,7 @@ fn refuses_other_lines(rt: HostRuntime) -> Result<(), Fail> {
     Ok(())
 }
 
-// Looks at what is answered to so many spaces.
+// Checks the answer to a line of spaces, by their number.
 fn check_spaces(
     rt: &impl Abort,
     alloc: Global,
@@ -301,7 +303,7 @@ fn refuses_long_lines(rt: HostRuntime) -> Result<(), Fail> {
     Ok(())
 }
 
-// All concepts, within so many brackets.
+// Makes a query for all concepts within `count` brackets.
 fn in_brackets(alloc: Global, count: usize) -> Result<Vec<u8>, AllocError> {
     let mut line = vec![in alloc; b'('; count]?;
     line.push(b'*')?;
@@ -321,7 +323,7 @@ fn check_brackets(
     check_answer(rt, alloc, "en", line.as_slice(), answer)
 }
 
-// As many brackets as may be open at once, and one more.
+// Checks as many brackets as may be open at once, and one more.
 #[test]
 fn refuses_deep_brackets(rt: HostRuntime) -> Result<(), Fail> {
     check_brackets(&rt, rt.alloc(), 64, EVERYTHING)?;
@@ -351,7 +353,7 @@ fn check_names(
     Ok(())
 }
 
-// A name in the asked language comes first, then any.
+// A name in the language that is asked for comes first, otherwise any name.
 #[test]
 fn names_concepts_in_a_language(rt: HostRuntime) -> Result<(), Fail> {
     check_names(&rt, rt.alloc(), &NAMES)?;

@@ -1,4 +1,4 @@
--- What answers a line.
+-- Each line has exactly one answer.
 use Rattle.std.proofs.Common.{ℕ, ◌≡◌, ◌∙◌, ◌⊎◌, inl, inr, List, get_or, map, refl, sym, ap}
 use Rattle.ecl_lexer.specs.declared.fault.QueryFault.{QueryFault}
 use Rattle.constraint_tree.specs.Refusal.{IsConstraint, IsRefusalOf}
@@ -12,7 +12,7 @@ use Rattle.candidates.specs.Numbers.{numbers_in}
 use Rattle.candidates.proofs.Normal.{concepts_of, numbers_in-agree}
 use Rattle.query_service.specs.Answer.{constraint_answer, HasAnAnswer, HasOneAnswer}
 
--- the concepts of a plan are those of a constraint that denotes what it means
+-- the concepts that a plan means are those that a constraint denotes, if plan and constraint agree on every concept
 pub concepts_answered : (release : Release) (tree : Tree) (plan : Plan) (found : List ℕ)
     → ((concept : ℕ) → means release plan concept ≡ denotes release tree concept)
     → found ≡ numbers_in release (means release plan) → map (λ n. get_or release.concepts n 0) found ≡ denotation release tree
@@ -21,7 +21,7 @@ concepts_answered release tree plan found same found_is =
     (found_is ∙ numbers_in-agree release (means release plan) (denotes release tree) (λ n _. same (get_or release.concepts n 0)))
     ∙ concepts_of release (denotes release tree)
 
--- each line has an answer where each text is read
+-- each line has an answer, if each text is a constraint or has a refusal
 pub an_answer_each : ((text : List ℕ) → ((tree : Tree) × IsConstraint text tree) ⊎ ((fault : QueryFault) × IsRefusalOf text fault))
     → HasAnAnswer
 an_answer_each reads contents line = elim (reads line) [
@@ -29,7 +29,7 @@ an_answer_each reads contents line = elim (reads line) [
   | inr (fault, refused) ↦ (refusal_text fault, inr (fault, refused, refl))
 ]
 
--- no line has two answers where no text is read in two ways
+-- no line has two answers, if no text is read in two ways
 pub one_answer_each : ((text : List ℕ) (one other : Tree) → IsConstraint text one → IsConstraint text other → one ≡ other)
     → ((text : List ℕ) (one other : QueryFault) → IsRefusalOf text one → IsRefusalOf text other → one ≡ other)
     → ((text : List ℕ) (tree : Tree) (fault : QueryFault) → IsConstraint text tree → IsRefusalOf text fault → ⊥)

@@ -1,4 +1,4 @@
--- What answers a line under a limit, by what the line came to.
+-- The text for what a line came to answers the line under a limit.
 use Rattle.std.proofs.Common.{ℕ, ◌≡◌, ◌∙◌, ◌+◌, ◌-◌, ◌^◌, ◌<◌, ◌≤◌, ◌≢◌}
 use Rattle.std.proofs.Common.{arith, if◌then◌else◌, inl, inr, List, ap, refl, sym, subst}
 use Rattle.std.specs.Prelude.{⊤}
@@ -20,16 +20,18 @@ use Rattle.query_tool.specs.declared.finding.LineFound.{LineFound}
 use Rattle.query_tool.specs.declared.finding.LineFound.TheVariants.{Refused, Above, Concepts}
 use Rattle.query_tool.specs.inside.LineFound.{AreFound, IsAbove, MatchFound, found_text}
 
--- a bound above the limit stands for the answer, and another does not
+-- a bound above the limit stands in place of the answer
 above_stands : (limit most : ℕ) (answer : List ℕ) → limit < most → unless_above limit most answer ≡ bound_refusal most
 above_stands limit most answer above = ap (λ b. if b then bound_refusal most else answer) (lt-ltb limit most above)
 
+-- a bound that is not above the limit leaves the answer
 answer_stands : (limit most : ℕ) (answer : List ℕ) → most ≤ limit → unless_above limit most answer ≡ answer
 answer_stands limit most answer within = ap (λ b. if b then bound_refusal most else answer) (le-ltb limit most within)
 
--- what tells what a line came to answers it
+-- ---- what a line came to, and its answer
 module _ {S : Type 0} (items : S → List ℕ) (limit : ℕ) (form : AnswerForm) (contents : Contents) (indexed : Indexed)
     (of_release : IsIndexOf indexed contents.release) (line : List ℕ) (early late : ℕ) where
+  -- the text for what a line came to answers the line under the limit, with the visits counted
   pub found_answers : (found : LineFound S)
       → MatchFound found (λ fault. IsRefusalOf line fault × (late ≡ early))
       (λ most. (tree : Tree) × IsConstraint line tree × IsAbove limit contents indexed tree early late most)
@@ -74,7 +76,7 @@ module _ {S : Type 0} (items : S → List ℕ) (limit : ℕ) (form : AnswerForm)
     },
   )
 
--- what answers a line with what is counted answers it
+-- an answer with the visits counted is an answer under the limit
 pub counted_answers : (limit : ℕ) (form : AnswerForm) (contents : Contents) (line : List ℕ) (early late : ℕ)
     (text : List ℕ) → IsAnswerCounted limit form contents line early late text
     → IsAnswerWithin limit form contents line text
@@ -82,18 +84,18 @@ counted_answers limit form contents line early late text (inl (tree, is, counted
 counted_answers limit form contents line early late text (inr (fault, refused, told, unread)) =
     inr (fault, refused, told)
 
--- the same contents have the same answers
+-- an answer over contents is an answer over equal contents, with equal visits
 pub same_counted : {own contents : Contents} (limit : ℕ) (form : AnswerForm) (line : List ℕ) (early late : ℕ)
     (text : List ℕ) → own ≡ contents → IsAnswerCounted limit form own line early late text
     → IsAnswerCounted limit form contents line early late text
 same_counted limit form line early late text same counted =
     subst (λ (contents : Contents). IsAnswerCounted limit form contents line early late text) same counted
 
--- no bound is above the greatest number of 64 bits
+-- a bound capped at 64 bits is at most the greatest number of 64 bits
 capped_within : (number : ℕ) → capped number ≤ 2 ^ 64 - 1
 capped_within number = min-le_right number (2 ^ 64 - 1)
 
--- with that limit, and all lines with their names, it is the answer to the line
+-- an answer under the greatest limit, with all lines and names, is the answer to the line
 pub unlimited_answers : (contents : Contents) (line text : List ℕ)
     → IsAnswerWithin (2 ^ 64 - 1) whole_form contents line text
     → IsAnswer contents line text
@@ -107,7 +109,7 @@ unlimited_answers contents line text (inl (tree, is, answers)) =
     )
 unlimited_answers contents line text (inr refused) = inr refused
 
--- items that are counted within a bound that is not above the limit are counted within the limit
+-- visits within a bound that is not above the limit are within the limit
 pub within_limit : (limit early late most : ℕ) → capped most ≤ limit → late ≤ early + most → late < 2 ^ 64
     → late ≤ early + limit
 within_limit limit early late most under within small = elim (cases_lt (2 ^ 64 - 1) most) [
@@ -119,7 +121,7 @@ within_limit limit early late most under within small = elim (cases_lt (2 ^ 64 -
       omega (arith, same, under, within)
 ]
 
--- what a line came to can be told: a refusal is not want of memory
+-- what a line came to can be told, because a refusal is never want of memory
 pub told_found : {S : Type 0} (HasBound : S → Type 0) (IsUnread : Type 0) (IsOver : ℕ → Type 0) (IsFound : S → Type 0)
     (line : List ℕ) (found : LineFound S) → MatchFound found (λ fault. IsRefusalOf line fault × IsUnread) IsOver IsFound
     → MatchFound found (λ _. ⊤) (λ _. ⊤) HasBound → MatchFound found (λ fault. fault ≢ Memory) (λ _. ⊤) HasBound

@@ -1,4 +1,4 @@
--- What was written over accepted files, in the words of the promise.
+-- The answers written over accepted files are those of the promise.
 use Rattle.std.proofs.Common.{arith, ℕ, ◌≡◌, ◌∙◌, ◌↔◌, ◌++◌, ◌∷◌, [], ◌&&◌, inl, inr, Bool, true, cond, refl, List, length, map, Option, None, Some, Result, Ok, Err, ap, sym, subst}
 use Rattle.std.specs.List.{IsDistinct, list_any}
 use Rattle.std.specs.Cmp.Lexicographic.{slice_cmp}
@@ -45,14 +45,15 @@ use Rattle.query_tool.specs.Promise.{KeepsThePromise}
 use Rattle.streams.specs.declared.output.AnswerOutput.{Ghosts as Output}
 use Rattle.streams.specs.declared.input.QueryInput.{Ghosts as Input}
 
--- where files have no fault, what is loaded is what they contain
+-- if files have no fault, the loaded contents are those of the files
 loaded_whole : (contents own : Contents) (fault : Option LoadFault) → unless_faulty contents fault ≡ Ok own → own ≡ contents
 loaded_whole contents own fault loads = grind (arith, common_steps, nat_tests)
 
+-- a load that succeeded was not refused for want of a concept file
 unless_unnamed : (named : Bool) (loaded : Result Contents LoadFault) (own : Contents) → cond named loaded (Err NoConceptFile) ≡ Ok own → loaded ≡ Ok own
 unless_unnamed named loaded own loads = grind (arith, common_steps, nat_tests)
 
--- the concepts of a release that was loaded rise
+-- the concepts of a loaded release rise strictly
 concepts_rise : KeepsRising → (language : List ℕ) (files : List FileText) (contents : Contents) → load_of standard_limits language files ≡ Ok contents
     → IsStrictlyIncreasing contents.release.concepts
 concepts_rise rises language files contents loads =
@@ -64,14 +65,16 @@ concepts_rise rises language files contents loads =
     subst (λ (own : Contents). IsStrictlyIncreasing own.release.concepts) (sym whole)
     (rises (map (λ (row : ConceptRow). row.id) (filter (λ (row : ConceptRow). row.active) (concept_rows (map text_of_row (chosen (rows_of places))))))).0
 
+-- a filtered list has a number exactly if the list has it and it passes the test
 has_kept : (test : ℕ → Bool) (numbers : List ℕ) (number : ℕ) → has (filter test numbers) number ≡ (has numbers number && test number)
 has_kept test [] number = refl
 has_kept test (first ∷ numbers) number = grind (arith, common_steps, nat_tests, (has_kept test numbers number))
 
+-- two tests that hold make their conjunction hold
 true_both : (one other : Bool) → one ≡ true → other ≡ true → (one && other) ≡ true
 true_both one other is is_other = grind arith
 
--- a concept is in what a test keeps exactly where it is there and passes
+-- a concept is in a filtered list exactly if it is in the list and passes the test
 kept : (test : ℕ → Bool) (numbers : List ℕ) (number : ℕ) → Contains (filter test numbers) number ↔ (Contains numbers number × IsTrue (test number))
 kept test numbers number = (
   λ there.
@@ -81,7 +84,7 @@ kept test numbers number = (
       (has_kept test numbers number ∙ true_both (has numbers number) (test number) (had_contained numbers number both.0) both.1),
 )
 
--- the answer to a line, in the words of the promise
+-- an answer to a line is an answer in the words of the promise
 answer_said : (contents : Contents) → IsStrictlyIncreasing contents.release.concepts → (line text : List ℕ) → IsAnswer contents line text
     → Answers contents line text
 answer_said contents rise line text (inl (tree, is, same)) = inl (
@@ -96,7 +99,7 @@ answer_said contents rise line text (inl (tree, is, same)) = inl (
 )
 answer_said contents rise line text (inr refused) = inr refused
 
--- the answer to a line under a limit, in a form, in the words of the promise
+-- an answer to a line under a limit, in a form, is an answer in the words of the promise
 pub limited_answer_said : (limit : ℕ) (form : AnswerForm) (contents : Contents)
     → IsStrictlyIncreasing contents.release.concepts → (line text : List ℕ)
     → IsAnswerWithin limit form contents line text → AnswersUnder limit form contents line text
@@ -115,18 +118,18 @@ limited_answer_said limit form contents rise line text (inl (tree, is, answers))
 )
 limited_answer_said limit form contents rise line text (inr refused) = inr refused
 
--- the same contents have the same answers
+-- an answer in the words of the promise is one over equal contents
 pub same_said : {own contents : Contents} (limit : ℕ) (form : AnswerForm) (line text : List ℕ) → own ≡ contents
     → AnswersUnder limit form own line text → AnswersUnder limit form contents line text
 same_said limit form line text same said =
     subst (λ (contents : Contents). AnswersUnder limit form contents line text) same said
 
--- what was written behind known bytes is known
+-- if the bytes before are known, the bytes after a text is appended are known
 appended : (there : List ℕ) (after : Option (List ℕ)) (text : List ℕ) → Appends (Some there) after text → after ≡ Some (there ++ text)
 appended there None text none = absurd none
 appended there (Some bytes) text same = ap Some same
 
--- of files with names of their own a file that another one has not the name of is passed over
+-- a file is passed over when files are found by names, if none of the names is its own
 passed_over : (file : FileText) (files others : List FileText)
     → AllByRecursion (λ name. bytes_eq file.name name ≡ false) (map (λ (one : FileText). one.name) others)
     → listed (file ∷ files) (map (λ (one : FileText). one.name) others) ≡ listed files (map (λ (one : FileText). one.name) others)
@@ -139,7 +142,7 @@ passed_over file files (other ∷ others) apart =
     ap (λ (one : FileText). one ∷ listed (file ∷ files) (map (λ (one : FileText). one.name) others)) here
     ∙ ap (λ (rest : List FileText). text_named files other.name ∷ rest) (passed_over file files others apart.1)
 
--- they are found by their names
+-- files with names of their own are found by their names
 found_by_name : (files : List FileText) → HaveOwnNames files → listed files (map (λ (one : FileText). one.name) files) ≡ files
 unfolding IsDistinct
 found_by_name [] own = refl
@@ -151,12 +154,12 @@ found_by_name (file ∷ files) own =
     ap (λ (one : FileText). one ∷ listed (file ∷ files) (map (λ (one : FileText). one.name) files)) here
     ∙ ap (λ (rest : List FileText). file ∷ rest) (passed_over file files files own.0 ∙ found_by_name files own.1)
 
--- the names of files that are listed by names
+-- the files found by names have these names
 names_listed : (files : List FileText) (names : List (List ℕ)) → map (λ (one : FileText). one.name) (listed files names) ≡ names
 names_listed files [] = refl
 names_listed files (name ∷ names) = ap (λ (rest : List (List ℕ)). name ∷ rest) (names_listed files names)
 
--- so files with names of their own, listed in the byte order of these, are the same files
+-- files with names of their own, found by their names in byte order, are a release of the files in byte order
 release_of : (files : List FileText) (names : List (List ℕ)) (language : List ℕ) (contents : Contents) → HaveOwnNames files
     → AreInOrder files names → load_of standard_limits language (listed files names) ≡ Ok contents → IsReleaseOf files language contents
 release_of files names language contents own order loads = record {
@@ -167,8 +170,8 @@ release_of files names language contents own order loads = record {
   accepted = loads;
 }
 
--- a request that ends with status 0 in a mode whose lines have some answers, which are said in the words of a promise,
--- keeps it
+-- a request that ends with status 0 keeps a promise, if its mode answers lines by a relation whose answers are those
+-- of the promise
 kept_promise : {R W E : Type 0} → KeepsRising → (r : Input R) (w : Output W) (e : Output E)
     (before after : Streams R W E) (files : List FileText) (language bytes there : List ℕ) (old new : History)
     (task : Task) (mode : Mode) (answers said : Contents → List ℕ → List ℕ → Type 0)
@@ -205,12 +208,13 @@ kept_promise rises r w e before after files language bytes there old new task mo
 kept_promise rises r w e before after files language bytes there old new task mode answers said from_files
     answered_lines in_words own asked (inr none) reads wrote = absurd none
 
--- a query request that ends with status 0 keeps the promise, without options and with them
+-- a query request that ends with status 0 keeps the promise
 pub promise_kept : {R W E : Type 0} → KeepsRising → (r : Input R) (w : Output W) (e : Output E) → KeepsThePromise r w e
 promise_kept rises r w e = λ before after files language bytes there old new task.
     kept_promise rises r w e before after files language bytes there old new task Query IsAnswer Answers
     (λ loaded. loaded) (λ contents served. served) answer_said
 
+-- a query request with options that ends with status 0 keeps the promise under a limit
 pub limited_promise_kept : {R W E : Type 0} → KeepsRising → (r : Input R) (w : Output W) (e : Output E)
     → KeepsTheLimitedPromise r w e
 limited_promise_kept rises r w e = λ before after files language bytes there old new task options.

@@ -1,4 +1,4 @@
-//! What is appended for a query line over a release and its indexes: its answer, or its plan.
+//! The text that is appended for a query line over a release and its indexes: its answer, or its plan.
 ghost use Rattle.std.specs.Prelude.{ℕ, ◌≡◌, ◌≢◌, ◌+◌, ◌-◌, ◌^◌, ◌<◌, ◌≤◌, ◌++◌, ⊤, List, IfOk, MatchOption};
 ghost use Rattle.std.specs.Prelude.{OnErr, OnOk, length, map, min, slice_index};
 ghost use Rattle.ecl_lexer.specs.declared.fault.QueryFault.{QueryFault};
@@ -33,7 +33,7 @@ use rewrites::Step;
 use snapshot::Snapshot;
 use std::alloc::{AllocError, Global};
 
-/// Appends what tells what a line came to over a release, which is let go.
+/// Appends the text for what a line came to, and drops `found`.
 pub fn print_and_drop<S: ConceptSet>(
     alloc: Global,
     snapshot: &Snapshot,
@@ -52,7 +52,7 @@ pub fn print_and_drop<S: ConceptSet>(
     printed
 }
 
-// Appends what tells what a line came to: its refusal, the bound that is above the limit, or the answer in a form.
+// Appends the text for what a line came to: its refusal, the bound that is above the limit, or the answer in a form.
 fn print_found<S: ConceptSet>(
     alloc: Global,
     snapshot: &Snapshot,
@@ -73,7 +73,7 @@ fn print_found<S: ConceptSet>(
     }
 }
 
-/// Appends what answers a line over a release, by plans that are rewritten by steps, with choices that are asked for.
+/// Appends the answer to a line. Its plan is rewritten by `steps`, and its leaves take `choices` if they offer them.
 pub fn answer_over_with(
     alloc: Global,
     snapshot: &Snapshot,
@@ -95,7 +95,7 @@ pub fn answer_over_with(
     }
 }
 
-/// Appends what explains a line over a release.
+/// Appends the explanation of a line.
 pub fn explain_over(
     alloc: Global,
     snapshot: &Snapshot,
@@ -113,7 +113,7 @@ pub fn explain_over(
     }
 }
 
-// The constraint that a line is; of one that is none the line that refuses it is appended.
+// Reads the constraint in a line. If the line is none, it appends the line's refusal and returns `None`.
 fn constraint_of(
     alloc: Global,
     line: &[u8],
@@ -134,8 +134,8 @@ fn constraint_of(
     }
 }
 
-// Appends what answers a constraint over a release, by its plan after some steps, with choices that are asked for. (The
-// constraint is dropped here, where there is one end, so that its lifetimes are not followed to each end of a caller.)
+// Appends the answer to a constraint, by its plan after `steps`, with `choices`. The constraint is dropped here,
+// where there is one exit, so that a proof need not follow its lifetimes to each exit of a caller.
 fn answer_with(
     alloc: Global,
     snapshot: &Snapshot,
@@ -162,6 +162,7 @@ fn answer_with(
     answered
 }
 
+// Appends the answer to a constraint, by its plan after `steps`, with `choices`.
 fn answer_by_asked_plan(
     alloc: Global,
     snapshot: &Snapshot,
@@ -188,8 +189,8 @@ fn answer_by_asked_plan(
     print_answer(alloc, snapshot, &found, output)
 }
 
-// The concepts that a constraint denotes over a release, by the plan that is asked for. Unless memory is refused, what is counted as read is
-// no more than the bound of that plan with those choices, and no less than its floor.
+// Finds the concepts that a constraint denotes, by the plan that is asked for. Unless memory is refused, the visits
+// are between the floor and the bound of that plan with its choices.
 fn asked_concepts<S: ConceptSet>(
     alloc: Global,
     snapshot: &Snapshot,
@@ -205,14 +206,14 @@ fn asked_concepts<S: ConceptSet>(
     ensures reads { OnOk result (ReadsAsked indexes.now steps.now choices.now (tree_of constraint.now) visits.old visits.new) }
 {
     let physical = asked_plan(alloc, constraint, steps, choices, indexes)?;
-    // its choices are those in its leaves
+    // called for its contract: the choices of the plan are those in its leaves
     physical.choices();
     let found: S = found_by(alloc, &physical, snapshot, indexes, visits)?;
     Ok(found)
 }
 
-/// The concepts that a plan means over a release: those of any constraint that denotes what the plan means. What is
-/// counted as read is no more than the bound of the plan, and no less than its floor unless memory is refused.
+/// Finds the concepts that a plan means. They are those of any constraint that denotes what the plan means. The
+/// visits are at most the bound of the plan, and unless memory is refused, at least its floor.
 pub fn found_by<S: ConceptSet>(
     alloc: Global,
     physical: &PhysicalPlan,
@@ -230,13 +231,13 @@ pub fn found_by<S: ConceptSet>(
     ensures floor { OnOk result (min (visits.old.count + floor_of indexes.now (physical_of physical.now.plan)) (2 ^ 64 - 1) ≤ visits.new.count) }
 {
     let executed: Result<S, AllocError> = execute(alloc, physical, snapshot, indexes, visits);
-    // a proof has the range of the count from where it is read
+    // read so that a proof knows the range of the count
     let _count = visits.count;
     let found = executed?;
     Ok(found)
 }
 
-// Appends what explains a constraint over a release.
+// Appends the explanation of a constraint, and drops the constraint.
 fn explain_constraint(
     alloc: Global,
     snapshot: &Snapshot,
@@ -253,6 +254,7 @@ fn explain_constraint(
     explained
 }
 
+// Appends the text of the plan by which a constraint is answered.
 fn explain_least_plan(
     alloc: Global,
     snapshot: &Snapshot,

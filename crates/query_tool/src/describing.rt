@@ -1,4 +1,4 @@
-//! What is put into a piece of an output to describe the concept that a line names.
+//! Writing the description of the concept that a line names into a piece of an output.
 ghost use Rattle.std.specs.Prelude.{◌≡◌, ℕ, false, IfErr, List, OnOk};
 ghost use Rattle.query_service.specs.SessionAnswer.{IsDescription};
 ghost use Rattle.streams.specs.Waiting.{LeavesAnswer, Puts, is_write};
@@ -8,7 +8,7 @@ use crate::writing::put_text;
 use std::alloc::{AllocError, Global};
 use streams::{AnswerFault, AnswerOutput, Piece};
 
-/// Puts what the release has of the concept that a line names into a piece of an output.
+/// Puts a description of the concept that a line names into a piece of an output.
 pub fn write_description<W: AnswerOutput>(
     alloc: Global,
     engine: &Engine,

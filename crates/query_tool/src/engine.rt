@@ -40,7 +40,7 @@ use std::alloc::{AllocError, Global};
 use std::marker::Model;
 use streams::{AnswerFault, AnswerOutput, Piece};
 
-/// A loaded release. Answering changes nothing in it. Contracts see what a snapshot of it contains.
+/// A loaded release. Answering changes nothing in it. Contracts see the contents of its snapshot.
 #[derive(Drop)]
 pub struct Engine {
     snapshot: Snapshot,
@@ -60,9 +60,8 @@ impl Model for Engine {
 }
 
 impl Engine {
-    /// Loads the Snapshot files of a list, with the names of a language first, or answers the first
-    /// fault as `Snapshot::load` does.
-    /// As `Snapshot::load` it is for files that one trusts.
+    /// Loads the Snapshot files of a list, with the names of a language first. Returns the fault that
+    /// `Snapshot::load` returns. Like `Snapshot::load` it is for files that the caller trusts.
     pub fn load(
         alloc: Global,
         files: &[NamedBytes<'_>],
@@ -79,8 +78,8 @@ impl Engine {
         }
     }
 
-    /// Loads the files that a source lists, in the byte order of their names, as
-    /// `Snapshot::load_from` does, and leaves these in `names`.
+    /// Loads the files that a source lists, in the byte order of their names, as `Snapshot::load_from` does. Leaves
+    /// the names in `names`.
     pub fn load_from<S: FileSource>(
         alloc: Global,
         source: &mut S,
@@ -114,11 +113,10 @@ impl Engine {
         }
     }
 
-    /// Appends the answer to a query line: `OK` and the number of concepts that it denotes, then
-    /// each of them in rising order on a line of its own, its identifier and its name between bars
-    /// if it has one. A line that is no constraint is answered by `ERR` and its first refusal, as
-    /// `ecl_parser::parse` gives it, with the offset in bytes where it has one. Where memory is
-    /// refused `output` is unchanged.
+    /// Appends the answer to a query line: `OK` and the number of concepts that it denotes, then the concepts in
+    /// rising order, each on a line with its identifier and, if it has a name, the name between bars. A line that is
+    /// no constraint is answered by `ERR` and the first refusal that `ecl_parser::parse` gives, with the offset in
+    /// bytes if it has one. If memory is refused, `output` is unchanged.
     pub fn answer(&self, alloc: Global, line: &[u8], output: &mut Vec<u8>) -> Result<(), AllocError>
         ensures ok { OnOk result ((text : List ℕ) × IsAnswer self.now line.now text × (output.new.items ≡ output.old.items ++ text)) }
         ensures err { OnErr result (output.new.items ≡ output.old.items) }
@@ -134,12 +132,11 @@ impl Engine {
         )
     }
 
-    /// Appends the answer to a query line under a limit, in a form. The bound of the plan that answers the constraint,
-    /// which is the one that `explain` tells behind `PLAN`, is asked before anything is read: where it is above
-    /// `limit`, the answer is the one line `ERR bound` and that bound, and nothing is read. Else it is the answer in
-    /// the form. A line that is no constraint is refused as `answer` does, under any limit. What is read is counted in
-    /// `visits`: never more than `limit`. With `u64::MAX` nothing is refused for its bound. Where memory is refused
-    /// `output` is unchanged.
+    /// Appends the answer to a query line under a limit, in a form. It compares the bound of the plan, which
+    /// `explain` prints after `PLAN`, before it reads anything. If the bound is above `limit`, the answer is the
+    /// line `ERR bound` with that bound, and nothing is read. Otherwise it is the answer in the form. A line that is
+    /// no constraint is refused as by `answer`, under any limit. `visits` counts what is read: never more than
+    /// `limit`. The limit `u64::MAX` refuses nothing. If memory is refused, `output` is unchanged.
     pub fn answer_within(
         &self,
         alloc: Global,
@@ -169,8 +166,8 @@ impl Engine {
         print_and_drop(alloc, &self.snapshot, found, form, output)
     }
 
-    // Puts the answer to a query line into a piece of an output: the text of `answer`. Once the concepts are found, no
-    // memory is taken from line to line.
+    // Puts the text that `answer` appends into a piece of an output. Once the concepts are found, no line takes
+    // memory.
     pub(crate) fn write_answer<W: AnswerOutput>(
         &self,
         alloc: Global,
@@ -189,8 +186,8 @@ impl Engine {
         self.write_within(alloc, line, u64::MAX, AnswerForm::whole(), piece, output)
     }
 
-    // Puts the answer to a line under a limit, in a form, into a piece of an output. The concepts are there before the
-    // first byte is.
+    // Puts the answer to a line under a limit, in a form, into a piece of an output. The concepts are found before
+    // the first byte is put.
     pub(crate) fn write_within<W: AnswerOutput>(
         &self,
         alloc: Global,
@@ -222,10 +219,9 @@ impl Engine {
         }
     }
 
-    /// Appends the same answer, by another plan: that of the constraint after some steps of rewriting,
-    /// of which those that do not apply are passed over, where each leaf takes the choice at its place
-    /// among some choices, if there is one and it offers it. Where memory is refused `output` is
-    /// unchanged.
+    /// Appends the text that `answer` appends, by another plan: that of the constraint after `steps` of rewriting. A
+    /// step that does not apply is skipped. Each leaf takes the choice at its place in `choices`, if there is one
+    /// and the leaf offers it. If memory is refused, `output` is unchanged.
     pub fn answer_with(
         &self,
         alloc: Global,
@@ -248,9 +244,9 @@ impl Engine {
         )
     }
 
-    /// Appends how a query line is answered: `PLAN` and how many items that visits at most, then a line
-    /// for each node of its plan. A line that is no constraint is refused as `answer` does. Where memory
-    /// is refused `output` is unchanged.
+    /// Appends the explanation of a query line: `PLAN` and how many items the plan visits at most, then a line for
+    /// each node of the plan. A line that is no constraint is refused as by `answer`. If memory is refused, `output`
+    /// is unchanged.
     pub fn explain(
         &self,
         alloc: Global,
@@ -264,10 +260,11 @@ impl Engine {
         explain_over(alloc, &self.snapshot, &self.indexes, line, output)
     }
 
-    /// Appends what the release has of the concept that a line names by its identifier, with or without its term: of a
-    /// concept in force its parents and children, its attributes group by group, and the reference sets that it is in
-    /// (Release File Specification, "Concept file", "Relationship file" and "Simple reference set"); or that it is
-    /// inactive, or unknown; or why the line names none. Where memory is refused `output` is unchanged.
+    /// Appends what the release has of the concept that a line names by its identifier, with or without its term.
+    /// For a concept in force these are its parents and children, its attributes group by group, and the reference
+    /// sets that it is in (Release File Specification, "Concept file", "Relationship file" and "Simple reference
+    /// set"). Otherwise the text says that the concept is inactive or unknown, or why the line names none. If memory
+    /// is refused, `output` is unchanged.
     pub fn describe(
         &self,
         alloc: Global,
@@ -281,7 +278,7 @@ impl Engine {
         output.extend_from_slice(text.as_slice())
     }
 
-    // The text that `describe` appends.
+    // Returns the text that `describe` appends.
     pub(crate) fn description(&self, alloc: Global, line: &[u8]) -> Result<Vec<u8>, AllocError>
         ensures { IfOk result (λ text. text.items ≡ description_text self.now line.now) }
     {
@@ -289,10 +286,10 @@ impl Engine {
         Ok(text)
     }
 
-    /// Appends the answer to a request: `list OFFSET COUNT LIMIT ECL` is answered by the count of the concepts and, of
-    /// their lines, those from OFFSET on, COUNT at most, as `answer_within` does under LIMIT; `ids` is the same without
-    /// names; `explain ECL` is answered as `explain` does, and `describe ID` as `describe` does. A line of more than
-    /// 65,535 bytes is answered by `ERR long`, any other by `ERR request`. Where memory is refused `output` is
+    /// Appends the answer to a request. `list OFFSET COUNT LIMIT ECL` is answered by the count of the concepts and
+    /// at most COUNT of their lines, from OFFSET on, under LIMIT as by `answer_within`. `ids` is like `list` without
+    /// names. `explain ECL` is answered as by `explain`, and `describe ID` as by `describe`. A line of more than
+    /// 65,535 bytes is answered by `ERR long`, any other line by `ERR request`. If memory is refused, `output` is
     /// unchanged.
     pub fn request(
         &self,
@@ -331,7 +328,7 @@ impl Engine {
         }
     }
 
-    // Appends a page of the answer to a constraint's text.
+    // Appends a page of the answer to the text of a constraint.
     fn answer_page(
         &self,
         alloc: Global,
@@ -355,12 +352,12 @@ impl Engine {
     }
 }
 
-// A release with its indexes.
+// Makes an engine of a release: it builds the indexes.
 fn with_indexes(alloc: Global, snapshot: Snapshot) -> Result<Engine, LoadFault>
     ensures same { IfOk result (λ engine. engine ≡ snapshot) }
     ensures memory { IfErr result (λ fault. fault ≡ LoadFault.Memory) }
 {
-    // its contract says that the concepts rise
+    // called for its contract: the concepts rise
     let _ = snapshot.concept_count();
     match Indexes::build(alloc, &snapshot) {
         Ok(indexes) => Ok(Engine { snapshot, indexes }),

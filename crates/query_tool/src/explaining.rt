@@ -1,4 +1,4 @@
-//! What is put into a piece of an output to explain a line.
+//! Writing the explanation of a line into a piece of an output.
 ghost use Rattle.std.specs.Prelude.{◌≡◌, ℕ, false, IfErr, List, OnOk};
 ghost use Rattle.query_service.specs.Explanation.{IsExplanation};
 ghost use Rattle.streams.specs.Waiting.{LeavesAnswer, Puts, is_write};
@@ -8,7 +8,7 @@ use crate::writing::put_text;
 use std::alloc::{AllocError, Global};
 use streams::{AnswerFault, AnswerOutput, Piece};
 
-/// Puts what explains a line into a piece of an output.
+/// Puts the explanation of a line into a piece of an output.
 pub fn write_explanation<W: AnswerOutput>(
     alloc: Global,
     engine: &Engine,

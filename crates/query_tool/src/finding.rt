@@ -1,4 +1,4 @@
-//! What a query line comes to under a limit on what its plan visits.
+//! The result of a query line, under a limit on the visits of its plan.
 ghost use Rattle.std.specs.Prelude.{◌≡◌, ◌+◌, ◌≤◌, ⊤, IfOk, length};
 ghost use Rattle.constraint_tree.specs.Refusal.{IsConstraint, IsRefusalOf};
 ghost use Rattle.constraint_tree.specs.Tree.{Tree, tree_of};
@@ -22,14 +22,14 @@ use std::alloc::{AllocError, Global};
 pub enum LineFound<S> {
     /// The line is no constraint.
     Refused(QueryFault),
-    /// The plan of the constraint visits more items at most than the limit allows: so many.
+    /// The plan of the constraint may visit more items than the limit allows. The number is the bound of the plan.
     Above(u64),
     /// The concepts that the constraint denotes, by their numbers in the release.
     Concepts(S),
 }
 
-/// What a query line comes to over a release, under a limit: nothing is read where the bound of its plan, the one that
-/// explains it, is above the limit, and else the concepts are found by that plan. The error is want of memory.
+/// Finds what a query line comes to, under a limit. If the bound of its plan, which explains it, is above the limit,
+/// nothing is read. Otherwise that plan finds the concepts. The error is want of memory.
 pub fn found_within<S: ConceptSet>(
     alloc: Global,
     snapshot: &Snapshot,
@@ -56,8 +56,8 @@ pub fn found_within<S: ConceptSet>(
     }
 }
 
-// What a constraint comes to, which is let go. (It is dropped here, where there is one end, so that its lifetimes are
-// not followed to each end of a caller.)
+// Finds what a constraint comes to, and drops the constraint. It is dropped here, where there is one exit, so that a
+// proof need not follow its lifetimes to each exit of a caller.
 fn found_and_drop<S: ConceptSet>(
     alloc: Global,
     snapshot: &Snapshot,
@@ -80,7 +80,7 @@ fn found_and_drop<S: ConceptSet>(
     found
 }
 
-// What a constraint comes to.
+// Finds what a constraint comes to under a limit.
 fn constraint_within<S: ConceptSet>(
     alloc: Global,
     snapshot: &Snapshot,

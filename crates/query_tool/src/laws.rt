@@ -14,7 +14,7 @@ use set_algebra::plans_are_as_deep_as_trees;
 use snapshot::rising_keeps_the_members;
 use streams::{AnswerOutput, QueryInput};
 
-/// Each query line has an answer, and none has two.
+/// Each query line has exactly one answer.
 pub fn one_answer()
     ensures some { HasAnAnswer }
     ensures one { HasOneAnswer }
@@ -22,7 +22,7 @@ pub fn one_answer()
     one_reading();
 }
 
-/// The plan that a query line is answered by is at most 326 deep.
+/// The plan by which a query line is answered is at most 326 deep.
 pub fn executed_plans_are_not_deep()
     ensures { (text : List ℕ) (tree : Tree) → IsConstraint text tree → plan_depth (executed_plan tree) ≤ most_deep }
 {
@@ -30,15 +30,15 @@ pub fn executed_plans_are_not_deep()
     simplified_plans_are_no_deeper();
 }
 
-/// What `serve` says of a query request that ends with status 0 is the promise of the engine.
+/// The contract of `serve` for a query request that ends with status 0 implies the promise of the engine.
 pub fn promise_is_kept<R: QueryInput, W: AnswerOutput, E: AnswerOutput>()
     ensures { KeepsThePromise R.QueryInput W.AnswerOutput E.AnswerOutput }
 {
     rising_keeps_the_members();
 }
 
-/// What `serve` says of a query request with options that ends with status 0 is the promise of the engine under a
-/// limit, in a form.
+/// The contract of `serve` for a query request with options that ends with status 0 implies the promise of the
+/// engine under a limit, in a form.
 pub fn limited_promise_is_kept<R: QueryInput, W: AnswerOutput, E: AnswerOutput>()
     ensures { KeepsTheLimitedPromise R.QueryInput W.AnswerOutput E.AnswerOutput }
 {

@@ -1,6 +1,5 @@
-//! What the program does: by its engine it answers queries over a SNOMED CT release, one to a line of its input,
-//! tells the plan of each, tells what a release has of concepts, answers requests of programs, or reports what a
-//! release has.
+//! The program: by its engine it answers queries over a SNOMED CT release, one to a line of its input, writes the
+//! plan of each, describes concepts, answers the requests of programs, or reports the contents of a release.
 #![tactic(auto)]
 
 mod answering;

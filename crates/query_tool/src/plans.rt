@@ -1,4 +1,4 @@
-//! The plans that constraints are answered by, and explained.
+//! The plans by which constraints are answered, and which explain them.
 ghost use Rattle.std.specs.Prelude.{ℕ, ◌≡◌, IfOk};
 ghost use Rattle.rf2_rows.specs.Release.{Release};
 ghost use Rattle.constraint_tree.specs.Denotation.{denotes};
@@ -20,8 +20,9 @@ use rewrites::{Step, apply_all, simplify};
 use set_algebra::lower;
 use std::alloc::{AllocError, Global};
 
-/// The plan that a constraint is answered by, and that explains it: its own, simplified, with the choice of least bound for each leaf.
-/// It means what the constraint denotes. The error is want of memory.
+/// Returns the plan by which a constraint is answered, and which explains it: the constraint's own plan, simplified,
+/// with the choice of least bound for each leaf. The plan means what the constraint denotes. The error is want of
+/// memory.
 pub fn least_plan(
     alloc: Global,
     constraint: &Constraint,
@@ -39,9 +40,9 @@ pub fn least_plan(
     Ok(physical)
 }
 
-/// The plan of a constraint, rewritten by steps, of which those that do not apply are passed over, with choices that are asked for: of
-/// each leaf the one at its place, where the list has one and the leaf offers it. It means what the constraint denotes, whatever the
-/// steps and the choices. The error is want of memory.
+/// Returns the plan of a constraint after `steps` of rewriting, with `choices`. A step that does not apply is
+/// skipped. Each leaf takes the choice at its place in `choices`, if there is one and the leaf offers it. Whatever
+/// the steps and the choices, the plan means what the constraint denotes. The error is want of memory.
 pub fn asked_plan(
     alloc: Global,
     constraint: &Constraint,

@@ -8,8 +8,8 @@ use std::io::ErrorKind;
 use std::{env, io};
 use streams::{FolderSource, StreamInput, StreamOutput, write_all};
 
-/// Does what the words of the command line ask for, over the streams and the folders of the system, and answers how
-/// it ended. A standard stream that is closed fails where it is read or written first.
+/// Does what the words of the command line ask for, over the streams and the folders of the system, and returns how
+/// it ended. A standard stream that is closed fails at its first read or write.
 pub fn start(rt: &HostRuntime) -> Status {
     match Closed::filled(rt) {
         Ok(closed) => {
@@ -24,8 +24,9 @@ pub fn start(rt: &HostRuntime) -> Status {
     }
 }
 
-// Three descriptors of a folder, which can be neither read nor written. Where standard streams are closed they take
-// the places of these, the lowest that are free: else the first files of a release would, and be read as queries.
+// Three descriptors of a folder, which can be neither read nor written. If standard streams are closed, these take
+// their numbers, which are the lowest free ones. Otherwise the first files of a release would take them, and be read
+// as queries.
 #[derive(Drop)]
 struct Closed {
     _first: File,
@@ -34,6 +35,7 @@ struct Closed {
 }
 
 impl Closed {
+    // Opens the three descriptors.
     fn filled(rt: &HostRuntime) -> io::Result<Closed> {
         Ok(Closed {
             _first: File::open(rt, "/")?,
@@ -55,7 +57,7 @@ fn outcome(rt: &HostRuntime) -> Status {
     }
 }
 
-// What the words of the command line ask for.
+// Reads the words of the command line as a request.
 fn asked(rt: &HostRuntime) -> Result<Request, WordFault> {
     let given = match env::args(rt) {
         Ok(given) => given,
@@ -66,7 +68,7 @@ fn asked(rt: &HostRuntime) -> Result<Request, WordFault> {
     read_words(rt.alloc(), texts.as_slice())
 }
 
-// Why the words can't be had.
+// Returns why the words can't be read: memory was refused, or a word is not UTF-8.
 fn unread_words(rt: &HostRuntime, error: &io::Error) -> WordFault {
     if error.kind() == ErrorKind::OutOfMemory {
         return WordFault::Memory;
@@ -77,13 +79,13 @@ fn unread_words(rt: &HostRuntime, error: &io::Error) -> WordFault {
     }
 }
 
-// Does what is asked of the release that is asked for.
+// Serves a request over the folders that it names.
 fn fulfil(rt: &HostRuntime, request: &Request) -> Status {
     let mut source = FolderSource::new(rt, request.folders.as_slice());
     fulfil_from(rt, request, &mut source)
 }
 
-// Does what is asked of the release of a source, over the streams of the system.
+// Serves a request over the release of a source, with the streams of the system.
 fn fulfil_from(rt: &HostRuntime, request: &Request, source: &mut FolderSource<'_>) -> Status {
     serve(
         rt.alloc(),

@@ -1,4 +1,4 @@
-//! The runs over the lines of an input that answer queries, and that tell how they are answered.
+//! The run that answers the query lines of an input, and the run that explains them.
 ghost use Rattle.std.specs.Prelude.{◌≡◌, ◌+◌, ◌^◌, ◌≤◌, false, IfErr, IfOk, IfSome, OnOk, length};
 ghost use Rattle.std.specs.Io.KnownBytes.{IsAtEnd};
 ghost use Rattle.query_run.specs.Fault.{CountsTurns, EndsAt, HaveFailed};
@@ -13,7 +13,7 @@ use query_service::run_in;
 use std::alloc::Global;
 use streams::{AnswerOutput, QueryInput};
 
-/// Answers each query line of an input, in order, as `Engine::answer` does. It gives how many lines were answered, or
+/// Answers each query line of an input, in order, as `Engine::answer` does. Returns how many lines were answered, or
 /// why it ended before the input did.
 pub fn run<R: QueryInput, W: AnswerOutput>(
     alloc: Global,
@@ -38,8 +38,8 @@ pub fn run<R: QueryInput, W: AnswerOutput>(
     run_in(alloc, engine, Mode::Query, input, output)
 }
 
-/// Tells of each query line of an input, in order, how it is answered and how many items that visits at most, as
-/// `Engine::explain` does. It reads, writes and ends as `run` does.
+/// Writes for each query line of an input, in order, the explanation that `Engine::explain` appends. Its reads,
+/// writes and faults are those of `run`.
 pub fn run_explain<R: QueryInput, W: AnswerOutput>(
     alloc: Global,
     engine: &Engine,

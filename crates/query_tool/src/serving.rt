@@ -1,4 +1,4 @@
-//! The service, by the engine.
+//! The service, with `Engine` as its engine.
 ghost use Rattle.std.specs.Prelude.{◌≡◌, false, string_bytes};
 ghost use Rattle.query_service.specs.ModeAnswer.{form_of};
 ghost use Rattle.query_service.specs.Report.{report_of};
@@ -75,7 +75,7 @@ impl QueryEngine for Engine {
     }
 }
 
-// The form of the answers that options ask for.
+// Returns the form of the answers that options ask for.
 fn form_of(options: QueryOptions) -> AnswerForm
     ensures { result ≡ form_of options }
 {
@@ -86,7 +86,7 @@ fn form_of(options: QueryOptions) -> AnswerForm
     }
 }
 
-// What a release has, which is let go.
+// Returns the report of a release, and drops the release.
 fn report_and_drop(snapshot: Snapshot) -> Report
     ensures { result ≡ report_of snapshot }
 {
@@ -95,11 +95,11 @@ fn report_and_drop(snapshot: Snapshot) -> Report
     report
 }
 
-/// Does what is asked of a release: of the one that is built in, or of that of the files of a source.
-/// Answers the query lines of an input, at `QueryWith` under its options; at `Explain` tells the plan of each; at
-/// `Describe` tells what the release has of the concept that each names; at `Session` answers the request in each; or,
-/// at `Check`, writes what the release has, and reads nothing. Nothing is written before the release is loaded. What is
-/// refused, and a fault, is told by one line on `errors`, whose own failure changes nothing.
+/// Serves a request over the built-in release or the release of a source's files. `Sample` and `Query` answer the
+/// query lines of the input, `QueryWith` answers them under its options, `Explain` writes the plan of each,
+/// `Describe` writes what the release has of the concept that each names, and `Session` answers the request in each.
+/// `Check` writes what the release has, and reads nothing. Nothing is written before the release is loaded. A
+/// refusal or a fault is told by one line on `errors`, whose own failure changes nothing.
 pub fn serve<S: FileSource, R: QueryInput, W: AnswerOutput, E: AnswerOutput>(
     alloc: Global,
     request: &Request,

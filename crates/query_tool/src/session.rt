@@ -1,4 +1,4 @@
-//! What is put into a piece of an output to answer the request in a line.
+//! Writing the answer to the request in a line into a piece of an output.
 ghost use Rattle.std.specs.Prelude.{◌≡◌, ℕ, codes, false, IfErr, List, OnOk};
 ghost use Rattle.query_service.specs.LimitedAnswer.{IsAnswerWithin};
 ghost use Rattle.query_service.specs.SessionAnswer.{AnswersAsked, IsSessionAnswer, page_form, page_limit};
@@ -14,7 +14,7 @@ use session_line::{Page, SessionRequest, read_request};
 use std::alloc::Global;
 use streams::{AnswerFault, AnswerOutput, Piece};
 
-/// The most bytes of a line.
+/// How many bytes a line has at most.
 pub const MOST_BYTES: usize = 65_535;
 
 /// Puts the answer to the request in a line into a piece of an output.
@@ -39,7 +39,7 @@ pub fn write_request<W: AnswerOutput>(
     write_asked(alloc, engine, read_request(line), piece, output)
 }
 
-// Puts the answer to a request into a piece of an output.
+// Puts the answer to a request that was read into a piece of an output.
 fn write_asked<W: AnswerOutput>(
     alloc: Global,
     engine: &Engine,
@@ -67,7 +67,7 @@ fn write_asked<W: AnswerOutput>(
     }
 }
 
-// Puts a page of the answer to a constraint's text into a piece of an output.
+// Puts a page of the answer to the text of a constraint into a piece of an output.
 fn write_page<W: AnswerOutput>(
     alloc: Global,
     engine: &Engine,
@@ -96,7 +96,7 @@ fn write_page<W: AnswerOutput>(
     )
 }
 
-/// The form of the answer of which a page is asked for.
+/// Returns the form of the answer of which a page is asked for.
 pub fn form_of(page: Page) -> AnswerForm
     ensures { result ≡ page_form page }
 {
@@ -107,7 +107,7 @@ pub fn form_of(page: Page) -> AnswerForm
     }
 }
 
-/// The limit on what the plan of a page visits: the greatest number where none is asked for.
+/// Returns the limit on what the plan of a page may visit, or the greatest number if the page has none.
 pub fn limit_of(page: Page) -> u64
     ensures { result ≡ page_limit page }
 {

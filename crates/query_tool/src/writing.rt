@@ -1,4 +1,4 @@
-//! What is put into a piece of the output for a query line over a release and its indexes.
+//! Writing the text for a query line over a release and its indexes into a piece of an output.
 ghost use Rattle.std.specs.Prelude.{◌≡◌, ◌≢◌, ⊤, IfErr, OnOk, false, length};
 ghost use Rattle.ecl_lexer.specs.declared.fault.QueryFault.{QueryFault};
 ghost use Rattle.answer_printer.specs.AnswerText.{bound_refusal, refusal_text};
@@ -13,7 +13,7 @@ use snapshot::Snapshot;
 use std::alloc::{AllocError, Global};
 use streams::{AnswerFault, AnswerOutput, Piece};
 
-/// Puts what tells what a line came to over a release, which is let go, into a piece of an output.
+/// Puts the text for what a line came to into a piece of an output, and drops `found`.
 pub fn write_and_drop<S: ConceptSet, W: AnswerOutput>(
     alloc: Global,
     snapshot: &Snapshot,
@@ -38,8 +38,8 @@ pub fn write_and_drop<S: ConceptSet, W: AnswerOutput>(
     written
 }
 
-// Puts what tells what a line came to: its refusal, the bound that is above the limit, or the answer in a form. The
-// text of a refusal is short, and built whole.
+// Puts the text for what a line came to into a piece of an output: its refusal, the bound that is above the limit,
+// or the answer in a form. The text of a refusal is short, so it is built as a whole.
 fn write_found<S: ConceptSet, W: AnswerOutput>(
     alloc: Global,
     snapshot: &Snapshot,
@@ -66,7 +66,7 @@ fn write_found<S: ConceptSet, W: AnswerOutput>(
     }
 }
 
-// Puts the line that refuses a text.
+// Puts the line that refuses a text into a piece of an output.
 fn write_refusal<W: AnswerOutput>(
     alloc: Global,
     fault: QueryFault,
@@ -87,7 +87,7 @@ fn write_refusal<W: AnswerOutput>(
     }
 }
 
-// Puts the line that refuses a constraint for the bound of its plan.
+// Puts the line that refuses a constraint for the bound of its plan into a piece of an output.
 fn write_bound<W: AnswerOutput>(
     alloc: Global,
     most: u64,
@@ -109,7 +109,7 @@ fn write_bound<W: AnswerOutput>(
     }
 }
 
-/// Puts a text that is an answer into a piece of an output.
+/// Puts the text of an answer into a piece of an output.
 pub fn put_text<W: AnswerOutput>(
     text: &[u8],
     piece: &mut Piece,

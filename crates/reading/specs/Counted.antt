@@ -5,26 +5,34 @@ use Rattle.std.specs.List.{sum_by}
 use Rattle.idset.specs.declared.concept_set.ConceptSet.{Ghosts}
 use Rattle.reading.specs.declared.counter.Counter.{Counter}
 
--- numbers stand still at the largest of 64 bits
+-- `number`, or the largest number of 64 bits if `number` is greater
 abbrev pub full : ℕ → ℕ
 full number = min number (2 ^ 64 - 1)
 
--- what is counted of each of some numbers, together
+-- the sum of `count` over `numbers`, or the largest number of 64 bits if the sum is greater
 abbrev pub full_sum : (ℕ → ℕ) → List ℕ → ℕ
 full_sum count numbers = full (sum_by count numbers)
 
--- so many items were handed out, and each is counted
+-- a call hands out `items` items: the counter rises by `items`, but stops at the largest number of 64 bits
 pub record HandsOut (items : ℕ) (early late : Counter) : Type 0 where
+  -- the counter does not fall
   pub grows : early.count ≤ late.count
+  -- the counter rises by `items`, but stops at the largest number of 64 bits
   pub count : late.count ≡ full (early.count + items)
 
--- the count grows, by no more than so many items
+-- a call counts within `most`: the counter does not fall, and rises by `most` at most
 pub record CountsWithin (most : ℕ) (early late : Counter) : Type 0 where
+  -- the counter does not fall
   pub grows : early.count ≤ late.count
+  -- the counter rises by `most` at most
   pub within : late.count ≤ early.count + most
 
--- a set has some numbers below a bound, and for it so many items at least were counted, or the count stands at the largest of 64 bits
+-- `found` is the set of `numbers` below the bound `below`, and the counter rose by `least` at least, or stands at the
+-- largest number of 64 bits
 pub record IsFound {S : Type 0} (sets : Ghosts S) (below : ℕ) (numbers : List ℕ) (least : ℕ) (early late : Counter) (found : S) : Type 0 where
+  -- the items of the set are `numbers`
   pub items : sets.items_of found ≡ numbers
+  -- the bound of the set is `below`
   pub bound : sets.bound_of found ≡ below
+  -- the counter rose by `least` at least, or stands at the largest number of 64 bits
   pub floor : full (early.count + least) ≤ late.count

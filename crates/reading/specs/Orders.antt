@@ -5,10 +5,14 @@ use Rattle.hierarchy.specs.ParentsFirst.{IsParentsFirst}
 use Rattle.held_release.specs.Numbering.{row_of_numbers}
 use Rattle.rf2_rows.specs.Release.{Release}
 
--- an order has the numbers of the concepts of a release, parents before their children, by the is-a rows (Release File
--- Specification, "Relationship file"), whose concepts are told by their numbers
+-- `order` has the numbers of a release's concepts, parents before their children by the is-a rows (Release File
+-- Specification, "Relationship file"), which `rows` has as pairs of concept numbers
 pub record IsOrderOf (release : Release) (order : List ℕ) : Type 0 where
+  -- the is-a rows, as pairs of a concept's number and its parent's number
   pub rows : List (ℕ × ℕ)
+  -- the pairs of numbers stand for the is-a rows of the release, in order
   pub rows_are : map (row_of_numbers release.concepts) rows ≡ release.isa
+  -- each number in `rows` is below the number of concepts
   pub within : IsWithin (length release.concepts) rows
+  -- `order` has each number below the number of concepts once, after the numbers of its parents
   pub first : IsParentsFirst (length release.concepts) rows order

@@ -1,4 +1,4 @@
-//! What a part of a plan has found.
+//! The set that a part of a plan has found.
 ghost use Rattle.std.specs.Prelude.{◌≡◌, ◌<◌, ◌+◌, All, IfOk, length, OnErr, OnOk};
 ghost use Rattle.std.specs.List.{range_with_len};
 ghost use Rattle.idset.specs.Sets.{all_items, common_items, other_items};
@@ -12,10 +12,10 @@ use idset::ConceptSet;
 use std::alloc::{AllocError, Global};
 use std::marker::Model;
 
-/// What a part of a plan has found: a set of its own, whose items are counted as they are handed out. Contracts see it
-/// as the set.
+/// The set that a part of a plan has found. The set is private, and each item that a call hands out is counted.
+/// Contracts see an answer as its set.
 ///
-/// A call that answers `AllocError` found no memory; what it would have read is counted.
+/// A call that returns `AllocError` found no memory; it has counted what it would have read.
 #[derive(Drop)]
 pub struct Answer<S> {
     set: S,
@@ -28,14 +28,14 @@ impl<S> Model for Answer<S> {
 }
 
 impl<S: ConceptSet> Answer<S> {
-    /// A set that was found.
+    /// Wraps a set that was found.
     pub fn of(set: S) -> Answer<S>
         ensures { result ≡ set }
     {
         Answer { set }
     }
 
-    /// The set of the items of a rising list.
+    /// Makes the set of the items of a rising list.
     pub fn from_items(alloc: Global, items: &[u32], bound: u32) -> Result<Answer<S>, AllocError>
         requires { IsRisingBelow bound items.now }
         ensures items { IfOk result (λ found. S.items_of found ≡ items.now) }
@@ -45,7 +45,7 @@ impl<S: ConceptSet> Answer<S> {
         Ok(Answer { set })
     }
 
-    /// The set of the numbers of a list in any order, which may name a number more than once.
+    /// Makes the set of the numbers of a list in any order, which may name a number more than once.
     pub fn from_numbers(alloc: Global, numbers: &[u32], bound: u32) -> Result<Answer<S>, AllocError>
         requires { All (λ number. number < bound) numbers.now }
         ensures items { IfOk result (λ found. S.items_of found ≡ listed_numbers bound numbers.now) }
@@ -55,7 +55,7 @@ impl<S: ConceptSet> Answer<S> {
         Ok(Answer { set })
     }
 
-    /// The set of the numbers whose bit is set in words of 64 bits, the lowest bit first.
+    /// Makes the set of the numbers whose bit is set in words of 64 bits, the lowest bit first.
     pub fn from_words(alloc: Global, words: &[u64], bound: u32) -> Result<Answer<S>, AllocError>
         requires { AreWordsBelow bound words.now }
         ensures items { IfOk result (λ found. S.items_of found ≡ numbers_where bound (is_set words.now)) }
@@ -76,7 +76,7 @@ impl<S: ConceptSet> Answer<S> {
         self.set.add_all(alloc, items)
     }
 
-    /// The set of all numbers below a bound.
+    /// Makes the set of all numbers below `bound`.
     pub fn every(alloc: Global, bound: u32) -> Result<Answer<S>, AllocError>
         ensures items { IfOk result (λ found. S.items_of found ≡ range_with_len 0 bound) }
         ensures bound { IfOk result (λ found. S.bound_of found ≡ bound) }
@@ -85,14 +85,14 @@ impl<S: ConceptSet> Answer<S> {
         Ok(Answer { set })
     }
 
-    /// The set, for who asked for it.
+    /// Takes the set out of the answer.
     pub(crate) fn into_set(self) -> S
         ensures { result ≡ self }
     {
         self.set
     }
 
-    /// The items in rising order, as a list of their own. They are counted.
+    /// Copies the items in rising order into a list, and counts them.
     pub fn items(&self, alloc: Global, visits: &mut Counter) -> Result<Vec<u32>, AllocError>
         ensures items { IfOk result (λ items. items.items ≡ S.items_of self.now) }
         ensures counted { HandsOut (length (S.items_of self.now)) visits.old visits.new }
@@ -101,14 +101,14 @@ impl<S: ConceptSet> Answer<S> {
         self.set.items(alloc)
     }
 
-    // Counts the items of two answers, of which both are read.
+    // Counts the items of two answers, for a caller that reads both.
     fn count_with(&self, other: &Answer<S>, visits: &mut Counter)
         ensures { HandsOut (length (S.items_of self.now) + length (S.items_of other.now)) visits.old visits.new }
     {
         visits.add(u64::from(self.set.count()) + u64::from(other.set.count()));
     }
 
-    /// The items that one of two answers has, or both. The items of both are counted.
+    /// Joins two answers: the items that are in one of them, or in both. Counts the items of both answers.
     pub fn or(
         &self,
         alloc: Global,
@@ -127,7 +127,7 @@ impl<S: ConceptSet> Answer<S> {
         Ok(Answer { set })
     }
 
-    /// The items that this answer has and another has not. The items of both are counted.
+    /// Keeps the items of this answer that are not in `other`. Counts the items of both answers.
     pub fn minus(
         &self,
         alloc: Global,
@@ -146,7 +146,7 @@ impl<S: ConceptSet> Answer<S> {
         Ok(Answer { set })
     }
 
-    /// The items of this answer that are in another: each is tested, and a test counts nothing.
+    /// Keeps the items of this answer that are in `other`. Each item is tested, and a test counts nothing.
     pub fn and(&self, alloc: Global, other: &Answer<S>) -> Result<Answer<S>, AllocError>
         requires { S.bound_of self.now ≡ S.bound_of other.now }
         ensures items { IfOk result
@@ -157,7 +157,8 @@ impl<S: ConceptSet> Answer<S> {
         Ok(Answer { set })
     }
 
-    /// The same answer, in the form in which it is asked soonest whether it has a number: for tests of many numbers.
+    /// Returns an answer with an equal set, in the form that tests fastest whether it has a number: for tests of
+    /// many numbers.
     pub fn for_asking(self, alloc: Global) -> Result<Answer<S>, AllocError>
         ensures items { IfOk result (λ found. S.items_of found ≡ S.items_of self) }
         ensures bound { IfOk result (λ found. S.bound_of found ≡ S.bound_of self) }
@@ -173,14 +174,14 @@ impl<S: ConceptSet> Answer<S> {
         self.set.bound()
     }
 
-    /// Whether a number is among the items: a test, which counts nothing. One that is not below the bound is not.
+    /// Tests whether `number` is among the items, and counts nothing. A number at or above the bound is not.
     pub fn has(&self, number: u32) -> bool
         ensures { result ≡ has (S.items_of self.now) number }
     {
         self.set.has(number)
     }
 
-    /// How many items there are. None is read.
+    /// Returns how many items there are. Reads none of them.
     pub fn count(&self) -> u32
         ensures { result ≡ length (S.items_of self.now) }
     {

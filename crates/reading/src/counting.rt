@@ -1,4 +1,4 @@
-//! How items are counted.
+//! The calls of `Counter`, which counts items.
 ghost use Rattle.std.specs.Prelude.{◌≡◌, ◌≤◌, ◌+◌, max};
 ghost use Rattle.reading.specs.Counted.{full};
 
@@ -7,7 +7,7 @@ use crate::counter::{Counter, Visits};
 use idset::ConceptSet;
 
 impl Counter {
-    // From what was counted before.
+    // Makes a counter that begins with what was counted before.
     pub(crate) fn from(visits: Visits) -> Counter
         ensures { result.count ≡ visits.count }
     {
@@ -23,14 +23,14 @@ impl Counter {
         self.count
     }
 
-    /// What was counted so far, for who asked for it.
+    /// Returns the count so far as a value that can be copied.
     pub fn visits(&self) -> Visits
         ensures { result.count ≡ self.now.count }
     {
         Visits { count: self.count }
     }
 
-    /// Takes the set out of an answer. Nothing more is read then, since the counter is used up.
+    /// Takes the set out of an answer. This uses up the counter, so that nothing more can be read.
     pub fn close<S: ConceptSet>(self, answer: Answer<S>) -> S
         ensures { result ≡ answer }
     {
@@ -38,7 +38,7 @@ impl Counter {
         answer.into_set()
     }
 
-    /// So many items more.
+    /// Adds `items`, and stops at `u64::MAX`.
     pub fn add(&mut self, items: u64)
         ensures count { self.new.count ≡ full (self.old.count + items) }
         ensures grows { self.old.count ≤ self.new.count }
@@ -48,7 +48,8 @@ impl Counter {
         };
     }
 
-    /// What is missing, since there were so many, to the floor of a node that has read fewer items.
+    /// Raises the count to `since + floor` if it is lower, and stops at `u64::MAX`. `since` is the count before a
+    /// node ran, and `floor` is how many items the node visits at least.
     pub fn fill(&mut self, since: u64, floor: u64)
         ensures count { self.new.count ≡ max self.old.count (full (since + floor)) }
         ensures grows { self.old.count ≤ self.new.count }

@@ -1,4 +1,4 @@
-//! Lengths of lists, and look-ups by number: nothing is counted for them, since no item of a list is handed out.
+//! Lengths of lists, and look-ups by number. These calls count nothing, since they hand out no item of a list.
 ghost use Rattle.std.specs.Prelude.{◌≡◌, ◌<◌, ◌+◌, ◌^◌, IfSome, length, nat_eq, pos, position, slice_get, slice_index};
 ghost use Rattle.std.specs.Prelude.{slice_index_or};
 ghost use Rattle.std.specs.List.{concat};
@@ -22,14 +22,14 @@ use std::cmp::Ordering;
 use std::ops::Range;
 
 impl<'a> Reader<'a> {
-    /// The indexes, of which only numbers are asked.
+    /// Lends the indexes for calls that return numbers alone.
     pub fn lengths(self) -> Lengths<'a>
         ensures { result.indexes.now ≡ self.entry.indexes.now }
     {
         self.indexes.lengths()
     }
 
-    /// How many concepts are in force: the number of each is below.
+    /// Returns how many concepts are in force. The number of each concept is below that.
     pub fn concept_count(self) -> u32
         ensures count { result ≡ length self.entry.snapshot.now.release.concepts }
         ensures few { length self.entry.snapshot.now.release.concepts < 2 ^ 31 }
@@ -42,7 +42,7 @@ impl<'a> Reader<'a> {
         self.snapshot.concept_count()
     }
 
-    /// The number of the concept with an identifier, or `None` where there is none in force.
+    /// Returns the number of the concept with the identifier `id`, or `None` if no concept in force has it.
     pub fn index_of(self, id: u64) -> Option<u32>
         ensures release { result ≡ concept_number self.entry.snapshot.now.release.concepts id }
         ensures indexed { result ≡ concept_number self.entry.indexes.now.concepts id }
@@ -50,7 +50,7 @@ impl<'a> Reader<'a> {
         self.snapshot.index_of(id)
     }
 
-    /// The identifier of a concept by its number.
+    /// Returns the identifier of the concept with the number `concept`.
     pub fn id_at(self, concept: u32) -> SctId
         requires { concept < length self.snapshot.now.release.concepts }
         ensures { result ≡ slice_index self.entry.snapshot.now.release.concepts concept }
@@ -80,7 +80,7 @@ impl<'a> Reader<'a> {
         self.lengths().row_count()
     }
 
-    /// How many attribute rows are in force, as many as by source.
+    /// Returns how many attribute rows the release has. The list by source has as many.
     pub fn attribute_count(self) -> u32
         ensures count { result ≡ length self.entry.snapshot.now.release.attributes }
         ensures few { length self.entry.snapshot.now.release.attributes < 2 ^ 31 }
@@ -90,7 +90,7 @@ impl<'a> Reader<'a> {
         self.snapshot.attribute_count()
     }
 
-    /// What a query tests of a row, by its number.
+    /// Returns what a query tests of the row with the number `n`.
     pub fn cells(self, n: u32) -> RowCells
         requires { n < length self.indexes.now.rows }
         ensures { IfSome (slice_get (entries_of self.entry.indexes.now.rows) n)
@@ -109,7 +109,7 @@ impl<'a> Reader<'a> {
         self.indexes.types().len() as u32
     }
 
-    /// A type, by its place among the types of all rows.
+    /// Returns the type at `place` in the list of the types of all rows.
     pub fn type_at(self, place: u32) -> SctId
         requires { place < length (types_of self.indexes.now.rows) }
         ensures { result ≡ slice_index (types_of self.entry.indexes.now.rows) place }
@@ -125,7 +125,7 @@ impl<'a> Reader<'a> {
         self.lengths().decimal_count()
     }
 
-    /// How a decimal, by its place among the decimals of all values, which rise, stands to a number.
+    /// Compares the decimal at `place` in the rising list of all decimals with `number`.
     pub fn compare_decimal(self, place: u32, number: Decimal) -> Ordering
         requires { place < length self.indexes.now.decimals }
         ensures { result ≡ int_cmp (slice_index_or self.entry.indexes.now.decimals place (pos 0)) number.0 }
@@ -133,15 +133,16 @@ impl<'a> Reader<'a> {
         self.lengths().compare_decimal(place, number)
     }
 
-    /// The place of a type among the types of all rows, or `None` where no row has it. Any number may be asked for.
+    /// Returns the place of the type `id` in the list of the types of all rows, or `None` if no row has it. `id`
+    /// may be any number.
     pub fn type_place(self, id: u64) -> Option<u32>
         ensures { result ≡ position (nat_eq id) (types_of self.entry.indexes.now.rows) }
     {
         self.indexes.type_place(id)
     }
 
-    /// The number of the concept that is a type of rows, by the place of the type among the types of all rows; `None`
-    /// where it is no concept in force. Any place may be asked for.
+    /// Returns the number of the concept that is the type at `place` in the list of the types of all rows, or
+    /// `None` if that type is no concept in force. `place` may be any number.
     pub fn type_concept(self, place: u32) -> Option<u32>
         ensures { result ≡ concept_of_type self.entry.indexes.now (slice_get (types_of self.entry.indexes.now.rows)
             place) }
@@ -192,7 +193,7 @@ impl<'a> Reader<'a> {
         self.lengths().value_row_count(concept)
     }
 
-    /// How many rows have a type. Any number may be asked for.
+    /// Returns how many rows have the type `id`, which may be any number.
     pub fn type_row_count(self, id: u64) -> u64
         ensures { result ≡ length (rows_by_type self.entry.indexes.now id) }
     {
@@ -208,7 +209,7 @@ impl<'a> Reader<'a> {
         self.indexes.unit_rows(unit).len() as u64
     }
 
-    /// Whether a concept is a component of a reference set: a test, which counts nothing.
+    /// Tests whether `concept` is a component of the reference set `refset`, and counts nothing.
     pub fn is_member(self, refset: u32, concept: u32) -> bool
         requires { refset < length self.indexes.now.concepts }
         ensures { result ≡ has (list_of self.entry.indexes.now.members refset) concept }
@@ -218,7 +219,7 @@ impl<'a> Reader<'a> {
         has_number(self.indexes.members(refset), concept)
     }
 
-    /// Whether a concept is among the ancestors of another: a test, which counts nothing.
+    /// Tests whether `ancestor` is among the ancestors of `concept`, and counts nothing.
     pub fn is_ancestor(self, ancestor: u32, concept: u32) -> bool
         requires { concept < length self.indexes.now.hierarchy.ancestors }
         ensures { result ≡ has (list_of self.entry.indexes.now.hierarchy.ancestors concept) ancestor }
@@ -228,7 +229,7 @@ impl<'a> Reader<'a> {
         has_number(self.indexes.hierarchy().ancestors(concept), ancestor)
     }
 
-    /// Whether a concept is among the descendants of another: a test, which counts nothing.
+    /// Tests whether `descendant` is among the descendants of `concept`, and counts nothing.
     pub fn is_descendant(self, descendant: u32, concept: u32) -> bool
         requires { concept < length self.indexes.now.hierarchy.descendants }
         ensures { result ≡ has (list_of self.entry.indexes.now.hierarchy.descendants concept) descendant }

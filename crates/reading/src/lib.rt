@@ -1,9 +1,9 @@
-//! The one way in which what executes a plan reads.
+//! The only way in which the crates that execute plans read.
 //!
-//! A `Reader` has the lists of a release and of its indexes, an `Answer` has what a part of a plan has found, and the
-//! fields of both are their own. Each item that one of them hands out is counted by a `Counter`, which can neither be
-//! copied nor be made but where a reader is opened. So what stands above this crate counts all that it reads. Lengths,
-//! look-ups by number and tests of membership count nothing.
+//! A `Reader` has the lists of a release and of its indexes. An `Answer` has what a part of a plan has found. Both
+//! keep these private. A `Counter` counts each item that one of them hands out. Nobody can copy a counter, and only
+//! the call that opens a reader makes one, so the crates above count all that they read. Lengths, look-ups by
+//! number and tests of membership count nothing.
 #![tactic(auto)]
 
 mod answer;

@@ -16,7 +16,7 @@ use postings::{TypeColumns, ValueColumns};
 use sctid::SctId;
 
 impl<'a> Reader<'a> {
-    /// The concepts that a concept reaches by is-a rows. They are counted.
+    /// Hands out the ancestors of `concept`, which it reaches by is-a rows, and counts them.
     pub fn ancestors(self, concept: u32, visits: &mut Counter) -> &'a [u32]
         requires { concept < length self.indexes.now.hierarchy.ancestors }
         ensures items { result.now ≡ list_of self.entry.indexes.now.hierarchy.ancestors concept }
@@ -26,7 +26,7 @@ impl<'a> Reader<'a> {
         handed_out(self.indexes.hierarchy().ancestors(concept), visits)
     }
 
-    /// The concepts that reach a concept by is-a rows. They are counted.
+    /// Hands out the descendants of `concept`, which reach it by is-a rows, and counts them.
     pub fn descendants(self, concept: u32, visits: &mut Counter) -> &'a [u32]
         requires { concept < length self.indexes.now.hierarchy.descendants }
         ensures items { result.now ≡ list_of self.entry.indexes.now.hierarchy.descendants concept }
@@ -36,8 +36,8 @@ impl<'a> Reader<'a> {
         handed_out(self.indexes.hierarchy().descendants(concept), visits)
     }
 
-    /// The descendants of a concept as words of bits, a bit for each concept, where the index has them so. They are
-    /// counted as if they were listed.
+    /// Hands out the descendants of `concept` as a bitmap, a bit for each concept, if the index has one. Counts
+    /// them as if it listed them.
     pub fn descendant_words(self, concept: u32, visits: &mut Counter) -> Option<&'a [u64]>
         requires { concept < length self.indexes.now.hierarchy.descendants }
         ensures some { IfSome result (λ words. AreWordsOf (length self.entry.indexes.now.hierarchy.descendants)
@@ -53,7 +53,7 @@ impl<'a> Reader<'a> {
         Some(words)
     }
 
-    /// The concepts that an is-a row of a concept leads to. They are counted.
+    /// Hands out the parents of `concept`, to which its is-a rows lead, and counts them.
     pub fn parents(self, concept: u32, visits: &mut Counter) -> &'a [u32]
         requires { concept < length self.indexes.now.hierarchy.parents }
         ensures items { result.now ≡ list_of self.entry.indexes.now.hierarchy.parents concept }
@@ -63,7 +63,7 @@ impl<'a> Reader<'a> {
         handed_out(self.indexes.hierarchy().parents(concept), visits)
     }
 
-    /// The concepts from which an is-a row leads to a concept. They are counted.
+    /// Hands out the children of `concept`, whose is-a rows lead to it, and counts them.
     pub fn children(self, concept: u32, visits: &mut Counter) -> &'a [u32]
         requires { concept < length self.indexes.now.hierarchy.children }
         ensures items { result.now ≡ list_of self.entry.indexes.now.hierarchy.children concept }
@@ -73,7 +73,7 @@ impl<'a> Reader<'a> {
         handed_out(self.indexes.hierarchy().children(concept), visits)
     }
 
-    /// The parents of all concepts, a list for each. Each is-a link is counted.
+    /// Hands out the parents of all concepts, a list for each, and counts each is-a link.
     pub fn all_parents(self, visits: &mut Counter) -> &'a KeyedLists
         ensures lists { result.now ≡ self.entry.indexes.now.hierarchy.parents }
         ensures counted { HandsOut (length (concat self.entry.indexes.now.hierarchy.parents)) visits.old visits.new }
@@ -82,7 +82,7 @@ impl<'a> Reader<'a> {
         self.indexes.hierarchy().all_parents()
     }
 
-    /// The children of all concepts, a list for each. Each is-a link is counted.
+    /// Hands out the children of all concepts, a list for each, and counts each is-a link.
     pub fn all_children(self, visits: &mut Counter) -> &'a KeyedLists
         ensures lists { result.now ≡ self.entry.indexes.now.hierarchy.children }
         ensures counted { HandsOut (length (concat self.entry.indexes.now.hierarchy.parents)) visits.old visits.new }
@@ -91,8 +91,8 @@ impl<'a> Reader<'a> {
         self.indexes.hierarchy().all_children()
     }
 
-    /// The numbers of the concepts in an order in which parents come before their children, by the is-a rows. Each
-    /// concept is counted.
+    /// Hands out the numbers of the concepts in an order in which parents come before their children by the is-a
+    /// rows. Counts each concept.
     pub fn parents_first(self, visits: &mut Counter) -> &'a [u32]
         ensures order { IsOrderOf self.entry.snapshot.now.release result.now }
         ensures counted { HandsOut (length result.now) visits.old visits.new }
@@ -102,7 +102,7 @@ impl<'a> Reader<'a> {
         handed_out(self.snapshot.parents_first(), visits)
     }
 
-    /// The components of a reference set. They are counted.
+    /// Hands out the components of the reference set `concept`, and counts them.
     pub fn members(self, concept: u32, visits: &mut Counter) -> &'a [u32]
         requires { concept < length self.indexes.now.concepts }
         ensures items { result.now ≡ list_of self.entry.indexes.now.members concept }
@@ -111,7 +111,7 @@ impl<'a> Reader<'a> {
         handed_out(self.indexes.members(concept), visits)
     }
 
-    /// The numbers of the rows of a source. They are counted.
+    /// Hands out the numbers of the rows whose source is `concept`, and counts them.
     pub fn rows_of(self, concept: u32, visits: &mut Counter) -> &'a [u32]
         requires { concept < length self.indexes.now.concepts }
         ensures items { result.now ≡ rows_by_source self.entry.indexes.now concept }
@@ -120,7 +120,7 @@ impl<'a> Reader<'a> {
         handed_out(self.indexes.rows_of(concept), visits)
     }
 
-    /// The numbers of the rows of a group. They are counted.
+    /// Hands out the numbers of the rows of the group `unit`, and counts them.
     pub fn unit_rows(self, unit: u32, visits: &mut Counter) -> &'a [u32]
         requires { unit < length (groups_in self.indexes.now) }
         ensures items { IfSome (slice_get (groups_in self.entry.indexes.now) unit)
@@ -130,7 +130,7 @@ impl<'a> Reader<'a> {
         handed_out(self.indexes.unit_rows(unit), visits)
     }
 
-    /// The columns of the rows of a type. The rows are counted. Any number may be asked for.
+    /// Hands out the columns of the rows of the type `id`, which may be any number. Counts the rows.
     pub fn type_columns(self, id: u64, visits: &mut Counter) -> TypeColumns<'a>
         ensures columns { AreTypeColumns self.entry.indexes.now id result }
         ensures counted { HandsOut (length (rows_by_type self.entry.indexes.now id)) visits.old visits.new }
@@ -139,7 +139,7 @@ impl<'a> Reader<'a> {
         self.indexes.type_columns(id)
     }
 
-    /// The columns of the rows whose value is a concept. The rows are counted.
+    /// Hands out the columns of the rows whose value is `concept`. Counts the rows.
     pub fn value_columns(self, concept: u32, visits: &mut Counter) -> ValueColumns<'a>
         requires { concept < length self.indexes.now.concepts }
         ensures columns { AreValueColumns self.entry.indexes.now concept result }
@@ -149,7 +149,7 @@ impl<'a> Reader<'a> {
         self.indexes.value_columns(concept)
     }
 
-    /// The types of all rows, each once, in the order of their first rows. They are counted.
+    /// Hands out the types of all rows, each once, in the order of their first rows. Counts the types.
     pub fn types(self, visits: &mut Counter) -> &'a [SctId]
         ensures items { result.now ≡ types_of self.entry.indexes.now.rows }
         ensures counted { HandsOut (length (types_of self.entry.indexes.now.rows)) visits.old visits.new }
@@ -159,7 +159,7 @@ impl<'a> Reader<'a> {
     }
 }
 
-// A list that is handed out: each item is counted.
+// Counts the items of `list`, and returns it.
 fn handed_out<'a>(list: &'a [u32], visits: &mut Counter) -> &'a [u32]
     ensures items { result.now ≡ list.now }
     ensures counted { HandsOut (length list.now) visits.old visits.new }

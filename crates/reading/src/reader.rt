@@ -10,12 +10,12 @@ use held_release::Snapshot;
 use postings::Indexes;
 use std::alloc::Global;
 
-/// A release with its indexes, and where memory is taken. It lends neither of the two: what executes a plan takes lists
-/// from the calls of a reader, which count them. `bench/uncounted.py` shows that one reader is opened, and nothing read
-/// past it.
+/// A release with its indexes, and the allocator. A reader lends neither the release nor the indexes: the crates
+/// that execute plans take lists from the calls of a reader, which count the items. `bench/uncounted.py` shows that
+/// the program opens one reader, and reads nothing past it.
 #[derive(Clone, Copy)]
 pub struct Reader<'a> {
-    /// Where memory is taken.
+    /// The allocator.
     pub alloc: Global,
     pub(crate) snapshot: &'a Snapshot,
     pub(crate) indexes: &'a Indexes,
@@ -24,13 +24,13 @@ pub struct Reader<'a> {
     pub ghost rising: { IsStrictlyIncreasing snapshot.now.release.concepts } by { Prim.hlevel props },
     // the sources of all attribute rows are in force
     pub ghost by_source: { length (attributes_by_source snapshot.now.release) ≡ length snapshot.now.release.attributes },
-    // each concept has its lists, and its components
+    // each concept has its lists in the hierarchy, and a list of components
     pub ghost lists: { HasListsFor (length indexes.now.concepts) indexes.now.hierarchy } by { Prim.hlevel props },
     pub ghost members: { length indexes.now.members ≡ length indexes.now.concepts },
 }
 
 impl<'a> Reader<'a> {
-    /// Opens a release and its indexes to be read, and makes what counts what is read, beginning with what was counted
+    /// Opens a release and its indexes to be read, and makes the counter, which begins with what was counted
     /// before.
     pub fn open(
         alloc: Global,

@@ -1,4 +1,4 @@
--- How bytes that are held begin with a part, and how they grow.
+-- How the bytes that are held begin with a part, and how they grow.
 use Rattle.std.proofs.Common.{◌≡◌, ◌≢◌, ℕ, suc, ◌+◌, ◌<◌, ◌≤◌, zero, min, true, eqb, List, [], ◌∷◌, ◌++◌, length, get_or, take, drop, slice_range, ◌-◌, None, Some, refl, sym, ap, ◌∙◌, append-nil, append_assoc, length-append, length-take, length-drop, ◌^◌, arith}
 use Rattle.std.specs.Prelude.{Option, Result}
 use Rattle.std.proofs.Math.Seq.{take-add, take-suc}
@@ -12,20 +12,20 @@ use Rattle.release_files.specs.declared.source.SourceFault.{SourceFault}
 use Rattle.release_files.specs.Lines.{parts, HasNoFeed}
 use Rattle.release_files.proofs.Parts.{NoFeed, parts_ended, parts_last}
 
--- no line feed is found among the first bytes
+-- if no index below `at` has a line feed, the first `at` bytes have none
 front_clear : (bytes : List ℕ) (at : ℕ) → at ≤ length bytes → NoFeed bytes at → HasNoFeed (take at bytes)
 front_clear bytes at fits none k d below is =
     let here : k < at = omega (arith, length-take at bytes) in
     none k here (eq-eqb (get_or bytes k 0) 10 (get_or_default bytes k 0 d (omega arith) ∙ sym (get_or-take at bytes k d here) ∙ is))
 
--- nor among the next ones
+-- if the bytes searched so far and the next `at` bytes have no line feed, the bytes up to there have none
 pub clear_further : (bytes : List ℕ) (searched at : ℕ) → HasNoFeed (take searched bytes) → at ≤ length (drop searched bytes) → NoFeed (drop searched bytes) at
     → HasNoFeed (take (searched + at) bytes)
 clear_further bytes searched at clear fits none =
     rw (take-add searched at bytes) (All-append (λ byte. byte ≢ 10) (take searched bytes)
     (take at (drop searched bytes)) clear (front_clear (drop searched bytes) at fits none))
 
--- the first line feed ends a part
+-- the bytes up to the first line feed, with it, are an ended part
 pub ended_part : (bytes : List ℕ) (at : ℕ) → at < length bytes → HasNoFeed (take at bytes)
     → eqb (get_or bytes at 0) 10 ≡ true → IsEndedPart (take (suc at) bytes)
 ended_part bytes at fits clear is rest =
@@ -33,7 +33,7 @@ ended_part bytes at fits clear is rest =
     take-suc bytes at 0 fits ∙ ap (λ (byte : ℕ). take at bytes ++ byte ∷ []) (eqb-true (get_or bytes at 0) 10 is) in
     rw whole (ap parts (append_assoc (take at bytes) (10 ∷ []) rest) ∙ parts_ended (take at bytes) rest clear)
 
--- what is held begins with a part that is ended
+-- if the first `count` bytes that are held are an ended part, what is held begins with that part
 pub begins_ended : (rest : Option (List ℕ)) (held : List ℕ) (count : ℕ) → 0 < count → IsEndedPart (take count held) → BeginsWithPart rest held count
 begins_ended None held count some part = tt
 begins_ended (Some rest) held count some part = (
@@ -44,7 +44,7 @@ begins_ended (Some rest) held count some part = (
       ∙ part (drop count held ++ rest),
 )
 
--- bytes without a line feed are the last part
+-- at the end of the file, bytes without a line feed are the last part
 all_last : (held : List ℕ) (count : ℕ) → count ≡ length held → HasNoFeed held → BeginsWithPart (Some []) held count
 all_last held count all clear = (
   λ none. ap (λ (bytes : List ℕ). parts (bytes ++ [])) (nil_from_length held (sym all ∙ none)),
@@ -55,14 +55,17 @@ all_last held count all clear = (
       ∙ ap (λ (behind : List ℕ). take count held ∷ parts (behind ++ [])) (sym (drop_all count held (omega arith))),
 )
 
+-- if the file has ended and the bytes that are held have no line feed, they are its last part, or there is none
 pub begins_last : (rest : Option (List ℕ)) (held : List ℕ) (count : ℕ) → IsAtEnd rest → count ≡ length held → HasNoFeed held → BeginsWithPart rest held count
 begins_last None held count end all clear = tt
 begins_last (Some rest) held count end all clear = rw end (all_last held count all clear)
 
+-- `KeepsBytes` holds if nothing changes
 pub KeepsBytes-refl : (rest : Option (List ℕ)) (held : List ℕ) → KeepsBytes rest rest held held
 KeepsBytes-refl None held = tt
 KeepsBytes-refl (Some rest) held = refl
 
+-- `KeepsBytes` holds for two steps together if it holds for each
 pub KeepsBytes-trans : (first next last : Option (List ℕ)) (old mid new : List ℕ) → KeepsBytes first next old mid
     → KeepsBytes next last mid new → KeepsBytes first last old new
 KeepsBytes-trans None next last old mid new before after = tt
@@ -70,7 +73,7 @@ KeepsBytes-trans (Some first) None last old mid new before after = absurd before
 KeepsBytes-trans (Some first) (Some next) None old mid new before after = absurd after
 KeepsBytes-trans (Some first) (Some next) (Some last) old mid new before after = before ∙ after
 
--- a piece moves from the file to what is held
+-- a piece that moves from the file to the bytes that are held keeps the bytes of both together
 pub GrowsBy-keeps : (before after : Option (List ℕ)) (old new : List ℕ) (count : ℕ) → GrowsBy before after old new count → KeepsBytes before after old new
 GrowsBy-keeps None after old new count grows = tt
 GrowsBy-keeps (Some before) None old new count grows = absurd grows.consumed
@@ -79,24 +82,24 @@ GrowsBy-keeps (Some before) (Some after) old new count grows =
     ∙ sym (append_assoc old grows.piece after)
     ∙ ap (λ (bytes : List ℕ). bytes ++ after) (sym grows.held)
 
--- without a piece nothing changes
+-- a piece of 0 bytes leaves the bytes that are held as they were
 pub GrowsBy-none : (before after : Option (List ℕ)) (old new : List ℕ) → GrowsBy before after old new 0 → new ≡ old
 GrowsBy-none before after old new grows =
     grows.held ∙ ap (λ (bytes : List ℕ). old ++ bytes) (nil_from_length grows.piece grows.counted) ∙ append-nil old
 
--- what is held grows by as many bytes as the piece has
+-- the bytes that are held grow by as many bytes as the piece has
 pub GrowsBy-length : (before after : Option (List ℕ)) (old new : List ℕ) (count : ℕ)
     → GrowsBy before after old new count → length new ≡ length old + count
 GrowsBy-length before after old new count grows =
     omega (arith, ap length grows.held, length-append old grows.piece, grows.counted)
 
--- the bytes that were searched without success stay in front
+-- the bytes that were searched and have no line feed stay in front
 pub GrowsBy-clear : (before after : Option (List ℕ)) (old new : List ℕ) (count searched : ℕ)
     → GrowsBy before after old new count → searched ≡ length old → HasNoFeed old → HasNoFeed (take searched new)
 GrowsBy-clear before after old new count searched grows all clear =
     rw (grows.held, take_at old grows.piece searched (sym all)) clear
 
--- what is taken in two steps is no more than both allow
+-- two steps together take no more bytes than `TakesWithin` allows for both
 pub TakesWithin-trans : (first next last : Option (List ℕ)) (old mid new : ℕ) → TakesWithin first next old mid
     → TakesWithin next last mid new → TakesWithin first last old new
 TakesWithin-trans None None last old mid new before after = omega arith
@@ -107,7 +110,7 @@ TakesWithin-trans (Some first) (Some next) None old mid new before after = absur
 TakesWithin-trans (Some first) (Some next) (Some last) old mid new before after =
     (omega (arith, before.0, after.0), omega (arith, before.1, after.1))
 
--- what is read in two steps is read in one
+-- two readings, one after the other, are one reading
 pub ReadsOn-trans : (first next last : History) (old mid new : ℕ) → ReadsOn first next old mid → ReadsOn next last mid new
     → ReadsOn first last old new
 ReadsOn-trans first next last old mid new before after = record {
@@ -118,7 +121,7 @@ ReadsOn-trans first next last old mid new before after = record {
   unlisted = after.unlisted ∙ before.unlisted;
 }
 
--- a read gives no more bytes than may be read, and they are counted
+-- a read that gives no more bytes than may be read lowers that number by the bytes it gives
 pub reads_on : (result : Result ℕ SourceFault) (old new : History) (left : ℕ) → IsReading result old new → given result ≤ left
     → ReadsOn old new left (left - given result)
 reads_on result old new left read few = record {
@@ -129,16 +132,16 @@ reads_on result old new left read few = record {
   unlisted = read.unlisted;
 }
 
--- a slice has no more bytes than its end
+-- a slice that ends below 2^64 has fewer than 2^64 bytes
 pub few_bytes : (bytes : List ℕ) (from until : ℕ) → until < 2 ^ 64 → length (slice_range bytes from until) < 2 ^ 64
 few_bytes bytes from until few = omega (arith, length-take (until - from) (drop from bytes))
 
--- a slice of so many bytes
+-- a slice of `count` bytes within the bytes has the length `count`
 length-slice : (bytes : List ℕ) (at count : ℕ) → at + count ≤ length bytes
     → length (slice_range bytes at (at + count)) ≡ count
 length-slice bytes at count within = omega (arith, length-take (at + count - at) (drop at bytes), length-drop at bytes)
 
--- a slice without its first bytes
+-- a slice that begins `count` bytes later is the slice without its first `count` bytes
 pub slice_behind : (bytes : List ℕ) (start count filled : ℕ) → count ≤ length (slice_range bytes start filled)
     → slice_range bytes (start + count) filled ≡ drop count (slice_range bytes start filled)
 slice_behind bytes start count filled few =
@@ -148,7 +151,7 @@ slice_behind bytes start count filled few =
     sym (ap (λ (n : ℕ). drop count (take n behind)) split
     ∙ drop-take count left behind ∙ ap (take left) (drop-drop count start bytes))
 
--- what was read is within what was left
+-- a read of at most `room` bytes takes no more than may be read
 pub takes_read : (before after : Option (List ℕ)) (read : List ℕ) (at count left old room : ℕ)
     → Consumes before after (slice_range read at (at + count)) → at + count ≤ length read
     → count ≤ room → room ≡ min left 65536 → left ≡ old → TakesWithin before after old (left - count)
@@ -165,7 +168,7 @@ takes_read before after read at count left old room consumes within few fits sam
     by_rest (Some before) (Some after) consumes =
         (omega arith, omega (arith, ap length consumes, length-append piece after, length-slice read at count within))
 
--- a piece was read behind bytes that were moved to the front of a buffer, which grew
+-- a piece that is read into a buffer, after bytes that were moved to its front, makes the bytes that are held grow
 pub grows_read : (before after : Option (List ℕ)) (held items moved grown read : List ℕ) (start filled count : ℕ)
     → held ≡ slice_range items start filled
     → take (filled - start) moved ≡ slice_range items start filled
@@ -192,7 +195,7 @@ grows_read before after held items moved grown read start filled count is move r
       end = end;
     }
 
--- what is taken behind some bytes
+-- taking `count` bytes takes all of `front` and the remaining ones of `rest`
 take_behind : (count : ℕ) (front rest : List ℕ) → length front ≤ count → take count (front ++ rest) ≡ front ++ take (count - length front) rest
 take_behind count [] rest within =
     let same : count - 0 ≡ count = omega arith in
@@ -206,7 +209,7 @@ take_nothing : (count : ℕ) → take {A = ℕ} count [] ≡ []
 take_nothing zero = refl
 take_nothing (suc count) = refl
 
--- bytes that were read are no longer among those that may be read
+-- bytes that are read are taken from the bytes that may be read
 reached_bytes : (before after : Option (List ℕ)) (piece : List ℕ) (left new_left count : ℕ)
     → Consumes before after piece → length piece ≡ count → count ≤ left → new_left ≡ left - count
     → Consumes (reachable left before) (reachable new_left after) piece
@@ -217,14 +220,14 @@ reached_bytes (Some before) (Some after) piece left new_left count consumes coun
     let same : left - length piece ≡ new_left = omega arith in
     ap (λ (bytes : List ℕ). take left bytes) consumes ∙ take_behind left piece after (omega arith) ∙ ap (λ (n : ℕ). piece ++ take n after) same
 
--- where no byte was read, none may be read
+-- if the file has ended, or no byte may be read, the bytes that may be read have ended
 reached_end : (after : Option (List ℕ)) (left : ℕ) → ((0 < left) → IsAtEnd after) → IsAtEnd (reachable left after)
 unfolding reachable
 reached_end None left end = tt
 reached_end (Some after) zero end = refl
 reached_end (Some after) (suc left) end = ap (λ (bytes : List ℕ). take (suc left) bytes) (end (omega arith)) ∙ take_nothing (suc left)
 
--- so a piece was read of the bytes that may be read
+-- a piece that is read into a buffer makes the bytes that are held grow by bytes that may be read
 pub grows_reached : (before after : Option (List ℕ)) (held items moved grown read : List ℕ) (start filled count left new_left room : ℕ)
     → held ≡ slice_range items start filled
     → take (filled - start) moved ≡ slice_range items start filled
@@ -245,7 +248,7 @@ grows_reached before after held items moved grown read start filled count left n
     (reached_bytes before after (slice_range read at (at + count)) left new_left count consumes counted (omega arith) less)
     (λ none. reached_end after new_left (λ some. end none (omega arith)))
 
--- where the bytes of a file are told, those that may be read are the first of them
+-- if the bytes of a file are told, the bytes that may be read are the first `left` of them
 pub reachable_told : (left : ℕ) (rest : Option (List ℕ)) (bytes : List ℕ) → rest ≡ Some bytes → reachable left rest ≡ Some (take left bytes)
 unfolding reachable
 reachable_told left rest bytes told = ap (λ (some : Option (List ℕ)). reachable left some) told

@@ -1,4 +1,4 @@
--- How lines are counted, and what a byte order mark leaves of the bytes that are held.
+-- How lines are counted, and what remains of the bytes that are held after a byte order mark.
 use Rattle.std.proofs.Common.{◌≡◌, ◌⊎◌, ℕ, ◌+◌, ◌^◌, ◌<◌, ◌≤◌, Bool, true, false, List, [], ◌∷◌, ◌++◌, length, take, drop, refl, sym, ap, ◌∙◌, inl, inr, append-nil, length-append, length-drop, if◌then◌else◌, bytes_eq, arith}
 use Rattle.std.specs.List.{concat}
 use Rattle.std.proofs.lemmas.List.{take-append-le, drop-append-le}
@@ -11,7 +11,7 @@ use Rattle.std.specs.Prelude.{Option, None, Some}
 use Rattle.release_files.specs.declared.piece_lines.Stage.TheVariants.{Fresh, Begun}
 use Rattle.release_files.proofs.Parts.{length-parts, lines_of_parts}
 
--- as long as no count reaches u64::MAX, lines are counted as they are numbered
+-- if no count reaches u64::MAX, counted lines are numbered lines
 counted_numbered : (number end : ℕ) (cut : List (List ℕ)) → number + length cut < 2 ^ 64
     → end + length (concat cut) < 2 ^ 64 → counted_lines number end cut ≡ numbered number end cut
 counted_numbered number end [] few short = refl
@@ -25,11 +25,11 @@ mark_of-le : (has : Bool) → (if has then 3 else 0) ≤ 3
 mark_of-le true = omega arith
 mark_of-le false = omega arith
 
--- a byte order mark has three bytes
+-- a byte order mark has at most three bytes
 mark_length-le : (bytes : List ℕ) → mark_length bytes ≤ 3
 mark_length-le bytes = mark_of-le (bytes_eq (take 3 bytes) byte_order_mark)
 
--- the lines of a file that was not begun are its lines
+-- the lines of a file of which nothing was read are the lines of the file
 pub fresh_lines : (held bytes : List ℕ) → held ≡ [] → length bytes < 2 ^ 64
     → counted_lines 0 (mark_length (held ++ bytes)) (parts (drop (mark_length (held ++ bytes)) (held ++ bytes))) ≡ lines_of bytes
 unfolding lines_of
@@ -40,12 +40,12 @@ fresh_lines held bytes none short =
     (omega (arith, length-parts behind, length-drop mark bytes))
     (omega (arith, ap length (lines_of_parts behind).1, length-drop mark bytes, mark_length-le bytes)))
 
--- the first bytes of a file tell its byte order mark
+-- the first three bytes of a file, or all if there are fewer, tell its byte order mark
 mark_length-front : (held rest : List ℕ) → (3 ≤ length held) ⊎ (rest ≡ []) → mark_length (held ++ rest) ≡ mark_length held
 mark_length-front held rest (inl enough) = ap (λ (front : List ℕ). if bytes_eq front byte_order_mark then 3 else 0) (take-append-le 3 held rest enough)
 mark_length-front held rest (inr end) = ap mark_length (ap (λ (bytes : List ℕ). held ++ bytes) end ∙ append-nil held)
 
--- and it is dropped before the first line
+-- the lines before the first one was cut are those after the byte order mark was dropped
 begun_lines : (held rest : List ℕ) (number end mark : ℕ) → (3 ≤ length held) ⊎ (rest ≡ []) → mark ≡ mark_length held → mark ≤ length held
     → lines_at Fresh number end (held ++ rest) ≡ lines_at Begun 0 mark (drop mark held ++ rest)
 begun_lines held rest number end mark enough is within =
@@ -53,7 +53,7 @@ begun_lines held rest number end mark enough is within =
     ap (λ (n : ℕ). counted_lines 0 n (parts (drop n (held ++ rest)))) same
     ∙ ap (λ (bytes : List ℕ). counted_lines 0 mark (parts bytes)) (drop-append-le mark held rest within)
 
--- so the lines to come are the same where a byte order mark was dropped
+-- dropping the byte order mark keeps the lines to come
 pub begun_keeps : (old new : PieceLines) (before after : Option (List ℕ)) (held : List ℕ)
     → old.stage ≡ Fresh → new.stage ≡ Begun → new.number ≡ 0 → new.end ≡ mark_length held → new.end ≤ length held
     → new.held.bytes ≡ drop new.end held → (3 ≤ length held) ⊎ IsAtEnd after

@@ -1,55 +1,70 @@
--- What is held of a file that is read in pieces.
+-- The bytes that a reader holds of a file that it reads in pieces.
 use Rattle.std.specs.Prelude.{◌≡◌, ℕ, ◌<◌, ◌≤◌, ◌+◌, List, [], ◌∷◌, ◌++◌, length, max, take, drop, ⊤, Option, None, Some, option_map}
 use Rattle.std.specs.Io.KnownBytes.{Consumes, IsAtEnd}
 use Rattle.release_files.specs.Lines.{parts}
 use Rattle.release_files.specs.Source.{History}
 
--- the bytes that were taken last, those behind them that were read, and how many may still be read
+-- the bytes that a reader holds of its file
 pub record HeldBytes : Type 0 where
+  -- the bytes that were taken last
   pub taken : List ℕ
+  -- the bytes that were read and not yet taken
   pub bytes : List ℕ
+  -- how many bytes may still be read
   pub left : ℕ
 
--- of the bytes that are left of the file, those that may still be read
+-- the bytes of the rest of the file that may still be read: at most `left`
 unfoldable pub reachable : ℕ → Option (List ℕ) → Option (List ℕ)
 reachable left rest = option_map (λ (bytes : List ℕ). take left bytes) rest
 
--- `held` grew by the next `count` bytes of a file, which are none only at its end
+-- `held` grew by the next `count` bytes of a file; `count` is 0 only at the end of the file
 pub record GrowsBy (before after : Option (List ℕ)) (old new : List ℕ) (count : ℕ) : Type 0 where
+  -- the bytes that were read
   pub piece : List ℕ
+  -- the bytes that were read follow those held before
   pub held : new ≡ old ++ piece
+  -- the piece has `count` bytes
   pub counted : length piece ≡ count
+  -- the piece was taken from the front of the file's rest
   pub consumed : Consumes before after piece
+  -- if no byte was read, the file has ended
   pub end : count ≡ 0 → IsAtEnd after
 
--- a part of a text that is one part whatever follows it
+-- the part is the first part of each text that begins with it
 abbrev pub IsEndedPart : List ℕ → Type 0
 IsEndedPart part = (rest : List ℕ) → parts (part ++ rest) ≡ part ∷ parts rest
 
--- the bytes that are held, followed by those that are left of the file, are the same bytes before and after
+-- the bytes that are held, followed by the rest of the file, are the same before and after
 abbrev pub KeepsBytes : Option (List ℕ) → Option (List ℕ) → List ℕ → List ℕ → Type 0
 KeepsBytes None after old new = ⊤
 KeepsBytes (Some before) None old new = ⊥
 KeepsBytes (Some before) (Some after) old new = old ++ before ≡ new ++ after
 
--- they begin with a part of `count` bytes that are held; at 0 there is none
+-- the bytes that are held, followed by the rest of the file, begin with a part of `count` bytes that are held; at 0
+-- there is no part
 abbrev pub BeginsWithPart : Option (List ℕ) → List ℕ → ℕ → Type 0
 BeginsWithPart None held count = ⊤
 BeginsWithPart (Some rest) held count =
     (count ≡ 0 → parts (held ++ rest) ≡ [])
     × (0 < count → parts (held ++ rest) ≡ take count held ∷ parts (drop count held ++ rest))
 
--- no more may be read than before, and of a file whose bytes are told no more was taken than this number fell by
+-- the number of bytes that may be read does not grow, and if the bytes of the file are told, at most as many were
+-- taken as this number fell by
 abbrev pub TakesWithin : Option (List ℕ) → Option (List ℕ) → ℕ → ℕ → Type 0
 TakesWithin None after old new = new ≤ old
 TakesWithin (Some before) None old new = ⊥
 TakesWithin (Some before) (Some after) old new = (new ≤ old) × (length before + new ≤ length after + old)
 
--- whether or not a source failed: of its open file no more bytes were taken than the number that may still be read fell by, no other
--- file was opened, and none were listed
+-- a source read on in its open file, whether or not it failed: it took at most as many bytes as the number that may
+-- be read fell by, opened no other file, and listed none
 pub record ReadsOn (old new : History) (left still : ℕ) : Type 0 where
+  -- the number of bytes that may be read does not grow
   pub less : still ≤ left
+  -- at most `left - still` bytes were taken
   pub taken : new.taken + still ≤ old.taken + left
+  -- the greatest number of bytes taken between two openings is at most what it was, or what may be taken of this file
   pub most : new.most ≤ max old.most (old.taken + left)
+  -- the file that was opened last is the same
   pub opened : new.opened ≡ old.opened
+  -- the outcome of the last listing is the same
   pub unlisted : new.unlisted ≡ old.unlisted

@@ -2,44 +2,53 @@
 use Rattle.std.specs.Prelude.{ℕ, ◌≡◌, ◌≢◌, ◌+◌, ◌-◌, ◌^◌, Bool, false, List, [], None, Some, max, min}
 use Rattle.release_files.specs.Source.{FileText, History, bytes_of}
 
--- the files, what is left of the open one, how many bytes a read gives at most, the number of the call that fails, how
--- many calls there were, and what was done
+-- a source of files in memory, as contracts see it
 pub record MemorySource : Type 0 where
+  -- the files of the source
   pub files : List FileText
+  -- the bytes that are left of the open file
   pub rest : List ℕ
+  -- how many bytes a read gives at most
   pub piece : ℕ
+  -- the number of the call that fails; 0 if none does
   pub fail_at : ℕ
+  -- how many calls there were
   pub calls : ℕ
+  -- the history of the source
   pub history : History
 
--- nothing was done yet
+-- the history of a source that has done nothing
 abbrev pub nothing_done : History
 nothing_done = record { failures = 0; opened = None; failed = None; taken = 0; most = 0; unlisted = false }
 
--- no file is open, and nothing was called
+-- a source of `files` with none open, before its first call
 abbrev pub asked_source : List FileText → ℕ → ℕ → MemorySource
 asked_source files piece fail_at = record { files = files; rest = []; piece = piece; fail_at = fail_at; calls = 0; history = nothing_done }
 
--- what was asked for stays, and so many calls are counted
+-- the files and settings of the source stay the same, and it has counted `count` calls
 pub record IsCounted (count : ℕ) (old new : MemorySource) : Type 0 where
+  -- the files stay the same
   pub files : new.files ≡ old.files
+  -- the size of a read stays the same
   pub piece : new.piece ≡ old.piece
+  -- the number of the call that fails stays the same
   pub fail_at : new.fail_at ≡ old.fail_at
+  -- the source has counted `count` calls
   pub calls : new.calls ≡ count
 
--- one call more is counted, up to u64::MAX
+-- the source counted one more call, up to u64::MAX
 abbrev pub IsCall : MemorySource → MemorySource → Type 0
 IsCall old new = IsCounted (min (old.calls + 1) (2 ^ 64 - 1)) old new
 
--- a failure was counted, at the file that was opened last
+-- the source counted one more failure, at the file that was opened last
 abbrev pub IsFailed : History → History → Type 0
 IsFailed old new = new ≡ record old { failures = max old.failures (min (old.failures + 1) (2 ^ 64 - 1)); failed = old.opened }
 
--- a name was opened last, if some file has it
+-- if a file is called `name`, the source tells that it opened `name` last
 abbrev pub IsToldOpened : List ℕ → MemorySource → Type 0
 IsToldOpened name new = bytes_of name new.files ≢ None → new.history.opened ≡ Some name
 
--- bytes were taken of the open file: they are counted, up to u64::MAX
+-- the history after `count` more bytes were taken of the open file; both counts stop at u64::MAX
 abbrev pub with_bytes : ℕ → History → History
 with_bytes count old =
     let taken : ℕ = min (old.taken + count) (2 ^ 64 - 1) in

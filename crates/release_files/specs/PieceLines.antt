@@ -1,4 +1,4 @@
--- The lines of a file that is read in pieces (Release File Specification, "File format"): they are cut as those of
+-- The lines of a file that is read in pieces (Release File Specification, "File format"). They are cut like those of
 -- a file that is whole in memory.
 use Rattle.std.specs.Prelude.{◌≡◌, ℕ, ◌+◌, ◌-◌, ◌^◌, min, List, [], ◌∷◌, ◌++◌, length, drop, ⊤, Option, None, Some, IfSome}
 use Rattle.release_files.specs.declared.piece_lines.Stage.{Stage}
@@ -6,43 +6,43 @@ use Rattle.release_files.specs.declared.piece_lines.Stage.TheVariants.{Fresh, Be
 use Rattle.release_files.specs.declared.piece_lines.PieceLines.{PieceLines}
 use Rattle.release_files.specs.Lines.{LineText, mark_length, parts, part_text}
 
--- a count that stands still at u64::MAX
+-- the sum of two counts, at most u64::MAX
 abbrev pub counted : ℕ → ℕ → ℕ
 counted count more = min (count + more) (2 ^ 64 - 1)
 
--- the lines that the parts of a file are, after `number` lines that end at the offset `end`: numbers and offsets
--- stand still at u64::MAX
+-- the lines that the parts of a file are, if `number` lines come before them and end at the offset `end`; numbers and
+-- offsets stop at u64::MAX
 abbrev pub counted_lines : ℕ → ℕ → List (List ℕ) → List LineText
 counted_lines number end [] = []
 counted_lines number end (part ∷ parts) =
     record { number = counted number 1; end = counted end (length part); bytes = part_text part }
     ∷ counted_lines (counted number 1) (counted end (length part)) parts
 
--- the lines of the bytes that were not cut yet: before the first line a byte order mark is dropped
+-- the lines of the bytes that are not cut yet; a byte order mark before the first line is dropped
 abbrev pub lines_at : Stage → ℕ → ℕ → List ℕ → List LineText
 lines_at Fresh number end bytes = counted_lines 0 (mark_length bytes) (parts (drop (mark_length bytes) bytes))
 lines_at Begun number end bytes = counted_lines number end (parts bytes)
 lines_at Ended number end bytes = []
 
--- the lines that are still to come: those of the bytes that are held, followed by the bytes that are left of the file
+-- the lines that are still to come: those of the bytes that are held, followed by the rest of the file
 abbrev pub lines_to_come : PieceLines → List ℕ → List LineText
 lines_to_come lines rest = lines_at lines.stage lines.number lines.end (lines.held.bytes ++ rest)
 
--- the lines have ended, by the last one or by a fault: none is to come, whatever is left
+-- the lines have ended, with the last one or a fault: none is to come, whatever the file still has
 abbrev pub HasEnded : PieceLines → Type 0
 HasEnded lines = lines.stage ≡ Ended
 
--- the lines that are to come are the same before and after, where `before` and `after` are the bytes that are left
+-- the lines to come are the same before and after; `before` and `after` are the rest of the file
 abbrev pub KeepsLines : PieceLines → PieceLines → Option (List ℕ) → Option (List ℕ) → Type 0
 KeepsLines old new None after = ⊤
 KeepsLines old new (Some before) None = ⊥
 KeepsLines old new (Some before) (Some after) = lines_to_come old before ≡ lines_to_come new after
 
--- the line that the bytes taken last are
+-- the line of the bytes that were taken last
 abbrev pub current_line : PieceLines → LineText
 current_line lines = record { number = lines.number; end = lines.end; bytes = part_text lines.held.taken }
 
--- a call gave the first line that was to come, or none and none was
+-- a call gave the first line that was to come, or it gave none because none was to come
 abbrev pub GivesNext : Option LineText → PieceLines → PieceLines → Option (List ℕ) → Option (List ℕ) → Type 0
 GivesNext None old new before after = HasEnded new × IfSome before (λ rest. lines_to_come old rest ≡ [])
 GivesNext (Some line) old new None after = ⊤

@@ -8,7 +8,8 @@ use std::simd::prelude::*;
 
 const BLOCK: usize = 64;
 
-/// Where the first line feed of some bytes stands, if there is one. It stands near: a line has two blocks or three.
+/// Returns the index of the first line feed, if there is one. It is mostly near: a line has two or three
+/// blocks.
 #[inline]
 pub fn first_feed(bytes: &[u8]) -> Option<usize>
     ensures { IsFirstFeed bytes.now result }
@@ -28,7 +29,7 @@ pub fn first_feed(bytes: &[u8]) -> Option<usize>
     }
 }
 
-// The line feeds among the 64 bytes from a place on, one bit to a byte.
+// The line feeds among the 64 bytes from `place` on, one bit for each byte.
 #[inline]
 fn feeds_at(bytes: &[u8], place: usize) -> u64
     requires { place + 64 ≤ length bytes.now }
@@ -37,7 +38,7 @@ fn feeds_at(bytes: &[u8], place: usize) -> u64
     feeds(u8x64::from_slice(&bytes[place..]))
 }
 
-// The line feeds among 64 bytes.
+// The line feeds of a block of 64 bytes, one bit for each byte.
 #[inline]
 fn feeds(block: u8x64) -> u64
     ensures { result ≡ feed_bits block }

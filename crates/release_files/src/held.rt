@@ -10,11 +10,11 @@ use crate::source::{FileSource, SourceFault};
 use std::alloc::{AllocError, Global};
 use std::marker::Model;
 
-// How many bytes are read at once.
+// The number of bytes that are read at once.
 const PIECE_LENGTH: usize = 65_536;
 
-/// The bytes that were taken last, those behind them that were read, and how many may still be
-/// read. Contracts see the three.
+/// The bytes of a file that were taken last, those after them that were read, and how many may still be read.
+/// Contracts see these three.
 #[derive(Debug, Drop)]
 pub struct Held {
     buffer: Vec<u8>,
@@ -40,7 +40,7 @@ impl Model for Held {
 }
 
 impl Held {
-    /// Nothing, where so many bytes may be read. Takes no memory.
+    /// Holds no byte; `left` bytes may be read. Takes no memory.
     pub fn new(alloc: Global, left: u64) -> Held
         ensures bytes { result.bytes ≡ [] }
         ensures left { result.left ≡ left }
@@ -63,7 +63,7 @@ impl Held {
         &all[from..start]
     }
 
-    /// The bytes behind those that were taken.
+    /// The bytes after those that were taken.
     pub fn bytes(&self) -> &[u8]
         ensures { result.now ≡ self.now.bytes }
     {
@@ -72,7 +72,7 @@ impl Held {
         &all[start..filled]
     }
 
-    /// Takes the next bytes.
+    /// Takes the next `count` bytes.
     pub fn take(&mut self, count: usize)
         requires { count ≤ length self.old.bytes }
         ensures taken { self.new.taken ≡ take count self.old.bytes }
@@ -83,8 +83,8 @@ impl Held {
         self.start += count;
     }
 
-    /// Reads the next piece of a source's open file, and answers how many bytes it has: 0 only at
-    /// the end of the file, or where no more may be read.
+    /// Reads the next piece of the source's open file. Returns how many bytes it has: 0 only at the end of the
+    /// file, or if no more may be read.
     pub fn read_piece<S: FileSource>(&mut self, source: &mut S) -> Result<usize, SourceFault>
         ensures piece { IfOk result (λ count. GrowsBy (reachable self.old.left (S.rest source.old)) (reachable self.new.left (S.rest source.new)) self.old.bytes self.new.bytes count) }
         ensures counted { IfOk result (λ count. self.new.left + count ≡ self.old.left) }
@@ -109,7 +109,7 @@ impl Held {
         Ok(count)
     }
 
-    /// Reads on until so many bytes are held, or the file has ended.
+    /// Reads on until at least `count` bytes are held or the file has ended.
     pub fn read_at_least<S: FileSource>(
         &mut self,
         count: usize,
@@ -130,8 +130,8 @@ impl Held {
         Ok(())
     }
 
-    /// Reads on until the first part of the bytes is ended, by its line feed or by the end of the
-    /// file, and answers how long it is: 0 where there is none.
+    /// Reads on until the first part of the bytes has ended, with its line feed or with the file. Returns its
+    /// length: 0 if there is no part.
     pub fn find_part<S: FileSource>(&mut self, source: &mut S) -> Result<usize, SourceFault>
         ensures within { IfOk result (λ count. count ≤ length self.new.bytes) }
         ensures kept { OnOk result (KeepsBytes (reachable self.old.left (S.rest source.old)) (reachable self.new.left (S.rest source.new)) self.old.bytes self.new.bytes) }
@@ -154,7 +154,7 @@ impl Held {
     }
 }
 
-// Moves the bytes from `start` to `end` to the front.
+// Moves the bytes from `start` to `end` to the front of `buffer`.
 fn move_to_front(buffer: &mut [u8], start: usize, end: usize)
     requires ordered { start ≤ end }
     requires within { end ≤ length buffer.old }
@@ -165,7 +165,7 @@ fn move_to_front(buffer: &mut [u8], start: usize, end: usize)
     }
 }
 
-// Makes a buffer at least so long.
+// Makes `buffer` at least `count` bytes long.
 fn grow(buffer: &mut Vec<u8>, count: usize) -> Result<(), AllocError>
     ensures kept { take (vec_len buffer.old) buffer.new.items ≡ buffer.old.items }
     ensures longer { vec_len buffer.old ≤ vec_len buffer.new }
@@ -177,7 +177,7 @@ fn grow(buffer: &mut Vec<u8>, count: usize) -> Result<(), AllocError>
     Ok(())
 }
 
-// Reads a piece of a source's open file into a buffer, behind its first bytes, where there is room.
+// Reads a piece of the source's open file into `buffer`, from index `at` on, at most `room` bytes.
 fn read_behind<S: FileSource>(
     source: &mut S,
     buffer: &mut [u8],
@@ -197,8 +197,8 @@ fn read_behind<S: FileSource>(
     source.read(&mut buffer[at..at + room])
 }
 
-// The length of the first part of some bytes with its line feed, if they have one: it is known that
-// none is among the first ones.
+// The length of the first part of `bytes` with its line feed, if there is a line feed. The first `searched`
+// bytes have none.
 fn ended_length(bytes: &[u8], searched: usize) -> Option<usize>
     requires within { searched ≤ length bytes.now }
     requires clear { HasNoFeed (take searched bytes.now) }

@@ -14,11 +14,11 @@ pub use crate::memory_files::MemoryFiles;
 pub use crate::piece_lines::PieceLines;
 pub use crate::source::{FileSource, SourceFault};
 
-/// A file of a release, whole in memory.
+/// A file of a release that is whole in memory.
 #[derive(Clone, Copy, Debug)]
 pub struct NamedBytes<'a> {
     /// The path of the file below the folder of the release, with `/` between its parts.
     pub name: &'a str,
-    /// What the file holds.
+    /// The contents of the file.
     pub bytes: &'a [u8],
 }

@@ -1,4 +1,4 @@
-//! Cutting bytes into lines.
+//! Cuts bytes into lines.
 ghost use Rattle.std.specs.Prelude.{◌≡◌, ℕ, List, ◌<◌, ◌≤◌, ◌∷◌, ◌++◌, length};
 ghost use Rattle.std.specs.Io.BufRead.{strip_last};
 ghost use Rattle.release_files.specs.Lines.{parts, part_text, PartsAreLines};
@@ -6,20 +6,20 @@ ghost use Rattle.release_files.specs.Lines.{parts, part_text, PartsAreLines};
 use bstr::ByteSlice;
 use std::marker::Model;
 
-/// A line of a file. Accepted beside CR LF are LF alone and a last line without an end.
+/// A line of a file. Besides CR LF, LF alone and a last line without an end are accepted.
 #[derive(Clone, Copy, Debug)]
 pub struct Line<'a> {
-    /// The number of the line in its file, from 1. Empty lines are counted.
+    /// The number of the line in its file, from 1. Empty lines count.
     pub number: u64,
-    /// The offset behind the line, its end of line and a leading byte order mark counted: how many
-    /// bytes of the file have gone by with it.
+    /// The offset after the line: the number of bytes of the file up to there, including the end of the line
+    /// and a leading byte order mark.
     pub end: u64,
     /// The bytes of the line without its LF and without one CR before that.
     pub bytes: &'a [u8],
 }
 
-/// The lines of a file in turn, after a leading byte order mark. A last part of no bytes, not even
-/// a CR, is no line. Contracts see the lines that are still to come.
+/// The lines of a file in turn, after a leading byte order mark. A last part without any byte, not even a CR,
+/// is no line. Contracts see the lines that are still to come.
 #[derive(Debug, Drop)]
 pub struct Lines<'a> {
     rest: &'a [u8],
@@ -48,7 +48,7 @@ const CARRIAGE_RETURN: u8 = b'\r';
 impl<'a> Lines<'a> {
     ghost use Rattle.release_files.specs.Lines.{lines_of};
 
-    /// The lines of a file's bytes. Takes no memory.
+    /// Begins the lines of a file. Takes no memory.
     #[tactic(auto, unfolding(crate::specs::Lines::lines_of))]
     pub fn new(bytes: &'a [u8]) -> Lines<'a>
         ensures lines { result ≡ lines_of bytes.now }
@@ -69,9 +69,8 @@ impl<'a> Lines<'a> {
     }
 }
 
-/// The law behind `Lines`: bytes can be cut in one way alone into parts that have a line feed at
-/// their end and no other, but for a last one that may lack it, and this is the cut that the lines
-/// are read from. Does nothing.
+/// The law behind `Lines`: there is only one way to cut bytes into parts that have a line feed at their end and
+/// no other, except that a last part may lack it. `Lines` cuts in this way. Does nothing.
 pub fn parts_are_lines()
     ensures { (bytes : List ℕ) → PartsAreLines bytes }
 {}
@@ -86,7 +85,7 @@ impl<'a> Iterator for Lines<'a> {
 
     ghost remaining = { item_count (λ left. left) };
 
-    /// The next line, or `None` behind the last. Takes no memory.
+    /// Returns the next line, or `None` after the last. Takes no memory.
     fn next(&mut self) -> Option<Line<'a>> {
         if self.rest.is_empty() {
             return None;
@@ -103,7 +102,8 @@ impl<'a> Iterator for Lines<'a> {
     }
 }
 
-// The first line of some bytes with its line feed, and what follows it.
+// The first line of `bytes` with its line feed, and the bytes after it. Without a line feed all bytes are one
+// line.
 fn first_part(bytes: &[u8]) -> (&[u8], &[u8])
     requires { 0 < length bytes.now }
     ensures parts { parts bytes.now ≡ result.0.now ∷ parts result.1.now }
@@ -116,14 +116,14 @@ fn first_part(bytes: &[u8]) -> (&[u8], &[u8])
     }
 }
 
-// A line without its end: without its line feed, and then without one carriage return.
+// A line without its end: drops its line feed, and then one carriage return.
 pub(crate) fn part_text(part: &[u8]) -> &[u8]
     ensures { result.now ≡ part_text part.now }
 {
     without_last(without_last(part, LINE_FEED), CARRIAGE_RETURN)
 }
 
-// The bytes without the last, if that is `byte`.
+// The bytes without the last one, if that is `byte`.
 fn without_last(bytes: &[u8], byte: u8) -> &[u8]
     ensures { result.now ≡ strip_last byte bytes.now }
 {

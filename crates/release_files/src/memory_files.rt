@@ -8,23 +8,23 @@ use crate::source::{FileSource, SourceFault};
 use std::alloc::{AllocError, Global};
 use std::marker::Model;
 
-/// Files in memory as a source. It borrows the files, and takes memory for the names that it lists
-/// alone. Its seed is fixed: they are files that one trusts. It tells all that was done with it, but a name that no file
-/// has. Contracts see the files, what is left of the open one, and what is counted.
+/// Files in memory as a source. It borrows the files, and takes memory only for the names that it lists. Its
+/// seed is fixed, because the caller trusts the files. It tells all that it has done, except the opening of a
+/// name that no file has. Contracts see the files, the rest of the open one, and the counts.
 #[derive(Debug, Drop)]
 pub struct MemoryFiles<'a> {
     alloc: Global,
     files: &'a [NamedBytes<'a>],
-    // what is left of the open file
+    // the bytes that are left of the open file
     rest: &'a [u8],
     piece: usize,
     fail_at: u64,
     calls: u64,
     failures: u64,
-    // the name that was opened last, and that of the file at which a call failed last
+    // the name that was opened last, and the name of the file at which a call failed last
     opened: Option<&'a str>,
     failed: Option<&'a str>,
-    // how many bytes were taken since the last opening, and at most since any
+    // the number of bytes taken since the last opening, and the greatest such number
     taken: u64,
     most: u64,
     // whether the last listing failed
@@ -46,9 +46,9 @@ impl<'a> Model for MemoryFiles<'a> {
 impl<'a> MemoryFiles<'a> {
     ghost use Rattle.release_files.specs.MemorySource.{asked_source};
 
-    /// A source of these files with none open. It reads at most `piece` bytes at once. Of its calls
-    /// of `list`, `open` and `read`, counted from 1 up to `u64::MAX`, the one with the number
-    /// `fail_at` fails; at 0 none fails.
+    /// Creates a source of `files` with none open. It reads at most `piece` bytes at once. It counts its calls
+    /// of `list`, `open` and `read` from 1 up to `u64::MAX`; the call with the number `fail_at` fails. At 0
+    /// none fails.
     pub fn new(
         alloc: Global,
         files: &'a [NamedBytes<'a>],
@@ -77,7 +77,7 @@ impl<'a> MemoryFiles<'a> {
         }
     }
 
-    // Counts a call, and fails it if it is the one to fail.
+    // Counts a call, and fails if it is the one to fail.
     fn count_call(&mut self) -> Result<(), SourceFault>
         ensures call { IsCall self.old self.new }
         ensures ok { OnOk result ((self.new.calls ≢ self.new.fail_at) × (self.new.rest ≡ self.old.rest) × (self.new.history ≡ self.old.history)) }
@@ -91,7 +91,7 @@ impl<'a> MemoryFiles<'a> {
         Ok(())
     }
 
-    // Counts a failure at the file that was opened last, and closes it.
+    // Counts a failure at the file that was opened last, and closes that file.
     fn fail(&mut self) -> SourceFault
         ensures fault { result ≡ SourceFault.Device }
         ensures closed { self.new.rest ≡ [] }
@@ -104,7 +104,7 @@ impl<'a> MemoryFiles<'a> {
         SourceFault::Device
     }
 
-    // Takes the next bytes of the open file into a buffer.
+    // Moves the next bytes of the open file into `buffer`. Returns how many.
     fn take(&mut self, buffer: &mut [u8]) -> usize
         ensures within { result ≤ length buffer.new }
         ensures bytes { self.old.rest ≡ take result buffer.new ++ self.new.rest }
@@ -201,7 +201,7 @@ impl<'a> FileSource for MemoryFiles<'a> {
     }
 }
 
-// The names of files, in order.
+// The names of `files`, in order.
 fn names_of(alloc: Global, files: &[NamedBytes<'_>]) -> Result<Vec<String>, AllocError>
     ensures { IfOk result (λ names. map string_bytes names.items ≡ map (λ file. file.name.now) files.now) }
 {
@@ -212,7 +212,7 @@ fn names_of(alloc: Global, files: &[NamedBytes<'_>]) -> Result<Vec<String>, Allo
     Ok(names)
 }
 
-// The name and the bytes of the first file of a name.
+// The name and the bytes of the first file called `name`.
 fn file_named<'a>(files: &'a [NamedBytes<'a>], name: &str) -> Option<(&'a str, &'a [u8])>
     ensures found { MatchOption result (bytes_of name.now (map file_text files.now) ≡ None)
         (λ file. bytes_of name.now (map file_text files.now) ≡ Some file.1.now) }

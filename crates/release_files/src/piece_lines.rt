@@ -1,4 +1,4 @@
-//! The lines of a file that is read in pieces.
+//! The lines of a file that a source reads in pieces.
 ghost use Rattle.std.specs.Prelude.{◌≡◌, ◌⊎◌, ◌+◌, ◌^◌, ◌<◌, ◌≤◌, if◌then◌else◌, IfOk, List, MatchResult, None, Ok, OnOk, Some, false, drop, length, option_map, take, ℕ};
 ghost use Rattle.std.specs.Borrow.{sem};
 ghost use Rattle.std.specs.Io.BufRead.{Rests};
@@ -16,16 +16,16 @@ use std::alloc::Global;
 // How far the lines of a file have come.
 #[derive(Clone, Copy, Debug, PartialEq, Eq)]
 enum Stage {
-    // A byte order mark may stand before what comes.
+    // The next bytes may begin with a byte order mark.
     Fresh,
     // A line may come.
     Begun,
-    // None comes any more.
+    // No line comes any more.
     Ended,
 }
 
-/// The lines of a file in turn, as `Lines` gives them, read from a source in pieces. What is held
-/// is the line at hand and at most one piece of 64 KiB.
+/// The lines of a file in turn, as `Lines` gives them, read from a source in pieces. Holds the current line and
+/// at most one piece of 64 KiB.
 #[derive(Debug, Drop)]
 pub struct PieceLines {
     held: Held,
@@ -35,7 +35,7 @@ pub struct PieceLines {
 }
 
 impl PieceLines {
-    /// The lines of a file of which nothing was read yet. Takes no memory.
+    /// The lines of a file of which nothing was read. Takes no memory.
     pub fn new(alloc: Global) -> PieceLines
         ensures lines { (bytes : List ℕ) → length bytes < 2 ^ 64 → lines_to_come result bytes ≡ lines_of bytes }
         ensures left { result.held.left + 1 ≡ 2 ^ 64 }
@@ -43,8 +43,8 @@ impl PieceLines {
         PieceLines::within(alloc, u64::MAX)
     }
 
-    /// The lines of a file of which nothing was read yet, as if it had no more than its first
-    /// `limit` bytes: no others are read. Takes no memory.
+    /// The lines of a file of which nothing was read. Treats the file as if it ended after `limit` bytes, and
+    /// reads no further. Takes no memory.
     #[tactic(auto, unfolding(crate::specs::Lines::lines_of))]
     pub fn within(alloc: Global, limit: u64) -> PieceLines
         ensures lines { (bytes : List ℕ) → length bytes < 2 ^ 64 → lines_to_come result bytes ≡ lines_of bytes }
@@ -58,11 +58,11 @@ impl PieceLines {
         }
     }
 
-    /// The next line of the source's open file, or `None` behind the last one. The numbers of the
-    /// lines and their offsets stand still at `u64::MAX`.
+    /// Returns the next line of the source's open file, or `None` after the last one. The numbers of lines and
+    /// their offsets stop at `u64::MAX`.
     ///
-    /// A fault is the source's, or `Memory` where a line gets no room. After it no line comes, as
-    /// after the last one.
+    /// A fault is the source's, or `Memory` if there is no memory for a line. After a fault, as after the last
+    /// line, no line comes.
     pub fn next_line<S: FileSource>(
         &mut self,
         source: &mut S,
@@ -83,7 +83,7 @@ impl PieceLines {
         }
     }
 
-    // Takes the next line, if there is one.
+    // Takes the next line. Returns whether there was one.
     fn advance<S: FileSource>(&mut self, source: &mut S) -> Result<bool, SourceFault>
         ensures ended { HasEnded self.old → result ≡ Ok false }
         ensures lines { MatchResult result
@@ -111,8 +111,7 @@ impl PieceLines {
         }
     }
 
-    // Reads on until the next line is held, and answers how long it is with its end: 0 where there
-    // is none.
+    // Reads on until the next line is held. Returns its length with its end: 0 if there is no line.
     fn find_line<S: FileSource>(&mut self, source: &mut S) -> Result<usize, SourceFault>
         ensures ended { HasEnded self.old → result ≡ Ok 0 }
         ensures within { IfOk result (λ count. count ≤ length self.new.held.bytes) }
@@ -152,7 +151,7 @@ impl PieceLines {
         Ok(())
     }
 
-    // Takes the next line, whose length with its end is known.
+    // Takes the next line, which has `count` bytes with its end.
     fn take_line(&mut self, count: usize)
         requires { count ≤ length self.old.held.bytes }
         ensures taken { self.new.held.taken ≡ take count self.old.held.bytes }
@@ -179,7 +178,7 @@ impl PieceLines {
     }
 }
 
-// How long the byte order mark at the head of some bytes is, if they have one.
+// The length of the byte order mark at the front of `bytes`, or 0 if they have none.
 fn mark_length(bytes: &[u8]) -> usize
     ensures value { result ≡ mark_length bytes.now }
     ensures within { result ≤ length bytes.now }

@@ -1,14 +1,14 @@
-//! Where the files of a release are read from.
+//! The source from which a load reads the files of a release.
 ghost use Rattle.std.specs.Prelude.{◌≡◌, ℕ, ◌≤◌, Err, None, IfOk, IfSome, List, MatchResult, OnErr, OnOk, Option, length, map, string_bytes};
 ghost use Rattle.std.specs.Io.KnownBytes.{IsAtEnd, Keeps};
 ghost use Rattle.release_files.specs.Source.{CountsFailures, FailsAtName, FailsAtOpened, FileText, History, IsListing, IsOpening, IsReading, Opens, ReadsNext, bytes_of, source_fault_number};
 
 use first_met::Seed;
 
-/// Why a source of files gave no answer.
+/// Why a source of files did not answer.
 #[derive(Clone, Copy, Debug, PartialEq, Eq)]
 pub enum SourceFault {
-    /// The device failed, or it lacks the file.
+    /// The device failed, or it does not have the file.
     Device,
     /// Memory was refused.
     Memory,
@@ -26,37 +26,38 @@ impl SourceFault {
     }
 }
 
-/// Where the files of a release are read from: it lists them, and reads one after the other.
+/// A source from which a load reads the files of a release. It lists the files, and reads one after another.
 ///
-/// No call changes the files, so a file that is opened again gives the same bytes. A fault is
-/// `Device` where the device fails or lacks the file, which `failures` counts, and `Memory` where
-/// memory is refused. After a fault no file is open.
+/// No call changes the files, so a file that is opened again gives the same bytes. A fault is `Device` if the
+/// device fails or does not have the file, which `failures` counts, and `Memory` if memory is refused. After a
+/// fault no file is open.
 pub trait FileSource {
-    /// The files with their bytes, in the order in which they are listed; `None` where nothing is
-    /// claimed of them.
+    /// The files with their bytes, in the order in which they are listed; `None` if the source claims nothing
+    /// about them.
     ghost files: { Self → Option (List FileText) };
 
-    /// The bytes that are left of the open file, none where no file is open; `None` where nothing
-    /// is claimed of them.
+    /// The bytes that are left of the open file, none if no file is open; `None` if the source claims nothing
+    /// about them.
     ghost rest: { Self → Option (List ℕ) };
 
-    /// What was done with the source: how many failures there were, which name was opened last, at which the device failed last,
-    /// how many bytes were taken of a file, and whether the last listing failed. All but the failures may be left out.
+    /// The history of the source: how many failures there were, which name it opened last, at which file the
+    /// device failed last, how many bytes it took of a file, and whether the last listing failed. A source may
+    /// leave out all but the failures.
     ghost history: { Self → History };
 
-    /// How many failures there were. The count stands still at `u64::MAX`.
+    /// The number of failures. It stops at `u64::MAX`.
     fn failures(&self) -> u64
         ensures { result ≡ (history self.now).failures };
 
-    /// The seed of the hashes over what the files hold, which stays the same. It is fixed unless a source tells one of its
-    /// own. Whoever knows the seed can make files that take very long to load: a source of files that one does not trust
-    /// draws it (`Seed::draw`).
+    /// The seed of the hashes over the contents of the files, which stays the same. It is fixed unless a source
+    /// tells its own. Whoever knows the seed can make files that take very long to load. A source of files that
+    /// the caller does not trust draws it (`Seed::draw`).
     fn seed(&self) -> Seed {
         Seed::FIXED
     }
 
-    /// The names of the files: the path of each below the folder of the release, with `/` between
-    /// its parts. The open file stays open.
+    /// Lists the names of the files: the path of each below the folder of the release, with `/` between its
+    /// parts. The open file stays open.
     fn list(&mut self) -> Result<Vec<String>, SourceFault>
         ensures names { IfOk result (λ names. IfSome (files self.old) (λ known. map string_bytes names.items ≡ map (λ file. file.name) known)) }
         ensures rest { MatchResult result (λ _. Keeps (rest self.old) (rest self.new)) (λ _. IsAtEnd (rest self.new)) }
@@ -64,8 +65,7 @@ pub trait FileSource {
         ensures failures { CountsFailures result (history self.old) (history self.new) }
         ensures history { IsListing result (history self.old) (history self.new) };
 
-    /// Closes the file that was open, and opens the first one of a name. A name that no file has is
-    /// a failure.
+    /// Closes the open file, and opens the first file called `name`. It is a failure if no file has this name.
     fn open(&mut self, name: &str) -> Result<(), SourceFault>
         ensures opened { OnOk result (Opens (files self.old) name.now (rest self.new)) }
         ensures closed { OnErr result (IsAtEnd (rest self.new)) }
@@ -74,8 +74,8 @@ pub trait FileSource {
         ensures failures { FailsAtName name.now result (history self.old) (history self.new) }
         ensures history { IsOpening name.now (history self.old) (history self.new) };
 
-    /// Puts the next bytes of the open file at the front of `buffer`, and answers how many: 0 only
-    /// at the end of the file, where `buffer` is empty, or where no file is open.
+    /// Puts the next bytes of the open file at the front of `buffer`. Returns how many: 0 only at the end of
+    /// the file, if `buffer` is empty, or if no file is open.
     fn read(&mut self, buffer: &mut [u8]) -> Result<usize, SourceFault>
         ensures within { IfOk result (λ count. count ≤ length buffer.new) }
         ensures bytes { ReadsNext (rest self.old) (rest self.new) result buffer.new }

@@ -1,5 +1,5 @@
--- Of places without a fault no two chosen rows of active concepts have one identifier, and no list has more items than
--- there are rows.
+-- In places without a fault no two chosen rows of active concepts have one identifier, and no list has more items
+-- than there are rows.
 use Rattle.std.proofs.lemmas.Grind.{common_steps}
 use Rattle.std.proofs.Common.{ℕ, ◌≡◌, ◌≤◌, List, [], ◌∷◌, ◌++◌, length, map, Option, Some, append_assoc, arith, Bool, false, nat_eq, filter_map}
 use Rattle.std.specs.Prelude.{⊤}
@@ -18,31 +18,35 @@ use Rattle.release_rows.specs.declared.limits.Limits.{Limits}
 use Rattle.row_lists.proofs.ChosenItemLemmas.{length-marked}
 use Rattle.release_rows.proofs.SingleLemmas.{any-at}
 
--- ---- a row is among others: what holds of none of them does not hold of it
+-- ---- a row is among others if each test that none of them passes fails for it
+-- `row` is among `rows`, so far as tests can tell: a test that no row passes fails for it
 abbrev pub IsAmong : List RowAt → RowAt → Type 0
 IsAmong rows row = (test : RowAt → Bool) → list_any test rows ≡ false → test row ≡ false
 
+-- a row that is among `front` is among `front` followed by `rows`
 pub among-append : (front rows : List RowAt) (row : RowAt) → IsAmong front row → IsAmong (front ++ rows) row
 among-append front rows row among test none = grind (arith, common_steps, nat_tests, list_any-append)
 
+-- a row in the middle of a list is among the rows of the list
 pub among-here : (front rows : List RowAt) (row : RowAt) → IsAmong (front ++ row ∷ rows) row
 among-here front rows row test none = any-at test front rows row none
 
--- some rows are all among others
+-- each of `rows` is among `all`
 abbrev pub AreAmong : List RowAt → List RowAt → Type 0
 AreAmong all [] = ⊤
 AreAmong all (row ∷ rows) = IsAmong all row × AreAmong all rows
 
+-- the last rows of a list are all among the list
 pub are_among : (front rows : List RowAt) → AreAmong (front ++ rows) rows
 are_among front [] = tt
 are_among front (row ∷ rows) = grind (arith, common_steps, nat_tests, among-here, append_assoc, (are_among (front ++ row ∷ []) rows))
 
 -- ---- two chosen rows of active concepts have different identifiers
--- the identifiers of the active concepts of rows
+-- the identifiers of the active concepts among `rows`
 abbrev active_ids : List RowAt → List ℕ
 active_ids rows = filter_map concept_listed (map text_of_row rows)
 
--- behind a chosen row of an active concept there is no other of its identifier
+-- after a chosen row of an active concept no chosen row has its identifier
 apart-later : (rows earlier later : List RowAt) (row : RowAt) (id : ℕ) → concept_listed (text_of_row row) ≡ Some id
     → IsAmong rows row → is_superseded rows row ≡ false → IsAmong earlier row → AreAmong rows later
     → AllByRecursion (λ other. nat_eq id other ≡ false) (active_ids (marked (choices rows earlier later) later))
@@ -77,11 +81,12 @@ pub active-distinct : (rows : List RowAt) → IsDistinct nat_eq (filter_map conc
 active-distinct rows = distinct-choices rows [] rows (are_among [] rows)
 
 -- ---- no list of chosen rows is longer than the rows
+-- picking from a list yields no more items than the list has
 length-picked : {X Y : Type 0} (pick : X → Option Y) (items : List X) → length (filter_map pick items) ≤ length items
 length-picked pick [] = omega arith
 length-picked {X} {Y} pick (item ∷ items) = grind (arith, filter_map, cons_option, (length-picked pick items))
 
--- what was read of places without a fault is few
+-- lists that are read from places without a fault, within the standard limits, have few enough rows and items
 pub AreFew-read : (limits : Limits) (places : List Place) (count : ℕ) (listed : ReleaseLists)
     → row_total limits ≤ 68000000 → IsReadFrom limits places count listed → AreFew count listed
 AreFew-read limits places count listed room read = grind (arith, length-map, length-marked, length-picked)

@@ -1,4 +1,4 @@
--- What comparing rows by their keys says of the rows.
+-- Comparing rows by their keys compares the rows.
 use Rattle.std.proofs.lemmas.Bool.Decides.{nat_tests}
 use Rattle.std.proofs.lemmas.Grind.{common_steps}
 use Rattle.std.proofs.Common.{All, ℕ, ◌≡◌, ◌^◌, ◌<◌, ◌∙◌, ◌==◌, List, [], ◌∷◌, ◌++◌, length, get_or, true, false, Bool, Option, None, Some, append_assoc, ap, arith, map, nat_eq, refl, sym, subst, append-nil}
@@ -26,7 +26,7 @@ use Rattle.release_files.specs.Lines.{LineText}
 use Rattle.release_rows.specs.inside.KeyedRows as by_key
 
 -- ---- keys tell components
--- UUIDs that were met are below the number of them, and at their own places
+-- a UUID that was met is contained in the list of UUIDs
 met_among : (n : ℕ) (uuids : List ℕ) → list_any (nat_eq n) uuids ≡ true → has uuids n ≡ true
 met_among n uuids met = sym (any-has uuids n) ∙ met
 
@@ -36,15 +36,16 @@ pos-apart n m uuids met met' same =
     sym (get_or-place_of uuids n (met_among n uuids met)) ∙ ap (λ (place : ℕ). get_or uuids place 0) same
     ∙ get_or-place_of uuids m (met_among m uuids met')
 
--- a row whose key is known by the UUIDs that were met
+-- the key of `row` is known by `uuids`: its identifier is short, and a member's UUID was met
 abbrev pub IsKnown : List ℕ → RowAt → Type 0
 IsKnown uuids row = IsShort (text_of_row row) × IsMet uuids (text_of_row row)
 
 -- ---- rows whose keys are known
+-- the key of each of `rows` is known by `uuids`
 abbrev pub AreKnown : List ℕ → List RowAt → Type 0
 AreKnown uuids rows = All (IsKnown uuids) rows
 
--- tests of noted rows are tests of the rows
+-- a test passes one of the noted rows exactly if the matching test passes one of the rows
 any-noted : (uuids : List ℕ) (p : RowAt → Bool) (q : KeyedRow → Bool) (rows : List RowAt) → AreKnown uuids rows
     → ((other : RowAt) → IsKnown uuids other → q (noted_of uuids other) ≡ p other) → list_any q (map (noted_of uuids) rows) ≡ list_any p rows
 any-noted uuids p q [] known same = refl
@@ -71,7 +72,7 @@ module _ (uuids : List ℕ) (few : length uuids < 2 ^ 63) where
         (choices-noted rows (earlier ++ row ∷ []) later known all (All-tail (IsKnown uuids) row later behind)),
       )
 
-  -- earlier rows of one key are of its kind
+  -- noted rows that have the key of `row` are of its kind
   of_its_kind : (rows : List RowAt) (row : RowAt) → AreKnown uuids rows → IsKnown uuids row → AreOfItsKind (map (noted_of uuids) rows) (noted_of uuids row)
   of_its_kind rows row known own other there same =
       grind (
@@ -86,22 +87,24 @@ module _ (uuids : List ℕ) (few : length uuids < 2 ^ 63) where
         (kind_same (get_or rows there.0 row).kind row.kind),
       )
 
--- rows that are the same have the same first row, and the same others
+-- equal lists that are not empty have equal first rows and equal other rows
 same_parts : (row own : RowAt) (rows others : List RowAt) → row ∷ rows ≡ own ∷ others → (row ≡ own) × (rows ≡ others)
 same_parts row own rows others same = (cc, cc)
 
 -- ---- the second pass
+-- the second pass took `place` and went from `old` to `new`
 abbrev pub compares : Comparing → Place → Comparing → Type 0
 compares old place new = IsCompared (compared_in old) place (compared_in new)
 
+-- the second pass refused `place` with `fault`
 abbrev pub denies : Comparing → Place → Comparing → LoadFault → Type 0
 denies old place new fault = IsDenied (compared_in old) place fault
 
--- the keys of rows
+-- the keys of `rows`, as `uuids` number them
 abbrev pub keys_of : List ℕ → List RowAt → List ℕ
 keys_of uuids rows = map (λ (row : KeyedRow). row.key) (map (noted_of uuids) rows)
 
--- ---- what was seen
+-- ---- the rows that the first pass read
 uuids_after-append : (uuids : List ℕ) (front rows : List RowAt) → uuids_after uuids (front ++ rows) ≡ uuids_after (uuids_after uuids front) rows
 uuids_after-append uuids [] rows = refl
 uuids_after-append uuids (row ∷ front) rows = uuids_after-append (uuids_behind uuids (text_of_row row)) front rows
@@ -112,7 +115,7 @@ known-seen uuids (row ∷ rows) short =
     All-cons (IsKnown (uuids_after (uuids_behind uuids (text_of_row row)) rows)) row rows
     (short.0.0, (met-seen uuids rows (text_of_row row)).0) (known-seen (uuids_behind uuids (text_of_row row)) rows short.1)
 
--- the keys are those by all UUIDs
+-- the keys that rows get one after another are those that all UUIDs together give
 keys-seen : (uuids : List ℕ) (rows : List RowAt) → keys_behind uuids rows ≡ keys_of (uuids_after uuids rows) rows
 keys-seen uuids [] = refl
 keys-seen uuids (row ∷ rows) = grind (arith, (met-seen uuids rows (text_of_row row)), (keys-seen (uuids_behind uuids (text_of_row row)) rows))
@@ -121,7 +124,7 @@ accepted-at : (earlier rows : List RowAt) (row : RowAt) → AreShort (earlier ++
 accepted-at [] rows row short = short.0.1
 accepted-at (first ∷ earlier) rows row short = accepted-at earlier rows row short.1
 
--- a row that conflicts with an earlier one has a key that is repeated
+-- a row that conflicts with an earlier one has a repeated key
 finds : (repeated : List ℕ) (earlier rows : List RowAt) (row : RowAt) → Covers repeated (keys_behind [] (earlier ++ row ∷ rows))
     → list_any (λ other. conflicts other row) earlier ≡ true → has repeated (noted_of (uuids_after [] (earlier ++ row ∷ rows)) row).key ≡ true
 finds repeated earlier rows row covers there =
@@ -145,11 +148,15 @@ module _ (keyed : Keyed) (repeated : List ℕ) (places : List Place) (seen beyon
   keys_are : keyed.keys ≡ keys_of keyed.uuids seen
   keys_are = are.keys ∙ rw are.uuids (keys-seen [] seen)
 
-  -- what is known of a row that was seen
+  -- facts about a row that the first pass read after the rows `earlier`
   record IsGiven (earlier : List RowAt) (row : RowAt) : Type 0 where
+    -- the keys of the earlier rows are known
     pub before : AreKnown keyed.uuids earlier
+    -- the key of the row is known
     pub own : IsKnown keyed.uuids row
+    -- the row has no fault by itself
     pub accepted : row_fault row.kind row.text ≡ None
+    -- if the row conflicts with an earlier one, its key is repeated
     pub found : list_any (λ other. conflicts other row) earlier ≡ true → has repeated (note row).key ≡ true
 
   given : (earlier rows : List RowAt) (row : RowAt) → earlier ++ row ∷ rows ≡ seen → IsGiven earlier row
@@ -160,21 +167,29 @@ module _ (keyed : Keyed) (repeated : List ℕ) (places : List Place) (seen beyon
     found = rw are.uuids (rw (← cut) (finds repeated earlier rows row (rw (cut, ← are.keys) covers)));
   }
 
-  -- the rows that were compared, and those that are still to come
+  -- the state within the second pass: the rows `earlier` were compared, and the rows `ahead` are still to come
   record Ahead (compared : Comparison) (rows earlier ahead : List RowAt) : Type 0 where
+    -- the rows that the first pass did not reach
     pub rest : List RowAt
+    -- the rows of the places left are those ahead and those that the first pass did not reach
     pub all : rows ≡ ahead ++ rest
+    -- the compared rows and those ahead are the rows that the first pass read
     pub cut : earlier ++ ahead ≡ seen
+    -- the first conflict of all rows is the first one from here on
     pub conflict : first_conflict [] seen ≡ first_conflict earlier ahead
+    -- the keys still to come are those of the rows ahead
     pub left : compared.left ≡ keys_of keyed.uuids ahead
+    -- the UUIDs are those of the first pass
     pub uuids : compared.uuids ≡ keyed.uuids
+    -- the repeated keys are those that were given
     pub repeated_is : compared.taken.repeated ≡ repeated
+    -- the rows so far were compared
     pub taken_is : HasTaken compared.taken (map note earlier)
 
   abbrev Onward : Comparison → List RowAt → Type 0
   Onward compared rows = (earlier : List RowAt) × (ahead : List RowAt) × Ahead compared rows earlier ahead
 
-  -- the next row is expected
+  -- a row that the first pass read is the expected one for its own key
   expected : (compared : Comparison) (earlier : List RowAt) (row : RowAt) → compared.uuids ≡ keyed.uuids
       → HasTaken compared.taken (map note earlier) → IsGiven earlier row
       → IsExpected compared (map note earlier) (note row).key row.kind row.text
@@ -191,7 +206,7 @@ module _ (keyed : Keyed) (repeated : List ℕ) (places : List Place) (seen beyon
       → clashes held (map note earlier) (note row) ≡ list_any (λ other. conflicts other row) earlier
   clash earlier row held same is = grind (arith, known, any-noted, tells)
 
-  -- one place more behind the rows that were seen
+  -- if no row is ahead, a place that is taken leaves none ahead
   step_behind : (old middle : Comparison) (row : RowAt) (rows earlier : List RowAt)
       → IsComparedRow old old.left (Some row) middle → Ahead old (row ∷ rows) earlier [] → Ahead middle rows earlier []
   step_behind old middle row rows earlier moved start =
@@ -207,13 +222,13 @@ module _ (keyed : Keyed) (repeated : List ℕ) (places : List Place) (seen beyon
         taken_is = start.taken_is;
       })
 
-  -- a row more that was seen: its key is the first of those that are left
+  -- if a row is taken while rows are ahead, the second pass compares it with the key of the first of them
   step_moved : (old middle : Comparison) (row own : RowAt) (ahead : List RowAt)
       → IsComparedRow old old.left (Some row) middle → old.left ≡ keys_of keyed.uuids (own ∷ ahead) → row ≡ own
       → IsTaken (record old { left = keys_of keyed.uuids ahead }) (note own).key own.kind own.text middle
   step_moved old middle row own ahead moved left is = rw (left, is) at moved
 
-  -- it conflicts with no earlier one, and is taken
+  -- a row that is taken conflicts with no earlier row, and has been compared
   module _ (before middle : Comparison) (own : RowAt) (earlier : List RowAt)
       (moved : IsTaken before (note own).key own.kind own.text middle) (uuids : before.uuids ≡ keyed.uuids)
       (has : HasTaken before.taken (map note earlier)) (is : IsGiven earlier own) where
@@ -229,7 +244,7 @@ module _ (keyed : Keyed) (repeated : List ℕ) (places : List Place) (seen beyon
         rw uuids at (moved.taken (map note earlier) (expected before earlier own uuids has is)) in
         rw map-append grown
 
-  -- one place more
+  -- after one more place some rows have been compared and others are ahead (`Onward`)
   step : (old middle : Comparison) (at : Option RowAt) (rows earlier ahead : List RowAt)
       → IsComparedRow old old.left at middle → Ahead old (cons_option at rows) earlier ahead → Onward middle rows
   step old middle None rows earlier ahead same start = (earlier, ahead, rw same start)
@@ -254,7 +269,8 @@ module _ (keyed : Keyed) (repeated : List ℕ) (places : List Place) (seen beyon
       } in
       (earlier ++ own ∷ [], ahead, goes)
 
-  -- all places before others
+  -- after the places of `front` some rows have been compared and others are ahead, before the places of `rest`
+  -- (`Onward`)
   onward : (old middle : Comparing) (front rest : List Place) (earlier ahead : List RowAt)
       → TakesAll compares old front middle → Ahead (compared_in old) (rows_of (front ++ rest)) earlier ahead
       → Onward (compared_in middle) (rows_of rest)
@@ -263,14 +279,15 @@ module _ (keyed : Keyed) (repeated : List ℕ) (places : List Place) (seen beyon
       let one = step (compared_in from) (compared_in to) (row_at place) (rows_of (others ++ rest)) earlier ahead moved start in
       onward to end others rest one.0 one.1 later one.2
 
-  -- no row conflicts with an earlier one, none is left, and what is chosen of those that were taken is chosen
+  -- the second pass is complete: it found no conflict, no key is left, and if marks are the choices among the
+  -- compared rows, they are the choices among all rows that the first pass read
   abbrev pub IsChosenFrom : Comparing → Type 0
   IsChosenFrom new = (first_conflict [] seen ≡ None) × ((compared_in new).left ≡ []) × ((chosen : List Bool)
       → ((rows : List KeyedRow) → HasTaken (compared_in new).taken rows
       → Covers (compared_in new).taken.repeated (map (λ (row : KeyedRow). row.key) rows) → chosen ≡ by_key.choices rows [] rows)
       → chosen ≡ choices seen [] seen)
 
-  -- the second pass begins
+  -- the second pass begins before all rows of the first pass
   module _ (old : Comparing) (uuids : (compared_in old).uuids ≡ keyed.uuids)
       (left : (compared_in old).left ≡ keyed.keys) (start : VersionTable) (taken_is : (compared_in old).taken ≡ start)
       (repeated_is : start.repeated ≡ repeated) (taken : HasTaken start []) where
@@ -288,7 +305,7 @@ module _ (keyed : Keyed) (repeated : List ℕ) (places : List Place) (seen beyon
           taken_is = rw taken_is taken;
         }
 
-    -- it went to the end
+    -- a second pass that takes all places is complete
     pub compared-all : (new : Comparing) → TakesAll compares old places new → IsChosenFrom new
     compared-all new went = by (onward old new places [] [] seen went (rw append-nil begins))
       where
@@ -304,7 +321,7 @@ module _ (keyed : Keyed) (repeated : List ℕ) (places : List Place) (seen beyon
             )
         by (now, row ∷ rows, goes) = absurd (cc (goes.all))
 
-    -- it ended at a row that conflicts with an earlier one, and it is the first
+    -- a second pass that stops at a place has found the first conflict of the rows
     pub compared-until : (new : Comparing) (fault : LoadFault) → StopsAt compares denies old places new fault → first_conflict [] seen ≡ Some fault
     compared-until new fault stop =
         by (row_at stop.place) stop.refused (onward old stop.middle stop.before
@@ -326,7 +343,7 @@ module _ (keyed : Keyed) (repeated : List ℕ) (places : List Place) (seen beyon
 
 -- Comparing the row on a line.
 
--- the line of a row that is still to come
+-- a refused row on a line whose key is the first one left means that the place of the line was refused
 pub denied-line : (old : Comparison) (file : ℕ) (kind : FileKind) (line : LineText) (fault : LoadFault) (key : ℕ)
     (left : List ℕ) → old.left ≡ key ∷ left → 0 < length line.bytes
     → IsRefused (record old { left = left }) file line.number key kind line.bytes fault → IsDenied old (later_line file kind line) fault

@@ -10,7 +10,7 @@ option_cases : {X : Type 0} (o : Option X) → (o ≡ None) ⊎ ((x : X) × (o �
 option_cases None = inl refl
 option_cases (Some x) = inr (x, refl)
 
--- the fault that is found stands at a place, before which none is found
+-- the fault that `first_fault` finds stands at a place, and it finds none before that place
 found_at : (limits : Limits) (seen places : List Place) (fault : LoadFault) → first_fault limits seen places ≡ Some fault
     → (before : List Place) × (place : Place) × (later : List Place)
     × (places ≡ before ++ place ∷ later) × (fault_at limits (seen ++ before) place ≡ Some fault) × (first_fault limits seen before ≡ None)
@@ -22,5 +22,6 @@ found_at limits seen (first ∷ rest) fault found = elim (option_cases (fault_at
   | inr (other, is) ↦ ([], first, rest, refl, grind (arith, append-nil), refl)
 ]
 
+-- `first_fault` finds the first fault of any list of places, and finds none exactly if no place has one
 pub names_first_fault : NamesFirstFault
 names_first_fault limits places = grind (arith, first_fault-append, found_at, option_cases)

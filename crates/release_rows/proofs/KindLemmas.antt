@@ -9,15 +9,16 @@ use Rattle.release_rows.specs.Chosen.{same_kind}
 use Rattle.release_rows.specs.Faults.{count_of_kind}
 use Rattle.release_rows.specs.Files.{RowAt}
 
+-- two kinds with one number are one kind
 pub kind_same : (one other : FileKind) → same_kind one other ≡ true → one ≡ other
 kind_same one other told = grind (arith, nat_tests)
 
--- one row more
+-- one more row adds 1 to the count of its own kind and 0 to the others
 pub count_of_kind-push : (kind : FileKind) (rows : List RowAt) (row : RowAt)
     → count_of_kind kind (rows ++ row ∷ []) ≡ count_of_kind kind rows + cond (same_kind row.kind kind) 1 0
 count_of_kind-push kind rows row = omega (arith, sum_by-append (λ (other : RowAt). cond (same_kind other.kind kind) 1 0) rows (row ∷ []))
 
--- rows are those of the five kinds
+-- the number of rows is the sum of the numbers of rows of the five kinds
 pub length-kinds : (rows : List RowAt)
     → length rows ≡ count_of_kind Concept rows + count_of_kind Description rows + count_of_kind Relationship rows
     + count_of_kind Concrete rows + count_of_kind Member rows

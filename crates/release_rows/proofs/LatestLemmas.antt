@@ -1,4 +1,4 @@
--- What is chosen of rows: of each component one, which no row of it is later than.
+-- Which rows are chosen: one of each component, and none of its rows is later.
 use Rattle.std.proofs.Common.{arith, ℕ, ◌≡◌, ◌∙◌, refl, sym, Bool, true, false, not, cond, ◌&&◌, List, [], ◌∷◌, ◌++◌, Contains, filter, length, Option, inl, inr}
 use Rattle.std.specs.List.{list_any}
 use Rattle.std.proofs.lemmas.Bool.{cases_Bool, true≢false, true_from_ne_false}
@@ -21,7 +21,7 @@ latest_behind all earlier (first ∷ later) row has = grind (arith, common_steps
 pub chosen_latest : (rows : List RowAt) (row : RowAt) → Contains (chosen rows) row → is_superseded rows row ≡ false
 chosen_latest rows row has = latest_behind rows [] rows row has
 
--- ---- times are in an order, and two of which neither is later are one
+-- ---- times are ordered, and two times of which neither is later are equal
 later_trans : (one other third : Option ℕ) → is_later one other ≡ true → is_later other third ≡ true → is_later one third ≡ true
 later_trans one other third first second = grind (arith, common_steps, nat_tests)
 
@@ -35,37 +35,38 @@ later_than_same one other third same = grind (arith, common_steps, nat_tests)
 component_as : (row other third : RowAt) → same_component row other ≡ true → same_component third row ≡ same_component third other
 component_as row other third same = grind (arith, common_steps, nat_tests)
 
--- tests that are equal at each item are passed by some item alike
+-- tests that agree on each item agree on whether one of the items passes
 any_same : {X : Type 0} (test other : X → Bool) (items : List X) → ((item : X) → test item ≡ other item) → list_any test items ≡ list_any other items
 any_same test other [] same = refl
 any_same test other (item ∷ items) same = grind (arith, common_steps, (same item), (any_same test other items same))
 
--- of rows of one component and one time both are superseded, or neither
+-- two rows of one component and one time are both superseded, or neither is
 superseded_same : (all : List RowAt) (row other : RowAt) → same_version row other ≡ true → is_superseded all row ≡ is_superseded all other
 superseded_same all row other same = any_same _ _ all (λ third.
     grind (arith, common_steps, (component_as row other third), (later_than_same (time_of row) (time_of other) (time_of third))))
 
--- rows among others, and one more of them behind
+-- if `earlier` rows and a further row are among `all`, the earlier rows with that row at the end are among `all`
 among_both : (all earlier : List RowAt) (row : RowAt) → AreAmong all earlier → IsAmong all row → AreAmong all (earlier ++ row ∷ [])
 among_both all [] row before among = (among, tt)
 among_both all (first ∷ earlier) row before among = (before.0, among_both all earlier row before.1 among)
 
 module _ (of : RowAt) where
-  -- whether a row is of the component, and whether among some rows one of it is later than a time
+  -- `row` is of the component of `of`
   abbrev own : RowAt → Bool
   own row = same_component row of
 
   abbrev beats : Option ℕ → List RowAt → Bool
   beats time rows = list_any (λ other. own other && is_later (time_of other) time) rows
 
-  -- one of some rows is of the component, and none of these is later
+  -- one of `rows` is of the component, and none of `rows` of that component is later
   record HasLatest (rows : List RowAt) : Type 0 where
     row : RowAt
     among : IsAmong rows row
     is_own : own row ≡ true
     unbeaten : beats (time_of row) rows ≡ false
 
-  -- a row in front is later, or is not
+  -- if a list has a latest row of the component, so does the list with one more row in front, whether that row is
+  -- later or not
   with_first : (first : RowAt) (rows : List RowAt) (latest : HasLatest rows) (later : Bool)
       → (own first && is_later (time_of first) (time_of latest.row)) ≡ later → HasLatest (first ∷ rows)
   with_first first rows latest true is = record {
@@ -85,7 +86,7 @@ module _ (of : RowAt) where
     unbeaten = grind (arith, common_steps, latest.unbeaten);
   }
 
-  -- a row in front is the only one of the component
+  -- a row of the component in front of rows of other components is the latest of the list
   only_first : (first : RowAt) (rows : List RowAt) → own first ≡ true → list_any own rows ≡ false → HasLatest (first ∷ rows)
   only_first first rows mine none = record {
     row = first;
@@ -103,11 +104,11 @@ module _ (of : RowAt) where
     | inr none ↦ only_first first rows (grind (arith, common_steps)) none
   ]
 
-  -- whether a row is of the component and no row supersedes it
+  -- `row` is of the component, and none of `all` supersedes it
   abbrev stands : List RowAt → RowAt → Bool
   stands all row = own row && not (is_superseded all row)
 
-  -- of two that stand the times are one
+  -- two rows of the component that nothing supersedes have one time
   both_stand : (all : List RowAt) (row other : RowAt) → IsAmong all row → IsAmong all other → stands all row ≡ true → stands all other ≡ true
       → same_version other row ≡ true
   both_stand all row other among among_other one two =
@@ -115,7 +116,7 @@ module _ (of : RowAt) where
       let not_other = among_other (λ third. same_component third row && is_later (time_of third) (time_of row)) (grind (arith, common_steps)) in
       grind (arith, common_steps, (component_as row of other), (component_as other of row), (neither_later (time_of other) (time_of row)))
 
-  -- a row is of the version of one that stands exactly where it stands
+  -- if `row` stands, another row has its version exactly if that row stands
   stands_as : (all : List RowAt) (row other : RowAt) → IsAmong all row → IsAmong all other → stands all row ≡ true → same_version other row ≡ stands all other
   stands_as all row other among among_other standing =
       grind (arith, common_steps, (both_stand all row other among among_other standing), (superseded_same all other row), (component_as row of other))
@@ -126,7 +127,8 @@ module _ (of : RowAt) where
   repeats all (first ∷ earlier) row among all_among standing =
       grind (arith, common_steps, (stands_as all row first among all_among.0 standing), (repeats all earlier row among all_among.1 standing))
 
-  -- of the rows behind some earlier ones one is chosen where one of them stands, unless an earlier one does
+  -- exactly one of the rows `later` that are of the component is chosen if one of them stands and no earlier row
+  -- does; otherwise none is
   chosen_behind : (all earlier later : List RowAt) → AreAmong all earlier → AreAmong all later
       → length (filter own (marked (choices all earlier later) later)) ≡ cond (list_any (stands all) earlier) 0 (cond (list_any (stands all) later) 1 0)
   chosen_behind all earlier [] before behind = grind (arith, common_steps)
@@ -134,7 +136,7 @@ module _ (of : RowAt) where
       let rest = chosen_behind all (earlier ++ row ∷ []) later (among_both all earlier row before behind.0) behind.1 in
       grind (arith, common_steps, list_any-append, (repeats all earlier row behind.0 before), rest)
 
-  -- where a row is of the component, one that stands is there
+  -- if one of `rows` is of the component, one of them stands
   one_stands : (rows : List RowAt) → list_any own rows ≡ true → list_any (stands rows) rows ≡ true
   one_stands rows some =
       let latest = has_latest rows some in
@@ -142,7 +144,7 @@ module _ (of : RowAt) where
       any_same _ _ rows (λ other. grind (arith, common_steps, (component_as latest.row of other), latest.is_own)) ∙ latest.unbeaten in
       true_from_ne_false _ (λ none. absurd (true≢false (sym (grind (arith, common_steps, latest.is_own)) ∙ latest.among (stands rows) none)))
 
--- of the component of each row one row is chosen
+-- exactly one row of the component of each row is chosen
 pub chosen_once : (rows : List RowAt) (row : RowAt) → Contains rows row → length (filter (λ other. same_component other row) (chosen rows)) ≡ 1
 chosen_once rows row there =
     let some = any_of (own row) rows row there (grind (arith, common_steps, nat_tests)) in

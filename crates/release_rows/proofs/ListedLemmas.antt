@@ -1,4 +1,4 @@
--- The lists of rows, and of those that are chosen.
+-- The lists that a load makes of all rows and of the chosen ones.
 use Rattle.std.proofs.Common.{◌≡◌, ◌∙◌, List, [], ◌∷◌, ◌++◌, append_assoc, ap, refl, sym, map, append-nil, arith}
 use Rattle.std.proofs.lemmas.List.{map-append}
 use Rattle.std.proofs.lemmas.List.Elements.{filter_map-append}
@@ -10,7 +10,7 @@ use Rattle.row_lists.specs.ChosenLists.{listed_behind}
 use Rattle.release_rows.specs.declared.limits.Limits.{Limits}
 use Rattle.release_rows.specs.inside.FirstPass.{kept_rows}
 
--- what is listed behind rows
+-- if the lists so far are made of `front`, the lists after `rows` are made of `front` followed by `rows`
 listed-more : (kept : RowStore) (front : List RowText) (rows : List RowAt) → kept.listed ≡ listed_of front
     → (kept_rows kept rows).listed ≡ listed_of (front ++ map text_of_row rows)
 listed-more kept front [] same = same ∙ ap (λ (rows : List RowText). listed_of rows) (sym (append-nil front))
@@ -27,5 +27,6 @@ listed-more kept front (row ∷ rows) same =
       (listed-more (kept_behind kept row) (front ++ text_of_row row ∷ []) rows),
     )
 
+-- the lists that a load keeps after `rows` are those made of them
 pub listed-rows : (limits : Limits) (rows : List RowAt) → (kept_rows (nothing_kept limits) rows).listed ≡ listed_of (map text_of_row rows)
 listed-rows limits rows = listed-more (nothing_kept limits) [] rows refl

@@ -1,4 +1,4 @@
--- What it means for the first fault that places were read without a fault, as far as rows are only counted.
+-- Reading places without a fault, apart from conflicts, and what follows for their first fault.
 use Rattle.std.proofs.Common.{arith, ◌≡◌, ◌∙◌, List, [], ◌∷◌, ◌++◌, Option, None, append-nil, ap, refl, sym, option_and_then, option_to_list}
 use Rattle.std.proofs.lemmas.Bool.Decides.{nat_tests}
 use Rattle.std.proofs.lemmas.Grind.{common_steps}
@@ -9,21 +9,21 @@ use Rattle.release_rows.specs.inside.FirstPass.{first_conflict}
 use Rattle.row_lists.specs.declared.fault.LoadFault.{LoadFault}
 use Rattle.release_rows.specs.declared.limits.Limits.{Limits}
 
--- the fault at a place behind rows, as far as these are only counted
+-- the fault at `place` after the rows `earlier`, apart from conflicts
 abbrev pub plain_at : Limits → List RowAt → Place → Option LoadFault
 plain_at limits earlier place = first_of (fault_here limits place) (option_and_then (crowd_behind limits earlier) (row_at place))
 
--- no place has such a fault
+-- no place has a fault apart from conflicts
 pub data IsPlain (limits : Limits) : List RowAt → List Place → Type 0 where
   plain_end : (earlier : List RowAt) → IsPlain limits earlier []
   plain_next : (earlier : List RowAt) (place : Place) (places : List Place) → plain_at limits earlier place ≡ None
       → IsPlain limits (earlier ++ option_to_list (row_at place)) places → IsPlain limits earlier (place ∷ places)
 
--- the rows of places and one place more
+-- one more place adds its row, if it has one, to the rows of places
 pub rows_of-push : (places : List Place) (place : Place) → rows_of (places ++ place ∷ []) ≡ rows_of places ++ option_to_list (row_at place)
 rows_of-push places place = grind (arith, common_steps, nat_tests, filter_map-append)
 
--- places without a plain fault have the first conflict of their rows as their first fault
+-- if places have no fault apart from conflicts, their first fault is the first conflict of their rows
 pub first_fault-plain : (limits : Limits) (front places : List Place) (earlier : List RowAt) → earlier ≡ rows_of front → IsPlain limits earlier places
     → first_fault limits front places ≡ first_conflict earlier (rows_of places)
 first_fault-plain limits front [] earlier same plain = refl

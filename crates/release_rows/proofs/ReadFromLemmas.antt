@@ -1,4 +1,4 @@
--- What is read of a release, where its rows were seen.
+-- The lists and faults of a release whose rows the first pass has read.
 use Rattle.std.proofs.lemmas.Grind.{common_steps}
 use Rattle.std.proofs.Common.{Vec, arith, rules, ℕ, ◌≡◌, ◌≤◌, ◌∙◌, List, [], ◌∷◌, length, Bool, Option, None, Some, ap, map, refl, suc, sym, subst, is_some, filter_map}
 use Rattle.std.specs.Prelude.{MatchOption}
@@ -54,10 +54,11 @@ member-here row = grind (arith, common_steps)
 lists-chosen : (rows : List RowText) (choices : List Bool) → unmarked (listed_chosen (listed_of rows) choices) ≡ unmarked (listed_of (marked choices rows))
 lists-chosen rows choices = grind (arith, attribute-here, inactive-here, isa-here, list-chosen, member-here, name-here)
 
--- ---- what was seen
+-- ---- the rows that the first pass read
 keyed-seen : (limits : Limits) (kept : RowStore) (rows : List RowAt) → kept ≡ kept_rows (nothing_kept limits) rows → kept.keyed.keys ≡ keys_behind [] rows
 keyed-seen limits kept rows same = ap (λ (k : RowStore). k.keyed.keys) same ∙ kept_rows-keys (nothing_kept limits) rows
 
+-- the rows that the first pass read are at the front of the places and have the keys that were kept
 pub are-seen : (limits : Limits) (places : List Place) (kept : RowStore) (fault : Option LoadFault)
     → (all : IsSeen limits places kept fault) → AreSeen kept.keyed places all.seen all.beyond
 are-seen limits places kept fault all = search (rules, kept_rows-uuids, keyed-seen)
@@ -66,16 +67,17 @@ length-keys : (uuids : List ℕ) (rows : List RowAt) → length (keys_behind uui
 length-keys uuids [] = refl
 length-keys uuids (row ∷ rows) = ap suc (length-keys (uuids_behind uuids (text_of_row row)) rows)
 
+-- there are as many keys as rows that the first pass read
 pub count-seen : (limits : Limits) (places : List Place) (kept : RowStore) (fault : Option LoadFault)
     → (all : IsSeen limits places kept fault) → length kept.keyed.keys ≡ length all.seen
 count-seen limits places kept fault all = ap length (keyed-seen limits kept all.seen all.kept_is) ∙ length-keys [] all.seen
 
--- where no key stands twice no row conflicts
+-- if no key occurs twice, no row conflicts with an earlier one
 pub no_conflict-seen : (keyed : List ℕ) (seen : List RowAt) → keyed ≡ keys_behind [] seen → ((key : ℕ) → times key keyed ≤ 1) → first_conflict [] seen ≡ None
 no_conflict-seen keyed seen same few =
     no_conflict [] seen (single-keys [] seen (subst (λ (keys : List ℕ). (key : ℕ) → times key keys ≤ 1) same few))
 
--- all rows are chosen
+-- if no key occurs twice, all rows are chosen, and the lists are made of them
 read-single : (limits : Limits) (places : List Place) (kept : RowStore) (count : ℕ) → IsSeen limits places kept None → count ≡ length kept.keyed.keys
     → ((key : ℕ) → times key kept.keyed.keys ≤ 1) → IsReadFrom limits places count kept.listed
 read-single limits places kept count all counted few =
@@ -87,7 +89,8 @@ read-single limits places kept count all counted few =
       lists = grind (arith, unmarked, listed-rows, listed_of, text_of_row, single-choices, chosen);
     }
 
--- some rows are chosen
+-- if no row conflicts and `marks` are the choices among the rows, the lists kept by the marks are made of the chosen
+-- rows
 read-chosen : (limits : Limits) (places : List Place) (kept : RowStore) (count : ℕ) (all : IsSeen limits places kept None) → count ≡ length kept.keyed.keys
     → first_conflict [] all.seen ≡ None → (marks : List Bool) → marks ≡ choices all.seen [] all.seen
     → (listed : ReleaseLists) → listed ≡ listed_chosen kept.listed marks
@@ -105,7 +108,7 @@ read-chosen limits places kept count all counted none marks told listed same =
       map-marked,
     )
 
--- some are, or all where no choices are given
+-- if no key occurs twice, or if choices are found and kept, the lists are made of the chosen rows
 pub read-found : (limits : Limits) (places : List Place) (kept : RowStore) (count : ℕ) → IsSeen limits places kept None → count ≡ length kept.keyed.keys
     → (found : Option (Vec Bool Global))
     → MatchOption found (AreSingle kept.keyed.keys) (λ chosen. AreChoicesAmong kept.keyed places chosen.items)
@@ -117,17 +120,17 @@ read-found limits places kept count all counted (Some chosen) told listed same =
     let both = told all.seen all.beyond (are-seen limits places kept None all) in
     read-chosen limits places kept count all counted both.0 chosen.items both.1 listed same
 
--- the fault at which the first pass ended is the first, where no row conflicts
+-- if no row conflicts, the fault at which the first pass ended is the first fault
 pub fault-seen : (limits : Limits) (places : List Place) (kept : RowStore) (fault : LoadFault) (all : IsSeen limits places kept (Some fault))
     → first_conflict [] all.seen ≡ None → first_fault limits [] places ≡ Some fault
 fault-seen limits places kept fault all none = all.first ∙ ap (λ (first : Option LoadFault). first_of first (Some fault)) none
 
--- a conflict is the first fault
+-- the first conflict of the rows that the first pass read is the first fault
 pub conflict-seen : (limits : Limits) (places : List Place) (kept : RowStore) (end : Option LoadFault) (fault : LoadFault) (all : IsSeen limits places kept end)
     → first_conflict [] all.seen ≡ Some fault → first_fault limits [] places ≡ Some fault
 conflict-seen limits places kept end fault all there = all.first ∙ ap (λ (first : Option LoadFault). first_of first end) there
 
--- nothing of it depends on the marks of the rows
+-- clearing the marks of the lists keeps `IsReadFrom`
 pub read_unmarked : (limits : Limits) (places : List Place) (count : ℕ) (listed : ReleaseLists)
     → IsReadFrom limits places count listed → IsReadFrom limits places count (unmarked listed)
 read_unmarked limits places count listed read =

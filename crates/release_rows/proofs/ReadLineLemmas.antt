@@ -1,4 +1,4 @@
--- What a line behind the header comes to, once it is read as a row.
+-- Reading a line after the header as a row, and keeping the row.
 use Rattle.std.proofs.lemmas.Bool.Decides.{nat_tests}
 use Rattle.std.proofs.lemmas.Grind.{common_steps}
 use Rattle.std.proofs.Common.{ℕ, ◌≡◌, ◌<◌, List, length, false, nat_lt, None, Result, Ok, IfOk, arith}
@@ -13,19 +13,19 @@ use Rattle.release_rows.specs.Files.{later_line}
 use Rattle.release_rows.specs.inside.RowStore.{IsAdded, IsCrowded, IsRead, IsStopped, RowStore}
 use Rattle.row_lists.specs.declared.fault.LoadFault.{LoadFault}
 
--- a result that is a row has what is told of it
+-- if reading a line yields `row`, the line has no fault and is that row
 pub read-row : (kind : FileKind) (bytes : List ℕ) (result : Result Row RowFault) (row : Row) → result ≡ Ok row
     → IfOk result (λ found. IsRow kind bytes found) → IfOk result (λ _. row_fault kind bytes ≡ None)
     → (row_fault kind bytes ≡ None) × IsRow kind bytes row
 read-row kind bytes result row is stands accepted = grind (arith, common_steps, nat_tests)
 
--- a row was added
+-- if the row of a line was added, the place of the line was read
 pub read-added : (old new : RowStore) (file : ℕ) (kind : FileKind) (line : LineText) (row : Row)
     → nat_lt old.left.bytes line.end ≡ false → 0 < length line.bytes → row_fault kind line.bytes ≡ None → IsRow kind line.bytes row
     → IsAdded old kind (text_in row) new → IsRead old (later_line file kind line) new
 read-added old new file kind line row fits some accepted is added = grind (arith, nat_tests, text_in-row)
 
--- no more rows of its kind may come
+-- if no more rows of its kind may come, the place of the line stops the pass
 pub stopped-crowded : (old new : RowStore) (file : ℕ) (kind : FileKind) (line : LineText) (row : Row) (fault : LoadFault)
     → nat_lt old.left.bytes line.end ≡ false → 0 < length line.bytes → row_fault kind line.bytes ≡ None → IsRow kind line.bytes row
     → IsCrowded file line.number old kind (text_in row) new fault → IsStopped old (later_line file kind line) new fault

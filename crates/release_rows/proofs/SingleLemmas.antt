@@ -1,4 +1,4 @@
--- Where no key stands twice no row conflicts with another, and each is chosen.
+-- If no key occurs twice, no row conflicts with another, and each row is chosen.
 use Rattle.std.proofs.lemmas.Grind.{common_steps}
 use Rattle.std.proofs.Common.{◌||◌, ◌&&◌, ℕ, ◌≡◌, ◌≤◌, ◌∙◌, ◌==◌, List, [], ◌∷◌, ◌++◌, true, false, Bool, Option, None, append_assoc, ap, arith, nat_eq, refl, not, cond}
 use Rattle.std.specs.Prelude.{⊤}
@@ -19,17 +19,17 @@ use Rattle.release_rows.specs.inside.FirstPass.{first_conflict, keys_behind, uui
 use Rattle.release_rows.proofs.KindLemmas.{kind_same}
 use Rattle.number_lists.proofs.MemberLemmas.{times-append, times-own}
 
--- a number that was met, or is put behind the others, stays at its place
+-- a number that was met, or is added at the end, keeps its index
 pos-kept : (n more : ℕ) (uuids : List ℕ) → (list_any (nat_eq n) uuids || n == more) ≡ true
     → position_or_len (λ other. n == other) (uuids ++ more ∷ []) ≡ position_or_len (λ other. n == other) uuids
 pos-kept n more [] there = grind (arith, nat_tests, there)
 pos-kept n more (other ∷ uuids) there = grind (arith, nat_tests, list_any, position_or_len, cond, not, (pos-kept n more uuids))
 
--- a longer list has a number, at the place that it has or would have in a list
+-- `more` contains `n`, at the index that `n` has in `uuids` or would have at its end
 abbrev StaysIn : ℕ → List ℕ → List ℕ → Type 0
 StaysIn n uuids more = (list_any (nat_eq n) more ≡ true) × (position_or_len (λ other. n == other) more ≡ position_or_len (λ other. n == other) uuids)
 
--- so it is where a number that is none of them is put behind the others, and behind later rows
+-- a number stays in a list that gets it at the end if it is new
 met-own : (n : ℕ) (uuids : List ℕ) → StaysIn n uuids (cond (list_any (nat_eq n) uuids) uuids (uuids ++ n ∷ []))
 met-own n uuids = grind (arith, common_steps, nat_tests, (pos-kept n n uuids), list_any-append)
 
@@ -38,7 +38,7 @@ met-after n uuids [] there = (there, refl)
 met-after n uuids (row ∷ rows) there =
     grind (arith, text_of_row, uuids_behind, pos-kept, list_any-append, (met-after n (uuids_behind uuids (text_of_row row)) rows))
 
--- behind a row and later ones it is met, and has its key
+-- after a row and later rows the row has been met, and keeps its key
 pub met-seen : (uuids : List ℕ) (rows : List RowAt) (text : RowText)
     → IsMet (uuids_after (uuids_behind uuids text) rows) text
     × (key_in (uuids_after (uuids_behind uuids text) rows) text ≡ key_in uuids text)
@@ -49,16 +49,16 @@ met-seen uuids rows (of_concrete row) = (tt, refl)
 met-seen uuids rows (of_member row) =
     grind (arith, (met-own (member_number row) uuids), (met-after (member_number row) (uuids_behind uuids (of_member row)) rows))
 
--- rows of one component have one key
+-- two rows of one component have one key
 same-key : (uuids : List ℕ) (one other : RowAt) → same_component one other ≡ true → key_in uuids (text_of_row other) ≡ key_in uuids (text_of_row one)
 same-key uuids one other same = grind (arith, nat_tests, (kind_same one.kind other.kind))
 
--- a later row of one component has the key of the earlier one
+-- a later row of the component of `one` has the key that `one` got
 pub key-later : (uuids : List ℕ) (rows : List RowAt) (one other : RowAt) → same_component one other ≡ true
     → key_in (uuids_after (uuids_behind uuids (text_of_row one)) rows) (text_of_row other) ≡ key_in uuids (text_of_row one)
 key-later uuids rows one other same = same-key _ one other same ∙ (met-seen uuids rows (text_of_row one)).1
 
--- where an earlier row is of its component, the key of a row is among the earlier ones
+-- if an earlier row is of the component of `row`, the key of `row` is among the keys of the earlier rows
 key-among : (uuids : List ℕ) (rows : List RowAt) (row : RowAt) → list_any (λ other. same_component other row) rows ≡ true
     → 1 ≤ times (key_in (uuids_after uuids rows) (text_of_row row)) (keys_behind uuids rows)
 key-among uuids [] row there = absurd (cc)
@@ -79,7 +79,7 @@ keys_behind-append uuids (row ∷ front) rows =
     ap (λ (rest : List ℕ). key_in uuids (text_of_row row) ∷ rest)
     (keys_behind-append (uuids_behind uuids (text_of_row row)) front rows)
 
--- so it stands twice with its own
+-- if an earlier row is of the component of `row`, the key of `row` occurs twice among all keys
 pub key-twice : (earlier rows : List RowAt) (row : RowAt) → list_any (λ other. same_component other row) earlier ≡ true
     → 2 ≤ times (key_in (uuids_after [] earlier) (text_of_row row)) (keys_behind [] (earlier ++ row ∷ rows))
 key-twice earlier rows row there =
@@ -95,12 +95,12 @@ key-twice earlier rows row there =
       times-own (key ∷ []) 0 (omega arith),
     )
 
--- no row is of the component of an earlier one
+-- no row of the last list is of the component of a row before it
 abbrev pub AreSingle : List RowAt → List RowAt → Type 0
 AreSingle earlier [] = ⊤
 AreSingle earlier (row ∷ rows) = (list_any (λ other. same_component other row) earlier ≡ false) × AreSingle (earlier ++ row ∷ []) rows
 
--- so it is where no key stands twice
+-- if no key occurs twice, no row is of the component of an earlier one
 pub single-keys : (earlier rows : List RowAt) → ((key : ℕ) → times key (keys_behind [] (earlier ++ rows)) ≤ 1) → AreSingle earlier rows
 single-keys earlier [] few = tt
 single-keys earlier (row ∷ rows) few = (
@@ -112,25 +112,27 @@ single-keys earlier (row ∷ rows) few = (
   single-keys (earlier ++ row ∷ []) rows (simp append_assoc few),
 )
 
--- ---- what passes no weaker test passes none
+-- ---- tests of which one implies the other
+-- if no item passes the weaker test `p`, none passes the test `q`
 pub any-none : {X : Type 0} (p q : X → Bool) (xs : List X) → ((x : X) → p x ≡ false → q x ≡ false) → list_any p xs ≡ false → list_any q xs ≡ false
 any-none p q [] weaker none = refl
 any-none p q (x ∷ xs) weaker none = grind (arith, list_any, (any-none p q xs weaker))
 
--- so no row conflicts with an earlier one
+-- if no row is of the component of an earlier one, no row conflicts with an earlier one
 pub no_conflict : (earlier rows : List RowAt) → AreSingle earlier rows → first_conflict earlier rows ≡ None
 no_conflict earlier [] single = refl
 no_conflict earlier (row ∷ rows) single = grind (arith, common_steps, nat_tests, any-none, (no_conflict (earlier ++ row ∷ []) rows single.1))
 
--- ---- and each is chosen
+-- ---- each row is chosen
+-- if no item of a list passes a test, the item in its middle fails it
 pub any-at : {X : Type 0} (p : X → Bool) (xs ys : List X) (x : X) → list_any p (xs ++ x ∷ ys) ≡ false → p x ≡ false
 any-at p xs ys x none = grind (arith, common_steps, nat_tests, list_any-append)
 
--- of two rows each is of the component of the other, or none is
+-- whether two rows are of one component does not depend on their order
 same_component-sym : (one other : RowAt) → same_component one other ≡ same_component other one
 same_component-sym one other = grind (arith, nat_tests)
 
--- a row behind others is of the component of none of them
+-- no row of `rows` is of the component of `row` if none of them is of the component of a row before it
 apart-later : (earlier more rows : List RowAt) (row : RowAt) → AreSingle (earlier ++ row ∷ more) rows
     → list_any (λ other. same_component other row) rows ≡ false
 apart-later earlier more [] row single = refl
@@ -138,9 +140,11 @@ apart-later earlier more (next ∷ rows) row single =
     rw (same_component-sym next row, any-at (λ other. same_component other next) earlier more row single.0)
     (apart-later earlier (more ++ next ∷ []) rows row (simp append_assoc at single.1))
 
+-- no time is later than itself
 pub is_later-itself : (time : Option ℕ) → is_later time time ≡ false
 is_later-itself x0 = grind arith
 
+-- if no row is of the component of an earlier one, all rows are chosen
 pub single-choices : (earlier rows : List RowAt) → AreSingle earlier rows → marked (choices (earlier ++ rows) earlier rows) rows ≡ rows
 single-choices earlier [] single = refl
 single-choices earlier (row ∷ rows) single =

@@ -30,18 +30,17 @@ use Rattle.std.proofs.Math.Bool.{and-false, or-false, or-true}
 use Rattle.rf2_rows.specs.declared.kind.FileKind.TheVariants.{Concept}
 use Rattle.std.proofs.lemmas.List.Sums.{sum_by-cons}
 
--- The codes of versions: two rows have one code where they are of one component and time, and of one component the
--- later one has the greater code.
+-- The codes of versions: two rows have one code exactly if they are of one component and time, and of two rows of one
+-- component the later one has the greater code.
 
--- a time of eight digits
+-- the time, if there is one, has at most eight digits
 abbrev pub IsTime : Option ℕ → Type 0
 IsTime time = IfSome time (λ time. time < 100000000)
 
 time_code-small : (time : Option ℕ) → IsTime time → time_code time ≤ 100000000
 time_code-small x0 is = grind (arith, lit≤)
 
--- two times are one where their codes are
--- the place of a row's key is read from its code
+-- the index of a row's key is its code divided by 2^32
 pub key_place-code : (repeated : List ℕ) (row : KeyedRow) (code : ℕ) (is : IsCodeOf repeated row code) → code / 2 ^ 32 ≡ is.place
 key_place-code repeated row code is = omega (arith, is.is, time_code-small row.time is.eight_digits)
 
@@ -49,7 +48,7 @@ key_place-code repeated row code is = omega (arith, is.is, time_code-small row.t
 pub has-code : (repeated : List ℕ) (row : KeyedRow) (code : ℕ) → IsCodeOf repeated row code → has repeated row.key ≡ true
 has-code repeated row code is = grind (arith, common_steps, nat_tests, eq-eqb, get_or, list_any_at)
 
--- two keys are one where their places are
+-- two rows have one key exactly if the indexes in their codes are equal
 same_key-place : (repeated : List ℕ) → IsStrictlyIncreasing repeated → (row other : KeyedRow) (code code' : ℕ)
     → (is : IsCodeOf repeated row code) (is' : IsCodeOf repeated other code') → (row.key == other.key) ≡ (is.place == is'.place)
 same_key-place repeated rising row other code code' is is' =
@@ -62,13 +61,13 @@ same_key-place repeated rising row other code code' is is' =
       is'.key,
     )
 
--- two rows are of one component and time where their codes are one
+-- two rows are of one component and time exactly if their codes are equal
 pub same_version-code : (repeated : List ℕ) → IsStrictlyIncreasing repeated → (row other : KeyedRow) (code code' : ℕ)
     → IsCodeOf repeated row code → IsCodeOf repeated other code' → same_version row other ≡ (code == code')
 same_version-code repeated rising row other code code' is is' = rw (same_key-place repeated rising row other code code' is is', is.is, is'.is)
     (grind (arith, nat_tests, is.eight_digits, is'.eight_digits, time_code-small row.time is.eight_digits, time_code-small other.time is'.eight_digits))
 
--- of one component and with a greater code is a row of the same component with a later time
+-- `other` has the key index of `row` and a greater code exactly if it has the key of `row` and a later time
 pub is_later-version : (repeated : List ℕ) → IsStrictlyIncreasing repeated → (row other : KeyedRow) (code code' : ℕ)
     → IsCodeOf repeated row code → IsCodeOf repeated other code'
     → ((code' / 2 ^ 32 == code / 2 ^ 32) && nat_lt code code') ≡ ((other.key == row.key) && is_later other.time row.time)
@@ -85,12 +84,14 @@ is_later-version repeated rising row other code code' is is' =
 -- The lines of the first rows of versions stay as the buffer grows.
 
 module _ (lines grown : List ℕ) (extends : Extends lines grown) where
+  -- a line that stands in the buffer still stands there after the buffer has grown
   pub line-extends : (row : VersionRow) → IsLineOf lines row → IsLineOf grown row
   line-extends row is = grind (arith, common_steps, nat_tests, span-extends, text-extends)
 
   version-extends : (row : VersionRow) → IsLineOf lines row → version_in grown row ≡ version_in lines row
   version-extends row is = grind (arith, common_steps, nat_tests, text-extends)
 
+  -- the versions of rows stay as they were when the buffer grows
   pub rows_kept : (rows : List VersionRow) → All (IsLineOf lines) rows → map (version_in grown) rows ≡ map (version_in lines) rows
   rows_kept rows are = rows-same (version_in lines) (version_in grown) (IsLineOf lines) version-extends rows are
 
@@ -102,21 +103,22 @@ module _ (lines : List ℕ) (rows : List VersionRow) (versions : List Version)
   among_rows : number < length rows
   among_rows = omega (arith, within, ap length are, length-map rows (version_in lines))
 
+  -- the version at index `number` is that of the row there
   pub version_here : (default : Version) → get_or versions number default ≡ version_in lines row
   version_here default =
       rw (← are) (get_or-map (version_in lines) rows number row default among_rows ∙ ap (version_in lines) (sym is))
 
-  -- and its line stands in the buffer
+  -- the line of the row at index `number` stands in the buffer
   pub line_here : All (IsLineOf lines) rows → IsLineOf lines row
   line_here all = subst (IsLineOf lines) (sym is) (all number row among_rows)
 
 -- Rows taken one after another: what a further one changes, and whether it conflicts with one before it.
 
--- a member that passes a test, where some do
+-- if an item of a list passes a test, there is one that the list contains and that passes
 pub some_of : {X : Type 0} (p : X → Bool) (xs : List X) → list_any p xs ≡ true → (x : X) × Contains xs x × (p x ≡ true)
 some_of p xs some = let place = Any-from_list_any p xs some in (place.1, (place.0, place.2, place.3), place.4)
 
--- of one row more, which is the first of its version
+-- one more row is the first of its version unless its key is repeated and an earlier row is of its version
 firsts-push : (repeated : List ℕ) (earlier later : List KeyedRow) (row : KeyedRow)
     → firsts repeated earlier (later ++ row ∷ []) ≡ firsts repeated earlier later ++ not (has repeated row.key && is_repeated (earlier ++ later) row) ∷ []
 firsts-push repeated earlier [] row = ap (λ (rows : List KeyedRow). not (has repeated row.key && is_repeated rows row) ∷ []) (sym (append-nil earlier))
@@ -127,12 +129,12 @@ length-firsts : (repeated : List ℕ) (earlier later : List KeyedRow) → length
 length-firsts repeated earlier [] = refl
 length-firsts repeated earlier (row ∷ later) = omega (arith, length-firsts repeated (earlier ++ row ∷ []) later)
 
--- versions stay those of their rows
+-- versions of `rows` stay versions of `rows` with one more at the end
 versions-push : (repeated : List ℕ) (rows : List KeyedRow) (row : KeyedRow) (versions : List Version)
     → All (IsVersionAmong repeated rows) versions → All (IsVersionAmong repeated (rows ++ row ∷ [])) versions
 versions-push repeated rows row versions = search (rules, All-weaker, append_assoc)
 
--- a row is taken that is no first row of a version
+-- a row that is not the first of a new version is taken if its mark says whether it is the first
 taken_pushed : (taken : VersionTable) (chosen : List Bool) (rows : List KeyedRow) (row : KeyedRow) (mark : Bool) → chosen ≡ taken.chosen ++ mark ∷ []
     → mark ≡ not (has taken.repeated row.key && is_repeated rows row) → IsOfVersion taken.repeated taken.versions row → HasTaken taken rows
     → HasTaken (record taken { chosen = chosen }) (rows ++ row ∷ [])
@@ -143,7 +145,7 @@ taken_pushed taken chosen rows row mark are is of before = record {
   chosen = rw (are, before.chosen, is, firsts-push taken.repeated [] rows row) refl;
 }
 
--- a row whose key is not repeated is taken
+-- a row whose key is not repeated is taken with the mark `true`
 pub taken_skip : (taken : VersionTable) (chosen : List Bool) (rows : List KeyedRow) (row : KeyedRow)
     → chosen ≡ taken.chosen ++ true ∷ [] → has taken.repeated row.key ≡ false → HasTaken taken rows
     → HasTaken (record taken { chosen = chosen }) (rows ++ row ∷ [])
@@ -151,7 +153,7 @@ taken_skip taken chosen rows row are alone before =
     taken_pushed taken chosen rows row true are (grind (arith, nat_tests, alone))
     (λ repeated. absurd (cc (alone, repeated))) before
 
--- one version more is kept
+-- the table keeps to `AreKept` if one version and its row are added
 pub kept_more : (old : VersionTable) (codes : List ℕ) (versions : List Version) (chosen : List Bool)
     (version : Version) → AreKept old → length codes ≤ length old.codes + 1
     → versions ≡ old.versions ++ version ∷ [] → chosen ≡ old.chosen ++ true ∷ []
@@ -170,7 +172,7 @@ kept_more old codes versions chosen version kept few pushed marked key place =
     }
 
 module _ (repeated : List ℕ) (rising : IsStrictlyIncreasing repeated) (rows : List KeyedRow) where
-  -- a row of a version's code is of one component and time with its first row
+  -- a row with the code of a version is of one component and time with the version's first row
   pub first_is_same : (version : Version) (is : IsVersionAmong repeated rows version) (row : KeyedRow) → IsCodeOf repeated row version.code
       → (same_version is.row row ≡ true) × (same_version row is.row ≡ true)
   first_is_same version is row code = grind (arith, nat_tests, same_version-code)
@@ -180,16 +182,16 @@ module _ (repeated : List ℕ) (rising : IsStrictlyIncreasing repeated) (rows : 
       (is' : IsVersionAmong repeated rows other) → version.code ≡ other.code → is.row ≡ is'.row
   one_version version other is is' same = grind (arith, common_steps, nat_tests, first_is_same, one_first)
 
-  -- the first row of a version is among the rows
+  -- the rows contain the first row of each version
   pub Contains-first : (version : Version) (is : IsVersionAmong repeated rows version) → Contains rows is.row
   Contains-first version is = rw is.stands (Contains-cut is.before is.row is.behind)
 
-  -- a row of one of the versions is of one component and time with an earlier one
+  -- a row with the code of a version is of one component and time with one of the rows
   pub repeats : (version : Version) → IsVersionAmong repeated rows version → (row : KeyedRow) → IsCodeOf repeated row version.code → is_repeated rows row ≡ true
   repeats version is row code = grind (arith, common_steps, nat_tests, Contains-first, any_of, first_is_same)
 
 module _ (taken : VersionTable) (rising : IsStrictlyIncreasing taken.repeated) (rows : List KeyedRow) (before : HasTaken taken rows) (row : KeyedRow) where
-  -- the version of an earlier row of its component and time
+  -- if an earlier row is of the row's component and time, one of the versions has the row's code
   version_before : (other : KeyedRow) → Contains rows other → (code : ℕ) → IsCodeOf taken.repeated row code → same_version other row ≡ true
       → (version : Version) × Contains taken.versions version × AgreesWith taken.repeated other version × (version.code ≡ code)
   version_before other there code is same =
@@ -199,7 +201,7 @@ module _ (taken : VersionTable) (rising : IsStrictlyIncreasing taken.repeated) (
       (of.0, of.1, of.2, eqb-true of.0.code code (sym (same_version-code taken.repeated rising other row of.0.code code of.2.code is) ∙ same))
 
   module _ (code : ℕ) (is : IsCodeOf taken.repeated row code) where
-    -- of a version that was not seen no row is before it
+    -- if the code of a row is new, no earlier row is of its component and time
     pub new_not_repeated : list_any (nat_eq code) taken.codes ≡ false → is_repeated rows row ≡ false
     new_not_repeated new = false_from_ne_true _ (λ repeated.
         let other = some_of (λ other. same_version other row) rows repeated in
@@ -209,11 +211,12 @@ module _ (taken : VersionTable) (rising : IsStrictlyIncreasing taken.repeated) (
         ∙ had_contained (map (λ (version : Version). version.code) taken.versions) of.0.code
         (Contains-map (λ (version : Version). version.code) taken.versions of.0 of.1))))
 
+    -- if the code of a row is new, it conflicts with no earlier row
     pub new_conflicts : list_any (nat_eq code) taken.codes ≡ false → list_any (λ earlier. conflicts earlier row) rows ≡ false
     new_conflicts new = any-none (λ other. same_version other row) (λ other. conflicts other row) rows
         (λ other. and_left (same_version other row) _) (new_not_repeated new)
 
-    -- the version at the number of its code
+    -- the version at the index at which the row's code was found
     module _ (number : ℕ) (found : position (λ other. code == other) taken.codes ≡ Some number) (default : Version) where
       placed : (number < length taken.versions) × ((get_or taken.versions number default).code ≡ code)
       placed = grind (
@@ -225,13 +228,14 @@ module _ (taken : VersionTable) (rising : IsStrictlyIncreasing taken.repeated) (
         (get_or-map (λ (version : Version). version.code) taken.versions number default 0),
       )
 
+      -- the version at the index is that of one of the rows
       pub version_at : IsVersionAmong taken.repeated rows (get_or taken.versions number default)
       version_at = before.versions number default placed.0
 
       row_code : IsCodeOf taken.repeated row (get_or taken.versions number default).code
       row_code = rw placed.1 is
 
-      -- its first row is of the kind
+      -- the version's first row is of the row's kind, if earlier rows of its key are
       pub version_kind : AreOfItsKind rows row → (get_or taken.versions number default).kind ≡ row.kind
       version_kind kinds =
           let version = get_or taken.versions number default in
@@ -243,7 +247,7 @@ module _ (taken : VersionTable) (rising : IsStrictlyIncreasing taken.repeated) (
             kinds version_at.row (Contains-first taken.repeated rising rows version version_at),
           )
 
-      -- where the row is the same as the first of its version, it conflicts with none
+      -- a row that equals the first row of its version conflicts with no earlier row
       pub same_conflicts : AreOfItsKind rows row
           → same_row row.kind (get_or taken.versions number default).text row.text ≡ true
           → list_any (λ earlier. conflicts earlier row) rows ≡ false
@@ -269,7 +273,7 @@ module _ (taken : VersionTable) (rising : IsStrictlyIncreasing taken.repeated) (
             both.1,
           ))
 
-      -- where it is not, it conflicts with that row
+      -- a row that differs from the first row of its version conflicts with an earlier row
       pub other_conflicts : AreOfItsKind rows row
           → same_row row.kind (get_or taken.versions number default).text row.text ≡ false
           → list_any (λ earlier. conflicts earlier row) rows ≡ true
@@ -281,7 +285,7 @@ module _ (taken : VersionTable) (rising : IsStrictlyIncreasing taken.repeated) (
           (Contains-first taken.repeated rising rows version version_at)
           (rw (first.0, kind, ← version_at.text, apart) refl)
 
-      -- and it is taken where it is the same
+      -- a row that equals the first row of its version is taken with the mark `false`
       pub taken_again : (chosen : List Bool) → chosen ≡ taken.chosen ++ false ∷ []
           → same_row row.kind (get_or taken.versions number default).text row.text ≡ true
           → HasTaken (record taken { chosen = chosen }) (rows ++ row ∷ [])
@@ -296,7 +300,7 @@ module _ (taken : VersionTable) (rising : IsStrictlyIncreasing taken.repeated) (
           ))
           (λ repeated. (version, Contains-get_or taken.versions number default placed.0, record { code = row_code; same = same })) before
 
-    -- the first row of a version is taken
+    -- the first row of a new version is taken with the mark `true`, and its code and version are added
     pub taken_first : (codes : List ℕ) (versions : List Version) (chosen : List Bool) → list_any (nat_eq code) taken.codes ≡ false
         → row_fault row.kind row.text ≡ None → codes ≡ keys_behind taken.codes code
         → versions ≡ taken.versions
@@ -336,15 +340,15 @@ module _ (taken : VersionTable) (rising : IsStrictlyIncreasing taken.repeated) (
 
 -- The greatest code of each key, and the marks of rows without those of other codes.
 
--- what a list of versions gives past its end
+-- the version that reading past the end of a list yields
 abbrev pub no_version : Version
 no_version = record { code = 0; place = 0; kind = Concept; text = [] }
 
--- at the place of each key stands the greatest code of the versions
+-- at the index of each key `latest` has the greatest code of the versions of that key
 abbrev pub AreLatest : List ℕ → List Version → Type 0
 AreLatest latest versions = (code : ℕ) → code / 2 ^ 32 < length latest → nat_lt code (get_or latest (code / 2 ^ 32) 0) ≡ is_outdated versions code
 
--- where the places were filled with zeros no version was seen
+-- if `latest` is filled with zeros, it has the greatest codes of no version
 pub latest_start : (latest filled : List ℕ) (count : ℕ) → count ≡ length latest → filled ≡ replicate (length latest) 0
     → (length (take count (filled ++ drop (length filled) latest)) ≡ length latest)
     × AreLatest (take count (filled ++ drop (length filled) latest)) []
@@ -355,34 +359,35 @@ latest_start latest filled count all zeros =
     rw (take_at filled (drop (length filled) latest) count long)
     (long ∙ all, λ code within. rw (zero_at code within) (le-ltb code 0 (omega arith)))
 
--- a code that is not greater changes nothing
+-- if the code of one more version is not greater than the one at its index, `latest` stays right
 pub latest_keeps : (latest : List ℕ) (versions : List Version) (number : ℕ) (default : Version) → number < length versions
     → AreLatest latest (take number versions) → (code : ℕ) → code ≡ (get_or versions number default).code
     → code ≤ get_or latest (code / 2 ^ 32) 0 → AreLatest latest (take (number + 1) versions)
 latest_keeps latest versions number default within are code is low other in_latest = grind (arith, common_steps, nat_tests, list_any_more, nat_lt, nat_tests)
 
--- a greater one takes the place
+-- if the code of one more version is greater than the one at its index, `latest` is right once that code is put there
 pub latest_takes : (latest : List ℕ) (versions : List Version) (number : ℕ) (default : Version) → number < length versions
     → AreLatest latest (take number versions) → (code : ℕ) → code ≡ (get_or versions number default).code
     → code / 2 ^ 32 < length latest → get_or latest (code / 2 ^ 32) 0 < code → AreLatest (set latest (code / 2 ^ 32) code) (take (number + 1) versions)
 latest_takes latest versions number default within are code is in_place high other in_latest =
     grind (arith, common_steps, nat_tests, common_steps, length-set, list_any_more, nat_lt, nat_tests)
 
--- of some of the versions, at a place stands the first row of one that is not the latest
+-- the row at index `place` is the first of one of `some` versions, and that version is not the latest of its
+-- component
 abbrev pub is_older_of : List Version → List Version → ℕ → Bool
 is_older_of versions some place = list_any (λ (version : Version). is_outdated versions version.code && (version.place == place)) some
 
--- the marks, without those of some of the versions
+-- `new` are the marks `old` with those cleared whose index `leaves` names
 abbrev pub AreWithout : List Bool → List Bool → (ℕ → Bool) → Type 0
 AreWithout new old leaves = (place : ℕ) → get_or new place false ≡ (get_or old place false && not (leaves place))
 
--- one version more, which is the latest
+-- if one more version is the latest of its component, the marks stay right
 pub without_keeps : (new old : List Bool) (versions : List Version) (number : ℕ) (default : Version)
     → number < length versions → AreWithout new old (is_older_of versions (take number versions))
     → is_outdated versions (get_or versions number default).code ≡ false → AreWithout new old (is_older_of versions (take (number + 1) versions))
 without_keeps new old versions number default within are latest place = grind (arith, common_steps, nat_tests, list_any_more, or-false)
 
--- one that is not
+-- if one more version is not the latest of its component, the marks are right once that of its first row is cleared
 pub without_more : (new old : List Bool) (versions : List Version) (number : ℕ) (default : Version)
     → number < length versions → AreWithout new old (is_older_of versions (take number versions))
     → (at : ℕ) → at ≡ (get_or versions number default).place → at < length new → is_outdated versions (get_or versions number default).code ≡ true
@@ -390,7 +395,7 @@ pub without_more : (new old : List Bool) (versions : List Version) (number : ℕ
 without_more new old versions number default within are at is in_marks outdated place =
     grind (arith, common_steps, nat_tests, and-false, common_steps, list_any_more, nat_tests, or-false, or-true)
 
--- marks that are so at each place
+-- marks that are right at each index are the old marks with those cleared whose index `leaves` names
 pub without_from : (leaves : ℕ → Bool) (place : ℕ) (new old : List Bool) → length new ≡ length old
     → ((k at : ℕ) → at ≡ place + k → get_or new k false ≡ (get_or old k false && not (leaves at))) → new ≡ without leaves place old
 without_from leaves place [] [] long are = refl
@@ -400,19 +405,20 @@ without_from leaves place (mark ∷ new) (was ∷ old) long are =
     λ i. are 0 place (omega arith) i
     ∷ without_from leaves (place + 1) new old (omega arith) (λ k at is. are (suc k) at (omega arith)) i
 
--- Which rows are chosen: the first rows of versions without those of versions that are not the latest of their component.
+-- Which rows are chosen: the first rows of versions, without those of versions that are not the latest of their
+-- component.
 
--- how often a key stands in the rows
+-- how often `key` occurs among the keys of `rows`
 abbrev pub count_of : ℕ → List KeyedRow → ℕ
 count_of key rows = times key (map (λ (row : KeyedRow). row.key) rows)
 
--- it stands at least once where a row with it passes a test
+-- if a row with the key of `row` passes a test, that key occurs at least once
 with_key : (rows : List KeyedRow) (row : KeyedRow) (test : KeyedRow → Bool)
     → list_any (λ other. (other.key == row.key) && test other) rows ≡ true → 1 ≤ count_of row.key rows
 with_key [] row test there = absurd (cc)
 with_key (first ∷ rows) row test there = grind (arith, common_steps, nat_tests, sum_by-cons, (with_key rows row test))
 
--- a row with a key that no other row has is repeated by none and superseded by none
+-- a row with a key that no other row has is neither repeated nor superseded
 module _ (earlier : List KeyedRow) (row : KeyedRow) (later : List KeyedRow) (alone : 2 ≤ count_of row.key (earlier ++ row ∷ later) → ⊥) where
   count : count_of row.key (earlier ++ row ∷ later) ≡ count_of row.key earlier + (1 + count_of row.key later)
   count = grind (arith, common_steps, nat_tests, map-append, times-append, sum_by-cons)
@@ -437,7 +443,7 @@ module _ (taken : VersionTable) (rising : IsStrictlyIncreasing taken.repeated) (
   among : (version : Version) → Contains taken.versions version → IsVersionAmong taken.repeated rows version
   among version there = All-contains (IsVersionAmong taken.repeated rows) taken.versions version before.versions there
 
-  -- a version is outdated where its first row is superseded
+  -- if a version is outdated, its first row is superseded
   outdated_superseded : (version : Version) (is : IsVersionAmong taken.repeated rows version)
       → is_outdated taken.versions version.code ≡ true → is_superseded rows is.row ≡ true
   outdated_superseded version is outdated =
@@ -455,7 +461,8 @@ module _ (taken : VersionTable) (rising : IsStrictlyIncreasing taken.repeated) (
       any_of _ taken.versions of.0 of.1 (rw told later.2)
 
   module _ (earlier : List KeyedRow) (row : KeyedRow) (later : List KeyedRow) (stands : rows ≡ earlier ++ row ∷ later) where
-    -- at the place of a row stands the first row of a version that is not the latest: then it is superseded
+    -- if the first row of an outdated version stands at the index of a row, that row is superseded, and its key is
+    -- repeated
     older_superseded : is_older taken.versions (length earlier) ≡ true → (has taken.repeated row.key ≡ true) × (is_superseded rows row ≡ true)
     older_superseded older =
         let of = some_of _ taken.versions older in
@@ -465,7 +472,7 @@ module _ (taken : VersionTable) (rising : IsStrictlyIncreasing taken.repeated) (
         (sym is.place ∙ eqb-true of.0.place (length earlier) both.1) in
         rw (← same) (has-code taken.repeated is.row of.0.code is.code, outdated_superseded of.0 is both.0)
 
-    -- the first row of a version that is superseded stands at the place of one that is not the latest
+    -- if the first row of a version is superseded, its version is not the latest of its component
     superseded_older : has taken.repeated row.key ≡ true → is_repeated earlier row ≡ false
         → is_superseded rows row ≡ true → is_older taken.versions (length earlier) ≡ true
     superseded_older is_repeated_key first superseded =
@@ -475,7 +482,7 @@ module _ (taken : VersionTable) (rising : IsStrictlyIncreasing taken.repeated) (
         let same = one_first is.before is.row is.behind earlier row later (sym is.stands ∙ stands) is.first first one.0 one.1 in
         any_of _ taken.versions of.0 of.1 (grind (arith, nat_tests, superseded_outdated row of.0.code of.2.code superseded, is.place, same.1))
 
-    -- the mark of a row: where its key is not repeated, no other row has it
+    -- the mark of a row says whether it is chosen; if its key is not repeated, no other row has the key
     mark : (not (has taken.repeated row.key && is_repeated earlier row)
         && not (is_older taken.versions (length earlier))) ≡ not (is_superseded rows row || is_repeated earlier row)
     mark = grind (arith, common_steps, nat_tests, cases_Bool, older_superseded, superseded_older, not_contained, alone_superseded, alone_repeated)
@@ -490,6 +497,6 @@ module _ (taken : VersionTable) (rising : IsStrictlyIncreasing taken.repeated) (
         marks (earlier ++ row ∷ []) later (stands ∙ sym (append_assoc earlier (row ∷ []) later)),
       ) refl
 
-  -- the first rows without those of versions that are not the latest are the chosen ones
+  -- the marks without those of outdated versions are the choices among the rows
   pub chosen_are : (chosen : List Bool) → chosen ≡ without (is_older taken.versions) 0 taken.chosen → chosen ≡ choices rows [] rows
   chosen_are chosen are = are ∙ ap (without (is_older taken.versions) 0) before.chosen ∙ marks [] rows refl

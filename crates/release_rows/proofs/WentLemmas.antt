@@ -1,4 +1,4 @@
--- What reading places leaves, and what it says of their first fault.
+-- The data that reading places leaves, and their first fault.
 use Rattle.std.proofs.lemmas.Grind.{common_steps}
 use Rattle.std.proofs.Common.{◌+◌, ◌≡◌, ◌-◌, ◌≤◌, ◌∙◌, List, [], ◌∷◌, ◌++◌, cond, length, nat_le, Option, None, Some, append_assoc, ap, arith, refl, sym, subst, option_and_then, option_to_list, append-nil, length-append}
 use Rattle.std.specs.List.{cons_option}
@@ -20,7 +20,7 @@ use Rattle.release_rows.specs.inside.FirstPass.{AreShort, IsSeen, first_conflict
 use Rattle.release_rows.proofs.KindLemmas.{count_of_kind-push, kind_same, length-kinds}
 use Rattle.release_rows.proofs.PassLemmas.{IsPlain, first_fault-plain, plain_at, plain_end, plain_next}
 
--- ---- what is kept behind rows
+-- ---- the kept data after rows
 kept_rows-option : (kept : RowStore) (row : Option RowAt) (rows : List RowAt) → kept_rows (kept_after kept row) rows ≡ kept_rows kept (cons_option row rows)
 kept_rows-option kept x1 rows = grind arith
 
@@ -28,19 +28,25 @@ kept_rows-append : (kept : RowStore) (rows others : List RowAt) → kept_rows ke
 kept_rows-append kept [] others = refl
 kept_rows-append kept (row ∷ rows) others = kept_rows-append (kept_behind kept row) rows others
 
+-- the keys after `rows` are the keys before, followed by those of the rows
 pub kept_rows-keys : (kept : RowStore) (rows : List RowAt) → (kept_rows kept rows).keyed.keys ≡ kept.keyed.keys ++ keys_behind kept.keyed.uuids rows
 kept_rows-keys kept [] = sym (append-nil kept.keyed.keys)
 kept_rows-keys kept (row ∷ rows) = grind (arith, common_steps, nat_tests, append_assoc, (kept_rows-keys (kept_behind kept row) rows))
 
+-- the UUIDs after `rows` are those that meeting the rows adds to the UUIDs before
 pub kept_rows-uuids : (kept : RowStore) (rows : List RowAt) → (kept_rows kept rows).keyed.uuids ≡ uuids_after kept.keyed.uuids rows
 kept_rows-uuids kept [] = refl
 kept_rows-uuids kept (row ∷ rows) = kept_rows-uuids (kept_behind kept row) rows
 
 -- ---- how many rows of each kind may still come
+-- `left` is what `limits` leave after the rows `earlier`
 pub record HasRoom (left limits : Limits) (earlier : List RowAt) : Type 0 where
+  -- the limit of bytes stays the same
   pub bytes : left.bytes ≡ limits.bytes
+  -- the room for each kind is its limit less the number of earlier rows of the kind
   pub rows : (kind : FileKind) → row_limit left kind ≡ row_limit limits kind - count_of_kind kind earlier
 
+-- before any row the room is the limits themselves
 pub room-start : (limits : Limits) → HasRoom limits limits []
 room-start limits = record { bytes = refl; rows = λ kind. omega arith }
 
@@ -61,10 +67,11 @@ room-option kept limits earlier (Some row) room = record {
       omega (arith, limit-behind kept.left row.kind kind, room.rows kind, count_of_kind-push kind earlier row);
 }
 
--- the fault at a place by the rows that may still come is that by the rows before it
+-- the fault at a place by itself depends only on the limit of bytes
 here-is : (left limits : Limits) (place : Place) → left.bytes ≡ limits.bytes → fault_here left place ≡ fault_here limits place
 here-is left limits place h0 = grind (arith, common_steps, nat_tests)
 
+-- the fault at a place by the room that is left is that by the limits and the rows before it, apart from conflicts
 pub plain_fault-is : (left limits : Limits) (earlier : List RowAt) (place : Place) → HasRoom left limits earlier
     → plain_fault left place ≡ plain_at limits earlier place
 plain_fault-is left limits earlier place room = grind (arith, common_steps, nat_tests, here-is, nat_le)
@@ -80,7 +87,7 @@ one-more : (limits : Limits) (earlier : List RowAt) (here : Option LoadFault) (r
 one-more limits earlier here None none few kind = rw append-nil (few kind)
 one-more limits earlier here (Some row) none few kind = grind (arith, common_steps, nat_tests, count_of_kind-push, kind_same, nat_le)
 
--- without a fault there are no more rows of a kind than there may be
+-- if places have no fault apart from conflicts, no kind has more rows than its limit
 plain-few : (limits : Limits) (earlier : List RowAt) (places : List Place) → IsPlain limits earlier places
     → ((kind : FileKind) → count_of_kind kind earlier ≤ row_limit limits kind) → (kind : FileKind)
     → count_of_kind kind (earlier ++ rows_of places) ≤ row_limit limits kind
@@ -90,6 +97,7 @@ plain-few limits earlier places (plain_next before place others clean rest) few 
     (plain-few limits (before ++ option_to_list (row_at place)) others rest
     (one-more limits before (fault_here limits place) (row_at place) clean few) kind)
 
+-- if places have no fault apart from conflicts, they have no more rows than the limits allow
 pub plain-total : (limits : Limits) (places : List Place) → IsPlain limits [] places → length (rows_of places) ≤ row_total limits
 plain-total limits places plain =
     let few : (kind : FileKind) → count_of_kind kind (rows_of places) ≤ row_limit limits kind = plain-few limits [] places plain (λ kind. omega arith) in
@@ -103,18 +111,26 @@ short-append : (rows others : List RowAt) → AreShort rows → AreShort others 
 short-append [] others one more = more
 short-append (row ∷ rows) others one more = (one.0, short-append rows others one.1 more)
 
+-- the first pass read `places` after the rows `earlier` and went from `old` to `new`
 pub record Went (limits : Limits) (earlier : List RowAt) (old new : RowStore) (places : List Place) : Type 0 where
+  -- the places have no fault apart from conflicts
   pub plain : IsPlain limits earlier places
+  -- the rows of the places are kept
   pub kept : new ≡ kept_rows old (rows_of places)
+  -- the room left is that after the rows of the places
   pub room : HasRoom new.left limits (earlier ++ rows_of places)
+  -- the rows have short identifiers and no fault by themselves
   pub short : AreShort (rows_of places)
 
+-- the first pass read `place` and went from `old` to `new`
 abbrev pub reads : Rows → Place → Rows → Type 0
 reads old place new = IsRead (kept_in old) place (kept_in new)
 
+-- the first pass refused `place` with `fault`
 abbrev pub refuses : Rows → Place → Rows → LoadFault → Type 0
 refuses old place new fault = IsStopped (kept_in old) place (kept_in new) fault
 
+-- a pass that takes all places has read them, and keeps their rows
 pub went : (limits : Limits) (earlier : List RowAt) (old new : Rows) (places : List Place) → TakesAll reads old places new
     → HasRoom (kept_in old).left limits earlier → Went limits earlier (kept_in old) (kept_in new) places
 went limits earlier old new places (taken held) room =
@@ -131,17 +147,19 @@ went limits earlier old new places (next from to end place others step rest) roo
       short = short-option (row_at place) (rows_of others) step.short follows.short;
     }
 
--- ---- the first fault behind places
+-- ---- the first fault after places
+-- a fault, or else none, is that fault
 pub first_of-none : (fault : Option LoadFault) → first_of fault None ≡ fault
 first_of-none x0 = grind arith
 
--- a fault that is there hides those behind it
+-- a fault that is there hides those after it
 first_of-assoc : (one other : Option LoadFault) (fault : LoadFault) (later : Option LoadFault)
     → first_of one (first_of (first_of other (Some fault)) later) ≡ first_of (first_of one other) (Some fault)
 first_of-assoc (Some first) other fault later = refl
 first_of-assoc None (Some second) fault later = refl
 first_of-assoc None None fault later = refl
 
+-- the first fault of places followed by `later` is that of the places, or else that of the later ones
 pub first_fault-append : (limits : Limits) (front places later : List Place)
     → first_fault limits front (places ++ later) ≡ first_of (first_fault limits front places) (first_fault limits (front ++ places) later)
 first_fault-append limits front [] later = ap (λ (before : List Place). first_fault limits before later) (sym (append-nil front))
@@ -153,6 +171,7 @@ first_conflict-push earlier [] row = first_of-none (conflict_behind earlier row)
     ∙ ap (λ (before : List RowAt). conflict_behind before row) (sym (append-nil earlier))
 first_conflict-push earlier (first ∷ rows) row = grind (arith, append_assoc, (first_conflict-push (earlier ++ first ∷ []) rows row))
 
+-- a pass from the beginning that takes all places has seen all their rows
 pub seen-whole : (limits : Limits) (old new : Rows) (places : List Place) → kept_in old ≡ nothing_kept limits
     → TakesAll reads old places new → IsSeen limits places (kept_in new) None
 seen-whole limits old new places start all_taken =
@@ -169,7 +188,8 @@ seen-whole limits old new places start all_taken =
       room = λ none. few;
     }
 
--- what is seen up to a fault
+-- a pass that ended at a fault has seen the rows before it, if the first fault is their first conflict or else that
+-- fault
 seen-until : (limits : Limits) (places : List Place) (kept : RowStore) (fault : LoadFault) (seen beyond : List RowAt)
     → kept ≡ kept_rows (nothing_kept limits) seen → AreShort seen
     → first_fault limits [] places ≡ first_of (first_conflict [] seen) (Some fault) → rows_of places ≡ seen ++ beyond
@@ -187,7 +207,7 @@ seen-until limits places kept fault seen beyond kept_is short first front few =
       room = λ none. absurd (cc (none));
     }
 
--- the first pass ended at a fault
+-- a pass from the beginning that stops at a place has seen the rows before it, and ended at its fault
 pub seen-stopped : (limits : Limits) (old new : Rows) (places : List Place) (fault : LoadFault)
     → kept_in old ≡ nothing_kept limits → StopsAt reads refuses old places new fault
     → IsSeen limits places (kept_in new) (Some fault)

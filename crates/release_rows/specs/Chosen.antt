@@ -1,6 +1,6 @@
--- Which rows of components that have several are chosen (Release File Specification, "effectiveTime"; an edition and the
--- extensions on top of it are one list of files): of each component the one with the latest effective time, and of
--- equal ones the first.
+-- Which rows of components that have several are chosen (Release File Specification, "effectiveTime"): the row with
+-- the latest effective time of its component, and the first one if several are equal. An edition and the extensions
+-- on top of it are one list of files.
 use Rattle.std.specs.Prelude.{◌≡◌, ℕ, Bool, true, false, not, nat_lt, ◌==◌, ◌&&◌, ◌||◌, List, [], ◌∷◌, ◌++◌, Contains, filter, length, Option, None, Some}
 use Rattle.std.specs.List.{list_any}
 use Rattle.rf2_rows.specs.Versions.{id_on, same_row, same_time, time_on}
@@ -9,7 +9,7 @@ use Rattle.rf2_rows.specs.declared.kind.FileKind.TheVariants.{Concept, Concrete,
 use Rattle.release_rows.specs.Files.{RowAt}
 use Rattle.row_lists.specs.Marked.{marked}
 
--- the kinds by numbers, and whether two are one
+-- the number of a file kind; different kinds have different numbers
 abbrev pub kind_number : FileKind → ℕ
 kind_number Concept = 0
 kind_number Description = 1
@@ -17,17 +17,20 @@ kind_number Relationship = 2
 kind_number Concrete = 3
 kind_number Member = 4
 
+-- two file kinds are one kind
 abbrev pub same_kind : FileKind → FileKind → Bool
 same_kind one other = kind_number one == kind_number other
 
--- the identifier of a row, and its effective time
+-- the identifier of a row
 abbrev pub id_of : RowAt → ℕ
 id_of row = id_on row.kind row.text
 
+-- the effective time of a row, if it has one
 abbrev pub time_of : RowAt → Option ℕ
 time_of row = time_on row.kind row.text
 
--- one effective time is later than another: that of a row that is not published yet, which has none, is the latest
+-- the first effective time is later than the second; a row that is not published yet has no time, which counts as the
+-- latest
 abbrev pub is_later : Option ℕ → Option ℕ → Bool
 is_later None None = false
 is_later None (Some other) = true
@@ -38,39 +41,40 @@ is_later (Some one) (Some other) = nat_lt other one
 abbrev pub same_component : RowAt → RowAt → Bool
 same_component one other = same_kind one.kind other.kind && (id_of one == id_of other)
 
--- they are of one component and one time
+-- two rows are of one component and one effective time
 abbrev pub same_version : RowAt → RowAt → Bool
 same_version one other = same_component one other && same_time (time_of one) (time_of other)
 
--- they are of one component and one time, and differ in some column
+-- two rows of one component and one effective time differ in some column
 abbrev pub conflicts : RowAt → RowAt → Bool
 conflicts one other = same_version one other && not (same_row one.kind one.text other.text)
 
--- among some rows one of the same component has a later time
+-- one of `rows` is of the component of `row` and has a later time
 abbrev pub is_superseded : List RowAt → RowAt → Bool
 is_superseded rows row = list_any (λ other. same_component other row && is_later (time_of other) (time_of row)) rows
 
--- an earlier row is of the same component and time
+-- one of the `earlier` rows is of the component and the time of `row`
 abbrev pub is_repeated : List RowAt → RowAt → Bool
 is_repeated earlier row = list_any (λ other. same_version other row) earlier
 
--- a row is chosen among all rows, of which some are earlier
+-- a row is chosen: none of `rows` of its component has a later time, and none of the `earlier` rows has its component
+-- and time
 abbrev pub is_chosen : List RowAt → List RowAt → RowAt → Bool
 is_chosen rows earlier row = not (is_superseded rows row || is_repeated earlier row)
 
--- which of the last ones of some rows are chosen, behind the earlier ones
+-- for each row of the last list, whether it is chosen among `rows`, if the rows of `earlier` come before that list
 abbrev pub choices : List RowAt → List RowAt → List RowAt → List Bool
 choices rows earlier [] = []
 choices rows earlier (row ∷ later) = is_chosen rows earlier row ∷ choices rows (earlier ++ row ∷ []) later
 
--- the chosen rows
+-- the chosen rows of `rows`, in their order
 abbrev pub chosen : List RowAt → List RowAt
 chosen rows = marked (choices rows [] rows) rows
 
--- no row that is chosen has a later one of its component among the rows
+-- no chosen row has a later one of its component among the rows
 abbrev pub ChoosesTheLatest : Type 0
 ChoosesTheLatest = (rows : List RowAt) (row : RowAt) → Contains (chosen rows) row → is_superseded rows row ≡ false
 
--- of the component of each row exactly one row is chosen
+-- exactly one row of the component of each row is chosen
 abbrev pub ChoosesOne : Type 0
 ChoosesOne = (rows : List RowAt) (row : RowAt) → Contains rows row → length (filter (λ other. same_component other row) (chosen rows)) ≡ 1

@@ -10,31 +10,34 @@ abbrev pub is_device : LoadFault → Bool
 is_device (Device file) = true
 is_device other = false
 
--- the count of failures rises only where a failure of the device is answered
+-- the count of failures rises only if the answer is a failure of the device
 abbrev pub RaisesOnlyAtDevice : {T : Type 0} → Result T LoadFault → History → History → Type 0
 RaisesOnlyAtDevice (Ok done) old new = new.failures ≡ old.failures
 RaisesOnlyAtDevice (Err fault) old new = is_device fault ≡ false → new.failures ≡ old.failures
 
--- the device failed at one of the files of these names: at that one which its source tells, if it tells any, and this was counted once
+-- the device failed at one of the files `names`, and the source counted one failure; if the source tells which file
+-- failed, it is that one
 abbrev pub FailsAtOneOf : List (List ℕ) → History → History → LoadFault → Type 0
 FailsAtOneOf names old new fault =
     (file : ℕ) × (file < length names) × (fault ≡ Device (Some file)) × IsRaised old new
     × IfSome new.failed (λ name. slice_get names file ≡ Some name)
 
--- where the device has failed, it was at one of the files of these names
+-- if the answer is a failure of the device, the device failed at one of the files `names`
 abbrev pub FailsOnlyAt : {T : Type 0} → List (List ℕ) → Result T LoadFault → History → History → Type 0
 FailsOnlyAt names result old new = IfErr result (λ fault. is_device fault ≡ true → FailsAtOneOf names old new fault)
 
--- of no file more bytes than so many were taken between two openings, and the files were not listed again
+-- the source took at most `most` bytes of each file between two openings, and did not list the files again
 abbrev pub ReadsWithin : ℕ → History → History → Type 0
 ReadsWithin most old new = (new.most ≤ max old.most most) × (new.unlisted ≡ old.unlisted)
 
--- the names of the files that are gone over, and how many bytes of each are read at most
+-- the names of the files that a load goes over, and how many bytes of each it reads at most
 pub record AskedFiles : Type 0 where
+  -- the names of the files
   pub names : List (List ℕ)
+  -- how many bytes of each file are read at most
   pub most : ℕ
 
--- a file that has failed is one that is read
+-- if a fault names a file that failed, `reads` says that this file is read
 abbrev pub FailsAtRead : (ℕ → Bool) → LoadFault → Type 0
 FailsAtRead reads (Device (Some file)) = reads file ≡ true
 FailsAtRead reads other = ⊤
@@ -48,6 +51,6 @@ file_of (TooMany file line) = Some file
 file_of (Device file) = file
 file_of other = None
 
--- something holds of the file that a fault names, if it names one
+-- `holds` is true of the file that a fault names, if it names one
 abbrev pub FileIs : (ℕ → Type 0) → LoadFault → Type 0
 FileIs holds fault = IfSome (file_of fault) holds

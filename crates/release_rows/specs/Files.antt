@@ -8,31 +8,33 @@ use Rattle.rf2_rows.specs.declared.kind.FileKind.TheVariants.{Concept}
 use Rattle.release_files.specs.Lines.{LineText, lines_of}
 use Rattle.release_files.specs.Source.{FileText}
 
--- what is met in a file that has a kind: that it has no line, its first line, or a later one. A file is
--- named by its place in the list, from 0
+-- a place in a file that has a kind: the file has no line, or the place is its first line or a later one. The first
+-- number is the index of the file in the list, from 0.
 pub data Place : Type 0 where
   no_line : ℕ → FileKind → Place
   first_line : ℕ → FileKind → LineText → Place
   later_line : ℕ → FileKind → LineText → Place
 
--- the places of a file of a kind, by its lines
+-- the places of a file of `kind` with the given lines
 abbrev pub places_of_lines : ℕ → FileKind → List LineText → List Place
 places_of_lines file kind [] = no_line file kind ∷ []
 places_of_lines file kind (line ∷ lines) = first_line file kind line ∷ map (later_line file kind) lines
 
--- the places of a file: none where it has no kind
+-- the places of a file with `bytes`; a file without a kind has none
 abbrev pub places_of_kind : ℕ → Option FileKind → List ℕ → List Place
 places_of_kind file None bytes = []
 places_of_kind file (Some kind) bytes = places_of_lines file kind (lines_of bytes)
 
+-- the places of the file `text`, which has the index `file`
 abbrev pub places_of_file : ℕ → FileText → List Place
 places_of_file file text = places_of_kind file (file_kind_of text.name) text.bytes
 
--- the places of files, of which the first has the place `file` in the list
+-- the places of a list of files, if the first has the index `file`
 abbrev pub places_from : ℕ → List FileText → List Place
 places_from file [] = []
 places_from file (text ∷ texts) = places_of_file file text ++ places_from (file + 1) texts
 
+-- the kind, if there is one, is that of a Concept file
 abbrev pub is_concept_kind : Option FileKind → Bool
 is_concept_kind (Some Concept) = true
 is_concept_kind other = false
@@ -41,7 +43,7 @@ is_concept_kind other = false
 abbrev pub is_concept_file : FileText → Bool
 is_concept_file text = is_concept_kind (file_kind_of text.name)
 
--- one of some items has, by its text, the name of a Concept file
+-- one of the items has, by `text`, the name of a Concept file
 abbrev pub name_concepts : {X : Type 0} → (X → List ℕ) → List X → Bool
 name_concepts text items = list_any (λ item. is_concept_kind (file_kind_of (text item))) items
 
@@ -49,23 +51,27 @@ name_concepts text items = list_any (λ item. is_concept_kind (file_kind_of (tex
 abbrev pub has_kind : FileText → Bool
 has_kind text = is_some (file_kind_of text.name)
 
--- a row: the place of its file in the list, the number of its line, its kind and its line
+-- a row and where it stands
 pub record RowAt : Type 0 where
+  -- the index of the row's file in the list
   pub file : ℕ
+  -- the number of the row's line in its file
   pub line : ℕ
+  -- the kind of the row's file
   pub kind : FileKind
+  -- the bytes of the row's line
   pub text : List ℕ
 
--- what a row says
+-- the values of the columns of a row
 abbrev pub text_of_row : RowAt → RowText
 text_of_row row = row_text row.kind row.text
 
--- the row on a line behind the header: an empty line has none
+-- the row on a line after the header; an empty line has none
 abbrev pub row_on : ℕ → FileKind → ℕ → List ℕ → Option RowAt
 row_on file kind line [] = None
 row_on file kind line (byte ∷ bytes) = Some (record { file = file; line = line; kind = kind; text = byte ∷ bytes })
 
--- the row at a place
+-- the row at a place, if the place has one
 abbrev pub row_at : Place → Option RowAt
 row_at (later_line file kind line) = row_on file kind line.number line.bytes
 row_at other = None

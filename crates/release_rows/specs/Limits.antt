@@ -1,11 +1,11 @@
--- How much a load takes in at the most.
+-- How much a load reads at most.
 use Rattle.std.specs.Prelude.{ℕ, ◌+◌, ◌-◌, if◌then◌else◌, min, max}
 use Rattle.rf2_rows.specs.declared.kind.FileKind.{FileKind}
 use Rattle.rf2_rows.specs.declared.kind.FileKind.TheVariants.{Concept, Concrete, Description, Member, Relationship}
 use Rattle.release_rows.specs.Chosen.{same_kind}
 use Rattle.release_rows.specs.declared.limits.Limits.{Limits}
 
--- the limits that a load has by itself
+-- the limits of a load to which the caller gives none
 abbrev pub standard_limits : Limits
 standard_limits = record {
   concepts = 4000000;
@@ -16,8 +16,8 @@ standard_limits = record {
   bytes = 4294967295;
 }
 
--- the limits that a load keeps to where it is handed others: none above the standard one, and room for a
--- byte order mark
+-- the limits that a load keeps if the caller gives some: no limit is above the standard one, and a byte order mark
+-- always fits
 abbrev pub limits_in_force : Limits → Limits
 limits_in_force limits = record {
   concepts = min limits.concepts standard_limits.concepts;
@@ -28,7 +28,7 @@ limits_in_force limits = record {
   bytes = max (min limits.bytes standard_limits.bytes) 3;
 }
 
--- how many rows of a kind there may be, all files of the kind together
+-- how many rows of a kind all files of the kind together may have
 abbrev pub row_limit : Limits → FileKind → ℕ
 row_limit limits Concept = limits.concepts
 row_limit limits Description = limits.descriptions
@@ -36,11 +36,11 @@ row_limit limits Relationship = limits.relationships
 row_limit limits Concrete = limits.concrete
 row_limit limits Member = limits.members
 
--- and of all kinds
+-- how many rows the files of all kinds together may have
 abbrev pub row_total : Limits → ℕ
 row_total limits = limits.concepts + limits.descriptions + limits.relationships + limits.concrete + limits.members
 
--- how many rows may come behind one of a kind
+-- how many rows may still come after one of `kind`
 abbrev pub left_behind : Limits → FileKind → Limits
 left_behind left kind =
     let one : FileKind → ℕ = λ other. if same_kind kind other then 1 else 0 in

@@ -1,4 +1,4 @@
--- What reading the files of a release gives: lists that are made of the chosen rows, and how many rows there are.
+-- The result of reading the files of a release: lists made of the chosen rows, and the number of rows.
 use Rattle.std.specs.Prelude.{◌≡◌, ◌≤◌, ℕ, List, [], length, map, None, Some}
 use Rattle.release_rows.specs.Chosen.{chosen}
 use Rattle.release_rows.specs.Faults.{first_fault}
@@ -9,13 +9,17 @@ use Rattle.row_lists.specs.ReleaseLists.{ReleaseLists, listed_of}
 use Rattle.row_lists.specs.declared.fault.LoadFault.{LoadFault}
 use Rattle.release_rows.specs.declared.limits.Limits.{Limits}
 
--- places without a fault have so many rows, and what is listed is what the chosen ones among them are made of
+-- the places have no fault and `count` rows, and `listed` is made of the chosen rows
 pub record IsReadFrom (limits : Limits) (places : List Place) (count : ℕ) (listed : ReleaseLists) : Type 0 where
+  -- no place has a fault
   pub clean : first_fault limits [] places ≡ None
+  -- `count` is the number of rows
   pub count_is : count ≡ length (rows_of places)
+  -- there are no more rows than the limits allow
   pub few : count ≤ row_total limits
+  -- the lists are those of the chosen rows, apart from marks
   pub lists : unmarked listed ≡ unmarked (listed_of (map text_of_row (chosen (rows_of places))))
 
--- the first fault of places within limits
+-- `fault` is the first fault of the places within the limits
 abbrev pub HasFirstFault : Limits → List Place → LoadFault → Type 0
 HasFirstFault limits places fault = first_fault limits [] places ≡ Some fault

@@ -9,34 +9,41 @@ use Rattle.release_rows.specs.declared.places.Met.{Met}
 use Rattle.release_rows.specs.declared.places.Met.TheVariants.{NoLine, First, Later}
 use Rattle.release_rows.specs.DeviceFaults.{is_device}
 
--- the place in a file where something is met
+-- the place that `Met` stands for in `file`
 abbrev pub place_of : ℕ → FileKind → Met → Place
 place_of file kind NoLine = no_line file kind
 place_of file kind (First line) = first_line file kind (line_text line)
 place_of file kind (Later line) = later_line file kind (line_text line)
 
--- places are taken in turn, by a relation between what is held before and behind each of them
+-- all places are taken in turn; `takes` relates the states before and after each
 pub data TakesAll {Held : Type 0} (takes : Held → Place → Held → Type 0) : Held → List Place → Held → Type 0 where
   taken : (held : Held) → TakesAll takes held [] held
   next : (old middle new : Held) (place : Place) (places : List Place) → takes old place middle
       → TakesAll takes middle places new → TakesAll takes old (place ∷ places) new
 
--- places are taken in turn up to one that is refused
+-- the places are taken in turn up to one that is refused
 pub record StopsAt {Held : Type 0} (takes : Held → Place → Held → Type 0)
     (refuses : Held → Place → Held → LoadFault → Type 0) (old : Held) (places : List Place) (new : Held)
     (fault : LoadFault) : Type 0 where
+  -- the places that were taken
   pub before : List Place
+  -- the place that was refused
   pub place : Place
+  -- the places after the refused one
   pub later : List Place
+  -- the state before the refused place
   pub middle : Held
+  -- the places are the taken ones, the refused one, and the later ones
   pub cut : places ≡ before ++ place ∷ later
+  -- the places before the refused one were taken
   pub taken_before : TakesAll takes old before middle
+  -- the place was refused with `fault`
   pub refused : refuses middle place new fault
 
--- said of a fault of the files, which is neither the want of memory nor the device's
+-- `said` holds if `fault` is one of the files, which is neither want of memory nor a failure of the device
 abbrev pub OfFiles : LoadFault → Type 0 → Type 0
 OfFiles fault said = fault ≢ Memory → is_device fault ≡ false → said
 
--- where places are told, a fault of the files that is answered is such a one of them
+-- if the places are told and the answer is a fault of the files, `is` holds of the places and the fault
 abbrev pub FaultOf : {T : Type 0} → Option (List Place) → (List Place → LoadFault → Type 0) → Result T LoadFault → Type 0
 FaultOf told is result = IfSome told (λ places. IfErr result (λ fault. OfFiles fault (is places fault)))

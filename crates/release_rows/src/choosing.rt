@@ -1,4 +1,4 @@
-//! Reading the rows of a release, and choosing among those of components that have several.
+//! Reads the rows of a release and chooses among those of components that have several.
 ghost use Rattle.std.specs.Prelude.{◌≡◌, ◌≢◌, ◌≤◌, ◌<◌, ◌+◌, ◌-◌, ◌^◌, IfErr, IfOk, IfSome, MatchOption, OnOk, false, true, length, min};
 ghost use Rattle.std.specs.List.Sorted.{IsStrictlyIncreasing};
 ghost use Rattle.row_lists.specs.ListsRead.{AreFew, read_in, listed_in};
@@ -26,8 +26,8 @@ use std::alloc::{AllocError, Global};
 /// The fault of files that have more rows than can be numbered.
 pub const TOO_MANY_ROWS: LoadFault = LoadFault::TooMany { file: 0, line: 0 };
 
-/// Reads the rows of all files that have a kind. Where rows have one key, the files are gone over once
-/// more, so that these rows are compared.
+/// Reads the rows of all files that have a kind. If several rows have one key, goes over the files a second
+/// time to compare these rows.
 pub fn read_rows<P: PlaceSource>(
     alloc: Global,
     files: &mut P,
@@ -55,8 +55,8 @@ pub fn read_rows<P: PlaceSource>(
     }
 }
 
-// The first fault where the first pass over the files ended at one: a row that was read may conflict
-// with an earlier one. Where the device failed, or memory was refused, it stays at that.
+// The first fault of the files, if the first pass ended at `fault`: a row that it read may conflict with an
+// earlier one. Keeps the fault if the device failed or memory was refused.
 fn first_of_faults<P: PlaceSource>(
     alloc: Global,
     files: &mut P,
@@ -89,7 +89,7 @@ fn first_of_faults<P: PlaceSource>(
     fault
 }
 
-// Chooses among the rows that were all read, if some have one key.
+// Chooses among the rows, which were all read, if some of them have one key.
 fn choose_rows<P: PlaceSource>(
     alloc: Global,
     files: &mut P,
@@ -125,7 +125,7 @@ fn choose_rows<P: PlaceSource>(
     }
 }
 
-// What the rows are made of that are chosen, or all of them where no choices are given.
+// Keeps the items of the lists whose rows are chosen; without choices it keeps all.
 fn keep_chosen(
     alloc: Global,
     rows: Rows,
@@ -148,8 +148,8 @@ fn keep_chosen(
     Ok(ReadRows { lists, count })
 }
 
-// Of each of the rows that were read, as far as they were, whether it is chosen, or the first conflict. `None` where
-// no key is repeated.
+// For each row that the first pass read, whether it is chosen, or else the first conflict. `None` if no key is
+// repeated.
 fn choices_among<P: PlaceSource>(
     alloc: Global,
     files: &mut P,
@@ -182,9 +182,9 @@ fn choices_among<P: PlaceSource>(
     }
 }
 
-// Compares the rows that were read, of which some keys are repeated: tells of each whether it is
-// chosen, or answers the first conflict. Files that have changed since the first pass, and have fewer
-// rows, conflict with what was read.
+// Compares the rows that the first pass read; the keys `repeated` occur several times. Answers for each row
+// whether it is chosen, or else the first conflict. If the files have changed since the first pass and have
+// fewer rows, this is a conflict.
 fn compare<P: PlaceSource>(
     alloc: Global,
     files: &mut P,
@@ -221,8 +221,8 @@ fn compare<P: PlaceSource>(
     }
 }
 
-// The fault of files that have fewer rows than before: a conflict at the line behind the last row, in a
-// file that is no later than the last one.
+// The fault of files that have fewer rows than in the first pass: a conflict at the line after the last row, in
+// a file that is not after the last one.
 fn behind(last: (usize, u64), last_file: usize) -> LoadFault
     ensures { result ≡ LoadFault.Conflict (min last.0 last_file) (min (last.1 + 1) (2 ^ 64 - 1)) }
 {
@@ -233,7 +233,7 @@ fn behind(last: (usize, u64), last_file: usize) -> LoadFault
     }
 }
 
-// Whether a fault is the want of memory.
+// Whether a fault is want of memory.
 fn is_memory(fault: &LoadFault) -> bool
     ensures other { result ≡ false → fault.now ≢ LoadFault.Memory }
     ensures memory { result ≡ true → fault.now ≡ LoadFault.Memory }
@@ -241,7 +241,7 @@ fn is_memory(fault: &LoadFault) -> bool
     matches!(fault, LoadFault::Memory)
 }
 
-// Whether a fault is the device's.
+// Whether a fault is a failure of the device.
 fn is_device(fault: &LoadFault) -> bool
     ensures { result ≡ is_device_of fault.now }
 {

@@ -1,4 +1,4 @@
-//! The second pass over the files of a release: the rows of components that have several are compared.
+//! The second pass over the files of a release, which compares the rows of components that have several.
 ghost use Rattle.std.specs.Prelude.{◌≡◌, ◌≢◌, ◌<◌, ◌^◌, IfErr, OnOk, false, length};
 ghost use Rattle.release_files.specs.Lines.{line_text};
 ghost use Rattle.rf2_rows.specs.Rows.{IsRow, row_fault};
@@ -13,13 +13,13 @@ use release_files::Line;
 use rf2_rows::{FileKind, Row, RowReader};
 use row_lists::LoadFault;
 
-/// Compares the rows that were read before, as many as there were. Only those whose keys are repeated
-/// are read once more.
+/// Compares the rows that the first pass read, one for each of their keys. Reads a row again only if its key is
+/// repeated.
 #[derive(Drop)]
 pub struct Comparing<'a> {
-    // what reads the lines as rows
+    // reads the lines as rows
     reader: RowReader,
-    // the keys that the rows have
+    // the keys of the rows, from the first pass
     keys: &'a RowKeys,
     /// The rows compared so far.
     pub versions: Versions,
@@ -30,7 +30,7 @@ pub struct Comparing<'a> {
 }
 
 impl<'a> Comparing<'a> {
-    /// No row so far.
+    /// Begins the second pass; no row has been compared.
     pub fn new(keys: &'a RowKeys, versions: Versions) -> Comparing<'a>
         ensures uuids { (compared_in result).uuids ≡ keys.now.uuids }
         ensures taken { (compared_in result).taken ≡ versions }
@@ -46,7 +46,7 @@ impl<'a> Comparing<'a> {
         }
     }
 
-    // Compares the row on a line behind the header, if one is still to come.
+    // Compares the row on a line after the header, if a key is left for it. Ignores the line otherwise.
     fn compare_line(&mut self, file: usize, kind: FileKind, line: Line<'_>) -> Result<(), LoadFault>
         ensures ok { OnOk result (IsCompared (compared_in self.old) (later_line file kind (line_text line.entry)) (compared_in self.new)) }
         ensures err { IfErr result (λ fault. fault ≢ LoadFault.Memory → IsDenied (compared_in self.old) (later_line file kind (line_text line.entry)) fault) }
@@ -77,8 +77,8 @@ impl<'a> Comparing<'a> {
         }
     }
 
-    // Compares a row that had a key when it was read before. One with another key, or with none, is not
-    // that row: it conflicts with what was read.
+    // Compares a row with the earlier rows of its component. `key` is the key of the row of this turn in the
+    // first pass. A row with another key, or without one, is a conflict: the files have changed.
     fn compare(
         &mut self,
         file: usize,

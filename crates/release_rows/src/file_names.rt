@@ -8,8 +8,8 @@ ghost use Rattle.release_rows.specs.Pieces.{ListsNames, listing_fault};
 use release_files::{FileSource, SourceFault};
 use row_lists::LoadFault;
 
-/// Leaves in `names` the names of the files that a source lists, in their byte order: the order in
-/// which they are to be read. Where the source fails, or memory is refused, there are none.
+/// Replaces `names` by the names of the files that `source` lists, in byte order: the order in which a load
+/// reads the files. Leaves no name if the source fails or memory is refused.
 pub fn list_names<S: FileSource>(source: &mut S, names: &mut Vec<String>) -> Result<(), LoadFault>
     ensures listed { ListsNames (S.files source.old) result (map string_bytes names.new.items) (S.history source.old) (S.history source.new) }
     ensures rising { IsSorted (slice_cmp nat_cmp) (map string_bytes names.new.items) }
@@ -25,7 +25,7 @@ pub fn list_names<S: FileSource>(source: &mut S, names: &mut Vec<String>) -> Res
     Ok(())
 }
 
-// What a fault of a source that was to list its files is to a load.
+// The fault of a load if its source fails with `fault` when it lists the files.
 fn listing_fault(fault: SourceFault) -> LoadFault
     ensures { result ≡ listing_fault fault }
 {

@@ -1,4 +1,4 @@
-//! A number for each row by which rows of one component are found.
+//! The key of a row: a number by which rows of one component are found.
 ghost use Rattle.std.specs.Prelude.{◌≡◌, ◌<◌, ◌^◌, IfOk, IfSome, IsNone, OnOk, length};
 ghost use Rattle.rf2_rows.specs.RowTexts.{text_in};
 ghost use Rattle.release_rows.specs.inside.Keys.{IsMet, IsShort, key_in, keyed_behind, no_keys, uuids_behind};
@@ -9,21 +9,22 @@ use sctid::SctId;
 use std::alloc::{AllocError, Global};
 use std::marker::Model;
 
-// The least keys of components, kind by kind: an identifier is below 10^18.
+// The smallest keys of concepts, descriptions and concrete values. An identifier is below 10^18.
 const CONCEPTS: u64 = 9_223_372_036_854_775_808;
 
 const DESCRIPTIONS: u64 = 10_223_372_036_854_775_808;
 
 const CONCRETE_VALUES: u64 = 11_223_372_036_854_775_808;
 
-/// Those of relationships, which have about as many rows as all other kinds, are the greatest.
+/// The smallest key of a relationship. Relationships have about as many rows as all other kinds together, so
+/// `repeated_keys` sorts their keys apart.
 pub const RELATIONSHIPS: u64 = 12_223_372_036_854_775_808;
 
-/// The keys of rows in the order in which they were read. Rows of one kind have one key where their
-/// identifiers are one. In the usual order of files and rows the keys rise.
+/// The keys of rows in the order in which they were read. Two rows of one kind have one key exactly if they
+/// have one identifier. In the usual order of files and rows the keys rise.
 #[derive(Drop)]
 pub struct RowKeys {
-    // the UUIDs of members, which have the numbers from 0
+    // the UUIDs of members, numbered from 0
     uuids: FirstMet,
     keys: Vec<u64>,
 }
@@ -37,7 +38,7 @@ impl Model for RowKeys {
 }
 
 impl RowKeys {
-    /// No key. UUIDs are hashed over `seed`.
+    /// Creates a list without keys. Hashes UUIDs over `seed`.
     pub fn new(alloc: Global, seed: Seed) -> RowKeys
         ensures { result ≡ no_keys }
     {
@@ -47,12 +48,12 @@ impl RowKeys {
         }
     }
 
-    /// The keys of the rows.
+    /// Returns the keys of the rows.
     pub fn keys(&self) -> &[u64]
         ensures keys { result.now ≡ self.now.keys }
         ensures few { length self.now.uuids < 2 ^ 63 }
     {
-        // its contract says that they are few
+        // the contract of `len` says that there are few UUIDs
         let _ = self.uuids.len();
         self.keys.as_slice()
     }
@@ -67,7 +68,7 @@ impl RowKeys {
         Ok(())
     }
 
-    // The key of a row, whose UUID is met if it is a member.
+    // Returns the key of a row. Records the UUID of a member.
     fn meet(&mut self, row: &Row<'_>) -> Result<u64, AllocError>
         ensures key { IfOk result (λ key. key ≡ key_in self.old.uuids (text_in row.now)) }
         ensures uuids { OnOk result (self.new.uuids ≡ uuids_behind self.old.uuids (text_in row.now)) }
@@ -86,7 +87,7 @@ impl RowKeys {
         }
     }
 
-    /// The key of a row, if it has one: that of a member is known only where its UUID was met.
+    /// Returns the key of a row, or `None` for a member whose UUID was not met.
     pub fn key_of(&self, row: &Row<'_>) -> Option<u64>
         ensures key { IfSome result (λ key. key ≡ key_in self.now.uuids (text_in row.now)) }
         ensures met { IsNone result → ¬ IsMet self.now.uuids (text_in row.now) }

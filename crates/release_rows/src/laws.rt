@@ -9,14 +9,14 @@ pub fn first_fault_is_the_first()
     ensures { NamesFirstFault }
 {}
 
-/// Of the component of each row exactly one row is chosen, and none of the rows of this component is later.
+/// Exactly one row of the component of each row is chosen, and no row of the component is later.
 #[tactic(auto, using(crate::proofs::LatestLemmas::chosen_latest, crate::proofs::LatestLemmas::chosen_once))]
 pub fn latest_rows_are_chosen()
     ensures latest { ChoosesTheLatest }
     ensures one { ChoosesOne }
 {}
 
-/// Identifiers in rising order are the same members, each once.
+/// Identifiers in rising order are the members of the list, each once.
 pub fn rising_keeps_the_members()
     ensures { KeepsRising }
 {}

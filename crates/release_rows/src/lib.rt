@@ -1,5 +1,5 @@
-//! The rows of a release: its files are read, and of each component the row that counts is chosen; or the
-//! first fault of the files is found.
+//! The rows of a release. This crate reads the files, and chooses for each component the row that counts, or
+//! finds the first fault of the files.
 #![tactic(auto)]
 
 mod choosing;

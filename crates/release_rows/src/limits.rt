@@ -1,4 +1,4 @@
-//! How much a load takes in at the most.
+//! How much a load reads at most.
 ghost use Rattle.std.specs.Prelude.{◌≡◌, ◌-◌, nat_le, not};
 
 use rf2_rows::FileKind;
@@ -30,14 +30,14 @@ const STANDARD: Limits = Limits {
     bytes: 4_294_967_295,
 };
 
-// A byte limit leaves room for a byte order mark.
+// The smallest limit of bytes that a load keeps to: it leaves room for a byte order mark.
 const LEAST_BYTES: u64 = 3;
 
 impl Limits {
     ghost use Rattle.release_rows.specs.Limits.{left_behind, limits_in_force, row_limit, standard_limits};
 
-    /// The limits that a load has by itself: 4,000,000 concept rows, 20,000,000 description rows,
-    /// 20,000,000 relationship rows, 4,000,000 rows of concrete values, 20,000,000 member rows and
+    /// The limits of a load to which the caller gives none: 4,000,000 concept rows, 20,000,000 description
+    /// rows, 20,000,000 relationship rows, 4,000,000 rows of concrete values, 20,000,000 member rows and
     /// 4,294,967,295 bytes in a file.
     pub fn standard() -> Limits
         ensures { result ≡ standard_limits }
@@ -45,7 +45,8 @@ impl Limits {
         STANDARD
     }
 
-    /// The limits that a load keeps to where it is handed these.
+    /// The limits that a load keeps to if the caller gives `self`: none is above the standard one, and `bytes`
+    /// is at least 3.
     pub fn in_force(self) -> Limits
         ensures { result ≡ limits_in_force self }
     {
@@ -59,7 +60,7 @@ impl Limits {
         }
     }
 
-    /// Takes one from the rows of a kind, and tells whether there was one.
+    /// Takes one from the room for rows of `kind`. Returns whether there was room.
     pub(crate) fn take(&mut self, kind: FileKind) -> bool
         ensures room { result ≡ not (nat_le (row_limit self.old kind) 0) }
         ensures left { self.new ≡ left_behind self.old kind }
@@ -74,7 +75,7 @@ impl Limits {
     }
 }
 
-// Takes one from a count, and tells whether there was one.
+// Takes one from `count`. Returns whether it was above 0.
 fn take_one(count: &mut u64) -> bool
     ensures room { result ≡ not (nat_le count.old 0) }
     ensures left { count.new ≡ count.old - 1 }

@@ -17,13 +17,13 @@ use rf2_rows::{FileKind, file_kind};
 use row_lists::LoadFault;
 use std::alloc::Global;
 
-/// The files of some names, each of which a source reads in pieces, as places.
+/// The files called `names` as places. The source reads each of them in pieces.
 #[derive(Drop)]
 pub struct PiecePlaces<'a, S: FileSource> {
     pub alloc: Global,
     pub source: &'a mut S,
     pub names: &'a [String],
-    /// No more of a file is read than a byte past this limit.
+    /// The source reads a file up to one byte past this limit.
     pub byte_limit: u64,
 }
 
@@ -55,12 +55,10 @@ impl<'a, S: FileSource> PlaceSource for PiecePlaces<'a, S> {
     }
 }
 
-// Goes over the files of these names that have a kind, in turn, each read from the source in
-// pieces.
+// Goes over the files called `names` that have a kind, in turn, and reads each in pieces.
 //
-// A file is read as if it ended one byte past the limit: no more of it is read, and no more than
-// that is held of it beside one piece. Where the source tells its files, the places are those of
-// the files in memory, so cut.
+// Reads a file as if it ended one byte past the limit, and holds no more than that and one piece of it. If the
+// source tells its files, the places are those of the files in memory, cut at that byte.
 fn take_pieces<S: FileSource, T: PlaceTaker>(
     alloc: Global,
     source: &mut S,
@@ -92,7 +90,7 @@ fn take_pieces<S: FileSource, T: PlaceTaker>(
     Ok(())
 }
 
-// Goes over the file of a name, if it has a kind.
+// Goes over the file called `name`, if it has a kind.
 fn take_name<S: FileSource, T: PlaceTaker>(
     alloc: Global,
     file: usize,
@@ -123,7 +121,7 @@ fn take_name<S: FileSource, T: PlaceTaker>(
     }
 }
 
-// Goes over the lines of the open file, which is of a kind.
+// Goes over the lines of the open file.
 fn take_opened<S: FileSource, T: PlaceTaker>(
     alloc: Global,
     file: usize,
@@ -159,7 +157,7 @@ fn take_opened<S: FileSource, T: PlaceTaker>(
     }
 }
 
-// Goes over the lines behind the first, which are fewer than the turns.
+// Goes over the lines after the first one. There are fewer of them than `turns`.
 fn take_later<S: FileSource, T: PlaceTaker>(
     file: usize,
     kind: FileKind,
@@ -196,7 +194,7 @@ fn take_later<S: FileSource, T: PlaceTaker>(
     })
 }
 
-// What a fault of the source at a file is to a load.
+// The fault of a load if its source fails with `fault` at `file`.
 fn fault_of(file: usize, fault: SourceFault) -> LoadFault
     ensures { result ≡ fault_of file fault }
 {

@@ -11,18 +11,18 @@ use release_files::{Line, Lines, NamedBytes};
 use rf2_rows::{FileKind, file_kind};
 use row_lists::LoadFault;
 
-/// What is met in a file that has a kind.
+/// A place in a file that has a kind.
 #[derive(Clone, Copy)]
 pub enum Met<'a> {
-    /// That it has no line.
+    /// The file has no line.
     NoLine,
-    /// Its first line.
+    /// The first line of the file.
     First(Line<'a>),
-    /// A later line.
+    /// A later line of the file.
     Later(Line<'a>),
 }
 
-/// What goes over the files of a release, place by place.
+/// Takes the places of the files of a release in turn.
 pub trait PlaceTaker {
     ghost use Rattle.std.specs.Prelude.{◌≡◌, ◌≢◌, false, IfErr, OnOk};
     ghost use Rattle.release_rows.specs.Files.{Place};
@@ -30,13 +30,13 @@ pub trait PlaceTaker {
     ghost use Rattle.release_rows.specs.DeviceFaults.{FileIs, is_device};
     ghost use Rattle.row_lists.specs.declared.fault.LoadFault.{LoadFault};
 
-    /// A place was taken: what is held before and behind it.
+    /// How taking a place changes the taker: before, the place, after.
     ghost takes: { Self → Place → Self → Type 0 };
 
-    /// A place was refused by a fault.
+    /// How a place is refused with a fault.
     ghost refuses: { Self → Place → Self → LoadFault → Type 0 };
 
-    /// Takes what is met in a file, or answers why not.
+    /// Takes what is met in `file`, or answers the fault for which it is refused.
     fn take(&mut self, file: usize, kind: FileKind, met: Met<'_>) -> Result<(), LoadFault>
         ensures ok { OnOk result (takes self.old (place_of file kind met.entry) self.new) }
         ensures err { IfErr result (λ fault. fault ≢ LoadFault.Memory → refuses self.old (place_of file kind met.entry) self.new fault) }
@@ -45,7 +45,7 @@ pub trait PlaceTaker {
         ensures found { IfErr result (λ fault. fault ≢ LoadFault.NoConceptFile) };
 }
 
-/// The files of a release as places, which can be gone over more than once.
+/// The files of a release as places. One may go over them more than once.
 pub trait PlaceSource {
     ghost use Rattle.std.specs.Prelude.{◌≡◌, ◌≢◌, ◌<◌, ◌≤◌, ◌-◌, ℕ, List, Option, IfErr, IfSome, OnOk, length};
     ghost use Rattle.release_files.specs.Source.{FileText, History};
@@ -55,29 +55,29 @@ pub trait PlaceSource {
     ghost use Rattle.release_rows.specs.Pieces.{has_kind_at};
     ghost use Rattle.row_lists.specs.declared.fault.LoadFault.{LoadFault};
 
-    /// The places in turn; `None` where nothing is claimed of them.
+    /// The places in turn; `None` if the source claims nothing about them.
     ghost places: { Self → Option (List Place) };
 
-    /// The names of the files, and how many bytes of each are read at most, which stay the same.
+    /// The names of the files, and how many bytes of each are read at most. Both stay the same.
     ghost asked: { Self → AskedFiles };
 
-    /// What was done with the source that is read through.
+    /// The history of the source through which the files are read.
     ghost history: { Self → History };
 
-    /// What the files are read through, which stays the same.
+    /// The reference through which the files are read. It stays the same.
     ghost reference: { Self → ℕ };
 
-    /// What the source that is read through tells of its files, which stay the same.
+    /// The files that the source tells through which the files are read. They stay the same.
     ghost told: { Self → Option (List FileText) };
 
-    /// The place of the last file, or 0 where there is none.
+    /// The index of the last file, or 0 if there is none.
     fn last_file(&self) -> usize
         ensures { result ≡ length (asked self.now).names - 1 };
 
-    /// The seed of the hashes over what the files hold.
+    /// The seed of the hashes over the contents of the files.
     fn seed(&self) -> Seed;
 
-    /// Goes over the places in turn, from the first one on.
+    /// Goes over all places in turn and gives them to `taker`.
     fn take_places<T: PlaceTaker>(&mut self, taker: &mut T) -> Result<(), LoadFault>
         ensures ok { IfSome (places self.old) (λ known. OnOk result (TakesAll T.takes taker.old known taker.new)) }
         ensures err { FaultOf (places self.old) (λ known fault. StopsAt T.takes T.refuses taker.old known taker.new fault) result }
@@ -94,7 +94,7 @@ pub trait PlaceSource {
         ensures reference { reference self.new ≡ reference self.old };
 }
 
-/// Files in memory as places. Their seed is fixed: they are files that one trusts.
+/// Files in memory as places. Their seed is fixed, because the caller trusts them.
 #[derive(Drop)]
 pub struct MemoryPlaces<'a> {
     pub files: &'a [NamedBytes<'a>],
@@ -166,7 +166,7 @@ fn take_named<T: PlaceTaker>(
     }
 }
 
-// Goes over the lines of a file of a kind.
+// Goes over the lines of a file.
 fn take_file<T: PlaceTaker>(
     file: usize,
     kind: FileKind,
@@ -193,7 +193,7 @@ fn take_file<T: PlaceTaker>(
     }
 }
 
-// Goes over the lines behind the first.
+// Goes over the lines after the first one.
 fn take_lines<T: PlaceTaker>(
     file: usize,
     kind: FileKind,

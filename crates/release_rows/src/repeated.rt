@@ -1,4 +1,4 @@
-//! The numbers that stand in a list more than once.
+//! The numbers that occur in a list more than once.
 ghost use Rattle.std.specs.Prelude.{◌≡◌, ◌==◌, ◌≤◌, ◌+◌, ◌-◌, ◌↔◌, ℕ, Contains, IfOk, count_by, filter, length, nat_lt, not};
 ghost use Rattle.std.specs.Bool.{OnTrue};
 ghost use Rattle.std.specs.List.Sorted.{IsStrictlyIncreasing};
@@ -9,11 +9,12 @@ use crate::keys::RELATIONSHIPS;
 use crate::rising_keys::RisingKeys;
 use std::alloc::{AllocError, Global};
 
-// Where more than one key in so many is behind, all are sorted.
+// A key is late if it is not above all keys before it. If more than one in this many keys is late, all keys are
+// sorted.
 const KEYS_FOR_ONE_BEHIND: usize = 4;
 
-/// The keys that stand at least twice in a list, each once and in rising order. Takes no memory where
-/// the keys rise, so that none stands twice, and little where most of them do.
+/// Returns the keys that occur at least twice in a list, each once and in rising order. Takes no memory if the
+/// keys rise, since no key occurs twice then, and little if most of them rise.
 pub fn repeated_keys(alloc: Global, keys: &[u64]) -> Result<Vec<u64>, AllocError>
     ensures rising { IfOk result (λ repeated. IsStrictlyIncreasing repeated.items) }
     ensures members { IfOk result (λ repeated. (key : ℕ) → Contains repeated.items key ↔ (2 ≤ count_by (λ other. other == key) keys.now)) }
@@ -23,14 +24,14 @@ pub fn repeated_keys(alloc: Global, keys: &[u64]) -> Result<Vec<u64>, AllocError
         return Ok(Vec::new(alloc));
     }
     let mut repeated = again_keys(alloc, keys)?;
-    // needs no buffer, as a stable sort does
+    // an unstable sort needs no buffer
     repeated.sort_unstable();
     repeated.dedup();
     Ok(repeated)
 }
 
-// The keys that stand at least twice in a list, in any order and as often as may be. Where the keys
-// stand in no order, one part of them is sorted behind the other, so that never all are copied at once.
+// Returns the keys that occur at least twice in a list, in any order and any number of times. If many keys are
+// late, sorts the keys of relationships after the others, so that it never copies all keys at once.
 fn again_keys(alloc: Global, keys: &[u64]) -> Result<Vec<u64>, AllocError>
     ensures members { IfOk result (λ again. (key : ℕ) → (1 ≤ count_by (λ other. other == key) again.items) ↔ (2 ≤ count_by (λ other. other == key) keys.now)) }
     ensures few { IfOk result (λ again. length again.items ≤ length keys.now) }
@@ -48,7 +49,7 @@ fn again_keys(alloc: Global, keys: &[u64]) -> Result<Vec<u64>, AllocError>
     Ok(again)
 }
 
-// Of some keys, each once less than it stands among them.
+// Returns each of `keys` once less than it occurs among them.
 fn sorted_neighbours(alloc: Global, mut keys: Vec<u64>) -> Result<Vec<u64>, AllocError>
     ensures times { IfOk result (λ again. (key : ℕ) → count_by (λ other. other == key) again.items ≡ count_by (λ other. other == key) keys.items - 1) }
     ensures few { IfOk result (λ again. length again.items ≤ length keys.items) }
@@ -58,7 +59,7 @@ fn sorted_neighbours(alloc: Global, mut keys: Vec<u64>) -> Result<Vec<u64>, Allo
     Ok(again)
 }
 
-// The keys of a list below a bound.
+// The keys below `bound`.
 fn keys_below(alloc: Global, keys: &[u64], bound: u64) -> Result<Vec<u64>, AllocError>
     ensures { IfOk result (λ below. below.items ≡ filter (λ key. nat_lt key bound) keys.now) }
 {
@@ -71,7 +72,7 @@ fn keys_below(alloc: Global, keys: &[u64], bound: u64) -> Result<Vec<u64>, Alloc
     Ok(below)
 }
 
-// The others.
+// The keys at or above `bound`.
 fn keys_from(alloc: Global, keys: &[u64], bound: u64) -> Result<Vec<u64>, AllocError>
     ensures { IfOk result (λ others. others.items ≡ filter (λ key. not (nat_lt key bound)) keys.now) }
 {
@@ -91,7 +92,8 @@ fn rises(keys: &[u64]) -> bool
     keys.is_sorted_by(|one, other| *one < *other)
 }
 
-// Keys of a list, among which those stand twice that do in the list: all that equal one that is behind.
+// Returns keys of a list, among which exactly those occur twice that do in the list: all keys that equal a late
+// one.
 fn doubtful_keys(alloc: Global, keys: &[u64]) -> Result<Vec<u64>, AllocError>
     ensures twice { IfOk result (λ doubtful. (key : ℕ) → (2 ≤ count_by (λ other. other == key) doubtful.items) ↔ (2 ≤ count_by (λ other. other == key) keys.now)) }
     ensures few { IfOk result (λ doubtful. length doubtful.items ≤ length keys.now) }
@@ -103,7 +105,7 @@ fn doubtful_keys(alloc: Global, keys: &[u64]) -> Result<Vec<u64>, AllocError>
     Ok(doubtful)
 }
 
-// Whether few keys are behind: not above all before them.
+// Whether few keys are late: not above all keys before them.
 fn few_are_behind(keys: &[u64]) -> bool {
     let mut left = keys.len() / KEYS_FOR_ONE_BEHIND;
     let mut highest = 0;
@@ -119,7 +121,8 @@ fn few_are_behind(keys: &[u64]) -> bool {
     true
 }
 
-// The keys that are behind: of equal ones all but the first at least, since none is above itself.
+// The late keys: not above all keys before them. All equal keys but the first are late, since no key is above
+// itself.
 fn keys_behind(alloc: Global, keys: &[u64]) -> Result<Vec<u64>, AllocError>
     ensures { IfOk result (λ behind. (key : ℕ) → count_by (λ other. other == key) keys.now ≤ 1 + count_by (λ other. other == key) behind.items) }
 {
@@ -135,7 +138,7 @@ fn keys_behind(alloc: Global, keys: &[u64]) -> Result<Vec<u64>, AllocError>
     Ok(behind)
 }
 
-// The keys that are among others.
+// The keys that are in `others`.
 fn keys_among(alloc: Global, keys: &[u64], mut others: RisingKeys) -> Result<Vec<u64>, AllocError>
     ensures { IfOk result (λ among. among.items ≡ filter (has others) keys.now) }
 {
@@ -148,7 +151,7 @@ fn keys_among(alloc: Global, keys: &[u64], mut others: RisingKeys) -> Result<Vec
     Ok(among)
 }
 
-// Each key that the one before it equals.
+// The keys that equal the one before them.
 #[tactic(auto, using(crate::proofs::NeighbourLemmas::neighbours_by_one))]
 fn equal_neighbours(alloc: Global, sorted: &[u64]) -> Result<Vec<u64>, AllocError>
     ensures { IfOk result (λ repeated. repeated.items ≡ equal_neighbours sorted.now) }

@@ -1,4 +1,4 @@
-//! Looking up one key after another in a rising list that has few of them.
+//! Looking up one key after another in a short rising list.
 ghost use Rattle.std.specs.Prelude.{◌≡◌, false, true};
 ghost use Rattle.std.specs.List.Sorted.{IsStrictlyIncreasing};
 ghost use Rattle.number_lists.specs.Members.{has};
@@ -9,8 +9,8 @@ use std::marker::Model;
 #[derive(Drop)]
 pub struct RisingKeys {
     keys: Vec<u64>,
-    // the place behind the key that was found last, or where one that was not would stand: the next
-    // key that is not among them mostly stands there too
+    // the index after the key that was found last, or the index at which a key that was not found would stand;
+    // the next missing key mostly would stand there as well
     near: usize,
 }
 
@@ -26,7 +26,7 @@ impl Model for RisingKeys {
 }
 
 impl RisingKeys {
-    /// The keys of a rising list.
+    /// Takes a rising list of keys.
     pub fn new(keys: Vec<u64>) -> RisingKeys
         requires { IsStrictlyIncreasing keys.items }
         ensures { result ≡ keys.items }
@@ -34,7 +34,7 @@ impl RisingKeys {
         RisingKeys { keys, near: 0 }
     }
 
-    /// Whether a key is among them.
+    /// Whether `key` is in the list.
     pub fn has(&mut self, key: u64) -> bool
         ensures has { result ≡ has self.old key }
         ensures same { self.new ≡ self.old }
@@ -54,14 +54,14 @@ impl RisingKeys {
         }
     }
 
-    /// The keys.
+    /// The keys as a slice.
     pub fn as_slice(&self) -> &[u64]
         ensures { result.now ≡ self.now }
     {
         self.keys.as_slice()
     }
 
-    /// The list of the keys.
+    /// The keys as the list that was given.
     pub fn into_keys(self) -> Vec<u64>
         ensures { result.items ≡ self }
     {
@@ -69,7 +69,7 @@ impl RisingKeys {
     }
 }
 
-// Whether a key lies between the one before a place in a rising list and the one at it.
+// Whether `key` is above the key before `place` and below the one at `place`.
 fn is_between(rising: &[u64], place: usize, key: u64) -> bool
     requires { IsStrictlyIncreasing rising.now }
     ensures { result ≡ true → has rising.now key ≡ false }

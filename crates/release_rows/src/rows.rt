@@ -1,4 +1,4 @@
-//! The rows of files as they are read, one place after another.
+//! The rows of files as the first pass reads them, place by place.
 ghost use Rattle.std.specs.Prelude.{◌≡◌, ◌≢◌, ◌++◌, [], IfErr, IfOk, None, OnOk, Some, false};
 ghost use Rattle.release_files.specs.Lines.{line_text};
 ghost use Rattle.rf2_rows.specs.RowTexts.{text_in};
@@ -17,21 +17,21 @@ use rf2_rows::{FileKind, Row, RowReader, header};
 use row_lists::{LoadFault, RowLists};
 use std::alloc::Global;
 
-/// What is kept of the rows read so far.
+/// The keys and lists of the rows that a load has read so far.
 #[derive(Drop)]
 pub struct Rows {
-    // what reads the lines as rows
+    // reads the lines as rows
     reader: RowReader,
     /// The keys of the rows.
     pub keys: RowKeys,
     // how many rows of each kind may still come, and the limit of bytes
     left: Limits,
-    /// What the rows are made of.
+    /// The lists made of the rows.
     pub lists: RowLists,
 }
 
 impl Rows {
-    /// No row, where so many may come. UUIDs are hashed over `seed`.
+    /// Begins a load that may read as many rows as `limits` says. Hashes UUIDs over `seed`.
     pub fn new(alloc: Global, limits: Limits, seed: Seed) -> Rows
         ensures { kept_in result ≡ nothing_kept limits }
     {
@@ -43,7 +43,7 @@ impl Rows {
         }
     }
 
-    // Reads a line behind the header.
+    // Reads a line after the header.
     fn read_line(&mut self, file: usize, kind: FileKind, line: Line<'_>) -> Result<(), LoadFault>
         ensures ok { OnOk result (IsRead (kept_in self.old) (later_line file kind (line_text line.entry)) (kept_in self.new)) }
         ensures err { IfErr result (λ fault. fault ≢ LoadFault.Memory → IsStopped (kept_in self.old) (later_line file kind (line_text line.entry)) (kept_in self.new) fault) }
@@ -58,7 +58,7 @@ impl Rows {
         if line.bytes.is_empty() {
             return Ok(());
         }
-        // the row is lent where it was read, and not copied
+        // the row borrows from the reader instead of being copied
         match &self.reader.read_row(kind, line.bytes) {
             Ok(row) => self.add(file, number, kind, row),
             Err(fault) => Err(LoadFault::Row {
@@ -69,7 +69,7 @@ impl Rows {
         }
     }
 
-    // Keeps a row of a kind, if one more may come.
+    // Keeps a row of `kind`, if one more may come.
     fn add(
         &mut self,
         file: usize,
@@ -109,7 +109,7 @@ impl PlaceTaker for Rows {
     }
 }
 
-// The header comes first, and within the limit of bytes.
+// Checks that the first line is the header of the kind and ends within the limit of bytes.
 fn check_header(
     file: usize,
     kind: FileKind,

@@ -1,4 +1,5 @@
-//! The versions of components that have several rows: which of their rows conflict, and which is chosen.
+//! The versions of components that have several rows: which rows conflict, and which row of each component is
+//! chosen.
 ghost use Rattle.std.specs.Prelude.{◌≡◌, ◌<◌, ◌≤◌, ◌+◌, ◌/◌, ◌^◌, ◌&&◌, ◌++◌, ◌∷◌, [], ℕ, List, All, IfOk, OnOk, OnErr, MatchOption, None, true, false, not, length, map, nat_eq, nat_lt, slice_index, slice_index_or};
 ghost use Rattle.std.specs.Option.{ForSome};
 ghost use Rattle.std.specs.List.{list_any};
@@ -16,10 +17,10 @@ use row_lists::{Span, push_bytes};
 use std::alloc::{AllocError, Global};
 use std::marker::Model;
 
-// The code of no effective time, which is above all times of eight digits.
+// The code of a row without an effective time, which is above all times of eight digits.
 const NO_TIME: u32 = 100_000_000;
 
-// How many codes each key has: more than there are times.
+// The number of codes for each key, which is more than there are times.
 const CODES: u64 = 1 << 32;
 
 /// A row of a component: the key of the component, the effective time, the kind and the line.
@@ -31,8 +32,8 @@ pub struct NotedRow<'a> {
     pub text: &'a [u8],
 }
 
-// A version: its code, and of its first row the place among all rows, the kind, and where its line
-// stands in the buffer.
+// A version: its code, the index of its first row among all rows, the kind of that row, and the place of its
+// line in the buffer.
 #[derive(Clone, Copy)]
 struct VersionRow {
     code: u64,
@@ -41,11 +42,11 @@ struct VersionRow {
     line: Span,
 }
 
-// Versions in the order in which they were first seen. Contracts see the list of them.
+// Versions in the order in which they were first met. Contracts see the list of them.
 #[derive(Drop)]
 struct VersionRows {
     rows: Vec<VersionRow>,
-    // the line of each version's first row, one behind the other
+    // the line of each version's first row, one after another
     lines: Vec<u8>,
 }
 
@@ -72,14 +73,14 @@ impl VersionRows {
         }
     }
 
-    // How many versions there are.
+    // The number of versions.
     fn len(&self) -> usize
         ensures { result ≡ length self.now }
     {
         self.rows.len()
     }
 
-    // Adds a version by its first row.
+    // Adds a version with its first row.
     fn push(
         &mut self,
         code: u64,
@@ -101,7 +102,7 @@ impl VersionRows {
         Ok(())
     }
 
-    // The code of a version by its number, and the place of its first row.
+    // The code of the version at index `number`, and the index of its first row.
     fn code_and_place(&self, number: usize) -> (u64, usize)
         requires { number < length self.now }
         ensures code { (default : Version) → result.0 ≡ (slice_index_or self.now number default).code }
@@ -111,7 +112,7 @@ impl VersionRows {
         (row.code, row.place)
     }
 
-    // Whether a line is the same row as the first one of a version by its number, if that is of its kind.
+    // Whether `text` is the same row as the first one of the version at index `number`, if that is of `kind`.
     fn agrees(&self, number: usize, kind: FileKind, text: &[u8]) -> bool
         requires number { number < length self.now }
         requires accepted { row_fault kind text.now ≡ None }
@@ -123,17 +124,17 @@ impl VersionRows {
     }
 }
 
-/// The rows of a release, taken one after another, of which those of components that have several rows
-/// are compared. Once memory was refused, nothing is known of the rows taken any more.
+/// Takes the rows of a release in turn, and compares those of components that have several. Once memory has
+/// been refused, this says nothing about the rows taken.
 #[derive(Drop)]
 pub struct Versions {
     // the keys of the components that have several rows
     repeated: RisingKeys,
-    // the codes of the versions, to find a version's number by its code
+    // the codes of the versions, to find the index of a version by its code
     seen: FirstMet,
-    // the versions in the order in which they were first seen
+    // the versions in the order in which they were first met
     versions: VersionRows,
-    // for each row so far whether it is the first of its version
+    // for each row so far, whether it is the first of its version
     chosen: Vec<bool>,
 }
 
@@ -153,7 +154,8 @@ impl Versions {
     ghost use Rattle.release_rows.specs.inside.VersionTable.{HasTaken};
     ghost use Rattle.release_rows.specs.inside.VersionsInside.{noted};
 
-    /// No row. The keys of the components that have several rows are given. Codes are hashed over `seed`.
+    /// Creates an empty table. `repeated` holds the keys of components with several rows. Hashes codes over
+    /// `seed`.
     pub fn new(alloc: Global, repeated: Vec<u64>, seed: Seed) -> Versions
         requires rising { IsStrictlyIncreasing repeated.items }
         requires few { length repeated.items < 2 ^ 32 }
@@ -168,7 +170,7 @@ impl Versions {
         }
     }
 
-    /// Whether a key is that of a component that has several rows.
+    /// Whether `key` is that of a component with several rows.
     pub fn is_repeated(&mut self, key: u64) -> bool
         ensures repeated { result ≡ has self.old.repeated key }
         ensures same { self.new ≡ self.old }
@@ -186,8 +188,8 @@ impl Versions {
         Ok(())
     }
 
-    /// Takes a row, unless it differs from an earlier one of its component and time, which is answered by
-    /// `false`. Of a key that is not repeated no two rows are compared.
+    /// Takes a row. Answers `false` if it differs from an earlier row of its component and time. Compares no
+    /// rows whose key is not repeated.
     pub fn take(&mut self, row: &NotedRow<'_>) -> Result<bool, AllocError>
         requires accepted { row_fault row.now.kind row.now.text.now ≡ None }
         requires time { ForSome row.now.time (λ time. time < 10 ^ 8) }
@@ -209,7 +211,7 @@ impl Versions {
         }
     }
 
-    // Takes a row whose version has a code.
+    // Takes a row whose version has `code`.
     fn take_version(&mut self, code: u64, row: &NotedRow<'_>) -> Result<bool, AllocError>
         requires accepted { row_fault row.now.kind row.now.text.now ≡ None }
         requires code { IsCodeOf self.old.repeated (noted row.now) code }
@@ -249,8 +251,8 @@ impl Versions {
         Ok(())
     }
 
-    /// Of each row taken whether it is chosen: it has the latest time of its component, and of equal rows it
-    /// is the first.
+    /// For each row taken, whether it is chosen: it has the latest time of its component, and is the first of
+    /// equal rows.
     pub fn chosen(self) -> Vec<bool>
         ensures { (rows : List KeyedRow) → HasTaken self rows → Covers self.repeated (map (λ (row : KeyedRow). row.key) rows)
             → result.items ≡ choices rows [] rows }
@@ -268,8 +270,8 @@ impl Versions {
     }
 }
 
-// The code of the version of a key and a time: the place of the key among the repeated ones, and behind it
-// the time. `None` where the key is not repeated.
+// The code of the version of `key` and `time`: the index of the key among the repeated ones, times 2^32, plus
+// the time. `None` if the key is not repeated.
 fn code_of(repeated: &[u64], key: u64, time: Option<u32>) -> Option<u64>
     requires rising { IsStrictlyIncreasing repeated.now }
     requires few { length repeated.now < 2 ^ 32 }
@@ -282,14 +284,14 @@ fn code_of(repeated: &[u64], key: u64, time: Option<u32>) -> Option<u64>
     }
 }
 
-// The place of a version's key among the repeated ones.
+// The index of a version's key among the repeated ones.
 fn key_place(code: u64) -> usize
     ensures { result ≡ code / 2 ^ 32 }
 {
     (code / CODES) as usize
 }
 
-// Puts in the place of each key the greatest code of its versions.
+// Puts the greatest code of the versions of each key at the index of the key.
 fn find_latest(latest: &mut Vec<u64>, versions: &VersionRows)
     requires { All (λ (version : Version). version.code / 2 ^ 32 < length latest.old.items) versions.now }
     ensures len { length latest.new.items ≡ length latest.old.items }
@@ -306,7 +308,7 @@ fn find_latest(latest: &mut Vec<u64>, versions: &VersionRows)
     }
 }
 
-// Leaves of the first rows of versions those of the latest ones.
+// Clears the marks of the first rows of versions that are not the latest of their component.
 fn leave_latest(chosen: &mut Vec<bool>, latest: &[u64], versions: &VersionRows)
     requires keys { All (λ (version : Version). version.code / 2 ^ 32 < length latest.now) versions.now }
     requires places { All (λ (version : Version). version.place < length chosen.old.items) versions.now }

@@ -1,4 +1,4 @@
--- The hierarchy of a release has its lists for each concept.
+-- The hierarchy of a release has a list of each family for each concept.
 use Rattle.std.proofs.Common.{ℕ, ◌≡◌, ◌<◌, Bool, length, get_or, subst, sym, arith}
 use Rattle.hierarchy.specs.Hierarchy.{reaches}
 use Rattle.rf2_rows.specs.Release.{Release}
@@ -7,11 +7,16 @@ use Rattle.ancestor_index.proofs.ClosureLemmas.{length-where}
 
 -- a concept has a list in each of the four families
 pub record HasLists (index : Hierarchy) (concept : ℕ) : Type 0 where
+  -- there is a list of ancestors for the concept
   pub ancestors : concept < length index.ancestors
+  -- there is a list of descendants for the concept
   pub descendants : concept < length index.descendants
+  -- there is a list of parents for the concept
   pub parents : concept < length index.parents
+  -- there is a list of children for the concept
   pub children : concept < length index.children
 
+-- a concept number of a release has a list in each family of its hierarchy
 pub concept_has_lists : (release : Release) (index : Hierarchy) (concept : ℕ) → index ≡ hierarchy_of release
     → concept < length release.concepts → HasLists index concept
 concept_has_lists release index concept is below =
@@ -25,5 +30,6 @@ concept_has_lists release index concept is below =
     id : ℕ → ℕ
     id n = get_or release.concepts n 0
 
+    -- a concept number has a list among the lists by a test
     listed : (test : ℕ → ℕ → Bool) → concept < length (lists_where (length release.concepts) test)
     listed test = omega (arith, below, length-where (length release.concepts) test)

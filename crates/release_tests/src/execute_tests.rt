@@ -1,4 +1,5 @@
-//! Queries over the sample release and over a chain, executed in each form of set, whichever way their leaves are answered.
+//! Tests of queries over the sample release and over a chain, executed in each form of set and with each choice of
+//! leaves.
 ghost use Rattle.postings.specs.Indexed.{IsIndexOf};
 
 use crate::load_tests::{chain_of, files_of, sample};
@@ -15,12 +16,13 @@ use std::alloc::{AllocError, Global};
 use std::process::Abort;
 use std::test::Fail;
 
-// A query line; the numbers of the concepts that answer it: A 0, B 1, C 2, D 3, T 4, U 5, X 6, Y 7, Q 8 and Root 9; and, where
-// that is worked out, how many items are visited where its leaves are answered by value, by type and by a scan. A leaf that
+// A query line; the numbers of the concepts that answer it: A 0, B 1, C 2, D 3, T 4, U 5, X 6, Y 7, Q 8 and Root 9;
+// and, if worked out, the number of visits if the leaves are answered by value, by type and by a scan. A leaf that
 // can't be answered by value is answered by type then.
 //
-// The items are added up by hand from the lists. Of `<100005:104001=106004` by value: one value and its two rows, 3; the two
-// concepts that are found, once more, 2; A and the three below it, 4; and the two that are left, once more, 2.
+// The visits are added up by hand from the lists. For `<100005:104001=106004` by value they are: one value and its
+// two rows, 3; the two concepts found, once more, 2; A and the three concepts below it, 4; and the two concepts
+// left, once more, 2.
 type Row<'a> = (&'a [u8], &'a [u32], &'a [u64]);
 
 const ROWS: [Row<'static>; 45] = [
@@ -78,15 +80,15 @@ const ROWS: [Row<'static>; 45] = [
 // How many concepts are in the chain.
 const CHAIN: u32 = 300;
 
-// What is asked for of the leaves of a plan.
+// The choices that are asked for, for the leaves of a plan.
 const ASKED: [[Choice; 2]; 3] = [
     [Choice::ByValue, Choice::ByValue],
     [Choice::ByType, Choice::ByType],
     [Choice::Scan, Choice::Scan],
 ];
 
-// Whether a plan gives a set that has just some numbers, and counts no less than its floor and no more than its bound, and, where
-// that is told, exactly so many items.
+// Whether a plan finds exactly the numbers `want`, with visits between its floor and its bound, and with `exactly`
+// visits if that is given.
 fn is_found<S: ConceptSet>(
     alloc: Global,
     snapshot: &Snapshot,
@@ -107,7 +109,7 @@ fn is_found<S: ConceptSet>(
     Ok(counted && found.items(alloc)?.as_slice() == want)
 }
 
-// Whether a plan gives just the concepts with some numbers, in each form of set.
+// Whether a plan finds exactly the numbers `want`, in each form of set.
 fn is_executed(
     alloc: Global,
     snapshot: &Snapshot,
@@ -125,8 +127,8 @@ fn is_executed(
     )
 }
 
-// The same under choices. What owns much is handed on and dropped here and below: a function that owns it and has several
-// ends is dear to prove.
+// Whether a plan with the asked choices finds exactly the numbers `want`, in each form of set. Here and below, a
+// value that owns much is passed on and dropped: a function that owns it and has several exits is slow to prove.
 fn is_chosen_and_drop(
     alloc: Global,
     snapshot: &Snapshot,
@@ -148,7 +150,7 @@ fn is_chosen_and_drop(
     }
 }
 
-// The same whichever way the leaves are answered.
+// Whether a plan finds the concepts of a row with each choice of its leaves.
 fn is_found_in_each_way(
     alloc: Global,
     snapshot: &Snapshot,
@@ -226,12 +228,12 @@ fn assert_executed(
 {
     match parse(alloc, row.0) {
         Ok(constraint) => assert_answered(rt, alloc, snapshot, indexes, constraint, row),
-        // no constraint, or there was no memory to read it
+        // the text is no constraint, or memory to read it was refused
         Err(_) => Err(AllocError),
     }
 }
 
-// Queries over a release and its indexes.
+// Checks queries over a release and its indexes.
 fn assert_rows_by(
     rt: &impl Abort,
     alloc: Global,
@@ -247,7 +249,7 @@ fn assert_rows_by(
     Ok(())
 }
 
-// Queries over a loaded release.
+// Checks queries over a loaded release.
 fn assert_rows(
     rt: &impl Abort,
     alloc: Global,
@@ -274,7 +276,7 @@ fn assert_rows_and_drop(
     done
 }
 
-// Queries over a release.
+// Checks queries over the release of files.
 fn assert_all_executed(
     rt: &impl Abort,
     alloc: Global,
@@ -298,7 +300,7 @@ fn assert_snapshot_and_drop(
     done
 }
 
-// Looks at whether a release that loads was refused for want of memory.
+// Checks that a release which loads was refused only for want of memory.
 fn memory_alone(rt: &impl Abort, fault: LoadFault) -> Result<(), AllocError> {
     assert!(rt; fault == LoadFault::Memory, "the release loads");
     Err(AllocError)
@@ -330,7 +332,7 @@ fn assert_chain(rt: &impl Abort, alloc: Global) -> Result<(), AllocError> {
     assert_all_executed(rt, alloc, &files, &wants)
 }
 
-// Long lists, which are kept as words and joined before the short ones.
+// The lists of a chain are long: they are kept as words, and joined before the short ones.
 #[test]
 fn executes_over_a_chain(rt: HostRuntime) -> Result<(), Fail> {
     assert_chain(&rt, rt.alloc())?;

@@ -1,4 +1,4 @@
-//! The hierarchies of the sample release and of releases made for a test.
+//! Tests of the hierarchies of the sample release and of releases made for a test.
 ghost use Rattle.std.specs.Prelude.{◌≡◌};
 ghost use Rattle.ancestor_index.specs.HierarchyLists.{hierarchy_of};
 
@@ -13,7 +13,8 @@ use std::test::Fail;
 // The ancestors, the descendants, the parents and the children of a concept.
 type Around<'a> = [&'a [u32]; 4];
 
-// Of each concept of the sample release, by their numbers: A, B, C, D, T, U, X, Y, Q and Root.
+// For each concept of the sample release, the concepts around it. The numbers are those of A, B, C, D, T, U, X, Y, Q
+// and Root.
 const SAMPLE: [Around<'static>; 10] = [
     [&[9], &[1, 2, 3], &[9], &[1, 2]],
     [&[0, 9], &[3], &[0], &[3]],
@@ -27,14 +28,14 @@ const SAMPLE: [Around<'static>; 10] = [
     [&[], &[0, 1, 2, 3, 4, 5, 6, 7, 8], &[], &[0, 4, 5, 6, 8]],
 ];
 
-// How many concepts are in the chain: their lists have 204,480 ancestors.
+// How many concepts are in the chain. Their lists have 204,480 ancestors.
 const CHAIN: u32 = 640;
 
-// A row that says once more that D is a B, before the last row.
+// A row that repeats that D is a B. It is put before the last row.
 const D_IS_B: &[u8] =
     b"122026\t20240101\t1\t900000000000207008\t103007\t101009\t0\t116680003\t900000000000011006\t900000000000451002\r\n121022\t";
 
-// Whether a hierarchy has this of a concept.
+// Whether a hierarchy has the wanted concepts around a concept.
 fn is_around(snapshot: &Snapshot, index: &AncestorIndex, concept: u32, want: &Around<'_>) -> bool
     requires { index.now ≡ hierarchy_of snapshot.now.release }
 {
@@ -45,7 +46,7 @@ fn is_around(snapshot: &Snapshot, index: &AncestorIndex, concept: u32, want: &Ar
         && index.children(concept) == want[3]
 }
 
-// Whether the descendants of a concept are kept as words where it is so wanted, and these are they.
+// Whether the descendants of a concept are kept as words exactly if `is_wide`, and the words are right.
 fn has_words(snapshot: &Snapshot, index: &AncestorIndex, concept: u32, is_wide: bool) -> bool
     requires { index.now ≡ hierarchy_of snapshot.now.release }
 {
@@ -60,12 +61,12 @@ fn has_words(snapshot: &Snapshot, index: &AncestorIndex, concept: u32, is_wide: 
     }
 }
 
-// Whether words have the bits of just some numbers, of those below a count.
+// Whether, below `count`, exactly the bits of `numbers` are set.
 fn are_words_of(words: &[u64], numbers: &[u32], count: u32) -> bool {
     (0..count).all(|number| is_set(words, number) == numbers.contains(&number))
 }
 
-// Whether the bit of a number is set: the words have 64 each, the lowest first.
+// Whether the bit of a number is set. Each word has 64 bits, the lowest first.
 fn is_set(words: &[u64], number: u32) -> bool {
     match words.get((number / 64) as usize) {
         Some(word) => (*word >> (number % 64)) & 1 == 1,
@@ -73,7 +74,7 @@ fn is_set(words: &[u64], number: u32) -> bool {
     }
 }
 
-// Whether each number below a count stands once in an order, and each parent before its child.
+// Whether each number below `count` stands once in an order, and each parent before its child.
 pub fn is_parents_first(order: &[u32], count: u32, rows: &[(u32, u32)]) -> bool {
     order.len() == count as usize
         && (0..count).all(|concept| order.contains(&concept))
@@ -84,7 +85,7 @@ pub fn is_parents_first(order: &[u32], count: u32, rows: &[(u32, u32)]) -> bool 
         })
 }
 
-// Looks at what a hierarchy has of each concept. Lists of more than a 32nd of all concepts are kept as words.
+// Checks the lists of each concept in a hierarchy. Lists of more than a 32nd of all concepts are kept as words.
 fn assert_lists(rt: &impl Abort, snapshot: &Snapshot, index: &AncestorIndex, wants: &[Around<'_>])
     requires { index.now ≡ hierarchy_of snapshot.now.release }
 {
@@ -97,7 +98,7 @@ fn assert_lists(rt: &impl Abort, snapshot: &Snapshot, index: &AncestorIndex, wan
     }
 }
 
-// Looks at the hierarchy of a release.
+// Checks the hierarchy of a release.
 fn assert_index(
     rt: &impl Abort,
     alloc: Global,
@@ -125,7 +126,7 @@ fn assert_lists_and_drop(
     drop(index);
 }
 
-// Looks at the order of a release of so many is-a rows and concepts.
+// Checks the order of a release with `rows` is-a rows and `concepts` concepts.
 fn assert_order(rt: &impl Abort, snapshot: &Snapshot, rows: usize, concepts: usize) {
     assert_eq!(rt; snapshot.isa_rows().len(), rows);
     assert_eq!(rt; snapshot.concept_count() as usize, concepts);
@@ -138,7 +139,7 @@ fn assert_order(rt: &impl Abort, snapshot: &Snapshot, rows: usize, concepts: usi
     );
 }
 
-// Looks at a release of so many is-a rows, whose hierarchy is as wanted of each concept.
+// Checks a release with `rows` is-a rows and its hierarchy.
 fn assert_hierarchy(
     rt: &impl Abort,
     alloc: Global,
@@ -152,7 +153,7 @@ fn assert_hierarchy(
     }
 }
 
-// Looks at a release and drops it: a function that owns one and has several ends is dear to prove.
+// Checks a release and drops it. A function that owns a release and has several exits is slow to prove.
 fn assert_order_and_index(
     rt: &impl Abort,
     alloc: Global,
@@ -171,7 +172,7 @@ fn lists_the_sample_hierarchy(rt: HostRuntime) -> Result<(), LoadFault> {
     assert_hierarchy(&rt, rt.alloc(), &sample(), 10, &SAMPLE)
 }
 
-// A row that repeats another row's ends is one more row, and changes no list.
+// A row with the ends of another row counts as one row more, and changes no list.
 #[test]
 fn lists_a_repeated_row_once(rt: HostRuntime) -> Result<(), Fail> {
     let rows = sample()[RELATIONSHIPS].bytes;
@@ -181,7 +182,7 @@ fn lists_a_repeated_row_once(rt: HostRuntime) -> Result<(), Fail> {
     Ok(())
 }
 
-// In a chain each concept has all before it as ancestors and all behind it as descendants.
+// In a chain each concept has all concepts before it as ancestors and all after it as descendants.
 #[test]
 fn lists_a_chain(rt: HostRuntime) -> Result<(), Fail> {
     let alloc = rt.alloc();
@@ -193,7 +194,7 @@ fn lists_a_chain(rt: HostRuntime) -> Result<(), Fail> {
     Ok(())
 }
 
-// What stands around each of some numbers in a chain of them.
+// Returns the concepts around each of `numbers`, which are a chain.
 fn arounds_in_a_chain<'a>(
     alloc: Global,
     numbers: &'a [u32],

@@ -1,4 +1,5 @@
-//! Lists by a key, orders with parents first and cycles, of the is-a rows of the sample release and of a ring.
+//! Tests of lists by a key, orders with parents first and cycles, for the is-a rows of the sample release and for a
+//! ring.
 ghost use Rattle.std.specs.Prelude.{◌<◌, ◌^◌, length};
 ghost use Rattle.hierarchy.specs.Hierarchy.{IsWithin};
 ghost use Rattle.number_lists.specs.KeyedLists.{AreItemsBelow, AreKeysBelow, lists_by, turned as turned_of};
@@ -29,7 +30,7 @@ const ROWS: [(u32, u32); 10] = [
 // A ring of three, below a concept and above another.
 const RING: [(u32, u32); 5] = [(1, 0), (1, 2), (2, 3), (3, 1), (4, 3)];
 
-// Whether there are just these lists, one for each key.
+// Whether the lists are exactly these, one for each key.
 fn are_lists(lists: &KeyedLists, wants: &[&[u32]]) -> bool
     requires { length lists.now < 2 ^ 32 }
 {
@@ -39,7 +40,7 @@ fn are_lists(lists: &KeyedLists, wants: &[&[u32]]) -> bool
             .all(|(key, want)| key < lists.len() && lists.of(key) == *want)
 }
 
-// Whether the lists of pairs, and those turned round, are these.
+// Whether the lists of pairs, and the transposed lists, are these.
 fn are_listed(
     alloc: Global,
     count: u32,
@@ -66,7 +67,7 @@ fn lists_pairs_by_key(rt: HostRuntime) -> Result<(), Fail> {
     Ok(())
 }
 
-// Three lists, one behind the other.
+// Makes three lists, one after another.
 fn pushed(alloc: Global) -> Result<KeyedLists, PushFault> {
     KeyedLists::with_capacity(alloc, 3, 3)?
         .push(&[5, 1])?
@@ -74,7 +75,7 @@ fn pushed(alloc: Global) -> Result<KeyedLists, PushFault> {
         .push(&[7])
 }
 
-// Whether the three lists lie one behind the other.
+// Whether the three lists stand one after another.
 fn are_pushed(alloc: Global) -> Result<bool, PushFault> {
     let lists = pushed(alloc)?;
     Ok(lists.flat() == [5, 1, 7].as_slice() && lists.item_count() == 3)
@@ -86,7 +87,7 @@ fn pushes_lists(rt: HostRuntime) -> Result<(), Fail> {
     Ok(())
 }
 
-// Whether rows have an order with parents first, and the least concept that reaches itself.
+// Returns whether rows have an order with parents first, and the least concept that reaches itself.
 fn ordered(
     alloc: Global,
     rows: &[(u32, u32)],

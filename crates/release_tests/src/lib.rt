@@ -1,8 +1,7 @@
-//! Tests of a loaded release, from outside: what is loaded and refused, the hierarchy, the indexes, sets, what
-//! plans give, and what is printed.
+//! Tests of a loaded release, from outside: what is loaded and refused, the hierarchy, the indexes, sets, what plans
+//! find, and what is printed.
 //!
-//! They stand in a crate of their own, so that the crates that they look at are not proved once more with
-//! them.
+//! They stand in a crate of their own, so that the tested crates are not proved once more with them.
 #![tactic(auto)]
 
 #[cfg(test)]

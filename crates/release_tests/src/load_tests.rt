@@ -1,4 +1,4 @@
-//! Loads of the sample release with one thing changed, and of releases made for a test.
+//! Tests of loads of the sample release with one thing changed, and of releases made for a test.
 use arrayvec::ArrayVec;
 use bstr::ByteSlice;
 use release_files::NamedBytes;
@@ -20,7 +20,7 @@ const DESCRIPTIONS: usize = 2;
 
 const CONCRETE_VALUES: usize = 3;
 
-/// The place of the relationships.
+/// The place of the relationships in the list of the sample's files.
 pub const RELATIONSHIPS: usize = 4;
 
 /// The name of the sample's concept file.
@@ -38,12 +38,12 @@ const RELATIONSHIP_HEADER: &[u8] =
 
 const ISA_REST: &[u8] = b"\t0\t116680003\t900000000000011006\t900000000000451002\r\n";
 
-/// The files of the sample release, of which nothing is known beforehand.
+/// Returns the files of the sample release, without a contract about their bytes.
 pub fn sample() -> [NamedBytes<'static>; 5] {
     sample_files()
 }
 
-/// The bytes with the first `from` in them replaced.
+/// Returns the bytes with the first `from` in them replaced.
 pub fn replaced(
     alloc: Global,
     bytes: &[u8],
@@ -62,7 +62,7 @@ pub fn replaced(
     Ok(changed)
 }
 
-/// The sample's files, with other bytes for the one at a place.
+/// Returns the sample's files, with other bytes for the file at a place.
 pub fn sample_with(
     alloc: Global,
     place: usize,
@@ -79,12 +79,12 @@ pub fn sample_with(
     Ok(files)
 }
 
-// The fault of a load, if it has one.
+// Returns the fault of a load, if it has one.
 fn fault_of(alloc: Global, files: &[NamedBytes<'_>], limits: Limits) -> Option<LoadFault> {
     Snapshot::load(alloc, files, "en", limits).err()
 }
 
-// The fault of the sample with a file in which the first `from` is replaced.
+// Returns the fault of the sample with a file in which the first `from` is replaced.
 fn fault_with(
     alloc: Global,
     place: usize,
@@ -107,7 +107,7 @@ fn id(rt: &impl Abort, text: &[u8]) -> SctId {
     }
 }
 
-// What texts are as identifiers, and names as those of files.
+// Checks which texts are identifiers, and which names are those of files.
 #[test]
 fn reads_identifiers_and_names(rt: HostRuntime) {
     let texts = [
@@ -229,10 +229,10 @@ fn refuses_changed_loads(rt: HostRuntime) -> Result<(), Fail> {
             Some(LoadFault::Conflict { file: 3, line: 3 }),
         ),
         (CONCEPTS, b"", b"", None),
-        // a component of another part, and a concrete value whose identifier a relationship has
+        // allowed are a component of another part, and a concrete value with the identifier of a relationship
         (MEMBERS, b"\t109006\r\n", b"\t100014\r\n", None),
         (CONCRETE_VALUES, b"114022\t", b"100022\t", None),
-        // an |Is a| among the concrete values belongs to nothing, and cannot make a cycle
+        // an |Is a| among the concrete values is no is-a row, so it can't make a cycle
         (CONCRETE_VALUES, b"\t105000\t", b"\t116680003\t", None),
     ];
     assert_faults(&rt, rt.alloc(), &changed)
@@ -276,7 +276,7 @@ fn keeps_to_limits_and_names(rt: HostRuntime) {
     assert!(rt; none == Some(LoadFault::NoConceptFile));
 }
 
-// What of the loaded sample is looked at.
+// The part of the loaded sample that a test checks.
 #[derive(Clone, Copy)]
 enum Look<'a> {
     Numbers,
@@ -285,8 +285,8 @@ enum Look<'a> {
     Lines(&'a [&'a str]),
 }
 
-// Loads the sample, its names in a language, and lends it to who looks at it: a function that owns a snapshot is dear
-// to prove, so that this one does little else.
+// Loads the sample with its names in a language, and lends it to a check. It does little else, because a function
+// that owns a snapshot is slow to prove.
 fn look_at_sample(
     rt: &impl Abort,
     alloc: Global,
@@ -370,8 +370,8 @@ fn assert_hierarchy(rt: &impl Abort, snapshot: &Snapshot) {
     }
 }
 
-// The lines of the sample's concepts: the identifier, the name between bars where there is one, and LF.
-// With another language first, a name in it stands there where there is one.
+// Checks the lines of the sample's concepts: the identifier, the name between bars if there is one, and LF. With
+// another language first, a name in that language stands there, if there is one.
 #[test]
 fn keeps_lines(rt: HostRuntime) -> Result<(), LoadFault> {
     let lines = [
@@ -400,7 +400,7 @@ fn assert_lines(rt: &impl Abort, snapshot: &Snapshot, lines: &[&str]) {
     }
 }
 
-/// The first identifiers with a partition, of numbers from 10,000 on, one for each `\n`-ended line.
+/// Returns the first `count` identifiers with a partition, of numbers from 10,000 on.
 pub fn identifiers(
     rt: &impl Abort,
     alloc: Global,
@@ -458,7 +458,7 @@ fn push_chain(bytes: &mut Vec<u8>, ids: &[SctId], concepts: &[SctId]) -> Result<
     Ok(())
 }
 
-/// The concept file and the relationship file of a chain of so many concepts.
+/// Returns the concept file and the relationship file of a chain of `count` concepts.
 pub fn chain_of(
     rt: &impl Abort,
     alloc: Global,
@@ -471,7 +471,7 @@ pub fn chain_of(
     Ok((concept_bytes, rows))
 }
 
-/// The files of a release of concepts and relationships.
+/// Returns the files of a release of concepts and relationships.
 pub fn files_of<'a>(concepts: &'a [u8], rows: &'a [u8]) -> [NamedBytes<'a>; 2] {
     [
         NamedBytes {
@@ -494,7 +494,7 @@ fn push_row(bytes: &mut Vec<u8>, id: SctId, child: SctId, parent: SctId) -> Resu
     bytes.extend_from_slice(ISA_REST)
 }
 
-// A file of relationships and a file of concepts. The rows stand before the concepts that they name.
+// Returns a file of relationships and a file of concepts. The rows stand before the concepts that they name.
 fn two_files<'a>(rows: &'a [u8], concepts: &'a [u8]) -> [NamedBytes<'a>; 2] {
     [
         NamedBytes {
@@ -508,13 +508,13 @@ fn two_files<'a>(rows: &'a [u8], concepts: &'a [u8]) -> [NamedBytes<'a>; 2] {
     ]
 }
 
-// How many concepts and how many is-a rows a release has.
+// Returns how many concepts and how many is-a rows a release has.
 fn counts_of(alloc: Global, files: &[NamedBytes<'_>]) -> Result<(u32, usize), LoadFault> {
     let snapshot = Snapshot::load(alloc, files, "en", Limits::standard())?;
     Ok((snapshot.concept_count(), snapshot.isa_rows().len()))
 }
 
-// Adds the row that joins the last of some concepts to the first.
+// Adds the row that joins the last of the concepts to the first.
 fn join_ends(rows: &mut Vec<u8>, ids: &[SctId], concepts: &[SctId]) -> Result<(), AllocError> {
     if let (Some(first), Some(last), Some(id)) = (concepts.first(), concepts.last(), ids.last()) {
         push_row(rows, *id, *first, *last)?;
@@ -522,7 +522,7 @@ fn join_ends(rows: &mut Vec<u8>, ids: &[SctId], concepts: &[SctId]) -> Result<()
     Ok(())
 }
 
-// A chain of 100,000 concepts loads, and with its ends joined it is refused: nothing goes by depth.
+// A chain of 100,000 concepts loads, and is refused with its ends joined: no search is as deep as the chain.
 #[test]
 fn loads_a_long_chain(rt: HostRuntime) -> Result<(), Fail> {
     let alloc = rt.alloc();
@@ -540,7 +540,7 @@ fn loads_a_long_chain(rt: HostRuntime) -> Result<(), Fail> {
     Ok(())
 }
 
-// Two concept files are one list of concepts, in which equal rows are one.
+// Two concept files make one list of concepts, in which equal rows count once.
 #[test]
 fn joins_files_of_a_kind(rt: HostRuntime) -> Result<(), Fail> {
     let alloc = rt.alloc();
@@ -558,7 +558,7 @@ fn joins_files_of_a_kind(rt: HostRuntime) -> Result<(), Fail> {
     Ok(())
 }
 
-// How many concepts a release of two concept files has, and the numbers of 100005 and of 1000004.
+// Returns how many concepts a release of two concept files has, and the numbers of 100005 and of 1000004.
 fn numbers_in(
     alloc: Global,
     one: &[u8],
@@ -591,7 +591,7 @@ fn numbers_of(snapshot: Snapshot) -> (u32, Option<u32>, Option<u32>) {
     numbers
 }
 
-// Equal rows are one whatever the order of the rows, and each row more is passed over.
+// Equal rows count once, in any order, and each further one is passed over.
 #[test]
 fn takes_equal_rows_once_in_any_order(rt: HostRuntime) -> Result<(), Fail> {
     let alloc = rt.alloc();
@@ -616,7 +616,7 @@ fn takes_equal_rows_once_in_any_order(rt: HostRuntime) -> Result<(), Fail> {
     Ok(())
 }
 
-// How many concepts of a concept file are in force, and how many of its rows are passed over.
+// Returns how many concepts of a concept file are in force, and how many of its rows are passed over.
 fn concept_counts(alloc: Global, bytes: &[u8]) -> Option<(u64, u64)> {
     let files = [NamedBytes { name: NAME, bytes }];
     match Snapshot::load(alloc, &files, "en", Limits::standard()) {
@@ -634,8 +634,8 @@ fn report_and_drop(snapshot: Snapshot) -> Report {
     report
 }
 
-// Rows of one concept: the latest time counts, none at all is the latest, and of one time they are
-// equal.
+// Of the rows of one concept the one with the latest time counts. A row without a time is the latest. Rows of one
+// time have to be equal.
 #[test]
 fn takes_the_latest_row_of_a_concept(rt: HostRuntime) -> Result<(), Fail> {
     let alloc = rt.alloc();
@@ -670,9 +670,8 @@ fn takes_the_latest_row_of_a_concept(rt: HostRuntime) -> Result<(), Fail> {
     Ok(())
 }
 
-// The sample with one concept row more, in a file of its own, as that of an extension: how many
-// concepts, is-a rows, attribute rows, members and names are in force, and how many rows are passed
-// over.
+// Loads the sample with one concept row more, in a file of its own, like that of an extension. Checked are how many
+// concepts, is-a rows, attribute rows, members and names are in force, and how many rows are passed over.
 #[test]
 fn reads_an_extension(rt: HostRuntime) -> Result<(), Fail> {
     let cases = [
@@ -695,7 +694,7 @@ fn reads_an_extension(rt: HostRuntime) -> Result<(), Fail> {
     Ok(())
 }
 
-// The counts of the sample with one concept row more, in a file before or behind the others.
+// Returns the counts of the sample with one concept row more, in a file before or after the others.
 fn report_with(alloc: Global, row: &[u8], first: bool) -> Result<Option<[u64; 6]>, AllocError> {
     let mut bytes = Vec::new(alloc);
     bytes.extend_from_slice(HEADER)?;
@@ -718,7 +717,7 @@ fn report_with(alloc: Global, row: &[u8], first: bool) -> Result<Option<[u64; 6]
     Ok(report_of(alloc, files.as_slice()))
 }
 
-// The counts of a release, if it is one.
+// Returns the counts of a release, or `None` if the files are refused.
 fn report_of(alloc: Global, files: &[NamedBytes<'_>]) -> Option<[u64; 6]> {
     match Snapshot::load(alloc, files, "en", Limits::standard()) {
         Ok(snapshot) => {

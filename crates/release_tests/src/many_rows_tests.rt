@@ -1,4 +1,4 @@
-//! Loads of some thousand rows of each kind of file.
+//! Tests of loads of some thousand rows of each kind of file.
 use crate::load_tests::{
     NAME, RELATIONSHIP_NAME, chain_file, concept_file, identifiers, push_number,
 };
@@ -12,14 +12,14 @@ use std::test::Fail;
 
 const ROWS: u64 = 3_000;
 
-// A file of a kind as far as its header.
+// Makes a file of a kind with its header alone.
 fn begun(alloc: Global, kind: FileKind) -> Result<Vec<u8>, AllocError> {
     let mut bytes = Vec::from_slice(alloc, header(kind).as_bytes())?;
     bytes.push(b'\n')?;
     Ok(bytes)
 }
 
-// A fully specified name for each concept.
+// Makes a fully specified name for each concept.
 fn description_file(
     alloc: Global,
     ids: &[SctId],
@@ -35,7 +35,7 @@ fn description_file(
     Ok(bytes)
 }
 
-// A concrete value for each concept.
+// Makes a concrete value for each concept.
 fn concrete_file(alloc: Global, ids: &[SctId], concepts: &[SctId]) -> Result<Vec<u8>, AllocError> {
     let mut bytes = begun(alloc, FileKind::Concrete)?;
     for (id, concept) in ids.iter().zip(concepts) {
@@ -47,7 +47,7 @@ fn concrete_file(alloc: Global, ids: &[SctId], concepts: &[SctId]) -> Result<Vec
     Ok(bytes)
 }
 
-// The reference set of the first concept, with each concept as a member.
+// Makes the reference set of the first concept, with each concept as a member.
 fn member_file(alloc: Global, concepts: &[SctId]) -> Result<Vec<u8>, AllocError> {
     let mut bytes = begun(alloc, FileKind::Member)?;
     let first = concepts.first();

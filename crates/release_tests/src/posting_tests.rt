@@ -1,4 +1,4 @@
-//! The indexes of the sample release and of releases made for a test.
+//! Tests of the indexes of the sample release and of releases made for a test.
 //!
 //! Concepts go by their numbers: A 0, B 1, C 2, D 3, T 4, U 5, X 6, Y 7, Q 8 and Root 9.
 use crate::load_tests::{MEMBERS, RELATIONSHIPS, replaced, sample, sample_with};
@@ -10,8 +10,8 @@ use std::alloc::Global;
 use std::process::Abort;
 use std::test::Fail;
 
-// The types of the rows: T, U, and one that is no concept in force. Values: X and Y, and the two decimals of the
-// sample, as so many times 10^-18.
+// The types of the rows: T, U, and one that is no concept in force. The values are X and Y, and the two decimals of
+// the sample in units of 10^-18.
 const T: u64 = 104001;
 
 const U: u64 = 105000;
@@ -34,18 +34,18 @@ enum Held {
 // The number of a row, its source, its type, its group and its value.
 type Row = (u32, u32, u64, u32, Held);
 
-// A concept, its rows, its first group and the one behind its last, and its members.
+// A concept, its rows, its first group and the group after its last, and its members.
 type Lists<'a> = (u32, &'a [u32], (u32, u32), &'a [u32]);
 
 // The concept and the rows of a group.
 type Group<'a> = (u32, &'a [u32]);
 
-// The number of a row of a type or of a value; its source, and whether it is the first there with its pair; its value or
-// the place of its type; and its group, and whether it is the first there with its pair.
+// A row of a type or of a value: its number; its source, and whether it is the first row there with its pair; its
+// value or the place of its type; and its group, and whether it is the first row there with its pair.
 type Cells = (u32, (u32, bool), u32, (u32, bool));
 
-// What indexes are to have: how many rows, of some rows and concepts what they have, all groups, all types, and of
-// some types and values the rows.
+// What indexes are to have: how many rows, the contents of the named rows and concepts, all groups, all types, and
+// the rows of the named types and values.
 struct Wants<'a> {
     row_count: u32,
     rows: &'a [Row],
@@ -56,8 +56,8 @@ struct Wants<'a> {
     by_value: &'a [(u32, &'a [Cells])],
 }
 
-// The rows are those of B, of C and of D, each in the order of the files, where the concrete values come first. The
-// groups of a concept are first those with a number, and then the pairs without one.
+// The rows are those of B, of C and of D, each in the order of the files, in which the concrete values come first.
+// The groups of a concept are first those with a number, and then the pairs without one.
 const SAMPLE: Wants<'static> = Wants {
     row_count: 9,
     rows: &[
@@ -121,8 +121,8 @@ const SAMPLE_OF_Y: [Cells; 5] = [
     (8, (3, false), 1, (5, true)),
 ];
 
-// Four more rows of D, before the last row of the file: the pair of T and X in group 3 and twice in group 4, and a
-// row whose type is no concept in force.
+// Four more rows of D, put before the last row of the file: the pair of T and X in group 3 and twice in group 4, and
+// a row whose type is no concept in force.
 const ROWS_OF_D: &[u8] = b"\
 122026\t20240101\t1\t900000000000207008\t103007\t106004\t3\t104001\t900000000000011006\t900000000000451002\r\n\
 123020\t20240101\t1\t900000000000207008\t103007\t106004\t4\t104001\t900000000000011006\t900000000000451002\r\n\
@@ -130,7 +130,7 @@ const ROWS_OF_D: &[u8] = b"\
 125029\t20240101\t1\t900000000000207008\t103007\t107008\t0\t109006\t900000000000011006\t900000000000451002\r\n\
 121022\t";
 
-// Of the sample with these rows.
+// What the indexes of the sample with the rows of `ROWS_OF_D` are to have.
 const REPEATED: Wants<'static> = Wants {
     row_count: 13,
     rows: &[(9, 3, T, 3, X), (11, 3, T, 4, X), (12, 3, INACTIVE, 0, Y)],
@@ -174,7 +174,7 @@ const REPEATED_OF_Y: [Cells; 6] = [
     (12, (3, true), 2, (10, true)),
 ];
 
-// A row that says once more that B is a member of Q, before the last row.
+// A row that repeats that B is a member of Q. It is put before the last row.
 const B_IS_A_MEMBER: &[u8] =
     b"00000000-0000-4000-8000-000000000004\t20240101\t1\t900000000000207008\t108003\t101009\r\n00000000-0000-4000-8000-000000000003";
 
@@ -189,7 +189,7 @@ fn assert_rows(rt: &impl Abort, indexes: &Indexes, wants: &[Row]) {
     }
 }
 
-// Whether a value is the one that is wanted.
+// Whether a value is the wanted one.
 fn is_held(value: &Value<'_>, want: Held) -> bool {
     match (value, want) {
         (Value::Concept(id), Held::Concept(number)) => id.number() == number,
@@ -208,7 +208,7 @@ fn assert_lists(rt: &impl Abort, indexes: &Indexes, wants: &[Lists<'_>]) {
     }
 }
 
-// Looks at each group, and at which group each of its rows has.
+// Checks each group, and the group of each of its rows.
 fn assert_groups(rt: &impl Abort, indexes: &Indexes, wants: &[Group<'_>]) {
     assert_eq!(rt; indexes.group_count() as usize, wants.len());
     for (unit, (concept, rows)) in (0u32..).zip(wants) {
@@ -246,7 +246,7 @@ fn assert_by_value(rt: &impl Abort, indexes: &Indexes, wants: &[(u32, &[Cells])]
     }
 }
 
-// Looks at the numbers of rows, and at the column of their values or of their types.
+// Checks the numbers of rows, and the column of their values or of their types.
 fn assert_cells(rt: &impl Abort, rows: &[u32], column: &[u32], wants: &[Cells]) {
     assert!(rt; (rows.len(), column.len()) == (wants.len(), wants.len()));
     for ((row, cell), want) in rows.iter().zip(column).zip(wants) {
@@ -268,7 +268,8 @@ fn assert_marks(
     }
 }
 
-// Each of these releases has the concepts, the hierarchy and the members of the sample.
+// Checks the counts of indexes. Each of the tested releases has the concepts, the hierarchy and the members of the
+// sample.
 fn assert_stats(rt: &impl Abort, indexes: &Indexes, wants: &Wants<'_>) {
     let want = Stats {
         n: 10,
@@ -295,8 +296,8 @@ fn assert_indexes(rt: &impl Abort, indexes: &Indexes, wants: &Wants<'_>) {
     assert_by_value(rt, indexes, wants.by_value);
 }
 
-// The indexes of a release, and how many member rows it has. Functions that own a snapshot or indexes are dear to
-// prove, so each of these does little else.
+// Returns the indexes of a release. Functions that own a snapshot or indexes are slow to prove, so each of them does
+// little else.
 fn indexes_of(alloc: Global, files: &[NamedBytes<'_>]) -> Result<Indexes, LoadFault> {
     let snapshot = Snapshot::load(alloc, files, "en", Limits::standard())?;
     Ok(Indexes::build(alloc, &snapshot)?)
@@ -332,8 +333,8 @@ fn lists_the_sample_rows(rt: HostRuntime) -> Result<(), LoadFault> {
     assert_release(&rt, rt.alloc(), &sample(), &SAMPLE)
 }
 
-// A repeated pair is counted once in its concept and once in each of its groups, groups with the same pairs stay two,
-// and a type need not be a concept in force.
+// A repeated pair counts once in its concept and once in each of its groups, groups with equal pairs stay two
+// groups, and a type need not be a concept in force.
 #[test]
 fn tells_repeated_pairs_and_groups(rt: HostRuntime) -> Result<(), Fail> {
     let rows = sample()[RELATIONSHIPS].bytes;
@@ -343,7 +344,7 @@ fn tells_repeated_pairs_and_groups(rt: HostRuntime) -> Result<(), Fail> {
     Ok(())
 }
 
-// A row that repeats another row's ends is one more row, and changes no list.
+// A row with the ends of another row counts as one row more, and changes no list.
 #[test]
 fn lists_a_repeated_member_once(rt: HostRuntime) -> Result<(), Fail> {
     let rows = sample()[MEMBERS].bytes;

@@ -1,4 +1,4 @@
-//! What is printed, in full.
+//! Tests of printed texts, as a whole.
 ghost use Rattle.std.specs.Prelude.{◌≡◌, ◌≢◌};
 ghost use Rattle.number_lists.specs.Rising.{IsRisingBelow};
 
@@ -13,31 +13,31 @@ use std::alloc::{AllocError, Global};
 use std::process::Abort;
 use std::test::Fail;
 
-// What each vector holds before it is printed to.
+// The bytes that each vector holds before a text is appended.
 const BEFORE: &[u8] = b"before\n";
 
-// Four concepts in no order. As texts their identifiers rise otherwise than as numbers.
+// Four concepts that are not in order. The order of their identifiers as texts is not their order as numbers.
 const CONCEPTS: &[u8] = b"id\teffectiveTime\tactive\tmoduleId\tdefinitionStatusId\r\n\
 1000004\t20240101\t1\t900000000000207008\t900000000000074008\r\n\
 138875005\t20240101\t1\t900000000000207008\t900000000000074008\r\n\
 101009\t20240101\t1\t900000000000207008\t900000000000074008\r\n\
 100005\t20240101\t1\t900000000000207008\t900000000000074008\r\n";
 
-// The names of three of them, one of which is empty.
+// The names of three of the concepts, one of which is empty.
 const DESCRIPTIONS: &[u8] =
     b"id\teffectiveTime\tactive\tmoduleId\tconceptId\tlanguageCode\ttypeId\tterm\tcaseSignificanceId\r\n\
 101013\t20240101\t1\t900000000000207008\t100005\ten\t900000000000003001\tAlpha (finding)\t900000000000448009\r\n\
 102018\t20240101\t1\t900000000000207008\t1000004\ten\t900000000000003001\t\t900000000000448009\r\n\
 103011\t20240101\t1\t900000000000207008\t138875005\ten\t900000000000003001\tR\xc3\xb6\xc3\xb6t (test)\t900000000000448009\r\n";
 
-// The answers of the first and the last of them, and of all.
+// The answer with the first and the last concept, and the answer with all.
 const ENDS: &[u8] =
     b"before\nOK 2\n100005 |Alpha (finding)|\n138875005 |R\xc3\xb6\xc3\xb6t (test)|\n";
 
 const ALL: &[u8] =
     b"before\nOK 4\n100005 |Alpha (finding)|\n101009\n1000004 ||\n138875005 |R\xc3\xb6\xc3\xb6t (test)|\n";
 
-// The two files, of which nothing is known beforehand.
+// Returns the two files, without a contract about their bytes.
 fn files() -> [NamedBytes<'static>; 2] {
     [
         NamedBytes {
@@ -51,7 +51,7 @@ fn files() -> [NamedBytes<'static>; 2] {
     ]
 }
 
-// The release of the two files.
+// Loads the release of the two files.
 fn loaded(rt: &impl Abort, alloc: Global) -> Result<Snapshot, AllocError> {
     match Snapshot::load(alloc, &files(), "en", Limits::standard()) {
         Ok(snapshot) => Ok(snapshot),
@@ -62,7 +62,7 @@ fn loaded(rt: &impl Abort, alloc: Global) -> Result<Snapshot, AllocError> {
     }
 }
 
-// The answer of the concepts with some numbers, behind what the vector held before.
+// Returns the answer with `concepts`, after what the vector held before.
 fn answered<S: ConceptSet>(
     rt: &impl Abort,
     alloc: Global,
@@ -78,7 +78,7 @@ fn answered<S: ConceptSet>(
     Ok(output)
 }
 
-// Looks at the answer of the concepts with some numbers.
+// Checks the answer with `concepts`.
 fn check_answer<S: ConceptSet>(
     rt: &impl Abort,
     alloc: Global,
@@ -93,7 +93,7 @@ fn check_answer<S: ConceptSet>(
     Ok(())
 }
 
-// Sets of concepts of a release, as one form of set, and their answers.
+// Checks the answers of sets of concepts, in one form of set.
 fn check_answers_of<S: ConceptSet>(
     rt: &impl Abort,
     alloc: Global,
@@ -149,7 +149,7 @@ fn refused(alloc: Global, fault: QueryFault) -> Result<Vec<u8>, AllocError>
     Ok(output)
 }
 
-// Looks at the line that refuses a text.
+// Checks the line that refuses a text.
 fn check_refused(
     rt: &impl Abort,
     alloc: Global,
@@ -209,7 +209,7 @@ fn load_refused(alloc: Global, fault: &LoadFault) -> Result<Vec<u8>, AllocError>
     Ok(output)
 }
 
-// Looks at the line that refuses a release.
+// Checks the line that refuses a release.
 fn check_load_refused(
     rt: &impl Abort,
     alloc: Global,
@@ -310,17 +310,17 @@ fn check_causes(
     Ok(())
 }
 
-// What is told of the first file where it can't be read.
+// The fault if the first file can't be read.
 const UNREAD: LoadFault = LoadFault::Device { file: Some(0) };
 
-// Prints the line of a file that can't be read.
+// Prints the line for a file that can't be read.
 fn device_refused(alloc: Global, name: &str) -> Result<Vec<u8>, AllocError> {
     let mut output = Vec::from_slice(alloc, BEFORE)?;
     print_load_fault(alloc, UNREAD, &[name], &mut output)?;
     Ok(output)
 }
 
-// Looks at the line of a file that can't be read.
+// Checks the line for a file that can't be read.
 fn check_device_refused(
     rt: &impl Abort,
     alloc: Global,

@@ -1,4 +1,4 @@
-//! The attribute rows and the report of the sample release.
+//! Tests of the attribute rows and the report of the sample release.
 ghost use Rattle.std.specs.Prelude.{◌<◌, length};
 
 use crate::load_tests::sample;
@@ -7,8 +7,8 @@ use snapshot::{Limits, LoadSnapshot, Report, Snapshot};
 use std::process::Abort;
 use std::test::Fail;
 
-// Source, group, type and value of each attribute row by its number: the sources are B, C and D, the types
-// T and U, and the values X, Y, 2.5 and 3.
+// Source, group, type and value of each attribute row, in the order of the rows. The sources are B, C and D, the
+// types T and U, and the values X, Y, 2.5 and 3.
 const ROWS: [(u32, u32, u64, i128); 9] = [
     (1, 1, 104001, 106004),
     (1, 1, 105000, 107008),
@@ -21,7 +21,7 @@ const ROWS: [(u32, u32, u64, i128); 9] = [
     (3, 2, 105000, 107008),
 ];
 
-// The number that a value is, or the identifier of the concept.
+// Returns the number that a value is, or the identifier of the concept.
 fn integer_in(value: &Value<'_>) -> i128 {
     match value {
         Value::Concept(concept) => i128::from(concept.number()),
@@ -30,7 +30,7 @@ fn integer_in(value: &Value<'_>) -> i128 {
     }
 }
 
-// Looks at an attribute row.
+// Checks an attribute row.
 fn assert_row(rt: &impl Abort, snapshot: &Snapshot, number: u32, want: &(u32, u32, u64, i128))
     requires { number < length snapshot.now.release.attributes }
 {
@@ -59,7 +59,7 @@ fn assert_report(rt: &impl Abort, report: &Report) {
     assert_eq!(rt; report.passed, 6);
 }
 
-// The owner of a snapshot is dear to prove, so it only lends it.
+// The test only lends the snapshot, because a function that owns one is slow to prove.
 #[test]
 fn reads_rows_and_report_of_the_sample(rt: HostRuntime) -> Result<(), Fail> {
     let snapshot = Snapshot::load(rt.alloc(), &sample(), "en", Limits::standard())?;

@@ -1,10 +1,10 @@
-//! The bytes of the built-in files, beside the tables of the sample release.
+//! Tests of the bytes of the built-in files, against the tables of the sample release.
 use sample_release::sample_files;
 use std::alloc::{AllocError, Global};
 use std::test::Fail;
 
-// A table: the header with spaces for tabs, then for each row its identifier, whether it is active, and
-// the columns behind the module, with bars for tabs.
+// A table: the header with spaces for tabs, then for each row its identifier, whether it is active, and the columns
+// after the module, with bars for tabs.
 const TABLES: [(&str, &[&str]); 5] = [
     (
         "id effectiveTime active moduleId refsetId referencedComponentId",
@@ -80,8 +80,7 @@ const TABLES: [(&str, &[&str]); 5] = [
     ),
 ];
 
-// A line whose columns stand between some byte, with a tab in its place. The time and the module are
-// put in where they belong, unless it is a header.
+// Adds a line with tabs in place of the byte `between`. For a row it also adds the time and the module.
 fn push_line(bytes: &mut Vec<u8>, text: &str, between: u8, is_row: bool) -> Result<(), AllocError> {
     let mut column = 0u32;
     for byte in text.as_bytes() {
@@ -101,7 +100,7 @@ fn push_line(bytes: &mut Vec<u8>, text: &str, between: u8, is_row: bool) -> Resu
     bytes.extend_from_slice(b"\r\n")
 }
 
-// The file of a table.
+// Makes the file of a table.
 fn file_of(alloc: Global, header: &str, rows: &[&str]) -> Result<Vec<u8>, AllocError> {
     let mut bytes = Vec::new(alloc);
     push_line(&mut bytes, header, b' ', false)?;

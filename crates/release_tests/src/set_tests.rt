@@ -1,4 +1,4 @@
-//! The row of sets in each form, and the forms against each other at many bounds.
+//! Tests of operations on sets in each form, and of the forms against each other for many bounds.
 ghost use Rattle.std.specs.Prelude.{◌≡◌, ◌<◌, ◌++◌, ◌∷◌, [], cond, IfOk, OnOk};
 ghost use Rattle.number_lists.specs.Rising.{IsRisingBelow};
 
@@ -6,13 +6,13 @@ use idset::{ConceptSet, MixedSet, SortedSet, WordSet};
 use std::alloc::{AllocError, Global};
 use std::test::Fail;
 
-// Whether a set has just these items, and is told to have so many.
+// Whether a set has exactly the wanted items, and their count.
 fn is_of<S: ConceptSet>(alloc: Global, set: &S, wanted: &[u32]) -> Result<bool, AllocError> {
     let items = set.items(alloc)?;
     Ok(items.as_slice() == wanted && set.count() as usize == wanted.len())
 }
 
-// Whether a set that was made has just these items.
+// Whether a set that was made has exactly the wanted items.
 fn holds<S: ConceptSet>(
     alloc: Global,
     made: Result<S, AllocError>,
@@ -24,13 +24,13 @@ fn holds<S: ConceptSet>(
     }
 }
 
-// The same set in the form in which it is asked soonest.
+// Returns a copy of a set in the form in which it answers fastest.
 fn asked<S: ConceptSet>(alloc: Global, set: &S) -> Result<S, AllocError> {
     let own = set.copy(alloc)?;
     own.for_asking(alloc)
 }
 
-// The operations on x = 0 2 5 and y = 2 5 9 below 10.
+// Whether the operations on x = 0 2 5 and y = 2 5 9 below 10 are right.
 fn operations_hold<S: ConceptSet>(alloc: Global, x: &S, y: &S) -> Result<bool, AllocError>
     requires { S.bound_of x.now ≡ S.bound_of y.now }
 {
@@ -45,7 +45,7 @@ fn operations_hold<S: ConceptSet>(alloc: Global, x: &S, y: &S) -> Result<bool, A
     )
 }
 
-// What a set tells without memory.
+// Whether the answers of x that take no memory are right.
 fn tells<S: ConceptSet>(x: &S) -> bool {
     x.count() == 3
         && x.bound() == 10
@@ -55,7 +55,7 @@ fn tells<S: ConceptSet>(x: &S) -> bool {
         && !x.has(4_000_000_000)
 }
 
-// The same set made of the words of another.
+// Whether the set x is made of the words of another set.
 fn made_of_words<S: ConceptSet>(alloc: Global) -> Result<bool, AllocError> {
     let marks = WordSet::from_items(alloc, &[0, 2, 5], 10)?;
     holds::<S>(
@@ -65,7 +65,7 @@ fn made_of_words<S: ConceptSet>(alloc: Global) -> Result<bool, AllocError> {
     )
 }
 
-// The same set made in other ways.
+// Whether the set x is made of numbers in any order and of words, and the set of all numbers is made.
 fn made_alike<S: ConceptSet>(alloc: Global) -> Result<bool, AllocError> {
     Ok(
         holds::<S>(
@@ -77,7 +77,7 @@ fn made_alike<S: ConceptSet>(alloc: Global) -> Result<bool, AllocError> {
     )
 }
 
-// A list added to a set in place.
+// Whether a list is added to a set in place.
 fn grows<S: ConceptSet>(alloc: Global, set: &mut S) -> Result<bool, AllocError>
     requires { S.bound_of set.old ≡ 10 }
 {
@@ -85,7 +85,7 @@ fn grows<S: ConceptSet>(alloc: Global, set: &mut S) -> Result<bool, AllocError>
     is_of(alloc, set, &[0, 2, 5, 9])
 }
 
-// Sets at the ends of words, and the empty set.
+// Whether sets with items at the ends of words, and the empty set, are right.
 fn ends_hold<S: ConceptSet>(alloc: Global) -> Result<bool, AllocError> {
     let ends = [0, 63, 64, 127, 128, 129];
     Ok(
@@ -95,7 +95,7 @@ fn ends_hold<S: ConceptSet>(alloc: Global) -> Result<bool, AllocError> {
     )
 }
 
-// Whether a set shows just these items behind the first `skipped`, of which there are `most` at the most.
+// Whether a set shows the wanted items: those after the first `skipped`, at most `most` of them.
 fn shows<S: ConceptSet>(
     alloc: Global,
     set: &S,
@@ -107,7 +107,7 @@ fn shows<S: ConceptSet>(
     Ok(items.as_slice() == wanted)
 }
 
-// Pages of the set 0 63 64 127 128 129.
+// Whether pages of the set 0 63 64 127 128 129 are right.
 fn pages_of<S: ConceptSet>(alloc: Global, set: &S) -> Result<bool, AllocError> {
     Ok(
         shows(alloc, set, 0, 0, &[])?
@@ -123,7 +123,7 @@ fn pages_of<S: ConceptSet>(alloc: Global, set: &S) -> Result<bool, AllocError> {
     )
 }
 
-// Pages of a set that has many items for its bound, and of one that has few.
+// Whether pages are right for a set that has many items for its bound, and for one that has few.
 fn pages_hold<S: ConceptSet>(alloc: Global) -> Result<bool, AllocError> {
     let ends = [0, 63, 64, 127, 128, 129];
     let many = S::from_items(alloc, &ends, 130)?;
@@ -162,7 +162,7 @@ fn row_of_mixed_sets(rt: HostRuntime) -> Result<(), Fail> {
     Ok(())
 }
 
-// Pushes a number where the test holds.
+// Adds a number if the test holds.
 fn push_if(items: &mut Vec<u32>, test: bool, item: u32) -> Result<(), AllocError>
     ensures { OnOk result (items.new.items ≡ items.old.items ++ cond test (item ∷ []) []) }
 {
@@ -172,7 +172,7 @@ fn push_if(items: &mut Vec<u32>, test: bool, item: u32) -> Result<(), AllocError
     Ok(())
 }
 
-// The multiples of a number below a bound.
+// Returns the multiples of a number below a bound.
 fn multiples(alloc: Global, of: u32, bound: u32) -> Result<Vec<u32>, AllocError>
     requires { 0 < of }
     ensures { IfOk result (λ multiples. IsRisingBelow bound multiples.items) }
@@ -194,7 +194,7 @@ fn push_items<S: ConceptSet>(
     items.extend_from_slice(&set.items(alloc)?)
 }
 
-// Adds the items of what each operation gives, one after another.
+// Adds the items of each operation's result, one after another.
 fn push_answers<S: ConceptSet>(
     alloc: Global,
     x: &S,
@@ -213,7 +213,7 @@ fn push_answers<S: ConceptSet>(
     Ok(())
 }
 
-// The items of what each operation gives, one after another.
+// Returns the items of each operation's result, one after another.
 fn answers<S: ConceptSet>(
     alloc: Global,
     xs: &[u32],
@@ -230,7 +230,7 @@ fn answers<S: ConceptSet>(
     Ok(answers)
 }
 
-// Whether all forms answer alike below a bound.
+// Whether all forms of set give equal answers below a bound.
 fn forms_agree(alloc: Global, bound: u32) -> Result<bool, AllocError> {
     let xs = multiples(alloc, 2, bound)?;
     let ys = multiples(alloc, 3, bound)?;
@@ -240,7 +240,7 @@ fn forms_agree(alloc: Global, bound: u32) -> Result<bool, AllocError> {
     Ok(sorted.as_slice() == words.as_slice() && sorted.as_slice() == mixed.as_slice())
 }
 
-// The first bound of a stretch below which the forms do not agree, or the stretch's end.
+// Returns the first bound below `end` for which the forms do not agree, or `end`.
 fn agree_until(alloc: Global, end: u32) -> Result<u32, AllocError> {
     for bound in 0..end {
         if !forms_agree(alloc, bound)? {

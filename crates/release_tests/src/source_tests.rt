@@ -1,4 +1,4 @@
-//! Loads of the sample release from a source that reads it in pieces, and fails.
+//! Tests of loads of the sample release from a source that reads it in pieces, and fails.
 use crate::load_tests::sample;
 use release_files::{MemoryFiles, NamedBytes};
 use rf2_rows::{FileKind, header};
@@ -7,7 +7,7 @@ use std::alloc::{AllocError, Global};
 use std::process::Abort;
 use std::test::Fail;
 
-// What the sample has.
+// The report of the sample.
 const SAMPLE: Report = Report {
     files: 5,
     concepts: 10,
@@ -18,12 +18,12 @@ const SAMPLE: Report = Report {
     passed: 6,
 };
 
-// Looks at the report of a snapshot that is only lent.
+// Checks the report of the sample. The snapshot is lent, because a function that owns one is slow to prove.
 fn assert_sample(rt: &impl Abort, snapshot: &Snapshot) {
     assert!(rt; snapshot.report() == SAMPLE);
 }
 
-// The names that a load leaves are those of the sample, in byte order.
+// Checks that the names that a load leaves are those of the sample, in byte order.
 fn assert_names(rt: &impl Abort, names: &[String]) {
     let files = sample();
     assert!(rt; names.len() == files.len());
@@ -32,7 +32,7 @@ fn assert_names(rt: &impl Abort, names: &[String]) {
     }
 }
 
-// Loads the sample in pieces of so many bytes.
+// Loads the sample in pieces of `piece` bytes, and checks its report.
 fn check_pieces(
     rt: &impl Abort,
     alloc: Global,
@@ -61,7 +61,7 @@ fn loads_in_pieces(rt: HostRuntime) -> Result<(), Fail> {
     Ok(())
 }
 
-// The files of the sample, and so many more of a header alone.
+// Returns the files of the sample, and `count` more of a header alone.
 fn with_headers(alloc: Global, count: usize) -> Result<Vec<NamedBytes<'static>>, AllocError> {
     let mut files = Vec::from_array(alloc, sample())?;
     for _ in 0..count {
@@ -73,7 +73,7 @@ fn with_headers(alloc: Global, count: usize) -> Result<Vec<NamedBytes<'static>>,
     Ok(files)
 }
 
-// What the release of some files has, and how many names are left.
+// Returns the report of the release of files that are read in pieces, and how many names are left.
 fn report_in_pieces(alloc: Global, files: &[NamedBytes<'_>]) -> Result<(Report, usize), LoadFault> {
     let mut source = MemoryFiles::new(alloc, files, PIECE, 0);
     let mut names = Vec::new(alloc);
@@ -81,7 +81,7 @@ fn report_in_pieces(alloc: Global, files: &[NamedBytes<'_>]) -> Result<(Report, 
     Ok((snapshot.report(), names.len()))
 }
 
-// Thousands of files have their memory, where there is some.
+// Thousands of files are loaded, if there is memory for them.
 #[test]
 fn loads_thousands_of_files(rt: HostRuntime) -> Result<(), Fail> {
     let files = with_headers(rt.alloc(), 5_000)?;
@@ -93,11 +93,12 @@ fn loads_thousands_of_files(rt: HostRuntime) -> Result<(), Fail> {
     Ok(())
 }
 
-// How many bytes a source reads at once, where it is not asked for others.
+// How many bytes a source reads at once, unless a test asks for others.
 const PIECE: usize = 1_000;
 
-// Which of the sample's files is at hand at a call of its source, counted from 1, if there are so many calls.
-// The first call lists the files. Of each file one call opens it, one reads each piece, and one finds the end.
+// Returns which of the sample's files is in use at a call of its source, or `None` after the last call. Calls count
+// from 1. The first one lists the files. For each file, one call opens it, one reads each piece, and one finds the
+// end.
 fn file_at_call(call: u64) -> Option<usize> {
     let mut calls = 1u64;
     for (place, file) in sample().iter().enumerate() {
@@ -109,7 +110,8 @@ fn file_at_call(call: u64) -> Option<usize> {
     None
 }
 
-// The fault of a load of the sample whose source fails the call of a number, and how many names it leaves.
+// Returns the fault of a load of the sample if the call `fail_at` of its source fails, and how many names the load
+// leaves.
 fn failed(alloc: Global, fail_at: u64) -> (Option<LoadFault>, usize) {
     let files = sample();
     let mut source = MemoryFiles::new(alloc, &files, PIECE, fail_at);
@@ -118,7 +120,7 @@ fn failed(alloc: Global, fail_at: u64) -> (Option<LoadFault>, usize) {
     (loaded.err(), names.len())
 }
 
-// What it is to be: a device is told with the file at hand, until there is no call more.
+// Returns what `failed` has to return: a device fault with the file in use, or no fault if there is no such call.
 fn failure_at(fail_at: u64) -> (Option<LoadFault>, usize) {
     if fail_at == 1 {
         return (Some(LoadFault::Device { file: None }), 0);
@@ -140,14 +142,14 @@ fn fails_with_its_source(rt: HostRuntime) {
     }
 }
 
-// The fault of a load of files that are read in pieces, if it has one.
+// Returns the fault of a load of files that are read in pieces, if it has one.
 fn fault_in_pieces(alloc: Global, files: &[NamedBytes<'_>], piece: usize) -> Option<LoadFault> {
     let mut source = MemoryFiles::new(alloc, files, piece.max(1), 0);
     let mut names = Vec::new(alloc);
     Snapshot::load_from(alloc, &mut source, &mut names, "en", Limits::standard()).err()
 }
 
-// Whether files load, or are refused, alike however they are read; and whether they load.
+// Returns whether the load of files has one result in any pieces, and whether the files load.
 fn are_loaded_alike(alloc: Global, files: &[NamedBytes<'_>]) -> (bool, bool) {
     let fault = Snapshot::load(alloc, files, "en", Limits::standard()).err();
     let is_alike = fault_in_pieces(alloc, files, 1) == fault
@@ -159,7 +161,8 @@ fn are_loaded_alike(alloc: Global, files: &[NamedBytes<'_>]) -> (bool, bool) {
     )
 }
 
-// The same of the sample with a file cut behind so many bytes.
+// Returns whether the load of the sample, with a file cut after `length` bytes, has one result in any pieces, and
+// whether it loads.
 fn are_cut_alike(alloc: Global, place: usize, length: usize) -> (bool, bool) {
     let mut files = sample();
     if let Some(file) = files.get_mut(place) {
@@ -171,7 +174,7 @@ fn are_cut_alike(alloc: Global, place: usize, length: usize) -> (bool, bool) {
     are_loaded_alike(alloc, &files)
 }
 
-// Looks at each cut of a file, the whole file being the last. Answers how many load.
+// Checks each cut of a file; the last is the whole file. Returns how many load.
 fn count_loaded(rt: &impl Abort, alloc: Global, place: usize, length: usize) -> u32 {
     let mut loaded = 0u32;
     for cut in 0..=length {
@@ -182,11 +185,11 @@ fn count_loaded(rt: &impl Abort, alloc: Global, place: usize, length: usize) -> 
     loaded
 }
 
-// How many lines each of the files has.
+// How many lines each of the sample's files has.
 const LINES: [u32; 5] = [4, 12, 12, 3, 21];
 
-// A file that is cut after any byte is loaded or refused, and alike in any pieces. It loads where it ends with its
-// header or with a row: behind the last character of the line, its CR or its LF.
+// A file that is cut after any byte is loaded or refused, with one result in any pieces. It loads if the cut comes
+// after the last character of its header or of a row, after the CR, or after the LF.
 #[test]
 fn loads_or_refuses_what_is_cut(rt: HostRuntime) {
     for ((place, file), lines) in sample().iter().enumerate().zip(&LINES) {

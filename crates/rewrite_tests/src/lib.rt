@@ -1,6 +1,6 @@
-//! Tests of rewritings, from outside: what rules make of the plans of texts, and where they make nothing.
+//! Tests of rewriting, from outside: which plans the rules make, and when they do not apply.
 //!
-//! They stand in a crate of their own, so that the crate that they look at is not proved once more with them.
+//! They stand in a crate of their own, so that the tested crate is not proved once more with them.
 #![tactic(auto)]
 
 #[cfg(test)]

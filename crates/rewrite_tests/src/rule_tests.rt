@@ -1,4 +1,4 @@
-//! Rules at places: what they make of plans, and where they make nothing.
+//! Tests of rules at places: which plans they make, and when they do not apply.
 use crate::plans::plan_of;
 use constraint_tree::Cardinality;
 use rewrites::{ApplyFault, Rule, Step, apply, apply_all};
@@ -6,7 +6,7 @@ use set_algebra::{Choice, ConceptPlan, ValueTest};
 use std::alloc::{AllocError, Global};
 use std::process::Abort;
 
-// Whether the rule makes of the plan of a text that of the other.
+// Whether the rule turns the plan of `text` into that of the other text.
 fn is_made(
     alloc: Global,
     text: &[u8],
@@ -168,7 +168,7 @@ fn rules_apply_in_groups_and_deep(rt: HostRuntime) -> Result<(), AllocError> {
                 &[1, 0],
                 b"*:{105000=*,[0..1]105000=*}",
             ),
-            // in the values of a test, in the names of a dotted constraint, and in what is left out
+            // in the values of a test, in the names of a dotted constraint, and in what is subtracted
             (
                 b"*:{104001=(106004,107008)}",
                 Rule::Turn,
@@ -204,7 +204,7 @@ fn twice(alloc: Global) -> Result<ConceptPlan, AllocError> {
     })
 }
 
-// All but these, in everything.
+// All concepts but those of `twice`.
 fn less_than_twice(alloc: Global) -> Result<ConceptPlan, AllocError> {
     let all = Box::new(alloc, ConceptPlan::All)?;
     let twice = Box::new(alloc, twice(alloc)?)?;
@@ -212,7 +212,7 @@ fn less_than_twice(alloc: Global) -> Result<ConceptPlan, AllocError> {
     Ok(ConceptPlan::And(vec![in alloc; ConceptPlan::All, rest]?))
 }
 
-// Of two rules what no text has as its plan.
+// Checks two rules whose results no text has as its plan.
 fn others_are_made(alloc: Global) -> Result<bool, AllocError> {
     let turn = [at_second(Rule::RangeTurn)];
     let same = [Step {
@@ -231,7 +231,7 @@ fn rules_that_make_what_no_text_has(rt: HostRuntime) -> Result<(), AllocError> {
     Ok(())
 }
 
-// Whether the rule is answered with NotApplicable and the plan as it was.
+// Whether the rule is answered with NotApplicable and the unchanged plan.
 fn is_not_applicable(
     alloc: Global,
     text: &[u8],
@@ -283,7 +283,7 @@ fn rules_that_do_not_apply(rt: HostRuntime) -> Result<(), AllocError> {
             (b"*:[2..*]{104001=* OR 105000=*}", Rule::BraceOr, &[1]),
             (b"*:[2..*]{105000=*}", Rule::BraceOne, &[1]),
             (b"*:{[0..1]104001=*,105000=*}", Rule::BraceGuard, &[1]),
-            // a place that names no node, and a rule of the other sort
+            // a place that names no node, and a rule for the other sort of plan
             (b"100005", Rule::Turn, &[]),
             (b"100005", Rule::Turn, &[0]),
             (b"100005,101009", Rule::Turn, &[2]),
@@ -294,12 +294,12 @@ fn rules_that_do_not_apply(rt: HostRuntime) -> Result<(), AllocError> {
     )
 }
 
-// A rule at the second child.
+// Makes the step of a rule at the second child.
 fn at_second(rule: Rule) -> Step<'static> {
     Step { rule, place: &[1] }
 }
 
-// Steps of which only one is used on the plan of braces.
+// Checks steps of which only one applies to the plan of braces.
 fn uses_one(alloc: Global) -> Result<bool, AllocError> {
     let steps = [
         at_second(Rule::BraceGuard),
@@ -312,7 +312,8 @@ fn uses_one(alloc: Global) -> Result<bool, AllocError> {
     Ok(used == 1 && found == wanted)
 }
 
-// Same and then Only leave one of two, and MinusOr and then Only take one away after the other.
+// Checks that Same and then Only leave one of two parts, and that MinusOr and then Only subtract parts one after
+// another.
 fn uses_both(alloc: Global) -> Result<bool, AllocError> {
     let same = Step {
         rule: Rule::Same,
@@ -348,7 +349,7 @@ fn steps_one_after_another(rt: HostRuntime) -> Result<(), AllocError> {
     Ok(())
 }
 
-// Whether Pair at the root applies so often, and is then too deep.
+// Whether Pair at the root applies 1,022 times, and then would make the plan too deep.
 fn pairs_until_too_deep(alloc: Global, plan: ConceptPlan) -> bool {
     let mut plan = plan;
     for times in 0..2000u64 {
@@ -362,7 +363,7 @@ fn pairs_until_too_deep(alloc: Global, plan: ConceptPlan) -> bool {
     false
 }
 
-// `100005` so many times, with `,` between.
+// Makes the plan of `100005`, repeated `times` times, with `,` between.
 fn repeated(alloc: Global, times: u64) -> Result<ConceptPlan, AllocError> {
     let mut text = Vec::new(alloc);
     text.extend_from_slice(b"100005")?;
@@ -380,7 +381,7 @@ fn a_plan_that_gets_too_deep(rt: HostRuntime) -> Result<(), AllocError> {
     Ok(())
 }
 
-// Whether a fault is told in these words.
+// Whether the text of a fault is `words`.
 fn is_told(alloc: Global, fault: ApplyFault, words: &str) -> bool {
     match format!(in alloc; "{fault}") {
         Ok(text) => text.as_str() == words,

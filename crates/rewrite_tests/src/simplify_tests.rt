@@ -1,10 +1,10 @@
-//! What `simplify` makes of plans.
+//! Tests of the plans that `simplify` makes.
 use crate::plans::plan_of;
 use rewrites::simplify;
 use std::alloc::{AllocError, Global};
 use std::process::Abort;
 
-// Whether the plan of a text is simplified to that of the other.
+// Whether the plan of `text` is simplified to that of `other`.
 fn is_simplified(alloc: Global, text: &[u8], other: &[u8]) -> Result<bool, AllocError> {
     let found = simplify(plan_of(alloc, text)?);
     Ok(found == plan_of(alloc, other)?)
@@ -32,9 +32,9 @@ fn simplified_plans(rt: HostRuntime) -> Result<(), AllocError> {
             (b"<100005:{104001=106004}", b"<100005:104001=106004"),
             (b"<100005:[0..0]{105000=*}", b"<100005:[0..0]105000=*"),
             (b"<100005:[2..*]{105000=*}", b"<100005:[2..*]{105000=*}"),
-            // each rule is tried once at a node, so one of three is left over
+            // each rule is tried once at a node, so two of three stay
             (b"100005,100005,100005", b"100005,100005"),
-            // children come before their parent
+            // children are simplified before their parent
             (b"(100005,100005),100005", b"100005"),
             (b"<(100005 OR 100005)", b"<100005"),
             (b"*:[0..*]105000=*", b"*"),

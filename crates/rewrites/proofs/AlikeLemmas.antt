@@ -1,4 +1,4 @@
--- Nodes whose children mean the same mean the same.
+-- A node keeps its meaning if its children are replaced by nodes that mean the same.
 use Rattle.std.proofs.Common.{ℕ, ◌≡◌, ◌&&◌, ◌||◌, not, Bool, List, set, refl}
 use Rattle.std.proofs.Common.{ap, ◌∙◌}
 use Rattle.rf2_rows.specs.Release.{Release, Value}
@@ -16,25 +16,28 @@ use Rattle.set_algebra.specs.Plan.{minus_units, pairs_units, PlansOfUnits, no_un
 use Rattle.set_algebra.specs.Plan.{outside_plan}
 use Rattle.rewrites.proofs.Alike.{MeanAlike, GroupsMeanAlike, PassAlike, AllMeanAlike, AllGroupsMeanAlike}
 
--- a node means what it means
+-- a plan of concepts means the same as itself
 pub plan_itself : (plan : Plan) → MeanAlike plan plan
 plan_itself plan = record { mean = λ release. refl }
 
+-- a plan of groups means the same as itself
 pub group_itself : (plan : PlanOfUnits) → GroupsMeanAlike plan plan
 group_itself plan = record { mean = λ release. refl }
 
+-- a test lets the same values pass as itself
 pub test_itself : (test : TestPlan) → PassAlike test test
 test_itself test = record { pass = λ release. refl }
 
--- by what lies between
+-- two plans of concepts mean the same if both mean the same as a third one, `between`
 pub plan_by_two : (one between other : Plan) → MeanAlike one between → MeanAlike between other → MeanAlike one other
 plan_by_two one between other first then = record { mean = λ release. first.mean release ∙ then.mean release }
 
+-- two plans of groups mean the same if both mean the same as a third one, `between`
 pub group_by_two : (one between other : PlanOfUnits) → GroupsMeanAlike one between → GroupsMeanAlike between other
     → GroupsMeanAlike one other
 group_by_two one between other first then = record { mean = λ release. first.mean release ∙ then.mean release }
 
--- lists of plans of which each means the same: in all of them, in some, and along them as types
+-- two lists of plans of concepts that mean the same have the same concepts in all of their sets
 all_alike : (release : Release) (olds news : Plans) → AllMeanAlike olds news
     → all_mean release olds ≡ all_mean release news
 all_alike release no_plans no_plans alike = refl
@@ -68,7 +71,7 @@ along_alike release set other (plan_then old olds) (plan_then new news) start (f
 along_alike release set other no_plans (plan_then new news) start alike = absurd alike
 along_alike release set other (plan_then old olds) no_plans start alike = absurd alike
 
--- each kind of node, by its children
+-- a walk keeps its meaning if its operand is replaced by one that means the same
 pub walk_alike : (operator : Operator) (old new : Plan) → MeanAlike old new
     → MeanAlike (walk_plan operator old) (walk_plan operator new)
 walk_alike operator old new alike = record {
@@ -79,9 +82,11 @@ walk_alike operator old new alike = record {
       (alike.mean release);
 }
 
+-- a `members_plan` keeps its meaning if its operand is replaced by one that means the same
 pub members_alike : (old new : Plan) → MeanAlike old new → MeanAlike (members_plan old) (members_plan new)
 members_alike old new alike = record { mean = λ release. ap (is_component release) (alike.mean release) }
 
+-- a conjunction of concepts keeps its meaning if its parts are replaced by parts that mean the same
 pub and_alike : (olds news : Plans) → AllMeanAlike olds news → MeanAlike (and_plan olds) (and_plan news)
 and_alike olds news alike = record {
   mean =
@@ -90,9 +95,11 @@ and_alike olds news alike = record {
       (all_alike release olds news alike);
 }
 
+-- a disjunction of concepts keeps its meaning if its parts are replaced by parts that mean the same
 pub or_alike : (olds news : Plans) → AllMeanAlike olds news → MeanAlike (or_plan olds) (or_plan news)
 or_alike olds news alike = record { mean = λ release. some_alike release olds news alike }
 
+-- a difference of concepts keeps its meaning if both operands are replaced by operands that mean the same
 pub minus_alike : (first new_first second new_second : Plan) → MeanAlike first new_first → MeanAlike second new_second
     → MeanAlike (minus_plan first second) (minus_plan new_first new_second)
 minus_alike first new_first second new_second alike also = record {
@@ -103,6 +110,7 @@ minus_alike first new_first second new_second alike also = record {
       (also.mean release);
 }
 
+-- a `values_plan` keeps its meaning if its start and its names are replaced by plans that mean the same
 pub values_alike : (start new_start : Plan) (names new_names : Plans) → MeanAlike start new_start
     → AllMeanAlike names new_names → MeanAlike (values_plan start names) (values_plan new_start new_names)
 values_alike start new_start names new_names alike also = record {
@@ -111,12 +119,14 @@ values_alike start new_start names new_names alike also = record {
       along_alike release (means release start) (means release new_start) names new_names (alike.mean release) also;
 }
 
--- as many pairs, by types and tests that say the same
+-- `has_pairs` does not change if its types and its test are replaced by equal ones
 pairs_counted : (count : Cardinality) (types other : ℕ → Bool) (passes others : Value → Bool) → types ≡ other
     → passes ≡ others → has_pairs count types passes ≡ has_pairs count other others
 pairs_counted count types other passes others is also =
     ap (λ (set : ℕ → Bool). has_pairs count set passes) is ∙ ap (has_pairs count other) also
 
+-- a `pairs_plan` keeps its meaning if its types are replaced by a plan that means the same, and its test by one that
+-- lets the same values pass
 pub pairs_alike : (back : Bool) (count : Cardinality) (types new_types : Plan) (test new_test : TestPlan)
     → MeanAlike types new_types → PassAlike test new_test
     → MeanAlike (pairs_plan back count types test) (pairs_plan back count new_types new_test)
@@ -128,6 +138,7 @@ pairs_alike back count types new_types test new_test alike also = record {
       (value_passes release new_test) (alike.mean release) (also.pass release));
 }
 
+-- a `units_plan` keeps its meaning if its plan of groups is replaced by one that means the same
 pub units_alike : (count : Cardinality) (old new : PlanOfUnits) → GroupsMeanAlike old new
     → MeanAlike (units_plan count old) (units_plan count new)
 units_alike count old new alike = record {
@@ -138,13 +149,15 @@ units_alike count old new alike = record {
       (alike.mean release);
 }
 
+-- a `within_plan` lets the same values pass if its plan is replaced by one that means the same
 pub within_alike : (old new : Plan) → MeanAlike old new → PassAlike (within_plan old) (within_plan new)
 within_alike old new alike = record { pass = λ release. ap is_within (alike.mean release) }
 
+-- an `outside_plan` lets the same values pass if its plan is replaced by one that means the same
 pub outside_alike : (old new : Plan) → MeanAlike old new → PassAlike (outside_plan old) (outside_plan new)
 outside_alike old new alike = record { pass = λ release. ap is_outside (alike.mean release) }
 
--- plans of groups
+-- two lists of plans of groups that mean the same have the same groups in all of their sets
 all_groups_alike : (release : Release) (olds news : PlansOfUnits) → AllGroupsMeanAlike olds news
     → all_units_mean release olds ≡ all_units_mean release news
 all_groups_alike release no_unit_plans no_unit_plans alike = refl
@@ -171,14 +184,17 @@ some_groups_alike release (unit_plan_then old olds) (unit_plan_then new news) (f
 some_groups_alike release no_unit_plans (unit_plan_then new news) alike = absurd alike
 some_groups_alike release (unit_plan_then old olds) no_unit_plans alike = absurd alike
 
+-- a conjunction of groups keeps its meaning if its parts are replaced by parts that mean the same
 pub and_groups_alike : (olds news : PlansOfUnits) → AllGroupsMeanAlike olds news
     → GroupsMeanAlike (and_units olds) (and_units news)
 and_groups_alike olds news alike = record { mean = λ release. all_groups_alike release olds news alike }
 
+-- a disjunction of groups keeps its meaning if its parts are replaced by parts that mean the same
 pub or_groups_alike : (olds news : PlansOfUnits) → AllGroupsMeanAlike olds news
     → GroupsMeanAlike (or_units olds) (or_units news)
 or_groups_alike olds news alike = record { mean = λ release. some_groups_alike release olds news alike }
 
+-- a difference of groups keeps its meaning if both operands are replaced by operands that mean the same
 pub minus_groups_alike : (first new_first second new_second : PlanOfUnits) → GroupsMeanAlike first new_first
     → GroupsMeanAlike second new_second → GroupsMeanAlike (minus_units first second) (minus_units new_first new_second)
 minus_groups_alike first new_first second new_second alike also = record {
@@ -191,6 +207,8 @@ minus_groups_alike first new_first second new_second alike also = record {
       (also.mean release);
 }
 
+-- a `pairs_units` keeps its meaning if its types are replaced by a plan that means the same, and its test by one that
+-- lets the same values pass
 pub group_pairs_alike : (count : Cardinality) (types new_types : Plan) (test new_test : TestPlan)
     → MeanAlike types new_types → PassAlike test new_test
     → GroupsMeanAlike (pairs_units count types test) (pairs_units count new_types new_test)

@@ -1,4 +1,4 @@
--- A rule at a place in a child: the child of that number is there, or it is not.
+-- A rule at a place in a child, if there is a child with that number and if there is none.
 use Rattle.std.proofs.Common.{ℕ, zero, suc, ◌≡◌, ◌<◌, ◌≤◌, Bool, true, false, Some, None, List, [], ◌∷◌, length}
 use Rattle.std.proofs.Common.{get_or, option_map, refl, sym, ap, ◌∙◌, arith}
 use Rattle.std.specs.Prelude.{slice_get, slice_set}
@@ -12,7 +12,8 @@ use Rattle.rewrites.specs.declared.rule.Rule.{Rule}
 use Rattle.rewrites.specs.Counts.{only_if}
 use Rattle.rewrites.specs.RulesAtPlaces.{rewritten_at, in_child}
 
--- with the child of that number changed, where the rule makes something of it at the rest of the place
+-- a rule at a place in child `number` changes that child as it changes it at the rest of the place, and makes nothing
+-- if it makes nothing there
 pub step : (rule : Rule) (number : ℕ) (place : List ℕ) (whole child new : Node) (fits : Bool)
     → slice_get (children whole) number ≡ Some child → only_if fits new ≡ rewritten_at rule place child
     → only_if fits (with_child whole number new) ≡ rewritten_at rule (number ∷ place) whole
@@ -21,26 +22,26 @@ step rule number place whole child new true is made =
 step rule number place whole child new false is made =
     ap (option_map (with_child whole number)) made ∙ sym (ap (in_child whole number (rewritten_at rule place)) is)
 
--- nothing, where there is no such child
+-- a rule at a place in child `number` makes nothing if there is no such child
 pub no_step : (rule : Rule) (number : ℕ) (place : List ℕ) (whole : Node) → slice_get (children whole) number ≡ None
     → None ≡ rewritten_at rule (number ∷ place) whole
 no_step rule number place whole is = sym (ap (in_child whole number (rewritten_at rule place)) is)
 
--- the part of a list of plans with that number
+-- child `number` of a list of plans of concepts is the plan of item `number`
 part_at : (parts : List ConceptPlan) (number : ℕ) (old : ConceptPlan) → number < length parts
     → old ≡ get_or parts number old → slice_get (plan_nodes (plans_of parts)) number ≡ Some (concept_node (plan_of old))
 part_at [] number old within is = absurd (omega arith)
 part_at (first ∷ rest) zero old within is = ap (λ (plan : ConceptPlan). Some (concept_node (plan_of plan))) (sym is)
 part_at (first ∷ rest) (suc number) old within is = part_at rest number old (omega arith) is
 
--- past the end of the list there is no part
+-- a list of plans of concepts has no child `number` if `number` is at least its length
 no_part : (parts : List ConceptPlan) (number : ℕ) → length parts ≤ number
     → slice_get (plan_nodes (plans_of parts)) number ≡ None
 no_part [] number past = refl
 no_part (first ∷ rest) zero past = absurd (omega arith)
 no_part (first ∷ rest) (suc number) past = no_part rest number (omega arith)
 
--- the plans of a list with another item at its place
+-- setting item `number` of a list of plans of concepts sets plan `number` of its plans
 with_part : (parts : List ConceptPlan) (number : ℕ) (new : ConceptPlan)
     → plans_of (slice_set parts number new) ≡ plans_with (plans_of parts) number (plan_of new)
 with_part [] number new = refl
@@ -48,14 +49,17 @@ with_part (first ∷ rest) zero new = refl
 with_part (first ∷ rest) (suc number) new = ap (plan_then (plan_of first)) (with_part rest number new)
 
 module _ (rule : Rule) (place : List ℕ) (parts : List ConceptPlan) (number : ℕ) where
+  -- a rule makes nothing at a place in a part that an `And` of concepts does not have
   pub none_and : length parts ≤ number
       → None ≡ rewritten_at rule (number ∷ place) (concept_node (and_plan (plans_of parts)))
   none_and past = no_step rule number place (concept_node (and_plan (plans_of parts))) (no_part parts number past)
 
+  -- a rule makes nothing at a place in a part that an `Or` of concepts does not have
   pub none_or : length parts ≤ number
       → None ≡ rewritten_at rule (number ∷ place) (concept_node (or_plan (plans_of parts)))
   none_or past = no_step rule number place (concept_node (or_plan (plans_of parts))) (no_part parts number past)
 
+  -- a rule makes nothing at a place in a name that a `Values` does not have
   pub none_values : (start : Plan) → length parts ≤ number
       → None ≡ rewritten_at rule (suc number ∷ place) (concept_node (values_plan start (plans_of parts)))
   none_values start past =
@@ -63,6 +67,7 @@ module _ (rule : Rule) (place : List ℕ) (parts : List ConceptPlan) (number : �
 
   module _ (old new : ConceptPlan) (fits : Bool) (within : number < length parts) (is : old ≡ get_or parts number old)
       (made : only_if fits (concept_node (plan_of new)) ≡ rewritten_at rule place (concept_node (plan_of old))) where
+    -- a rule at a place in part `number` of an `And` of concepts makes the `And` with the changed part
     pub part_and :
         only_if fits (concept_node (and_plan (plans_of (slice_set parts number new))))
         ≡ rewritten_at rule (number ∷ place) (concept_node (and_plan (plans_of parts)))
@@ -71,6 +76,7 @@ module _ (rule : Rule) (place : List ℕ) (parts : List ConceptPlan) (number : �
         ∙ step rule number place (concept_node (and_plan (plans_of parts))) (concept_node (plan_of old))
         (concept_node (plan_of new)) fits (part_at parts number old within is) made
 
+    -- a rule at a place in part `number` of an `Or` of concepts makes the `Or` with the changed part
     pub part_or :
         only_if fits (concept_node (or_plan (plans_of (slice_set parts number new))))
         ≡ rewritten_at rule (number ∷ place) (concept_node (or_plan (plans_of parts)))
@@ -79,6 +85,7 @@ module _ (rule : Rule) (place : List ℕ) (parts : List ConceptPlan) (number : �
         ∙ step rule number place (concept_node (or_plan (plans_of parts))) (concept_node (plan_of old))
         (concept_node (plan_of new)) fits (part_at parts number old within is) made
 
+    -- a rule at a place in name `number` of a `Values` makes the `Values` with the changed name
     pub part_values : (start : Plan)
         → only_if fits (concept_node (values_plan start (plans_of (slice_set parts number new))))
         ≡ rewritten_at rule (suc number ∷ place) (concept_node (values_plan start (plans_of parts)))
@@ -87,7 +94,7 @@ module _ (rule : Rule) (place : List ℕ) (parts : List ConceptPlan) (number : �
         ∙ step rule (suc number) place (concept_node (values_plan start (plans_of parts))) (concept_node (plan_of old))
         (concept_node (plan_of new)) fits (part_at parts number old within is) made
 
--- the same of plans of groups
+-- child `number` of a list of plans of groups is the plan of item `number`
 unit_at : (parts : List UnitPlan) (number : ℕ) (old : UnitPlan) → number < length parts → old ≡ get_or parts number old
     → slice_get (group_nodes (unit_plans_of parts)) number ≡ Some (group_node (unit_plan_of old))
 unit_at [] number old within is = absurd (omega arith)
@@ -107,11 +114,13 @@ with_unit (first ∷ rest) zero new = refl
 with_unit (first ∷ rest) (suc number) new = ap (unit_plan_then (unit_plan_of first)) (with_unit rest number new)
 
 module _ (rule : Rule) (place : List ℕ) (parts : List UnitPlan) (number : ℕ) where
+  -- a rule makes nothing at a place in a part that an `And` of groups does not have
   pub no_unit_and : length parts ≤ number
       → None ≡ rewritten_at rule (number ∷ place) (group_node (and_units (unit_plans_of parts)))
   no_unit_and past =
       no_step rule number place (group_node (and_units (unit_plans_of parts))) (no_unit parts number past)
 
+  -- a rule makes nothing at a place in a part that an `Or` of groups does not have
   pub no_unit_or : length parts ≤ number
       → None ≡ rewritten_at rule (number ∷ place) (group_node (or_units (unit_plans_of parts)))
   no_unit_or past = no_step rule number place (group_node (or_units (unit_plans_of parts))) (no_unit parts number past)
@@ -119,6 +128,7 @@ module _ (rule : Rule) (place : List ℕ) (parts : List UnitPlan) (number : ℕ)
   module _ (old new : UnitPlan) (fits : Bool) (within : number < length parts) (is : old ≡ get_or parts number old)
       (made : only_if fits (group_node (unit_plan_of new)) ≡ rewritten_at rule place (group_node (unit_plan_of old)))
     where
+      -- a rule at a place in part `number` of an `And` of groups makes the `And` with the changed part
       pub unit_and :
           only_if fits (group_node (and_units (unit_plans_of (slice_set parts number new))))
           ≡ rewritten_at rule (number ∷ place) (group_node (and_units (unit_plans_of parts)))
@@ -127,6 +137,7 @@ module _ (rule : Rule) (place : List ℕ) (parts : List UnitPlan) (number : ℕ)
           ∙ step rule number place (group_node (and_units (unit_plans_of parts))) (group_node (unit_plan_of old))
           (group_node (unit_plan_of new)) fits (unit_at parts number old within is) made
 
+      -- a rule at a place in part `number` of an `Or` of groups makes the `Or` with the changed part
       pub unit_or :
           only_if fits (group_node (or_units (unit_plans_of (slice_set parts number new))))
           ≡ rewritten_at rule (number ∷ place) (group_node (or_units (unit_plans_of parts)))

@@ -1,4 +1,4 @@
--- What a cardinality asks of a count: that there is some, that there is none, and its ranges.
+-- The counts that lie in a cardinality: in `1..*`, in `0..0`, and in a range.
 use Rattle.std.proofs.Common.{ℕ, ◌≡◌, ◌+◌, ◌&&◌, ◌||◌, not, Bool, true, false, cond, Option, Some, None, is_none}
 use Rattle.std.proofs.Common.{List, [], ◌∷◌, nat_le, nat_lt, nat_eq, refl, sym, ap, ◌∙◌, arith, inl, inr}
 use Rattle.std.specs.List.{list_any, count_by}
@@ -10,7 +10,7 @@ use Rattle.constraint_tree.specs.Passing.{lies_in, is_up_to}
 use Rattle.set_algebra.specs.Equal.{same_most}
 use Rattle.rewrites.specs.Counts.{asks_some, asks_none}
 
--- some item passes exactly where at least one does
+-- a list has an item that passes exactly if at least one item is counted
 pub counts_some : {X : Type 0} (test : X → Bool) (items : List X) → nat_le 1 (count_by test items) ≡ list_any test items
 counts_some test [] = refl
 counts_some test (first ∷ rest) = elim (cases_Bool (test first)) [
@@ -18,79 +18,79 @@ counts_some test (first ∷ rest) = elim (cases_Bool (test first)) [
   | inr fails ↦ grind (arith, nat_tests, sum_by-cons (λ x. cond (test x) 1 0) first rest, fails, counts_some test rest)
 ]
 
--- `1..*` and `0..0` tell alike of two counts of which both are 0 or neither is
+-- `1..*` and `0..0` do not tell two counts apart if both are 0 or neither is
 told_by_some : (least : ℕ) (most : Option ℕ) (n m : ℕ)
     → ((nat_eq least 1 && is_none most) || (nat_eq least 0 && same_most most (Some 0))) ≡ true → nat_le 1 n ≡ nat_le 1 m
     → (nat_le least n && is_up_to most n) ≡ (nat_le least m && is_up_to most m)
 told_by_some least None n m asks same = grind (arith, nat_tests)
 told_by_some least (Some most) n m asks same = grind (arith, nat_tests)
 
--- of two counts of which both are 0 or neither is, `1..*` and `0..0` say the same
+-- two counts lie in the cardinality `1..*` or `0..0` alike if both are 0 or neither is
 pub lies_in_alike : (count : Cardinality) (n m : ℕ) → (asks_some count || asks_none count) ≡ true
     → nat_le 1 n ≡ nat_le 1 m → lies_in count n ≡ lies_in count m
 lies_in_alike count n m asks same = told_by_some count.min count.max n m asks same
 
--- `1..*` says that the count is not 0
+-- a count lies in `1..*` exactly if it is not 0
 some_told : (least : ℕ) (most : Option ℕ) (n : ℕ) → (nat_eq least 1 && is_none most) ≡ true
     → (nat_le least n && is_up_to most n) ≡ nat_le 1 n
 some_told least None n asks = grind (arith, nat_tests)
 some_told least (Some most) n asks = grind (arith, nat_tests)
 
--- and `0..0` that it is
+-- a count lies in `0..0` exactly if it is 0
 none_told : (least : ℕ) (most : Option ℕ) (n : ℕ) → (nat_eq least 0 && same_most most (Some 0)) ≡ true
     → (nat_le least n && is_up_to most n) ≡ not (nat_le 1 n)
 none_told least None n asks = grind (arith, nat_tests)
 none_told least (Some most) n asks = grind (arith, nat_tests)
 
--- the same of a cardinality as a whole
+-- a count lies in a cardinality that is `1..*` exactly if it is not 0
 pub lies_in_some : (count : Cardinality) (n : ℕ) → asks_some count ≡ true → lies_in count n ≡ nat_le 1 n
 lies_in_some count n asks = some_told count.min count.max n asks
 
--- and of one that asks for none
+-- a count lies in a cardinality that is `0..0` exactly if it is 0
 pub lies_in_none : (count : Cardinality) (n : ℕ) → asks_none count ≡ true → lies_in count n ≡ not (nat_le 1 n)
 lies_in_none count n asks = none_told count.min count.max n asks
 
--- as many as `1..*` asks pass exactly where some item does
+-- the number of items that pass lies in `1..*` exactly if some item passes
 pub some_lie_in : {X : Type 0} (count : Cardinality) (test : X → Bool) (items : List X) → asks_some count ≡ true
     → lies_in count (count_by test items) ≡ list_any test items
 some_lie_in count test items asks = lies_in_some count (count_by test items) asks ∙ counts_some test items
 
--- as many as `0..0` asks pass exactly where no item does
+-- the number of items that pass lies in `0..0` exactly if no item passes
 pub none_lie_in : {X : Type 0} (count : Cardinality) (test : X → Bool) (items : List X) → asks_none count ≡ true
     → lies_in count (count_by test items) ≡ not (list_any test items)
 none_lie_in count test items asks = lies_in_none count (count_by test items) asks ∙ ap not (counts_some test items)
 
--- RangeSplit: between two bounds is from the one on and up to the other
+-- RangeSplit: a count lies in `least..most` exactly if it lies in `least..*` and in `0..most`
 pub range_split : (f : Bool) (least most n : ℕ)
     → (f && (nat_le least n && nat_le n most))
     ≡ (f && ((f && (nat_le least n && true)) && ((f && (nat_le 0 n && nat_le n most)) && true)))
 range_split true least most n = grind (arith, nat_tests)
 range_split false least most n = refl
 
--- RangeTurn: at most so many is not one more
+-- RangeTurn: a count lies in `0..most` exactly if it does not lie in `(most + 1)..*`
 pub range_turn : (f : Bool) (most n : ℕ)
     → (f && (nat_le 0 n && nat_le n most)) ≡ (f && not (f && (nat_le (most + 1) n && true)))
 range_turn true most n = grind (arith, nat_tests)
 range_turn false most n = refl
 
--- RangeAll: at least none is always so
+-- RangeAll: every count lies in `0..*`
 pub range_always : (f : Bool) (n : ℕ) → (f && (nat_le 0 n && true)) ≡ f
 range_always true n = grind (arith, nat_tests)
 range_always false n = refl
 
--- and a minimum above the maximum never
+-- RangeAll: no count lies in a cardinality with minimum above maximum
 pub range_never : (f : Bool) (least most n : ℕ) → nat_lt most least ≡ true
     → (f && (nat_le least n && nat_le n most)) ≡ false
 range_never true least most n above = grind (arith, nat_tests)
 range_never false least most n above = refl
 
--- where at least one is asked for and enough pass, some item passes
+-- a count of at least `least` is not 0 if `least` is at least 1
 enough : (least n : ℕ) (more : Bool) → nat_le 1 least ≡ true → (nat_le least n && more) ≡ true → nat_le 1 n ≡ true
 enough least n more asks holds =
     let parts =
     and_parts (nat_le least n) more holds in let first : nat_le least n ≡ true = parts.0 in grind (arith, nat_tests)
 
--- the same of a list
+-- some item passes if the number of items that pass lies in a cardinality with a minimum of at least 1
 pub some_of_enough : {X : Type 0} (count : Cardinality) (test : X → Bool) (items : List X) → nat_le 1 count.min ≡ true
     → lies_in count (count_by test items) ≡ true → list_any test items ≡ true
 some_of_enough count test items asks holds =

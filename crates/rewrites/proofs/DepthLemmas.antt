@@ -13,7 +13,7 @@ use Rattle.rewrites.specs.Simplified.{tried, tried_group, shortened, shortened_g
 use Rattle.rewrites.specs.Simplified.{group_simplified, all_groups_simplified, test_simplified}
 use Rattle.rewrites.specs.declared.rule.Rule.TheVariants.{RangeAll, BraceOne, Same, Only}
 
--- what is made of a plan is no deeper, if something is
+-- a plan of concepts, if there is one, is at most `depth` deep
 abbrev NoDeeper : ℕ → Option Plan → Type 0
 NoDeeper depth None = Unit {0}
 NoDeeper depth (Some new) = plan_depth new ≤ depth
@@ -54,7 +54,7 @@ only_one (and_plan (plan_then only no_plans)) = omega arith
 only_one (or_plan (plan_then only no_plans)) = omega arith
 only_one other = tt
 
--- so the four rules one after the other
+-- RangeAll, BraceOne, Same and Only, one after another, make no plan of concepts deeper
 shortened_sinks : (plan : Plan) → plan_depth (shortened plan) ≤ plan_depth plan
 unfolding shortened
 shortened_sinks plan =
@@ -69,7 +69,7 @@ shortened_sinks plan =
       or_itself third (rewritten Only third) (only_one third),
     )
 
--- the same of plans of groups
+-- a plan of groups, if there is one, is at most `depth` deep
 abbrev NoDeeperGroup : ℕ → Option PlanOfUnits → Type 0
 NoDeeperGroup depth None = Unit {0}
 NoDeeperGroup depth (Some new) = group_depth new ≤ depth
@@ -118,8 +118,9 @@ group_shortened_sinks plan =
       group_or_itself second (rewritten_group Only second) (group_only_one second),
     )
 
--- a simplified plan is no deeper, by its children and then the node itself
+-- simplifying the children, and then shortening the node itself, makes no plan deeper
 mutual
+  -- a simplified plan of concepts is no deeper than the plan
   pub simplified_sinks : (plan : Plan) → plan_depth (simplified plan) ≤ plan_depth plan
   simplified_sinks empty_plan = shortened_sinks empty_plan
   simplified_sinks all_plan = shortened_sinks all_plan

@@ -13,8 +13,7 @@ use Rattle.rf2_rows.proofs.PairLemmas.{keeps_each_pair_once}
 use Rattle.number_lists.proofs.ListLemmas.{passing_item, some_item_passes}
 use Rattle.rewrites.proofs.BoolLemmas.{same_if, or_only}
 
--- Whether some item passes, of a list that was made of another.
--- without repeats
+-- leaving out repeated items does not change whether some item passes
 any_distinct : {X : Type 0} (same : X → X → Bool) (test : X → Bool) (items : List X) → KeepsEachOnce same items
     → list_any test (distinct same items) ≡ list_any test items
 any_distinct same test items keeps = same_if _ _
@@ -25,13 +24,13 @@ any_distinct same test items keeps = same_if _ _
     let found = passing_item test items holds in
     some_item_passes test (distinct same items) found.0 ((keeps.1 found.0).1 found.1) found.2)
 
--- with something made of each
+-- an item of a mapped list passes `test` exactly if an item of the list passes `test` after `make`
 any_mapped : {X Y : Type 0} (test : Y → Bool) (make : X → Y) (items : List X)
     → list_any test (map make items) ≡ list_any (λ item. test (make item)) items
 any_mapped test make [] = refl
 any_mapped test make (first ∷ rest) = ap (λ (b : Bool). test (make first) || b) (any_mapped test make rest)
 
--- of those that a test keeps
+-- an item of a filtered list passes `test` exactly if an item of the list passes `keep` and `test`
 any_kept : {X : Type 0} (test keep : X → Bool) (items : List X)
     → list_any test (filter keep items) ≡ list_any (λ item. keep item && test item) items
 any_kept test keep [] = refl
@@ -40,7 +39,7 @@ any_kept test keep (first ∷ rest) = elim (cases_Bool (keep first)) [
   | inr left ↦ rw left (any_kept test keep rest)
 ]
 
--- by another test that says the same
+-- two tests that agree on each item agree on whether some item of a list passes
 any_alike : {X : Type 0} (test other : X → Bool) → ((item : X) → test item ≡ other item) → (items : List X)
     → list_any test items ≡ list_any other items
 any_alike test other same [] = refl
@@ -49,7 +48,7 @@ any_alike test other same (first ∷ rest) =
     ∙ ap (λ (b : Bool). other first || b) (any_alike test other same rest)
 
 module _ (release : Release) (concept : ℕ) where
-  -- some pair of the concept, and of one of its group numbers, by the rows
+  -- some distinct pair of the concept passes exactly if the pair of some row of the concept does
   in_rows : (test : Pair → Bool)
       → list_any test (out_pairs release concept) ≡ list_any (λ row. test (pair_of row)) (rows_of release concept)
   in_rows test =
@@ -57,6 +56,7 @@ module _ (release : Release) (concept : ℕ) where
       (keeps_each_pair_once (map pair_of (rows_of release concept)))
       ∙ any_mapped test pair_of (rows_of release concept)
 
+  -- some distinct pair of a group number passes exactly if the pair of some row with that number does
   in_group_rows : (test : Pair → Bool) (group : ℕ)
       → list_any test (pairs_in release concept group)
       ≡ list_any (λ row. (row.group == group) && test (pair_of row)) (rows_of release concept)
@@ -66,7 +66,7 @@ module _ (release : Release) (concept : ℕ) where
       ∙ any_mapped test pair_of rows
       ∙ any_kept (λ row. test (pair_of row)) (λ row. row.group == group) (rows_of release concept)
 
-  -- some group with a number, by the rows
+  -- some group number passes exactly if some row has a number that is not 0 and passes
   by_number : (test : ℕ → Bool)
       → list_any test (group_numbers release concept)
       ≡ list_any (λ row. not (row.group == 0) && test row.group) (rows_of release concept)
@@ -77,19 +77,19 @@ module _ (release : Release) (concept : ℕ) where
       ∙ any_kept test (λ group. not (group == 0)) groups
       ∙ any_mapped (λ group. not (group == 0) && test group) (λ row. row.group) (rows_of release concept)
 
-  -- whether a row has that group number and a pair that passes
+  -- whether a row has the group number `group` and a pair that passes
   abbrev passes_in : (Pair → Bool) → ℕ → Attribute → Bool
   passes_in test group row = (row.group == group) && test (pair_of row)
 
-  -- whether a row is in a group with a number, of which some row has a pair that passes
+  -- whether a row has a group number other than 0, and some row with that number has a pair that passes
   abbrev is_numbered : (Pair → Bool) → Attribute → Bool
   is_numbered test row = not (row.group == 0) && list_any (passes_in test row.group) (rows_of release concept)
 
-  -- whether a row is in no group, and its pair, which is a group by itself, passes
+  -- whether a row has group number 0 and a pair that passes. Such a pair is a group by itself
   abbrev is_alone : (Pair → Bool) → Attribute → Bool
   is_alone test row = passes_in (λ pair. test pair || false) 0 row
 
-  -- some pair of some group, by the rows
+  -- whether some pair of some group passes, as a test of the rows
   abbrev in_groups : (Pair → Bool) → Bool
   in_groups test =
       list_any (is_numbered test) (rows_of release concept) || list_any (is_alone test) (rows_of release concept)
@@ -137,7 +137,7 @@ module _ (release : Release) (concept : ℕ) where
             (and_from _ _ (eq-eqb found.0.group found.0.group refl) found.2))))
       ]
 
-  -- some pair of some group passes exactly where some pair of the concept does
+  -- some pair of some group passes exactly if some distinct pair of the concept does
   pub some_pair_of_group : (test : Pair → Bool)
       → list_any (list_any test) (groups_of release concept) ≡ list_any test (out_pairs release concept)
   some_pair_of_group test =

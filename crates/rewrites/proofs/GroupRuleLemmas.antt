@@ -1,4 +1,4 @@
--- Each rule at the root of a plan of groups.
+-- Each rule keeps the meaning of a plan of groups at its root.
 use Rattle.std.proofs.Common.{ℕ, ◌≡◌, ◌+◌, ◌-◌, ◌^◌, ◌&&◌, ◌||◌, not, Bool, true, false, Option, Some, None, List}
 use Rattle.std.proofs.Common.{nat_le, nat_lt, nat_eq, refl, sym, ap, ◌∙◌}
 use Rattle.std.specs.List.{count_by}
@@ -23,19 +23,19 @@ use Rattle.rewrites.proofs.CountLemmas
 use Rattle.rewrites.proofs.AdditiveLemmas.{holds_of, and_after, spread_groups, spread_in_groups}
 use Rattle.rewrites.proofs.RuleLemmas.{types_add, values_add}
 
--- no new plan of groups, or one that means the same
+-- the new plan of groups, if there is one, means the same groups as the old one over the release
 abbrev pub KeepsGroup : Release → PlanOfUnits → Option PlanOfUnits → Type 0
 KeepsGroup release old None = Unit {0}
 KeepsGroup release old (Some new) = (pairs : List Pair) → unit_means release old pairs ≡ unit_means release new pairs
 
--- a new plan under a condition
+-- a new plan of groups that is made under a condition keeps the meaning if it does so under the condition
 keeps_if : (release : Release) (old new : PlanOfUnits) (condition : Bool)
     → (condition ≡ true → (pairs : List Pair) → unit_means release old pairs ≡ unit_means release new pairs)
     → KeepsGroup release old (only_if condition new)
 keeps_if release old new true is = is refl
 keeps_if release old new false is = tt
 
--- what is in all, and in some, of a list with one more at its end, and of one list after another
+-- a group is in the sets of a list and of `last` exactly if it is in each set of the list with `last` at its end
 all_then : (release : Release) (parts : PlansOfUnits) (last : PlanOfUnits) (pairs : List Pair)
     → all_units_mean release (groups_then parts last) pairs
     ≡ (all_units_mean release parts pairs && unit_means release last pairs)
@@ -45,6 +45,7 @@ all_then release (unit_plan_then first rest) last pairs =
     ∙ BoolLemmas.and_assoc (unit_means release first pairs) (all_units_mean release rest pairs)
     (unit_means release last pairs)
 
+-- a group is in the set of a plan of a list or of `last` exactly if it is in one of the list with `last` at its end
 some_then : (release : Release) (parts : PlansOfUnits) (last : PlanOfUnits) (pairs : List Pair)
     → some_unit_means release (groups_then parts last) pairs
     ≡ (some_unit_means release parts pairs || unit_means release last pairs)
@@ -54,6 +55,7 @@ some_then release (unit_plan_then first rest) last pairs =
     ∙ BoolLemmas.or_assoc (unit_means release first pairs) (some_unit_means release rest pairs)
     (unit_means release last pairs)
 
+-- a group is in each set of two lists of plans of groups exactly if it is in each set of the joined list
 all_joined : (release : Release) (parts others : PlansOfUnits) (pairs : List Pair)
     → all_units_mean release (groups_joined parts others) pairs
     ≡ (all_units_mean release parts pairs && all_units_mean release others pairs)
@@ -63,6 +65,7 @@ all_joined release (unit_plan_then first rest) others pairs =
     ∙ BoolLemmas.and_assoc (unit_means release first pairs) (all_units_mean release rest pairs)
     (all_units_mean release others pairs)
 
+-- a group is in some set of two lists of plans of groups exactly if it is in some set of the joined list
 some_joined : (release : Release) (parts others : PlansOfUnits) (pairs : List Pair)
     → some_unit_means release (groups_joined parts others) pairs
     ≡ (some_unit_means release parts pairs || some_unit_means release others pairs)
@@ -165,7 +168,7 @@ test_or release (pairs_units count types (within_plan (or_plan values))) =
     (values_add count (means release types) pairs asks) (λ part. refl) values)
 test_or release plan = tt
 
--- The rules of counts, by how many pairs of the group pass.
+-- The rules of counts. `n` is the number of the group's pairs that match.
 module _ (release : Release) (types : Plan) (test : TestPlan) where
   abbrev n : List Pair → ℕ
   n pairs = count_by (λ pair. means release types pair.type_id && value_passes release test pair.value) pairs
@@ -216,7 +219,7 @@ range_all : (release : Release) (plan : PlanOfUnits) → KeepsGroup release plan
 range_all release (pairs_units count types test) = settle_keeps release types test count count.min count.max refl
 range_all release plan = tt
 
--- every rule
+-- every rule keeps the meaning of a plan of groups at its root
 pub group_keeps : (release : Release) (rule : Rule) (plan : PlanOfUnits)
     → KeepsGroup release plan (rewritten_group rule plan)
 group_keeps release rule.Turn plan = turn release plan

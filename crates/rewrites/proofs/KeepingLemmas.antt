@@ -1,4 +1,4 @@
--- Whatever a rule takes a node to means the same, at the root and at every place.
+-- The node that a rule makes means the same, at the root and at every place.
 use Rattle.std.proofs.Common.{ℕ, ◌≡◌, Option, Some, None, List, [], ◌∷◌, option_map, refl, sym, ap, ◌∙◌, subst}
 use Rattle.std.specs.Prelude.{slice_get}
 use Rattle.rf2_rows.specs.Release.{Release}
@@ -13,7 +13,7 @@ use Rattle.rewrites.specs.RulesAtPlaces.{rewritten_node, in_child, rewritten_at}
 use Rattle.rewrites.proofs.RuleLemmas.{Keeps, plan_keeps}
 use Rattle.rewrites.proofs.GroupRuleLemmas.{KeepsGroup, group_keeps}
 
--- what a rule makes of a plan of concepts means the same, as a node
+-- the node made of a plan of concepts means the same if the rule keeps the meaning of plans
 plan_root : (release : Release) (old : Plan) (made : Option Plan) (new : Node) → Keeps release old made
     → option_map concept_node made ≡ Some new → MeanTheSame release (concept_node old) new
 plan_root release old None new keeps is = absurd (cc)
@@ -21,7 +21,7 @@ plan_root release old (Some made) new keeps is =
     let new_is : concept_node made ≡ new = cc in
     subst (λ (node : Node). MeanTheSame release (concept_node old) node) new_is keeps
 
--- and of a plan of groups
+-- the node made of a plan of groups means the same if the rule keeps the meaning of plans of groups
 group_root : (release : Release) (old : PlanOfUnits) (made : Option PlanOfUnits) (new : Node) → KeepsGroup release old made
     → option_map group_node made ≡ Some new → MeanTheSame release (group_node old) new
 group_root release old None new keeps is = absurd (cc)
@@ -29,14 +29,14 @@ group_root release old (Some made) new keeps is =
     let new_is : group_node made ≡ new = cc in
     subst (λ (node : Node). MeanTheSame release (group_node old) node) new_is keeps
 
--- so each rule keeps the meaning at the root
+-- each rule keeps the meaning of a node at its root
 pub keeps_meaning_at_root : KeepsMeaningAtRoot
 keeps_meaning_at_root release rule (concept_node plan) new is =
     plan_root release plan (rewritten rule plan) new (plan_keeps release rule plan) is
 keeps_meaning_at_root release rule (group_node plan) new is =
     group_root release plan (rewritten_group rule plan) new (group_keeps release rule plan) is
 
--- a rule at a place in a child, by what it is in the child
+-- `new` is `whole` with the node at a place replaced by what the rule makes of it
 record IsThere (rule : Rule) (place : List ℕ) (whole new : Node) : Type 0 where
   here : Node
   there : Node
@@ -44,7 +44,7 @@ record IsThere (rule : Rule) (place : List ℕ) (whole new : Node) : Type 0 wher
   taken : rewritten_node rule here ≡ Some there
   put : new ≡ put_at place there whole
 
--- what is made at a place in a child is put at that place of the whole
+-- a node made at a place in child `number` is the whole with the node at that place replaced
 in_child_there : (rule : Rule) (number : ℕ) (place : List ℕ) (whole new child : Node) (made : Option Node)
     → slice_get (children whole) number ≡ Some child
     → ((node : Node) → made ≡ Some node → IsThere rule place child node)
@@ -64,7 +64,8 @@ in_child_there rule number place whole new child (Some node) is inner made =
           ∙ sym (ap (with_changed whole number (put_at place in_it.there)) is);
     }
 
--- whether the child is there or not
+-- a node that a rule makes at a place in child `number` is the whole with the node at that place replaced, and there
+-- is such a child
 found_there : (rule : Rule) (number : ℕ) (place : List ℕ) (whole new : Node) (found : Option Node)
     → slice_get (children whole) number ≡ found
     → ((child node : Node) → rewritten_at rule place child ≡ Some node → IsThere rule place child node)
@@ -74,7 +75,7 @@ found_there rule number place whole new (Some child) is inner made =
     in_child_there rule number place whole new child (rewritten_at rule place child) is
     (λ node made_is. inner child node made_is) made
 
--- so what is made at a place is another node put there
+-- a node that a rule makes at a place is the whole with the node at that place replaced
 is_there : (rule : Rule) (place : List ℕ) (whole new : Node) → rewritten_at rule place whole ≡ Some new
     → IsThere rule place whole new
 is_there rule [] whole new made = record { here = whole; there = new; found = refl; taken = made; put = refl }
@@ -82,7 +83,7 @@ is_there rule (number ∷ place) whole new made =
     found_there rule number place whole new (slice_get (children whole) number) refl
     (λ child node made_is. is_there rule place child node made_is) made
 
--- and the other way, of a child
+-- a rule makes at a place in a child the whole with the node there replaced if it does so in the child
 made_in_child : (rule : Rule) (number : ℕ) (place : List ℕ) (whole here there : Node) (found : Option Node)
     → slice_get (children whole) number ≡ found
     →
@@ -94,7 +95,7 @@ made_in_child rule number place whole here there None is inner at = absurd (cc)
 made_in_child rule number place whole here there (Some child) is inner at =
     ap (option_map (with_child whole number)) (inner child at)
 
--- another node put at a place is what is made there
+-- a rule that makes `there` of the node `here` at a place makes of the whole the one with `there` put at that place
 made_there : (rule : Rule) (place : List ℕ) (whole here there : Node) → node_at place whole ≡ Some here
     → rewritten_node rule here ≡ Some there → rewritten_at rule place whole ≡ Some (put_at place there whole)
 made_there rule [] whole here there at taken = let same : whole ≡ here = cc in ap (rewritten_node rule) same ∙ taken
@@ -102,14 +103,15 @@ made_there rule (number ∷ place) whole here there at taken =
     made_in_child rule number place whole here there (slice_get (children whole) number) refl
     (λ child at_child. made_there rule place child here there at_child taken) at
 
--- both together
+-- a rule makes a node at a place exactly if the place names a node of which it makes one, and the result is the whole
+-- with that node put there
 pub is_there_alone : IsThereAlone
 is_there_alone rule place whole new = (
   λ made. let is = is_there rule place whole new made in (is.here, is.there, is.found, is.taken, is.put),
   λ (here, there, found, taken, put). made_there rule place whole here there found taken ∙ ap Some (sym put),
 )
 
--- lifted to a place by the law of places
+-- each rule keeps the meaning of a node at every place
 pub keeps_meaning : KeepsMeaning
 keeps_meaning release rule place whole new made =
     let is = is_there rule place whole new made in

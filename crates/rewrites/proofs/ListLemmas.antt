@@ -1,4 +1,4 @@
--- The plans of lists joined, and of a list made of another.
+-- The plans of joined lists, and of a list made of another list.
 use Rattle.std.proofs.Common.{ℕ, ◌≡◌, ◌<◌, ◌≤◌, ◌+◌, List, [], ◌∷◌, ◌++◌, length, get_or, take, map, refl}
 use Rattle.std.proofs.Common.{sym, ap, ◌∙◌, Result, Ok, IfOk}
 use Rattle.std.proofs.lemmas.List.{take_all, map_push, map_more}
@@ -10,21 +10,23 @@ use Rattle.set_algebra.specs.Plan.{unit_plan_then, unit_plan_of, unit_plans_of}
 use Rattle.rewrites.specs.PlanLists.{plans_joined, plans_each, groups_joined, groups_each}
 use Rattle.rewrites.specs.PlanLists.{groups_of_each, plans_of_each}
 
--- the plans of one list after another
+-- the plans of two lists of plans of concepts joined are their plans joined
 pub plans_of_joined : (parts others : List ConceptPlan)
     → plans_of (parts ++ others) ≡ plans_joined (plans_of parts) (plans_of others)
 plans_of_joined [] others = refl
 plans_of_joined (first ∷ rest) others = ap (plan_then (plan_of first)) (plans_of_joined rest others)
 
+-- the plans of two lists of plans of groups joined are their plans joined
 pub unit_plans_of_joined : (parts others : List UnitPlan)
     → unit_plans_of (parts ++ others) ≡ groups_joined (unit_plans_of parts) (unit_plans_of others)
 unit_plans_of_joined [] others = refl
 unit_plans_of_joined (first ∷ rest) others = ap (unit_plan_then (unit_plan_of first)) (unit_plans_of_joined rest others)
 
--- A loop that makes an item of each part of a list: `look` tells the plan of an item, and `make` which it is to be.
+-- A loop that makes an item of each part of a list. `look` gives the plan of an item, and `make` the plan that it
+-- should have.
 module _ {Part Made P : Type 0} (look : Made → P) (make : Part → P) (made : List Made) (parts : List Part)
     (i : ℕ) where
-  -- one more turn
+  -- loop step: the items made of `i` parts with one more, made of part `i`, are those made of `i + 1` parts
   made_more :
       (next : List Made) (new : Made) (part : Part)
       → next ≡ made ++ new ∷ [] → i < length parts → part ≡ get_or parts i part
@@ -37,6 +39,7 @@ module _ {Part Made P : Type 0} (look : Made → P) (make : Part → P) (made : 
       ∙ ap (λ (plan : P). map make (take i parts) ++ plan ∷ []) (one ∙ ap make part_is)
       ∙ sym (map_more make parts i part within)
 
+  -- loop step: the items made of `i` parts with the result for part `i` at their end are those made of `i + 1` parts
   pub more_made : {E : Type 0} (next : List Made) (new : Result Made E) (part : Part)
       → (last : Made) × (new ≡ Ok last) × (next ≡ made ++ last ∷ []) → i < length parts → part ≡ get_or parts i part
       → map look made ≡ map make (take i parts) → IfOk new (λ last. look last ≡ make part)
@@ -45,27 +48,29 @@ module _ {Part Made P : Type 0} (look : Made → P) (make : Part → P) (made : 
       made_more next told.0 part told.2 within part_is so_far
       (IfOk-at_ok (λ (last : Made). look last ≡ make part) told.1 one)
 
-  -- after the last turn an item is made of each
+  -- after its last turn the loop has made an item of each part
   pub all_made : length parts ≤ i → map look made ≡ map make (take i parts) → map look made ≡ map make parts
   all_made past so_far = so_far ∙ ap (map make) (take_all i parts past)
 
--- what is made of the plan of each item of a list: plans of concepts of plans of concepts, groups of groups, and
--- across the sorts
+-- making a plan of concepts of the plan of each item is `plans_each`
 pub plans_made : (make : Plan → Plan) (parts : List ConceptPlan)
     → plans_from (map (λ part. make (plan_of part)) parts) ≡ plans_each make (plans_of parts)
 plans_made make [] = refl
 plans_made make (first ∷ rest) = ap (plan_then (make (plan_of first))) (plans_made make rest)
 
+-- making a plan of groups of the plan of groups of each item is `groups_each`
 pub groups_made : (make : PlanOfUnits → PlanOfUnits) (parts : List UnitPlan)
     → units_from (map (λ part. make (unit_plan_of part)) parts) ≡ groups_each make (unit_plans_of parts)
 groups_made make [] = refl
 groups_made make (first ∷ rest) = ap (unit_plan_then (make (unit_plan_of first))) (groups_made make rest)
 
+-- making a plan of groups of the plan of concepts of each item is `groups_of_each`
 pub groups_made_of_plans : (make : Plan → PlanOfUnits) (parts : List ConceptPlan)
     → units_from (map (λ part. make (plan_of part)) parts) ≡ groups_of_each make (plans_of parts)
 groups_made_of_plans make [] = refl
 groups_made_of_plans make (first ∷ rest) = ap (unit_plan_then (make (plan_of first))) (groups_made_of_plans make rest)
 
+-- making a plan of concepts of the plan of groups of each item is `plans_of_each`
 pub plans_made_of_groups : (make : PlanOfUnits → Plan) (parts : List UnitPlan)
     → plans_from (map (λ part. make (unit_plan_of part)) parts) ≡ plans_of_each make (unit_plans_of parts)
 plans_made_of_groups make [] = refl

@@ -1,4 +1,4 @@
--- The rules that are the same of And and Or, by the list of the parts.
+-- The rules that treat And and Or alike, by the list of the parts.
 use Rattle.std.proofs.Common.{◌≡◌, ◌<◌, ◌≤◌, Bool, true, false, Some, None, List, [], ◌∷◌, length, take, drop, refl, ap}
 use Rattle.std.proofs.Common.{◌∙◌, arith}
 use Rattle.std.proofs.lemmas.Bool.{false≢true}
@@ -17,12 +17,12 @@ use Rattle.rewrites.specs.PlanLists.{plans_then, plans_joined, groups_then, grou
 use Rattle.rewrites.specs.Rules.{rewritten, rewritten_group}
 use Rattle.rewrites.specs.Simplified.{begins_twice, group_begins_twice}
 
--- one more at the end is a list of one after the others
+-- adding `last` at the end of a list of plans of concepts is joining the list of `last` alone
 last_joined : (parts : Plans) (last : Plan) → plans_then parts last ≡ plans_joined parts (plan_then last no_plans)
 last_joined no_plans last = refl
 last_joined (plan_then first rest) last = ap (plan_then first) (last_joined rest last)
 
--- Turn puts the first of two parts or more after the others, and makes nothing of fewer
+-- Turn puts the first part of two or more parts of concepts after the others
 pub turned : (connective : Connective) (parts : List ConceptPlan) → 2 ≤ length parts
     → rewritten Turn (connected connective (plans_of parts))
     ≡ Some (connected connective (plans_joined (plans_of (drop 1 parts)) (plans_of (take 1 parts))))
@@ -33,6 +33,7 @@ turned And (one ∷ (other ∷ more)) long =
 turned Or (one ∷ (other ∷ more)) long =
     ap (λ plans. Some (or_plan plans)) (last_joined (plans_of (other ∷ more)) (plan_of one))
 
+-- Turn makes nothing of fewer than two parts of concepts
 pub not_turned : (connective : Connective) (parts : List ConceptPlan) → length parts < 2
     → rewritten Turn (connected connective (plans_of parts)) ≡ None
 not_turned And [] few = refl
@@ -41,16 +42,17 @@ not_turned And (first ∷ []) few = refl
 not_turned Or (first ∷ []) few = refl
 not_turned connective (first ∷ (second ∷ rest)) few = absurd (omega arith)
 
+-- the lemmas on Turn for parts of concepts: two or more, and fewer
 pub ruleset turning = (turned, not_turned)
 
--- Join takes the parts of a first part of the same connective up among the others
+-- Join moves the parts of a first part with the outer connective up among the other parts of concepts
 pub joined : (connective : Connective) (parts rest : Plans)
     → rewritten Join (connected connective (plan_then (connected connective parts) rest))
     ≡ Some (connected connective (plans_joined parts rest))
 joined And parts rest = refl
 joined Or parts rest = refl
 
--- Pair takes the first two of three parts or more together, and makes nothing of fewer
+-- Pair joins the first two of three or more parts of concepts in one part with the outer connective
 pub paired : (connective : Connective) (parts : List ConceptPlan) → 3 ≤ length parts
     → rewritten Pair (connected connective (plans_of parts))
     ≡ Some
@@ -61,6 +63,7 @@ paired connective (one ∷ (other ∷ [])) long = absurd (omega arith)
 paired And (one ∷ (other ∷ (third ∷ more))) long = refl
 paired Or (one ∷ (other ∷ (third ∷ more))) long = refl
 
+-- Pair makes nothing of fewer than three parts of concepts
 pub not_paired : (connective : Connective) (parts : List ConceptPlan) → length parts < 3
     → rewritten Pair (connected connective (plans_of parts)) ≡ None
 not_paired And [] few = refl
@@ -71,9 +74,10 @@ not_paired And (first ∷ (second ∷ [])) few = refl
 not_paired Or (first ∷ (second ∷ [])) few = refl
 not_paired connective (first ∷ (second ∷ (third ∷ rest))) few = absurd (omega arith)
 
+-- the lemmas on Pair for parts of concepts: three or more, and fewer
 pub ruleset pairing = (paired, not_paired)
 
--- Same drops the first of two equal parts, and makes nothing of others
+-- Same drops the first part of concepts if the second one is equal to it
 pub dropped : (connective : Connective) (parts : List ConceptPlan) → begins_twice (plans_of parts) ≡ true
     → rewritten Same (connected connective (plans_of parts)) ≡ Some (connected connective (plans_of (drop 1 parts)))
 dropped connective [] twice = absurd (false≢true twice)
@@ -87,6 +91,7 @@ dropped Or (one ∷ (other ∷ more)) twice =
     ∙ ap (λ (plan : Plan). Some (or_plan (plan_then plan (plans_of more))))
     ((decides_plan (plan_of one) (plan_of other)).0 twice)
 
+-- Same makes nothing of parts of concepts whose first two are not equal
 pub not_dropped : (connective : Connective) (parts : List ConceptPlan) → begins_twice (plans_of parts) ≡ false
     → rewritten Same (connected connective (plans_of parts)) ≡ None
 not_dropped And [] differ = refl
@@ -98,20 +103,22 @@ not_dropped And (first ∷ (second ∷ rest)) differ =
 not_dropped Or (first ∷ (second ∷ rest)) differ =
     ap (λ (same : Bool). only_if same (or_plan (plan_then (plan_of first) (plans_of rest)))) differ
 
--- two parts are equal only where there are two
+-- a list of plans of concepts that begins with two equal plans has at least two
 pub are_two : (parts : List ConceptPlan) → begins_twice (plans_of parts) ≡ true → 2 ≤ length parts
 are_two [] twice = absurd (false≢true twice)
 are_two (first ∷ []) twice = absurd (false≢true twice)
 are_two (first ∷ (second ∷ rest)) twice = omega arith
 
+-- the lemmas on Same for parts of concepts: first two equal, and not equal
 pub ruleset dropping = (dropped, not_dropped, are_two)
 
--- the same of plans of groups
+-- adding `last` at the end of a list of plans of groups is joining the list of `last` alone
 last_group_joined : (parts : PlansOfUnits) (last : PlanOfUnits)
     → groups_then parts last ≡ groups_joined parts (unit_plan_then last no_unit_plans)
 last_group_joined no_unit_plans last = refl
 last_group_joined (unit_plan_then first rest) last = ap (unit_plan_then first) (last_group_joined rest last)
 
+-- Turn puts the first part of two or more parts of groups after the others
 pub group_turned : (connective : Connective) (parts : List UnitPlan) → 2 ≤ length parts
     → rewritten_group Turn (connected_groups connective (unit_plans_of parts))
     ≡ Some
@@ -123,6 +130,7 @@ group_turned And (one ∷ (other ∷ more)) long =
 group_turned Or (one ∷ (other ∷ more)) long =
     ap (λ plans. Some (or_units plans)) (last_group_joined (unit_plans_of (other ∷ more)) (unit_plan_of one))
 
+-- Turn makes nothing of fewer than two parts of groups
 pub group_not_turned : (connective : Connective) (parts : List UnitPlan) → length parts < 2
     → rewritten_group Turn (connected_groups connective (unit_plans_of parts)) ≡ None
 group_not_turned And [] few = refl
@@ -131,14 +139,17 @@ group_not_turned And (first ∷ []) few = refl
 group_not_turned Or (first ∷ []) few = refl
 group_not_turned connective (first ∷ (second ∷ rest)) few = absurd (omega arith)
 
+-- the lemmas on Turn for parts of groups: two or more, and fewer
 pub ruleset group_turning = (group_turned, group_not_turned)
 
+-- Join moves the parts of a first part with the outer connective up among the other parts of groups
 pub groups_joined_up : (connective : Connective) (parts rest : PlansOfUnits)
     → rewritten_group Join (connected_groups connective (unit_plan_then (connected_groups connective parts) rest))
     ≡ Some (connected_groups connective (groups_joined parts rest))
 groups_joined_up And parts rest = refl
 groups_joined_up Or parts rest = refl
 
+-- Pair joins the first two of three or more parts of groups in one part with the outer connective
 pub group_paired : (connective : Connective) (parts : List UnitPlan) → 3 ≤ length parts
     → rewritten_group Pair (connected_groups connective (unit_plans_of parts))
     ≡ Some
@@ -150,6 +161,7 @@ group_paired connective (one ∷ (other ∷ [])) long = absurd (omega arith)
 group_paired And (one ∷ (other ∷ (third ∷ more))) long = refl
 group_paired Or (one ∷ (other ∷ (third ∷ more))) long = refl
 
+-- Pair makes nothing of fewer than three parts of groups
 pub group_not_paired : (connective : Connective) (parts : List UnitPlan) → length parts < 3
     → rewritten_group Pair (connected_groups connective (unit_plans_of parts)) ≡ None
 group_not_paired And [] few = refl
@@ -160,8 +172,10 @@ group_not_paired And (first ∷ (second ∷ [])) few = refl
 group_not_paired Or (first ∷ (second ∷ [])) few = refl
 group_not_paired connective (first ∷ (second ∷ (third ∷ rest))) few = absurd (omega arith)
 
+-- the lemmas on Pair for parts of groups: three or more, and fewer
 pub ruleset group_pairing = (group_paired, group_not_paired)
 
+-- Same drops the first part of groups if the second one is equal to it
 pub group_dropped : (connective : Connective) (parts : List UnitPlan)
     → group_begins_twice (unit_plans_of parts) ≡ true
     → rewritten_group Same (connected_groups connective (unit_plans_of parts))
@@ -177,6 +191,7 @@ group_dropped Or (one ∷ (other ∷ more)) twice =
     ∙ ap (λ (plan : PlanOfUnits). Some (or_units (unit_plan_then plan (unit_plans_of more))))
     ((decides_group (unit_plan_of one) (unit_plan_of other)).0 twice)
 
+-- Same makes nothing of parts of groups whose first two are not equal
 pub group_not_dropped : (connective : Connective) (parts : List UnitPlan)
     → group_begins_twice (unit_plans_of parts) ≡ false
     → rewritten_group Same (connected_groups connective (unit_plans_of parts)) ≡ None
@@ -189,9 +204,11 @@ group_not_dropped And (first ∷ (second ∷ rest)) differ =
 group_not_dropped Or (first ∷ (second ∷ rest)) differ =
     ap (λ (same : Bool). only_if same (or_units (unit_plan_then (unit_plan_of first) (unit_plans_of rest)))) differ
 
+-- a list of plans of groups that begins with two equal plans has at least two
 pub groups_are_two : (parts : List UnitPlan) → group_begins_twice (unit_plans_of parts) ≡ true → 2 ≤ length parts
 groups_are_two [] twice = absurd (false≢true twice)
 groups_are_two (first ∷ []) twice = absurd (false≢true twice)
 groups_are_two (first ∷ (second ∷ rest)) twice = omega arith
 
+-- the lemmas on Same for parts of groups: first two equal, and not equal
 pub ruleset group_dropping = (group_dropped, group_not_dropped, groups_are_two)

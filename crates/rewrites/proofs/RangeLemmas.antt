@@ -1,4 +1,4 @@
--- What RangeSplit makes of a plan with a count, by what its count is split into.
+-- The plan that RangeSplit makes, by the two cardinalities that it splits a cardinality into.
 use Rattle.std.proofs.Common.{ℕ, ◌≡◌, Bool, true, false, Option, Some, None, nat_le, option_map, refl, sym, ap, ◌∙◌}
 use Rattle.std.specs.Option.{option_and_then}
 use Rattle.constraint_tree.specs.declared.operator.Cardinality.{Cardinality}
@@ -9,7 +9,7 @@ use Rattle.rewrites.specs.Counts.{only_if, at_least, up_to, split_at, split}
 use Rattle.rewrites.specs.inside.Counted.{count_of, with_count}
 use Rattle.rewrites.specs.Rules.{rewritten}
 
--- what is made of the two parts of a count, under a condition
+-- `make` may be applied inside or after a condition
 made_if : {X Y : Type 0} (make : X → Y) (condition : Bool) (x : X)
     → only_if condition (make x) ≡ option_map make (only_if condition x)
 made_if make true x = refl
@@ -21,7 +21,7 @@ made_at : {X : Type 0} (make : Cardinality × Cardinality → X) (least : ℕ) (
 made_at make least None = refl
 made_at make least (Some most) = made_if make (nat_le 1 least) (at_least least, up_to most)
 
--- the two parts of a count
+-- the cardinalities `[m..*]` and `[0..k]` of `[m..k]`, if it has a maximum and m is at least 1
 abbrev parts_of : Cardinality → Option (Cardinality × Cardinality)
 parts_of count = split (λ one other. (one, other)) count
 
@@ -31,7 +31,7 @@ made_of : {X : Type 0} (make : Cardinality × Cardinality → X) (own count : Ca
 made_of make own count both is told =
     made_at make own.min own.max ∙ ap (option_map make) (sym (told ∙ ap (option_and_then parts_of) is))
 
--- RangeSplit makes the And of the plan with the one part and with the other for its count
+-- RangeSplit makes the conjunction of the plan with the cardinality `least` and the plan with the cardinality `most`
 pub range_split_made : (plan : Plan) (count least most : Cardinality) → Some count ≡ count_of plan
     → Some (least, most) ≡ parts_of count
     → rewritten RangeSplit plan ≡ Some (both_plan (with_count least plan) (with_count most plan))

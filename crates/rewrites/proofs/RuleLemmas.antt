@@ -1,4 +1,4 @@
--- Each rule at the root of a plan of concepts.
+-- Each rule keeps the meaning of a plan of concepts at its root.
 use Rattle.std.proofs.Common.{ℕ, ◌≡◌, ◌+◌, ◌-◌, ◌^◌, ◌&&◌, ◌||◌, not, Bool, true, false, Option, Some, None, List}
 use Rattle.std.proofs.Common.{option_map, nat_le, nat_lt, nat_eq, if◌then◌else◌, refl, sym, ap, ◌∙◌}
 use Rattle.std.proofs.Math.Path.{fun_ext}
@@ -40,19 +40,19 @@ use Rattle.rewrites.proofs.WalkLemmas.{beyond_twice, there_same, below_is_transi
 use Rattle.rewrites.proofs.GroupLemmas.{some_pair_of_group}
 use Rattle.number_lists.proofs.ListLemmas.{passing_item, some_item_passes}
 
--- no new plan, or one that means the same
+-- the new plan of concepts, if there is one, means the same concepts as the old one over the release
 abbrev pub Keeps : Release → Plan → Option Plan → Type 0
 Keeps release old None = Unit {0}
 Keeps release old (Some new) = (concept : ℕ) → means release old concept ≡ means release new concept
 
--- a new plan under a condition
+-- a new plan of concepts that is made under a condition keeps the meaning if it does so under the condition
 keeps_if : (release : Release) (old new : Plan) (condition : Bool)
     → (condition ≡ true → (concept : ℕ) → means release old concept ≡ means release new concept)
     → Keeps release old (only_if condition new)
 keeps_if release old new true is = is refl
 keeps_if release old new false is = tt
 
--- what is in all, and in some, of a list with one more at its end, and of one list after another
+-- a concept is in the sets of a list and of `last` exactly if it is in each set of the list with `last` at its end
 all_then : (release : Release) (parts : Plans) (last : Plan) (concept : ℕ)
     → all_mean release (plans_then parts last) concept ≡ (all_mean release parts concept && means release last concept)
 all_then release no_plans last concept = BoolLemmas.and_one (means release last concept)
@@ -60,6 +60,7 @@ all_then release (plan_then first rest) last concept =
     ap (λ (b : Bool). means release first concept && b) (all_then release rest last concept)
     ∙ BoolLemmas.and_assoc (means release first concept) (all_mean release rest concept) (means release last concept)
 
+-- a concept is in the set of a plan of a list or of `last` exactly if it is in one of the list with `last` at its end
 some_then : (release : Release) (parts : Plans) (last : Plan) (concept : ℕ)
     → some_means release (plans_then parts last) concept
     ≡ (some_means release parts concept || means release last concept)
@@ -68,6 +69,7 @@ some_then release (plan_then first rest) last concept =
     ap (λ (b : Bool). means release first concept || b) (some_then release rest last concept)
     ∙ BoolLemmas.or_assoc (means release first concept) (some_means release rest concept) (means release last concept)
 
+-- a concept is in each set of two lists of plans of concepts exactly if it is in each set of the joined list
 all_joined : (release : Release) (parts others : Plans) (concept : ℕ)
     → all_mean release (plans_joined parts others) concept
     ≡ (all_mean release parts concept && all_mean release others concept)
@@ -77,6 +79,7 @@ all_joined release (plan_then first rest) others concept =
     ∙ BoolLemmas.and_assoc (means release first concept) (all_mean release rest concept)
     (all_mean release others concept)
 
+-- a concept is in some set of two lists of plans of concepts exactly if it is in some set of the joined list
 some_joined : (release : Release) (parts others : Plans) (concept : ℕ)
     → some_means release (plans_joined parts others) concept
     ≡ (some_means release parts concept || some_means release others concept)
@@ -163,12 +166,12 @@ minus_or release plan = tt
 
 -- The rules of walks.
 
--- some member passes, of the concepts in force
+-- the test that some concept of the set passes is additive
 some_member_adds : (release : Release) (test : ℕ → Bool) → IsAdditive (λ (set : ℕ → Bool). some_member release set test)
 some_member_adds release test =
     some_of (λ member set. set member && test member) (λ member. and_after _ (test member) (holds_of member)) release.concepts
 
--- a walk is additive, but for `!!>` and `!!<`
+-- the test of a walk is additive in its operand, for each operator other than `!!>` and `!!<`
 walks_add : (release : Release) (operator : Operator) (concept : ℕ) → goes_through operator ≡ true
     → IsAdditive (λ (set : ℕ → Bool). walks release operator set concept)
 walks_add release Descendants concept goes = some_member_adds release (λ member. reaches release.isa concept member)
@@ -201,7 +204,7 @@ walk_or release (members_plan (or_plan parts)) = λ concept.
     (λ part. refl) parts
 walk_or release plan = tt
 
--- one walk of the two, split by their operators
+-- WalkTwice keeps the meaning of a walk of a walk, for each pair of operators
 two_walks : (release : Release) (outer inner : Operator) (operand : Plan)
     → Keeps release (walk_plan outer (walk_plan inner operand))
     (option_map (λ operator. walk_plan operator operand) (walk_of_walk outer inner))
@@ -239,7 +242,7 @@ walk_twice release plan = tt
 
 -- The rules of types and tests.
 
--- as many pairs as `1..*` asks: additive in the types, and in the values
+-- the test that the number of matching pairs lies in `1..*` is additive in the types
 pub types_add : (count : Cardinality) (passes : Value → Bool) (pairs : List Pair) → asks_some count ≡ true
     → IsAdditive (λ (types : ℕ → Bool). has_pairs count types passes pairs)
 types_add count passes pairs asks =
@@ -247,6 +250,7 @@ types_add count passes pairs asks =
     (λ types. CountLemmas.some_lie_in count (λ pair. types pair.type_id && passes pair.value) pairs asks)
     (some_of (λ pair types. types pair.type_id && passes pair.value) (λ pair. and_after _ (passes pair.value) (holds_of pair.type_id)) pairs)
 
+-- the test that the number of matching pairs lies in `1..*` is additive in the set of values
 pub values_add : (count : Cardinality) (types : ℕ → Bool) (pairs : List Pair) → asks_some count ≡ true
     → IsAdditive (λ (set : ℕ → Bool). has_pairs count types (is_within set) pairs)
 values_add count types pairs asks =
@@ -275,7 +279,7 @@ test_or release (pairs_plan back count types (within_plan (or_plan values))) =
     (λ part. refl) values)
 test_or release plan = tt
 
--- The rules of counts. A plan `make count` means the concepts in force with a number `n` in the count.
+-- The rules of counts. The plan `make count` means the concepts in force whose number `n` lies in `count`.
 module _ (release : Release) (make : Cardinality → Plan) (n : ℕ → ℕ)
     (is : (count : Cardinality) (concept : ℕ) → means release (make count) concept ≡ (has_concept release concept && lies_in count (n concept)))
   where
@@ -321,13 +325,13 @@ module _ (release : Release) (make : Cardinality → Plan) (n : ℕ → ℕ)
         ∙ is (record { min = least; max = Some most }) concept
         ∙ CountLemmas.range_never (has_concept release concept) least most (n concept) above)
 
--- how many pairs of the concept pass
+-- the number of the concept's pairs that match the types and the test
 abbrev pairs_count : (release : Release) (back : Bool) (types : Plan) (test : TestPlan) (concept : ℕ) → ℕ
 pairs_count release back types test concept =
     count_by (λ pair. means release types pair.type_id && value_passes release test pair.value)
     (pairs_of release back concept)
 
--- how many groups of the concept are in the set
+-- the number of the concept's groups that the plan of groups means
 abbrev groups_count : (release : Release) (units : PlanOfUnits) (concept : ℕ) → ℕ
 groups_count release units concept = count_by (unit_means release units) (groups_of release concept)
 
@@ -360,7 +364,7 @@ range_all release plan = tt
 
 -- The rules of braces.
 
--- some group of the concept is in a set
+-- the test that the number of the concept's groups in a set lies in `1..*` is additive in the set
 braces_add : (release : Release) (count : Cardinality) (concept : ℕ) → asks_some count ≡ true
     → IsAdditive (λ (set : List Pair → Bool). has_concept release concept && has_groups release count set concept)
 braces_add release count concept asks =
@@ -369,7 +373,7 @@ braces_add release count concept asks =
     (λ set. CountLemmas.some_lie_in count set (groups_of release concept) asks)
     (some_of (λ pairs set. set pairs) (λ pairs. holds_of pairs) (groups_of release concept)))
 
--- no group in some part is none in each
+-- a concept has no group in an `Or` of plans of groups exactly if it has no group in each of them
 none_in_each : (release : Release) (count : Cardinality) (concept : ℕ) → asks_none count ≡ true → (units : PlansOfUnits)
     → (has_concept release concept && has_groups release count (some_unit_means release units) concept)
     ≡ (has_concept release concept && all_mean release (plans_of_each (units_plan count) units) concept)
@@ -399,7 +403,7 @@ none_in_each release count concept asks (unit_plan_then first rest) =
     ∙ BoolLemmas.and_both (has_concept release concept) (has_groups release count set concept)
     (all_mean release (plans_of_each (units_plan count) rest) concept)
 
--- by what the count asks
+-- BraceOr keeps the meaning if the cardinality is `1..*` or `0..0`, and makes nothing otherwise
 brace_or_keeps : (release : Release) (count : Cardinality) (units : PlansOfUnits) (some none : Bool)
     → asks_some count ≡ some → asks_none count ≡ none
     → Keeps release (units_plan count (or_units units))
@@ -434,7 +438,8 @@ brace_one release (units_plan count (pairs_units some types test)) =
     ∙ sym (CountLemmas.counts_some passes (out_pairs release concept)))))
 brace_one release plan = tt
 
--- where enough groups are in the `And`, one is, and so it has a pair that passes
+-- a concept has a matching pair if at least one of its groups is in an `And` whose first part asks for at least one
+-- matching pair
 group_has_pair :
     (release : Release) (count some : Cardinality) (types : Plan) (test : TestPlan) (rest : PlansOfUnits) (concept : ℕ)
     → nat_le 1 count.min ≡ true → nat_le 1 some.min ≡ true
@@ -464,7 +469,7 @@ brace_guard release (units_plan count (and_units (unit_plan_then (pairs_units so
     (group_has_pair release count some types test rest concept asks.0 asks.1))
 brace_guard release plan = tt
 
--- every rule
+-- every rule keeps the meaning of a plan of concepts at its root
 pub plan_keeps : (release : Release) (rule : Rule) (plan : Plan) → Keeps release plan (rewritten rule plan)
 plan_keeps release rule.Turn plan = turn release plan
 plan_keeps release rule.Join plan = join release plan

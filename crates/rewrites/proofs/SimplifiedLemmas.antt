@@ -1,4 +1,4 @@
--- A simplified plan means what the plan means.
+-- A simplified plan means the same as the plan.
 use Rattle.std.proofs.Common.{Option, Some, None}
 use Rattle.std.proofs.Math.Path.{fun_ext}
 use Rattle.std.specs.Prelude.{unwrap_or}
@@ -20,17 +20,17 @@ use Rattle.rewrites.proofs.AlikeLemmas.{members_alike, and_alike, or_alike, minu
 use Rattle.rewrites.proofs.AlikeLemmas.{units_alike, within_alike, outside_alike, and_groups_alike, or_groups_alike}
 use Rattle.rewrites.proofs.AlikeLemmas.{minus_groups_alike, group_pairs_alike}
 
--- what a rule makes of a plan, or the plan, means the same
+-- a plan of concepts with a rule tried on it means the same if the rule keeps the meaning
 or_itself : (plan : Plan) (made : Option Plan) → ((release : Release) → Keeps release plan made)
     → MeanAlike plan (unwrap_or made plan)
 or_itself plan None keeps = plan_itself plan
 or_itself plan (Some new) keeps = record { mean = λ release. fun_ext (keeps release) }
 
--- so does what is tried
+-- a plan of concepts with a rule tried on it means the same
 tried_keeps : (rule : Rule) (plan : Plan) → MeanAlike plan (tried rule plan)
 tried_keeps rule plan = or_itself plan (rewritten rule plan) (λ release. plan_keeps release rule plan)
 
--- and four of them one after the other
+-- a plan of concepts means the same after RangeAll, BraceOne, Same and Only, one after another
 shortened_keeps : (plan : Plan) → MeanAlike plan (shortened plan)
 unfolding shortened
 shortened_keeps plan =
@@ -41,11 +41,11 @@ shortened_keeps plan =
     (plan_by_two plan second third (plan_by_two plan first second (tried_keeps RangeAll plan) (tried_keeps BraceOne first)) (tried_keeps Same second))
     (tried_keeps Only third)
 
--- and so the node whose children mean the same, once it is shortened
+-- a plan of concepts means the same as the shortened form of a plan that means the same
 then_shortened : (old new : Plan) → MeanAlike old new → MeanAlike old (shortened new)
 then_shortened old new alike = plan_by_two old new (shortened new) alike (shortened_keeps new)
 
--- the same of plans of groups
+-- a plan of groups with a rule tried on it means the same if the rule keeps the meaning
 group_or_itself : (plan : PlanOfUnits) (made : Option PlanOfUnits) → ((release : Release) → KeepsGroup release plan made)
     → GroupsMeanAlike plan (unwrap_or made plan)
 group_or_itself plan None keeps = group_itself plan
@@ -67,8 +67,9 @@ group_shortened_keeps plan =
 unit_plan_then_shortened : (old new : PlanOfUnits) → GroupsMeanAlike old new → GroupsMeanAlike old (shortened_group new)
 unit_plan_then_shortened old new alike = group_by_two old new (shortened_group new) alike (group_shortened_keeps new)
 
--- a simplified plan means the same, by its children and then the node itself
+-- simplifying the children, and then shortening the node itself, keeps the meaning
 mutual
+  -- a simplified plan of concepts means the same over every release
   pub simplified_keeps : (plan : Plan) → MeanAlike plan (simplified plan)
   simplified_keeps empty_plan = shortened_keeps empty_plan
   simplified_keeps all_plan = shortened_keeps all_plan

@@ -1,4 +1,4 @@
--- Lists of plans of which a part is dropped or simplified.
+-- Lists of plans with a part dropped or simplified.
 use Rattle.std.proofs.Common.{ℕ, zero, suc, ◌≡◌, ◌<◌, ◌+◌, None, List, [], ◌∷◌, length}
 use Rattle.std.proofs.Common.{get_or, refl, ap, ◌∙◌, arith, add-one}
 use Rattle.std.specs.Prelude.{slice_set}
@@ -11,19 +11,20 @@ use Rattle.set_algebra.specs.inside.Views.{only_part, only_group_part}
 use Rattle.rewrites.specs.Simplified.{simplified, all_simplified}
 use Rattle.rewrites.specs.Simplified.{group_simplified, all_groups_simplified}
 
--- a list of another length has no only plan
+-- a list of plans of concepts whose length is not 1 has no only plan
 pub not_only : (items : List ConceptPlan) → (length items ≡ 1 → ⊥) → only_part (plans_of items) ≡ None
 not_only [] long = refl
 not_only (first ∷ []) long = absurd (long refl)
 not_only (first ∷ (second ∷ rest)) long = refl
 
--- a list of which the first are simplified
+-- the list of plans of concepts with its first `i` plans simplified
 abbrev pub up_to_here : ℕ → Plans → Plans
 up_to_here zero parts = parts
 up_to_here (suc i) no_plans = no_plans
 up_to_here (suc i) (plan_then first rest) = plan_then (simplified first) (up_to_here i rest)
 
--- one more turn of a loop that simplifies each part
+-- loop step: simplifying plan `i` of a list whose first `i` plans of concepts are simplified gives the list whose
+-- first `i + 1` are
 pub here_more : (parts items : List ConceptPlan) (i : ℕ) (old new : ConceptPlan)
     → plans_of items ≡ up_to_here i (plans_of parts) → i < length items → old ≡ get_or items i old
     → plan_of new ≡ simplified (plan_of old) → plans_of (slice_set items i new) ≡ up_to_here (i + 1) (plans_of parts)
@@ -44,7 +45,7 @@ here_more (part ∷ parts) (first ∷ rest) (suc i) old new so_far within is one
     ∙ ap (plan_then (simplified (plan_of part)))
     (here_more parts rest i old new tail (omega arith) is one ∙ rw add-one refl))
 
--- after the last turn all are simplified
+-- after the last turn of the loop all plans of concepts are simplified
 pub all_here : (parts : List ConceptPlan) (i : ℕ) → i ≡ length parts
     → up_to_here i (plans_of parts) ≡ all_simplified (plans_of parts)
 all_here [] zero is = refl
@@ -52,20 +53,21 @@ all_here [] (suc i) is = refl
 all_here (first ∷ rest) zero is = absurd (omega arith)
 all_here (first ∷ rest) (suc i) is = ap (plan_then (simplified (plan_of first))) (all_here rest i (omega arith))
 
--- plans of groups
--- a list of another length has no only plan
+-- a list of plans of groups whose length is not 1 has no only plan
 pub not_only_group_part : (items : List UnitPlan) → (length items ≡ 1 → ⊥)
     → only_group_part (unit_plans_of items) ≡ None
 not_only_group_part [] long = refl
 not_only_group_part (first ∷ []) long = absurd (long refl)
 not_only_group_part (first ∷ (second ∷ rest)) long = refl
 
--- a list of which the first are group_simplified
+-- the list of plans of groups with its first `i` plans simplified
 abbrev pub groups_up_to_here : ℕ → PlansOfUnits → PlansOfUnits
 groups_up_to_here zero parts = parts
 groups_up_to_here (suc i) no_unit_plans = no_unit_plans
 groups_up_to_here (suc i) (unit_plan_then first rest) = unit_plan_then (group_simplified first) (groups_up_to_here i rest)
 
+-- loop step: simplifying plan `i` of a list whose first `i` plans of groups are simplified gives the list whose first
+-- `i + 1` are
 pub groups_here_more : (parts items : List UnitPlan) (i : ℕ) (old new : UnitPlan)
     → unit_plans_of items ≡ groups_up_to_here i (unit_plans_of parts) → i < length items → old ≡ get_or items i old
     → unit_plan_of new ≡ group_simplified (unit_plan_of old)
@@ -87,6 +89,7 @@ groups_here_more (part ∷ parts) (first ∷ rest) (suc i) old new so_far within
     ∙ ap (unit_plan_then (group_simplified (unit_plan_of part)))
     (groups_here_more parts rest i old new tail (omega arith) is one ∙ rw add-one refl))
 
+-- after the last turn of the loop all plans of groups are simplified
 pub all_groups_here : (parts : List UnitPlan) (i : ℕ) → i ≡ length parts
     → groups_up_to_here i (unit_plans_of parts) ≡ all_groups_simplified (unit_plans_of parts)
 all_groups_here [] zero is = refl

@@ -1,4 +1,4 @@
--- A walk of a walk along a transitive test.
+-- Two walks in a row along one transitive test.
 use Rattle.std.proofs.Common.{ℕ, ◌≡◌, ◌&&◌, ◌||◌, Bool, true, List, inl, inr}
 use Rattle.std.proofs.lemmas.Bool.{and_parts, and_from, or_cases, or_left}
 use Rattle.rf2_rows.specs.Release.{Release}
@@ -9,28 +9,30 @@ use Rattle.number_lists.proofs.ListLemmas.{passing_item, some_item_passes}
 use Rattle.constraint_tree.proofs.WalkLemmas.{tells_in_force}
 use Rattle.rewrites.proofs.BoolLemmas.{same_if}
 
--- a test of two concepts that is handed on
+-- a test of two concepts is transitive: if `from` leads to `between`, and `between` to `to`, then `from` leads to `to`
 abbrev pub IsTransitive : (ℕ → ℕ → Bool) → Type 0
 IsTransitive leads = (from between to : ℕ) → leads from between ≡ true → leads between to ≡ true → leads from to ≡ true
 
--- reaching is handed on, downwards and upwards
+-- being a descendant is transitive
 pub below_is_transitive : (rows : List (ℕ × ℕ)) → IsTransitive (λ (from to : ℕ). reaches rows from to)
 below_is_transitive rows from between to first then =
     test_from_chain rows (chain_of_two (chain_from_test rows from between first) (chain_from_test rows between to then))
 
+-- being an ancestor is transitive
 pub above_is_transitive : (rows : List (ℕ × ℕ)) → IsTransitive (λ (from to : ℕ). reaches rows to from)
 above_is_transitive rows from between to first then =
     test_from_chain rows (chain_of_two (chain_from_test rows to between then) (chain_from_test rows between from first))
 
 module _ (release : Release) (set : ℕ → Bool) (leads : ℕ → ℕ → Bool) (transitive : IsTransitive leads) where
-  -- in force, and leading to a member; and that or a member
+  -- whether a concept is in force and leads to a concept of the set
   abbrev beyond : ℕ → Bool
   beyond member = has_concept release member && some_member release set (leads member)
 
+  -- whether a concept is in force and is in the set or leads to a concept of the set
   abbrev there : ℕ → Bool
   there member = has_concept release member && (set member || some_member release set (leads member))
 
-  -- by a member that a member leads to
+  -- a concept leads to a concept of the set if it leads to one that does
   by_two : (concept between : ℕ) → leads concept between ≡ true → some_member release set (leads between) ≡ true
       → some_member release set (leads concept) ≡ true
   by_two concept between first holds =
@@ -39,7 +41,7 @@ module _ (release : Release) (set : ℕ → Bool) (leads : ℕ → ℕ → Bool)
       some_item_passes (λ member. set member && leads concept member) release.concepts found.0 found.1
       (and_from _ _ parts.0 (transitive concept between found.0 first parts.1))
 
-  -- what leads to what leads to a member leads to a member
+  -- a concept that leads to one that leads to a concept of the set leads to a concept of the set
   pub beyond_twice : (concept : ℕ) → some_member release beyond (leads concept) ≡ true
       → some_member release set (leads concept) ≡ true
   beyond_twice concept holds =
@@ -48,7 +50,7 @@ module _ (release : Release) (set : ℕ → Bool) (leads : ℕ → ℕ → Bool)
       let inner = and_parts (has_concept release found.0) (some_member release set (leads found.0)) parts.0 in
       by_two concept found.0 parts.1 inner.1
 
-  -- and so does what leads to a member or to what leads to one
+  -- a concept leads to a concept of the set if it leads to one that is in the set or leads there
   there_then : (concept : ℕ) → some_member release there (leads concept) ≡ true
       → some_member release set (leads concept) ≡ true
   there_then concept holds =
@@ -63,7 +65,7 @@ module _ (release : Release) (set : ℕ → Bool) (leads : ℕ → ℕ → Bool)
         | inr further ↦ by_two concept found.0 parts.1 further
       ]
 
-  -- which are all that lead to a member
+  -- a concept leads to one that is in the set or leads there if it leads to a concept of the set
   then_there : (concept : ℕ) → some_member release set (leads concept) ≡ true
       → some_member release there (leads concept) ≡ true
   then_there concept holds =
@@ -72,6 +74,6 @@ module _ (release : Release) (set : ℕ → Bool) (leads : ℕ → ℕ → Bool)
       some_item_passes (λ member. there member && leads concept member) release.concepts found.0 found.1
       (and_from _ _ (and_from _ _ ((tells_in_force release found.0).1 found.1) (or_left _ _ parts.0)) parts.1)
 
-  -- so both say the same
+  -- leading to a concept of the set and leading to one that is in the set or leads there are one test
   pub there_same : (concept : ℕ) → some_member release there (leads concept) ≡ some_member release set (leads concept)
   there_same concept = same_if _ _ (there_then concept) (then_there concept)

@@ -1,6 +1,6 @@
--- The eighteen rules: what a rule makes of a plan at its root. A comment shows from which form a rule goes to
--- which, where x.. stands for any further children; the line below says the same of plans as data. Where no
--- line of a rule has the form of the plan, or its condition does not hold, the rule makes nothing of it.
+-- The eighteen rules: the plan that a rule makes of a plan at its root. A comment shows the form before and after a
+-- rule; x.. stands for any further children. The lines below the comment say this of plans as data. A rule makes
+-- nothing of a plan if no line of the rule has its form, or if the rule's condition does not hold.
 use Rattle.std.specs.Prelude.{Bool, true, false, ◌&&◌, ◌||◌, if◌then◌else◌, nat_le, Option, Some, None, option_map}
 use Rattle.constraint_tree.specs.declared.operator.Operator.{Operator}
 use Rattle.constraint_tree.specs.declared.operator.Operator.TheVariants.{Descendants, DescendantsOrSelf, Ancestors}
@@ -20,13 +20,14 @@ use Rattle.rewrites.specs.Counts.{only_if, at_least, asks_some, asks_none, split
 use Rattle.rewrites.specs.PlanLists.{plans_then, groups_then, plans_joined, groups_joined, plans_each, groups_each}
 use Rattle.rewrites.specs.PlanLists.{groups_of_each, plans_of_each}
 
--- whether an operator may be moved into an Or: all but `!!>` and `!!<`
+-- whether a hierarchy operator may be moved into an Or: each may but `!!>` and `!!<`
 abbrev pub goes_through : Operator → Bool
 goes_through Top = false
 goes_through Bottom = false
 goes_through operator = true
 
--- the one walk that a walk of a walk is: both of `<` and `<<`, or both of `>` and `>>`, and not the plain one twice
+-- the one hierarchy operator that stands for two in a row: both of `<` and `<<`, or both of `>` and `>>`, and not the
+-- plain one twice
 abbrev pub walk_of_walk : Operator → Operator → Option Operator
 walk_of_walk DescendantsOrSelf DescendantsOrSelf = Some DescendantsOrSelf
 walk_of_walk DescendantsOrSelf Descendants = Some Descendants
@@ -36,17 +37,18 @@ walk_of_walk AncestorsOrSelf Ancestors = Some Ancestors
 walk_of_walk Ancestors AncestorsOrSelf = Some Ancestors
 walk_of_walk outer inner = None
 
--- what two plans of groups have in common
+-- the plan of the groups that both plans of groups mean
 abbrev pub both_groups : PlanOfUnits → PlanOfUnits → PlanOfUnits
 both_groups one other = and_units (unit_plan_then one (unit_plan_then other no_unit_plans))
 
--- braces round an Or: [1..*] to the Or of [1..*] of each, [0..0] to the And of [0..0] of each
+-- the plan that BraceOr makes of braces round an Or: for [1..*] the Or of [1..*] of each part, for [0..0] the And of
+-- [0..0] of each part
 abbrev pub braces_of_each : Cardinality → PlansOfUnits → Option Plan
 braces_of_each count units =
     if asks_some count then Some (or_plan (plans_of_each (units_plan count) units))
     else only_if (asks_none count) (and_plan (plans_of_each (units_plan count) units))
 
--- what a rule makes of a plan of concepts
+-- the plan that a rule makes of a plan of concepts, or nothing
 abbrev pub rewritten : Rule → Plan → Option Plan
 -- And(x1, x2, x..) to And(x2, x.., x1); Or alike
 rewritten Turn (and_plan (plan_then first (plan_then second rest))) =
@@ -83,7 +85,7 @@ rewritten MinusOr (minus_plan first (or_plan (plan_then second rest))) =
 rewritten WalkOr (walk_plan operator (or_plan parts)) =
     only_if (goes_through operator) (or_plan (plans_each (walk_plan operator) parts))
 rewritten WalkOr (members_plan (or_plan parts)) = Some (or_plan (plans_each members_plan parts))
--- Walk(w, Walk(v, a)) to the one walk of a that it is
+-- Walk(w, Walk(v, a)) to one walk of a, with the operator that stands for both
 rewritten WalkTwice (walk_plan outer (walk_plan inner operand)) =
     option_map (λ operator. walk_plan operator operand) (walk_of_walk outer inner)
 -- Pairs [1..*] with types Or(t..) to the Or of Pairs [1..*] with each t
@@ -97,7 +99,7 @@ rewritten RangeSplit (pairs_plan back count types test) =
     split (λ least most. both_plan (pairs_plan back least types test) (pairs_plan back most types test)) count
 rewritten RangeSplit (units_plan count units) =
     split (λ least most. both_plan (units_plan least units) (units_plan most units)) count
--- Pairs or Units [0..k] to Minus(All, the same with [k+1..*]), for a k below 2 ^ 64 - 1
+-- Pairs or Units [0..k] to Minus(All, them with [k+1..*]), for a k below 2 ^ 64 - 1
 rewritten RangeTurn (pairs_plan back count types test) =
     complement (λ above. minus_plan all_plan (pairs_plan back above types test)) count
 rewritten RangeTurn (units_plan count units) = complement (λ above. minus_plan all_plan (units_plan above units)) count
@@ -114,10 +116,10 @@ rewritten BraceGuard (units_plan count (and_units (unit_plan_then (pairs_units s
     only_if (nat_le 1 count.min && nat_le 1 some.min)
     (both_plan (pairs_plan false (at_least 1) types test)
     (units_plan count (and_units (unit_plan_then (pairs_units some types test) rest))))
--- in any other form or case
+-- any other form of a plan of concepts, and any other case: nothing
 rewritten rule plan = None
 
--- what a rule makes of a plan of groups: those of the rules above that are not about walks or braces
+-- the plan that a rule makes of a plan of groups, or nothing. The rules of walks and of braces make nothing of one
 abbrev pub rewritten_group : Rule → PlanOfUnits → Option PlanOfUnits
 -- And(x1, x2, x..) to And(x2, x.., x1); Or alike
 rewritten_group Turn (and_units (unit_plan_then first (unit_plan_then second rest))) =
@@ -159,10 +161,10 @@ rewritten_group TestOr (pairs_units count types (within_plan (or_plan values))) 
 -- Pairs [m..k] to the And of them with [m..*] and [0..k], for m at least 1 and a k
 rewritten_group RangeSplit (pairs_units count types test) =
     split (λ least most. both_groups (pairs_units least types test) (pairs_units most types test)) count
--- Pairs [0..k] to Minus(Every, the same with [k+1..*]), for a k below 2 ^ 64 - 1
+-- Pairs [0..k] to Minus(Every, them with [k+1..*]), for a k below 2 ^ 64 - 1
 rewritten_group RangeTurn (pairs_units count types test) =
     complement (λ above. minus_units every_unit (pairs_units above types test)) count
 -- Pairs [0..*] to Every, and [m..k] with m above k to Nothing
 rewritten_group RangeAll (pairs_units count types test) = settled every_unit nothing_unit count
--- in any other form or case
+-- any other form of a plan of groups, and any other case: nothing
 rewritten_group rule plan = None

@@ -1,4 +1,4 @@
--- A rule at a place of a plan, and that it keeps what the plan means.
+-- A rule at a place of a plan. It keeps the meaning of the plan.
 use Rattle.std.specs.Prelude.{ℕ, ◌≡◌, ◌<◌, ◌↔◌, Option, Some, None, option_map, List, [], ◌∷◌, slice_get}
 use Rattle.rf2_rows.specs.Release.{Release}
 use Rattle.set_algebra.specs.Depth.{plan_depth}
@@ -8,40 +8,41 @@ use Rattle.set_algebra.specs.Places.{Node, concept_node, group_node, children, w
 use Rattle.rewrites.specs.declared.rule.Rule.{Rule}
 use Rattle.rewrites.specs.Rules.{rewritten, rewritten_group}
 
--- what a rule makes of a node, which is a plan of either sort
+-- the node that a rule makes of a node of either sort at its root, or nothing
 abbrev pub rewritten_node : Rule → Node → Option Node
 rewritten_node rule (concept_node plan) = option_map concept_node (rewritten rule plan)
 rewritten_node rule (group_node plan) = option_map group_node (rewritten_group rule plan)
 
--- a node with its child of that number, if there is one, changed; nothing where nothing is made of the child
+-- the node with child `number` changed by `change`; nothing if there is no such child or `change` makes nothing of it
 abbrev pub in_child : Node → ℕ → (Node → Option Node) → Option Node → Option Node
 in_child node number change None = None
 in_child node number change (Some child) = option_map (with_child node number) (change child)
 
--- what a rule makes of a plan at a place in it
+-- the node that a rule makes of a node at a place, or nothing
 abbrev pub rewritten_at : Rule → List ℕ → Node → Option Node
 rewritten_at rule [] node = rewritten_node rule node
 rewritten_at rule (number ∷ place) node =
     in_child node number (rewritten_at rule place) (slice_get (children node) number)
 
--- of a plan of concepts: that a rule makes another of it at a place, that it makes none, and that it makes one that
--- is deeper than 1,024
+-- a rule makes of a plan of concepts, at a place, the plan `new`
 abbrev pub Makes : Rule → List ℕ → Plan → Plan → Type 0
 Makes rule place old new = rewritten_at rule place (concept_node old) ≡ Some (concept_node new)
 
+-- a rule makes nothing of a plan of concepts at a place
 abbrev pub MakesNothing : Rule → List ℕ → Plan → Type 0
 MakesNothing rule place old = rewritten_at rule place (concept_node old) ≡ None
 
+-- a rule makes of a plan of concepts, at a place, a plan that is deeper than 1,024
 abbrev pub MakesTooDeep : Rule → List ℕ → Plan → Type 0
 MakesTooDeep rule place old = (new : Plan) × Makes rule place old new × (1024 < plan_depth new)
 
--- two plans mean the same over every release
+-- two plans of concepts mean one set over every release
 abbrev pub AlwaysMeanTheSame : Plan → Plan → Type 0
 AlwaysMeanTheSame one other =
     (release : Release) (concept : ℕ) → means release one concept ≡ means release other concept
 
--- a rule makes a node of another at a place exactly where the place names a node of which it makes one: then it is
--- the whole with that one put there
+-- a rule makes a node at a place exactly if the place names a node of which it makes one, and the result is the whole
+-- with that node put there
 abbrev pub IsThereAlone : Type 0
 IsThereAlone =
     (rule : Rule) (place : List ℕ) (whole new : Node) →
@@ -51,14 +52,14 @@ IsThereAlone =
     × (rewritten_node rule here ≡ Some there)
     × (new ≡ put_at place there whole))
 
--- what a rule makes of a plan means the same over every release
+-- a node that a rule makes at the root means the same as the node did, over every release
 abbrev pub KeepsMeaningAtRoot : Type 0
 KeepsMeaningAtRoot =
     (release : Release) (rule : Rule) (old new : Node) →
     rewritten_node rule old ≡ Some new →
     MeanTheSame release old new
 
--- and so it does at every place
+-- a node that a rule makes at any place means the same as the node did, over every release
 abbrev pub KeepsMeaning : Type 0
 KeepsMeaning =
     (release : Release) (rule : Rule) (place : List ℕ) (old new : Node) →

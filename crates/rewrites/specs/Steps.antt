@@ -1,5 +1,5 @@
--- Steps, one after another. A step of which nothing comes, or that would give a plan deeper than 1,024, is
--- passed over, and the others are counted.
+-- Steps, one after another. A step is passed over if its rule makes nothing, or a plan deeper than 1,024. The other
+-- steps are counted.
 use Rattle.std.specs.Prelude.{ℕ, ◌+◌, nat_le, Option, Some, None, is_some, unwrap_or, if◌then◌else◌, List, [], ◌∷◌}
 use Rattle.set_algebra.specs.Depth.{plan_depth}
 use Rattle.set_algebra.specs.Plan.{Plan}
@@ -8,17 +8,17 @@ use Rattle.rewrites.specs.declared.rule.Step.{Step}
 use Rattle.rewrites.specs.Counts.{only_if}
 use Rattle.rewrites.specs.RulesAtPlaces.{rewritten_at}
 
--- a plan of concepts that is not too deep
+-- the plan of concepts of a node if it is at most 1,024 deep, and nothing otherwise
 abbrev pub if_shallow : Option Node → Option Plan
 if_shallow None = None
 if_shallow (Some (concept_node new)) = only_if (nat_le (plan_depth new) 1024) new
 if_shallow (Some (group_node new)) = None
 
--- what a step makes of a plan, if it is not passed over
+-- the plan that a step makes of a plan; nothing if the step is passed over
 abbrev pub applied : Step → Plan → Option Plan
 applied step plan = if_shallow (rewritten_at step.rule step.place.now (concept_node plan))
 
--- the plan after the steps, and how many were not passed over, with those before
+-- the plan after all steps, and `count` plus the number of steps that were not passed over
 abbrev pub all_applied : List Step → Plan → ℕ → Plan × ℕ
 all_applied [] plan count = (plan, count)
 all_applied (step ∷ steps) plan count =

@@ -1,4 +1,4 @@
-//! Rules used at places of a plan that is given, one after another.
+//! Applies rules at places of a given plan, one after another.
 ghost use Rattle.std.specs.Prelude.{◌≡◌, ◌≤◌, ◌<◌, is_some, unwrap_or, IfOk, IfErr};
 ghost use Rattle.set_algebra.specs.Depth.{plan_depth};
 ghost use Rattle.set_algebra.specs.Plan.{plan_of};
@@ -15,12 +15,13 @@ use std::alloc::{AllocError, Global};
 /// The deepest plan that a rule may give.
 const DEEPEST: u64 = 1024;
 
-/// What the rule makes of the plan at the place (`specs/Rules.antt`, `specs/RulesAtPlaces.antt`): the plan with
-/// another node in the stead of the one there. It means the same over every release, and is at most 1,024 deep.
+/// Applies the rule to the plan at the place (`specs/Rules.antt`, `specs/RulesAtPlaces.antt`): replaces the node
+/// there by the node that the rule makes of it. The new plan means the same over every release, and is at most
+/// 1,024 deep.
 ///
-/// The place is a list of the numbers of children from the root, from 0. On a fault the plan given comes back:
-/// NotApplicable where the place names no node or the rule makes nothing of the node there, TooDeep where the
-/// plan would be deeper than 1,024, and Memory where memory ran out.
+/// The place is a list of child numbers from the root, from 0. On a fault the given plan comes back: NotApplicable
+/// if the place names no node or the rule makes nothing of the node there, TooDeep if the new plan would be deeper
+/// than 1,024, and Memory if memory runs out.
 pub fn apply(
     alloc: Global,
     plan: ConceptPlan,
@@ -40,7 +41,7 @@ pub fn apply(
     }
 }
 
-// The same, by a copy of the plan, so that it stays as it is on a fault.
+// Applies `rule` at `place` to a copy of `plan`, so that `plan` stays unchanged on a fault.
 fn new_plan(
     alloc: Global,
     plan: &ConceptPlan,
@@ -56,7 +57,7 @@ fn new_plan(
     changed(alloc, copy, rule, place)
 }
 
-// The same of the plan itself, which is spent on a fault.
+// Applies `rule` at `place` to `plan` itself, which is lost on a fault.
 fn changed(
     alloc: Global,
     plan: ConceptPlan,
@@ -76,7 +77,7 @@ fn changed(
     }
 }
 
-// The plan, where it is not too deep.
+// Returns the plan if it is at most 1,024 deep, and TooDeep otherwise.
 fn if_shallow(plan: ConceptPlan) -> Result<ConceptPlan, ApplyFault>
     ensures same { IfOk result (λ same. same ≡ plan) }
     ensures shallow { IfOk result (λ same. plan_depth (plan_of plan) ≤ 1024) }
@@ -88,8 +89,8 @@ fn if_shallow(plan: ConceptPlan) -> Result<ConceptPlan, ApplyFault>
     Ok(plan)
 }
 
-/// The plan after the steps in their order, and how many of them were used. A step that `apply` answers with
-/// NotApplicable or TooDeep is passed over. The error is want of memory, and then the plan is spent.
+/// Applies the steps in their order. Returns the last plan, and how many steps were used: a step for which `apply`
+/// returns NotApplicable or TooDeep is passed over. The error is want of memory, and then the plan is lost.
 pub fn apply_all(
     alloc: Global,
     plan: ConceptPlan,
@@ -108,7 +109,7 @@ pub fn apply_all(
     Ok((plan, used))
 }
 
-// The plan after a step, and whether it was used.
+// Applies one step. Returns the plan after it, and whether the step was used.
 fn after(alloc: Global, plan: ConceptPlan, step: &Step) -> Result<(ConceptPlan, bool), AllocError>
     ensures plan { IfOk result (λ next. plan_of next.0 ≡ unwrap_or (applied step.now (plan_of plan)) (plan_of plan)) }
     ensures used { IfOk result (λ next. next.1 ≡ is_some (applied step.now (plan_of plan))) }

@@ -76,7 +76,7 @@ pub(crate) fn brace_guard(alloc: Global, plan: &ConceptPlan) -> Result<ConceptPl
     Err(RuleFault::NotApplicable)
 }
 
-// Forward pairs [1..*], and the groups with their count.
+// Makes the `And` of forward `Pairs` with [1..*] and of `Units` with the count and the groups.
 fn guarded(
     alloc: Global,
     count: Cardinality,

@@ -1,4 +1,4 @@
-//! A rule at a place, in place.
+//! Applies a rule at a place of a plan, in place.
 ghost use Rattle.std.specs.Prelude.{suc, ◌≡◌, ◌≤◌, ◌∷◌, Bool, IfOk, option_map};
 ghost use Rattle.set_algebra.specs.Plan.{Plan, plan_of, plans_of, unit_plan_of, unit_plans_of, test_plan_of, and_plan};
 ghost use Rattle.set_algebra.specs.Plan.{or_plan, values_plan, pairs_plan, and_units, or_units, pairs_units};
@@ -14,8 +14,8 @@ use crate::rule::Rule;
 use set_algebra::{ConceptPlan, UnitPlan, ValueTest};
 use std::alloc::{AllocError, Global};
 
-// Puts what the rule makes of the plan at the place, if it makes anything, and tells whether it did. Where it did
-// not, and where memory ran out, nothing is said of the plan.
+// Replaces the node at `place` by the node that `rule` makes of it, if it makes one, and returns whether it did. If
+// it did not, or if memory ran out, the contract says nothing of the plan.
 #[cycle(change)]
 pub(crate) fn change(
     alloc: Global,
@@ -32,7 +32,7 @@ pub(crate) fn change(
     }
 }
 
-// The same in the first child.
+// Applies `rule` at place `rest` within the first child of a plan of concepts.
 #[cycle(change)]
 fn change_first(
     alloc: Global,
@@ -55,7 +55,7 @@ fn change_first(
     }
 }
 
-// The same in a later child.
+// Applies `rule` at place `rest` within child `number` (at least 1) of a plan of concepts.
 #[cycle(change)]
 fn change_later(
     alloc: Global,
@@ -77,7 +77,7 @@ fn change_later(
     }
 }
 
-// The same at the root.
+// Applies `rule` at the root of a plan of concepts.
 fn change_here(alloc: Global, plan: &mut ConceptPlan, rule: Rule) -> Result<bool, AllocError>
     ensures { IfOk result (λ fits. only_if fits (concept_node (plan_of plan.new)) ≡ option_map concept_node (rewritten rule (plan_of plan.old))) }
 {
@@ -91,7 +91,7 @@ fn change_here(alloc: Global, plan: &mut ConceptPlan, rule: Rule) -> Result<bool
     }
 }
 
-// The same in the part of that number, of an `And`, an `Or` or the names of `Values`.
+// Applies `rule` at `place` within part `number` of an `And`, an `Or` or the names of `Values`.
 #[cycle(change)]
 fn change_part(
     alloc: Global,
@@ -114,7 +114,7 @@ fn change_part(
     change(alloc, &mut parts[number], rule, place)
 }
 
-// The same in the plan of a test, which has the number 0 here.
+// Applies `rule` at `place` within the plan of a test, which has the number 0 here.
 #[cycle(change)]
 fn change_test(
     alloc: Global,
@@ -140,7 +140,8 @@ fn change_test(
     }
 }
 
-// The same in a plan of groups.
+// Applies `rule` at `place` to a plan of groups, if it makes anything there, and returns whether it did. If it did
+// not, or if memory ran out, the contract says nothing of the plan.
 #[cycle(change)]
 fn change_unit(
     alloc: Global,

@@ -1,4 +1,4 @@
-//! And and Or alike, for the rules that are the same of both.
+//! The connective of a plan, And or Or, for the rules that treat both alike.
 ghost use Rattle.std.specs.Prelude.{◌≡◌, false, Some, None, MatchResult, IfOk};
 ghost use Rattle.set_algebra.specs.Plan.{Plans, PlansOfUnits, plan_of, plans_of, unit_plan_of, unit_plans_of};
 ghost use Rattle.rewrites.specs.inside.Connected.{connected, is_connected, parts_under, connected_groups, is_connected_group, group_parts_under};
@@ -9,14 +9,14 @@ use set_algebra::views::{OtherForm, and_of, or_of, unit_and_of, unit_or_of};
 use set_algebra::{ConceptPlan, UnitPlan};
 use std::alloc::AllocError;
 
-// Which of the two connects the parts of a plan.
+// Whether `And` or `Or` connects the parts of a plan.
 #[derive(Clone, Copy)]
 pub(crate) enum Connective {
     And,
     Or,
 }
 
-// The connective of an `And` or an `Or`, and its parts.
+// The connective and the parts of an `And` or an `Or` of concepts.
 #[tactic(auto, using(set_algebra::proofs::PlanLemmas::plans_of_items))]
 pub(crate) fn parts_of(plan: &ConceptPlan) -> Result<(Connective, &[ConceptPlan]), OtherForm>
     ensures { MatchResult result (λ found. plan_of plan.now ≡ connected found.0 (plans_of found.1.now)) (λ _. is_connected (plan_of plan.now) ≡ false) }
@@ -28,7 +28,7 @@ pub(crate) fn parts_of(plan: &ConceptPlan) -> Result<(Connective, &[ConceptPlan]
     }
 }
 
-// The parts of a plan of that connective.
+// The parts of a plan of concepts with that connective.
 pub(crate) fn parts_under(
     connective: Connective,
     plan: &ConceptPlan,
@@ -52,7 +52,7 @@ pub(crate) fn connected(connective: Connective, parts: Vec<ConceptPlan>) -> Conc
     }
 }
 
-// What a rule answers that makes a plan of these parts.
+// Turns the parts that a rule made, or want of memory, into the rule's result: the plan of concepts of the parts.
 pub(crate) fn given_parts(
     connective: Connective,
     made: Result<Vec<ConceptPlan>, AllocError>,
@@ -65,7 +65,7 @@ pub(crate) fn given_parts(
     }
 }
 
-// The same of plans of groups.
+// The connective and the parts of an `And` or an `Or` of groups.
 #[tactic(auto, using(set_algebra::proofs::PlanLemmas::plans_of_items))]
 pub(crate) fn unit_parts_of(plan: &UnitPlan) -> Result<(Connective, &[UnitPlan]), OtherForm>
     ensures { MatchResult result (λ found. unit_plan_of plan.now ≡ connected_groups found.0 (unit_plans_of found.1.now))

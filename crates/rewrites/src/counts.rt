@@ -1,31 +1,31 @@
-//! Cardinalities that rules ask for and make.
+//! Cardinalities that rules ask for, and those that they make.
 ghost use Rattle.std.specs.Prelude.{◌≡◌};
 ghost use Rattle.rewrites.specs.Counts.{asks_some, asks_none, asks_nothing, asks_too_much, at_least, up_to, split, complement};
 
 use constraint_tree::Cardinality;
 
-// Whether it is [1..*].
+// Whether the cardinality is [1..*].
 pub(crate) fn asks_some(count: Cardinality) -> bool
     ensures { result ≡ asks_some count }
 {
     count.min == 1 && count.max.is_none()
 }
 
-// Whether it is [0..0].
+// Whether the cardinality is [0..0].
 pub(crate) fn asks_none(count: Cardinality) -> bool
     ensures { result ≡ asks_none count }
 {
     count.min == 0 && count.max == Some(0)
 }
 
-// Whether it is [0..*].
+// Whether the cardinality is [0..*].
 pub(crate) fn asks_nothing(count: Cardinality) -> bool
     ensures { result ≡ asks_nothing count }
 {
     count.min == 0 && count.max.is_none()
 }
 
-// Whether its minimum is above its maximum.
+// Whether the cardinality has its minimum above its maximum.
 pub(crate) fn asks_too_much(count: Cardinality) -> bool
     ensures { result ≡ asks_too_much count }
 {
@@ -53,7 +53,7 @@ fn up_to(most: u64) -> Cardinality
     }
 }
 
-// [m..*] and [0..k] of [m..k], where m is at least 1.
+// Splits [m..k] into [m..*] and [0..k], if m is at least 1.
 pub(crate) fn split(count: Cardinality) -> Option<(Cardinality, Cardinality)>
     ensures { result ≡ split (λ least most. (least, most)) count }
 {
@@ -63,7 +63,7 @@ pub(crate) fn split(count: Cardinality) -> Option<(Cardinality, Cardinality)>
     }
 }
 
-// [k+1..*] of [0..k], where k is below the largest number.
+// Makes [k+1..*] of [0..k], if k is below `u64::MAX`: the largest number has no successor.
 pub(crate) fn complement(count: Cardinality) -> Option<Cardinality>
     ensures { result ≡ complement (λ above. above) count }
 {

@@ -1,10 +1,10 @@
-//! Why a rule makes no plan.
+//! The faults of rules: why a rule makes no plan.
 ghost use Rattle.std.specs.Prelude.{◌≡◌};
 
 use std::alloc::AllocError;
 use thiserror::Error;
 
-/// Why a rule was not used at a place.
+/// Why `apply` did not apply a rule at a place.
 #[derive(Clone, Copy, Debug, PartialEq, Eq, Error)]
 pub enum ApplyFault {
     /// The place names no node, or the rule makes nothing of the node there.
@@ -43,8 +43,8 @@ impl From<AllocError> for ApplyFault {
     }
 }
 
-// Why a rule makes no plan of a node: it has another form or does not meet the rule's condition, or memory ran
-// out.
+// Why a rule makes no plan of a node: the node has another form or does not meet the rule's condition, or memory
+// ran out.
 #[derive(Clone, Copy)]
 pub(crate) enum RuleFault {
     NotApplicable,

@@ -1,4 +1,4 @@
-//! Rewritings of plans that keep what a plan means: eighteen rules, at every place, and a pass of four of them.
+//! Rewriting of plans that keeps their meaning: eighteen rules at every place, and a pass of four of them.
 #![tactic(auto)]
 
 mod applying;

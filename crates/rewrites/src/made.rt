@@ -1,4 +1,4 @@
-//! Nodes made of copies of others.
+//! Nodes made of copies of other nodes.
 ghost use Rattle.std.specs.Prelude.{◌≡◌, Some, Ok, IfOk, [], ◌∷◌, ◌++◌};
 ghost use Rattle.set_algebra.specs.Lowering.{both_plan};
 ghost use Rattle.set_algebra.specs.Plan.{Plan, PlanOfUnits, plan_of, unit_plan_of, test_plan_of, walk_plan};
@@ -14,7 +14,7 @@ use set_algebra::copy::{boxed, boxed_unit};
 use set_algebra::{Choice, ConceptPlan, UnitPlan, ValueTest};
 use std::alloc::{AllocError, Global};
 
-// What a rule answers that makes this of a plan.
+// Turns the plan of concepts that a rule made, or want of memory, into the rule's result.
 pub(crate) fn given(made: Result<ConceptPlan, AllocError>) -> Result<ConceptPlan, RuleFault>
     ensures { (plan : Plan) → IfOk made (λ new. plan_of new ≡ plan) → Gives (Some plan) result }
 {
@@ -33,7 +33,7 @@ pub(crate) fn given_units(made: Result<UnitPlan, AllocError>) -> Result<UnitPlan
     }
 }
 
-// A list with one more at its end, where that is made.
+// Adds the plan of concepts `made` at the end of the list, if memory did not run out before.
 pub(crate) fn with_last(
     plans: Vec<ConceptPlan>,
     made: Result<ConceptPlan, AllocError>,
@@ -58,7 +58,7 @@ pub(crate) fn with_last_units(
     Ok(plans)
 }
 
-// What is made, in a box.
+// Puts the plan of concepts `made` into a box, if memory did not run out before.
 pub(crate) fn in_box(
     alloc: Global,
     made: Result<ConceptPlan, AllocError>,
@@ -140,7 +140,7 @@ pub(crate) fn unit_pairs(
     })
 }
 
-// What is in both, where both are made.
+// Makes the `And` of two plans of concepts, if memory did not run out before.
 #[tactic(auto, using(set_algebra::proofs::PlanLemmas::plans_of_items))]
 pub(crate) fn both(
     alloc: Global,
@@ -165,7 +165,7 @@ pub(crate) fn both_units(
     Ok(UnitPlan::And(vec![in alloc; one?, other?]?))
 }
 
-// What is in the first and not in the second, where both are made.
+// Makes the `Minus` of two plans of concepts, if memory did not run out before.
 pub(crate) fn minus(
     first: Result<Box<ConceptPlan>, AllocError>,
     second: Result<Box<ConceptPlan>, AllocError>,

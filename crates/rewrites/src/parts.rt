@@ -1,4 +1,5 @@
-//! Rules of the parts of `And`, `Or` and `Minus`: Turn, Join, Pair, Spread, Same, Only, MinusAnd and MinusOr.
+//! Rules of the parts of `And`, `Or` and `Minus` of concepts: Turn, Join, Pair, Spread, Same, Only, MinusAnd and
+//! MinusOr.
 ghost use Rattle.std.specs.Prelude.{◌≡◌, IfOk};
 ghost use Rattle.set_algebra.specs.Plan.{plan_of, plans_of, plan_then, and_plan, or_plan, minus_plan};
 ghost use Rattle.rewrites.specs.inside.Connected.{connected};
@@ -55,7 +56,7 @@ pub(crate) fn pair(alloc: Global, plan: &ConceptPlan) -> Result<ConceptPlan, Rul
     Err(RuleFault::NotApplicable)
 }
 
-// A list that begins with the plan of some parts.
+// Makes a list whose first plan connects the parts `two`, and whose others are copies of `rest`.
 fn paired(
     alloc: Global,
     connective: Connective,
@@ -148,7 +149,7 @@ pub(crate) fn minus_or(alloc: Global, plan: &ConceptPlan) -> Result<ConceptPlan,
     Err(RuleFault::NotApplicable)
 }
 
-// The `Minus` of a `Minus` and an `Or`.
+// Makes the `Minus` of the `Minus` of `from` and `first`, and the `Or` of `rest`.
 #[tactic(auto, using(set_algebra::proofs::PlanLemmas::plans_of_items))]
 fn minus_each(
     alloc: Global,

@@ -1,4 +1,4 @@
-//! Rules of counts: RangeSplit, RangeTurn and RangeAll.
+//! Rules of the counts of `Pairs` and `Units`: RangeSplit, RangeTurn and RangeAll.
 ghost use Rattle.std.specs.Prelude.{◌≡◌, option_map, IfOk};
 ghost use Rattle.set_algebra.specs.Lowering.{both_plan};
 ghost use Rattle.set_algebra.specs.Plan.{plan_of, all_plan, empty_plan, minus_plan};
@@ -26,7 +26,7 @@ pub(crate) fn range_split(alloc: Global, plan: &ConceptPlan) -> Result<ConceptPl
     Err(RuleFault::NotApplicable)
 }
 
-// The `And` of `Pairs` or `Units` with one count and with another.
+// Makes the `And` of the `Pairs` or `Units` with the count `one` and with the count `other`.
 fn with_counts(
     alloc: Global,
     plan: &ConceptPlan,
@@ -51,7 +51,7 @@ pub(crate) fn range_turn(alloc: Global, plan: &ConceptPlan) -> Result<ConceptPla
     Err(RuleFault::NotApplicable)
 }
 
-// All but `Pairs` or `Units` with another count.
+// Makes the `Minus` of `All` and the `Pairs` or `Units` with `count`.
 fn all_but_with(
     alloc: Global,
     plan: &ConceptPlan,
@@ -64,7 +64,7 @@ fn all_but_with(
     minus(all, more)
 }
 
-// The count of `Pairs` or `Units`.
+// The count of `Pairs` or `Units`, or `None` for any other plan.
 fn count_of(plan: &ConceptPlan) -> Option<Cardinality>
     ensures { result ≡ count_of (plan_of plan.now) }
 {
@@ -75,7 +75,7 @@ fn count_of(plan: &ConceptPlan) -> Option<Cardinality>
     }
 }
 
-// A copy of `Pairs` or `Units` with another count.
+// Copies `Pairs` or `Units` with `count` as their count. Copies any other plan as it is.
 fn with_count(
     alloc: Global,
     plan: &ConceptPlan,
@@ -101,7 +101,7 @@ pub(crate) fn range_all(plan: &ConceptPlan) -> Result<ConceptPlan, RuleFault>
     settled(plan).ok_or(RuleFault::NotApplicable)
 }
 
-// What RangeAll makes of the plan. It takes no memory.
+// Makes the plan that RangeAll makes, or `None` if it makes none. It takes no memory.
 pub(crate) fn settled(plan: &ConceptPlan) -> Option<ConceptPlan>
     ensures { option_map plan_of result ≡ rewritten RangeAll (plan_of plan.now) }
 {

@@ -1,4 +1,4 @@
-//! Each rule at the root of a plan.
+//! Applies each rule at the root of a plan.
 ghost use Rattle.set_algebra.specs.Plan.{plan_of, unit_plan_of};
 ghost use Rattle.rewrites.specs.inside.Gives.{Gives, GivesGroup};
 ghost use Rattle.rewrites.specs.Rules.{rewritten, rewritten_group};
@@ -9,7 +9,7 @@ use crate::{braces, pairs, parts, ranges, unit_pairs, unit_parts, walks};
 use set_algebra::{ConceptPlan, UnitPlan};
 use std::alloc::Global;
 
-// What the rule makes of the plan, from copies of its pieces.
+// Makes the plan that the rule makes of a plan of concepts, from copies of its parts.
 pub(crate) fn rewritten(
     alloc: Global,
     rule: Rule,

@@ -1,4 +1,4 @@
-//! What RangeAll, BraceOne, Same and Only make of a node, in place and without memory.
+//! Applies RangeAll, BraceOne, Same and Only to a node of concepts, in place and without memory.
 ghost use Rattle.std.specs.Prelude.{◌≡◌, true, None, MatchResult};
 ghost use Rattle.set_algebra.specs.Plan.{plan_of, plans_of, no_plans, plan_then, and_plan, or_plan};
 ghost use Rattle.set_algebra.specs.inside.Views.{only_part};
@@ -22,7 +22,7 @@ pub(crate) fn shorten(plan: &mut ConceptPlan)
     *plan = without_only(without_same(without_braces(without_range(node))));
 }
 
-// Whether the node is of a kind that none of the rules is about, so that it need not be moved.
+// Whether none of the four rules is about the node's variant, so that the node need not be moved.
 #[tactic(auto, unfolding(crate::specs::Simplified::shortened))]
 fn is_short(plan: &ConceptPlan) -> bool
     ensures { result ≡ true → shortened (plan_of plan.now) ≡ plan_of plan.now }
@@ -36,7 +36,7 @@ fn is_short(plan: &ConceptPlan) -> bool
     }
 }
 
-// Where a rule below makes nothing of the node, it comes back as it is.
+// Applies RangeAll to the node. Returns the node unchanged if the rule makes nothing of it.
 fn without_range(plan: ConceptPlan) -> ConceptPlan
     ensures { plan_of result ≡ tried RangeAll (plan_of plan) }
 {
@@ -106,7 +106,7 @@ fn without_same(plan: ConceptPlan) -> ConceptPlan
     }
 }
 
-// The parts without the first, where the second is equal to it.
+// Drops the first part if the second one is equal to it.
 fn fewer(parts: Vec<ConceptPlan>) -> Vec<ConceptPlan>
     ensures and { and_plan (plans_of result.items) ≡ tried Same (and_plan (plans_of parts.items)) }
     ensures or { or_plan (plans_of result.items) ≡ tried Same (or_plan (plans_of parts.items)) }
@@ -118,7 +118,7 @@ fn fewer(parts: Vec<ConceptPlan>) -> Vec<ConceptPlan>
     parts
 }
 
-// Whether the first two are equal.
+// Whether the first two parts are equal.
 pub(crate) fn begins_twice(parts: &[ConceptPlan]) -> bool
     ensures { result ≡ begins_twice (plans_of parts.now) }
 {
@@ -148,7 +148,7 @@ fn without_only(plan: ConceptPlan) -> ConceptPlan
     }
 }
 
-// The only part, or the parts as they were.
+// Returns the only part, or the parts unchanged if their number is not 1.
 fn take_only(parts: Vec<ConceptPlan>) -> Result<ConceptPlan, Vec<ConceptPlan>>
     ensures { MatchResult result (λ only. plans_of parts.items ≡ plan_then (plan_of only) no_plans)
         (λ same. (plans_of same.items ≡ plans_of parts.items) × (only_part (plans_of parts.items) ≡ None)) }

@@ -1,4 +1,4 @@
-//! A plan with four of the rules used at each node, where they apply.
+//! Applies four of the rules to each node of a plan.
 ghost use Rattle.std.specs.Prelude.{◌≡◌};
 ghost use Rattle.set_algebra.specs.Plan.{plan_of, plans_of, unit_plan_of, unit_plans_of, test_plan_of};
 ghost use Rattle.rewrites.specs.RulesAtPlaces.{AlwaysMeanTheSame};
@@ -8,8 +8,8 @@ use crate::shortening::shorten;
 use crate::unit_shortening::shorten_unit;
 use set_algebra::{ConceptPlan, UnitPlan, ValueTest};
 
-/// The plan with RangeAll, BraceOne, Same and Only tried at each node, children before their parent, in this
-/// order and each once (`specs/Simplified.antt`). It means the same over every release. It takes no memory.
+/// Simplifies a plan: tries RangeAll, BraceOne, Same and Only at each node, in this order and each once, children
+/// before their parent (`specs/Simplified.antt`). The result means the same over every release. It takes no memory.
 pub fn simplify(plan: ConceptPlan) -> ConceptPlan
     ensures plan { plan_of result ≡ simplified (plan_of plan) }
     ensures meaning { AlwaysMeanTheSame (plan_of plan) (plan_of result) }
@@ -27,7 +27,7 @@ fn simplify_plan(plan: &mut ConceptPlan)
     shorten(plan);
 }
 
-// After it only the node itself is left to be shortened.
+// Simplifies the children of a plan of concepts. After it only the node itself is left to be shortened.
 #[cycle(simplify)]
 #[tactic(auto, using(set_algebra::proofs::PlanLemmas::plans_of_items))]
 fn simplify_children(plan: &mut ConceptPlan)

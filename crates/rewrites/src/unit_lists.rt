@@ -8,7 +8,7 @@ use set_algebra::UnitPlan;
 use set_algebra::copy::each_unit;
 use std::alloc::{AllocError, Global};
 
-// One list after another.
+// Makes a list of copies of `parts` and then of `others`.
 #[tactic(auto, using(crate::proofs::ListLemmas::unit_plans_of_joined))]
 pub(crate) fn joined(
     alloc: Global,
@@ -20,7 +20,7 @@ pub(crate) fn joined(
     with_copies(alloc, each_unit(alloc, parts), others)
 }
 
-// A list with copies of others after it.
+// Adds copies of `others` at the end of the list `parts`, if memory did not run out before.
 #[tactic(auto, using(crate::proofs::ListLemmas::unit_plans_of_joined))]
 fn with_copies(
     alloc: Global,
@@ -36,7 +36,7 @@ fn with_copies(
     Ok(parts)
 }
 
-// A list with one more at its front.
+// Makes a list of `first` and then copies of `rest`.
 #[tactic(auto, using(crate::proofs::ListLemmas::unit_plans_of_joined))]
 pub(crate) fn with_first(
     alloc: Global,
@@ -49,7 +49,7 @@ pub(crate) fn with_first(
     with_copies(alloc, Ok(first), rest)
 }
 
-// The `And` of a plan and further ones.
+// Makes the `And` of copies of `first` and of the plans of groups `rest`.
 #[tactic(auto, using(set_algebra::proofs::PlanLemmas::plans_of_items))]
 pub(crate) fn and_first(
     alloc: Global,
@@ -62,7 +62,7 @@ pub(crate) fn and_first(
     Ok(UnitPlan::And(with_first(alloc, first, rest)?))
 }
 
-// The `And` of each plan and further ones.
+// Makes an `And` of each plan of groups in `parts` with the plans `rest`.
 pub(crate) fn each_with(
     alloc: Global,
     parts: &[UnitPlan],

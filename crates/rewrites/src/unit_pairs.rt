@@ -103,7 +103,7 @@ pub(crate) fn range_split(alloc: Global, plan: &UnitPlan) -> Result<UnitPlan, Ru
     Err(RuleFault::NotApplicable)
 }
 
-// The `And` of `Pairs` with one count and with another.
+// Makes the `And` of `Pairs` of groups with the count `one` and with the count `other`.
 fn with_counts(
     alloc: Global,
     one: Cardinality,
@@ -130,7 +130,7 @@ pub(crate) fn range_turn(alloc: Global, plan: &UnitPlan) -> Result<UnitPlan, Rul
     Err(RuleFault::NotApplicable)
 }
 
-// Every group but those of `Pairs`.
+// Makes the `Minus` of `Every` and `Pairs` of groups with `count`.
 fn every_but_with(
     alloc: Global,
     count: Cardinality,
@@ -150,7 +150,7 @@ pub(crate) fn range_all(plan: &UnitPlan) -> Result<UnitPlan, RuleFault>
     settled(plan).ok_or(RuleFault::NotApplicable)
 }
 
-// What RangeAll makes of the plan. It takes no memory.
+// Makes the plan of groups that RangeAll makes, or `None` if it makes none. It takes no memory.
 pub(crate) fn settled(plan: &UnitPlan) -> Option<UnitPlan>
     ensures { option_map unit_plan_of result ≡ rewritten_group RangeAll (unit_plan_of plan.now) }
 {

@@ -57,7 +57,7 @@ pub(crate) fn pair(alloc: Global, plan: &UnitPlan) -> Result<UnitPlan, RuleFault
     Err(RuleFault::NotApplicable)
 }
 
-// A list that begins with the plan of some parts.
+// Makes a list whose first plan of groups connects the parts `two`, and whose others are copies of `rest`.
 fn paired(
     alloc: Global,
     connective: Connective,
@@ -151,7 +151,7 @@ pub(crate) fn minus_or(alloc: Global, plan: &UnitPlan) -> Result<UnitPlan, RuleF
     Err(RuleFault::NotApplicable)
 }
 
-// The `Minus` of a `Minus` and an `Or`.
+// Makes the `Minus` of the `Minus` of `from` and `first`, and the `Or` of `rest`.
 #[tactic(auto, using(set_algebra::proofs::PlanLemmas::plans_of_items))]
 fn minus_each(
     alloc: Global,

@@ -1,4 +1,4 @@
-//! What RangeAll, Same and Only make of a node of groups, in place and without memory.
+//! Applies RangeAll, Same and Only to a node of groups, in place and without memory.
 ghost use Rattle.std.specs.Prelude.{◌≡◌, None, MatchResult};
 ghost use Rattle.set_algebra.specs.Plan.{unit_plan_of, unit_plans_of, no_unit_plans, unit_plan_then, and_units, or_units};
 ghost use Rattle.set_algebra.specs.inside.Views.{only_group_part};
@@ -18,7 +18,7 @@ pub(crate) fn shorten_unit(plan: &mut UnitPlan)
     *plan = without_only(without_same(without_range(node)));
 }
 
-// Where a rule below makes nothing of the node, it comes back as it is.
+// Applies RangeAll to the node. Returns the node unchanged if the rule makes nothing of it.
 fn without_range(plan: UnitPlan) -> UnitPlan
     ensures { unit_plan_of result ≡ tried_group RangeAll (unit_plan_of plan) }
 {
@@ -46,7 +46,7 @@ fn without_same(plan: UnitPlan) -> UnitPlan
     }
 }
 
-// The parts without the first, where the second is equal to it.
+// Drops the first part if the second one is equal to it.
 fn fewer(parts: Vec<UnitPlan>) -> Vec<UnitPlan>
     ensures and { and_units (unit_plans_of result.items) ≡ tried_group Same (and_units (unit_plans_of parts.items)) }
     ensures or { or_units (unit_plans_of result.items) ≡ tried_group Same (or_units (unit_plans_of parts.items)) }
@@ -58,7 +58,7 @@ fn fewer(parts: Vec<UnitPlan>) -> Vec<UnitPlan>
     parts
 }
 
-// Whether the first two are equal.
+// Whether the first two parts are equal.
 pub(crate) fn begins_twice(parts: &[UnitPlan]) -> bool
     ensures { result ≡ group_begins_twice (unit_plans_of parts.now) }
 {
@@ -88,7 +88,7 @@ fn without_only(plan: UnitPlan) -> UnitPlan
     }
 }
 
-// The only part, or the parts as they were.
+// Returns the only part, or the parts unchanged if their number is not 1.
 fn take_only(parts: Vec<UnitPlan>) -> Result<UnitPlan, Vec<UnitPlan>>
     ensures { MatchResult result (λ only. unit_plans_of parts.items ≡ unit_plan_then (unit_plan_of only) no_unit_plans)
         (λ same. (unit_plans_of same.items ≡ unit_plans_of parts.items) × (only_group_part (unit_plans_of parts.items) ≡ None)) }

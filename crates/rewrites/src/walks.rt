@@ -1,4 +1,4 @@
-//! Rules of walks and members: WalkOr and WalkTwice.
+//! Rules of `Walk` and `Members`: WalkOr and WalkTwice.
 ghost use Rattle.std.specs.Prelude.{◌≡◌, IfOk};
 ghost use Rattle.set_algebra.specs.Plan.{plan_of, plans_of, walk_plan, members_plan};
 ghost use Rattle.rewrites.specs.inside.Gives.{Gives};
@@ -37,7 +37,7 @@ pub(crate) fn walk_or(alloc: Global, plan: &ConceptPlan) -> Result<ConceptPlan, 
     }
 }
 
-// All but `!!>` and `!!<`, which look at the set as a whole.
+// Whether the operator may be moved into an `Or`: all may but `!!>` and `!!<`, which look at the set as a whole.
 fn goes_through(operator: Operator) -> bool
     ensures { result ≡ goes_through operator }
 {
@@ -83,7 +83,7 @@ pub(crate) fn walk_twice(alloc: Global, plan: &ConceptPlan) -> Result<ConceptPla
     Err(RuleFault::NotApplicable)
 }
 
-// The one walk that a walk of a walk is.
+// The one operator that stands for two in a row, or `None` if there is none.
 fn walk_of_walk(outer: Operator, inner: Operator) -> Option<Operator>
     ensures { result ≡ walk_of_walk outer inner }
 {

@@ -1,4 +1,4 @@
--- Worked names, headers and lines: the definitions compute.
+-- Worked names, headers and lines, for which the definitions compute.
 use lib.Utf8.{encode}
 use Rattle.std.proofs.Common.{◌≡◌, ℕ, List, [], ◌∷◌, ◌++◌, None, Some, true, false, refl, codes, pos, negsuc}
 use Rattle.std.specs.List.{join_with_byte}
@@ -66,7 +66,7 @@ abbrev described : List ℕ → List ℕ
 described term = line (codes "100014" ∷ codes "20240101" ∷ codes "1" ∷ codes "900000000000207008" ∷ codes "100005"
     ∷ codes "en" ∷ codes "900000000000013009" ∷ term ∷ codes "900000000000448009" ∷ [])
 
--- its letter é takes two bytes
+-- the letter é of this term takes two bytes
 meniere : List ℕ
 meniere = codes "M" ++ (195 ∷ 169 ∷ codes "niere")
 
@@ -85,14 +85,14 @@ its_description : description_row (described meniere)
 unfolding description_row meniere
 its_description = refl
 
--- one of the two bytes alone is no letter
+-- a term with only one of the two bytes of é is refused
 faults_of_descriptions :
     (row_fault Description (described meniere) ≡ None)
     × (row_fault Description (described (codes "M" ++ (195 ∷ []))) ≡ Some (record { cause = Utf8; column = 8 }))
 unfolding row_fault cause_of is_utf8 chars encode meniere
 faults_of_descriptions = (refl, refl)
 
--- numbers count 10^-18, and zeros in front are no fault
+-- values count units of 10^-18, and leading zeros are accepted
 values :
     (value_of (codes "#2.5") ≡ number_value (pos 2500000000000000000))
     × (value_of (codes "#-0.5") ≡ number_value (negsuc 499999999999999999))
@@ -101,7 +101,8 @@ values :
     × (decimal_of (codes "-0.000000000000000001") ≡ Some (negsuc 0))
 values = (refl, refl, refl, refl, refl)
 
--- no digit behind the point, two points, nineteen digits, no UTF-8; behind the hash the number counts alone
+-- refused are no digit after the point, two points, nineteen digits, and text that is not UTF-8; after `#` only the
+-- number counts
 no_values :
     (value_cause (codes "#1.") ≡ Some Value)
     × (value_cause (codes "#1.2.3") ≡ Some Value)
@@ -154,7 +155,7 @@ its_member : member_row (listed (codes "80000a05-C6DB-5a02-9b8a-0b1c2d3e4f50"))
 unfolding member_row by_index
 its_member = refl
 
--- no fault; no digit of sixteen; and a UUID without hyphens
+-- an accepted member, one with a letter that is no hexadecimal digit, and one whose UUID has no hyphens
 faults_of_members :
     (row_fault Member (listed (codes "80000a05-C6DB-5a02-9b8a-0b1c2d3e4f50")) ≡ None)
     × (row_fault Member (listed (codes "g0000a05-c6db-5a02-9b8a-0b1c2d3e4f50")) ≡ Some (record { cause = Uuid; column = 1 }))

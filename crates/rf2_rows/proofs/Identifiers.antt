@@ -8,7 +8,7 @@ use Rattle.std.proofs.lemmas.Bool.Decides.{nat_tests}
 use Rattle.std.proofs.lemmas.Fmt.{decimal_is_IsNumeral_wide}
 use Rattle.sctid.specs.Identifier.{fault_of}
 
--- a number of which fewer than k digits are written has no more
+-- a number is below 10^`k` if fewer than `k` digits are written for it
 digits_short : (k n : ℕ) (text : List ℕ) → length (digits_onto k 10 false n text) < k + length text → n < 10 ^ k
 digits_short zero n text short = absurd (omega arith)
 digits_short (suc k) n text short = elim (cases_Bool (eqb (n / 10) 0)) [
@@ -18,7 +18,7 @@ digits_short (suc k) n text short = elim (cases_Bool (eqb (n / 10) 0)) [
       omega (arith, pow-suc 10 k, digits_short k (n / 10) (digit_glyph false (n % 10) ∷ text) (omega arith))
 ]
 
--- so a decimal text of fewer than 64 bytes has all digits of its number
+-- a number whose decimal text has fewer than 64 bytes is below 10^64
 decimal_short : (n : ℕ) → length (decimal n) < 64 → n < 10 ^ 64
 unfolding digits
 decimal_short n short = digits_short 64 n [] short
@@ -27,6 +27,6 @@ decimal_short n short = digits_short 64 n [] short
 valid_short : (text : List ℕ) → fault_of text ≡ None → length text ≤ 18
 valid_short text valid = grind (arith, nat_tests)
 
--- and its number is what it writes
+-- a number whose decimal text is a valid identifier is the number that the text writes
 pub number_read : (n : ℕ) → fault_of (decimal n) ≡ None → n ≡ digits_value 10 (decimal n)
 number_read n valid = sym ((decimal_is_IsNumeral_wide n (decimal_short n (omega (arith, valid_short (decimal n) valid)))).1)

@@ -1,4 +1,4 @@
--- The tests whether two values, and two pairs, are the same; and the distinct pairs of a list.
+-- The tests of values and of pairs hold exactly for equal ones; `distinct` keeps each pair once.
 use Rattle.std.proofs.Common.{arith}
 use Rattle.std.proofs.lemmas.Bool.Decides.{nat_tests, Decides-and, Decides-eqb, Decides-like}
 use Rattle.std.proofs.lemmas.Grind.{common_steps}
@@ -9,17 +9,18 @@ use Rattle.std.specs.Cmp.{IsEquivalence}
 use Rattle.number_lists.proofs.DistinctLemmas.{keeps_each_once}
 use Rattle.rf2_rows.specs.Pairs.{KeepsEachPairOnce, pair_eq, value_eq, TellsSameValue, TellsSamePair}
 
--- the test of values tells what is the same
+-- `value_eq` holds exactly if the two values are equal
 pub tells_same_value : TellsSameValue
 tells_same_value one other = grind (arith, value_eq, concept_value, number_value, text_value, bytes_eq-Decides, false≢true)
 
--- the test of pairs tells what is the same
+-- `pair_eq` holds exactly if the two pairs are equal
 pub tells_same_pair : TellsSamePair
 tells_same_pair one other = grind (arith, common_steps, nat_tests, Decides-and, Decides-eqb, Decides-like, tells_same_value)
 
--- the test of pairs is an equivalence, since it tells which are equal
+-- `pair_eq` is an equivalence, because it holds exactly for equal pairs
 pair_eq_equiv : IsEquivalence pair_eq
 pair_eq_equiv = grind (arith, common_steps, nat_tests, tells_same_pair)
 
+-- `distinct` by `pair_eq` keeps each pair of a list once
 pub keeps_each_pair_once : KeepsEachPairOnce
 keeps_each_pair_once pairs = keeps_each_once pair_eq pair_eq_equiv (λ x y alike. (tells_same_pair x y).0 alike) pairs

@@ -1,4 +1,4 @@
--- The tabs of a line as bits: what a shift leaves of them, and where the lowest stands.
+-- The tabs of a line as bits: what a shift leaves of them, and where the lowest one stands.
 use Rattle.std.proofs.Common.{rules, ◌≡◌, ℕ, zero, suc, ◌+◌, ◌-◌, ◌*◌, ◌/◌, ◌^◌, ◌<◌, ◌≤◌, Bool, true, false, cond, not, eqb, ◌==◌, List, [], ◌∷◌, ◌++◌, length, get_or, take, drop, replicate, min, refl, sym, ap, subst, ◌∙◌, arith, length-drop, inl, inr, Bor, append_assoc, length-append, drop-drop, get_or-drop, get_or-take, length-take, take_all}
 use Rattle.std.proofs.Math.Nat.{div-div-eq-div-mul, pow-suc, pow-succ', zero-div, div-one}
 use Rattle.std.proofs.lemmas.List.{drop-take, drop-replicate, get_or_past, length-map, map-append, map_push, take_rest}
@@ -14,11 +14,11 @@ use Rattle.text_parts.proofs.Parts.{parts_cut}
 use Rattle.std.proofs.lemmas.Bool.{cases_lt}
 use Rattle.std.proofs.lemmas.Bool.Decides.{nat_tests}
 
--- what a shift by one leaves of a bit and those above it
+-- halving a number drops its lowest bit
 halved : (b : Bool) (n : ℕ) → (cond b 1 0 + 2 * n) / 2 ≡ n
 halved x0 n = grind arith
 
--- a shift leaves the tabs of the bytes that follow
+-- a right shift of `tab_bits bytes` by `k` leaves the tabs of the bytes after the first `k`
 pub tab_bits-shifted : (k : ℕ) (bytes : List ℕ) → tab_bits bytes / 2 ^ k ≡ tab_bits (drop k bytes)
 tab_bits-shifted zero bytes = div-one (tab_bits bytes)
 tab_bits-shifted (suc k) [] = zero-div (2 ^ suc k)
@@ -27,16 +27,18 @@ tab_bits-shifted (suc k) (byte ∷ bytes) =
     let one : all / 2 ≡ tab_bits bytes = halved (eqb byte 9) (tab_bits bytes) in
     ap (λ n. all / n) (pow-succ' 2 k) ∙ sym (div-div-eq-div-mul all 2 (2 ^ k)) ∙ ap (λ n. n / 2 ^ k) one ∙ tab_bits-shifted k bytes
 
--- zeros behind some bytes are no tabs
+-- zeros after `bytes` are no tabs
 tab_bits-padded : (bytes : List ℕ) (count : ℕ) → tab_bits (bytes ++ replicate count 0) ≡ tab_bits bytes
 tab_bits-padded [] zero = refl
 tab_bits-padded [] (suc count) = let rest = tab_bits-padded [] count in omega (arith, rest)
 tab_bits-padded (byte ∷ bytes) count = ap (λ n. cond (eqb byte 9) 1 0 + 2 * n) (tab_bits-padded bytes count)
 
+-- `bytes` in a block filled up with zeros have the tabs of `bytes` alone
 pub padded_block : (bytes : List ℕ) (k : ℕ) → tab_bits (bytes ++ drop k (replicate 64 0)) ≡ tab_bits bytes
 padded_block bytes k = ap (λ zeros. tab_bits (bytes ++ zeros)) (drop-replicate k 64 0) ∙ tab_bits-padded bytes (64 - k)
 
 module _ (line : List ℕ) where
+  -- a right shift of the tabs between `from` and `to` by `k` leaves the tabs between `from + k` and `to`
   pub tabs_in-shifted : (from to k : ℕ) → from + k ≤ to → tabs_in line from to / 2 ^ k ≡ tabs_in line (from + k) to
   tabs_in-shifted from to k le =
       grind (
@@ -46,11 +48,11 @@ module _ (line : List ℕ) where
         (drop-drop k from line),
       )
 
-  -- behind the end of the line there are none
+  -- if `to` is not before the end of the line, the tabs up to `to` are those up to the end
   pub tabs_in-past : (from to : ℕ) → length line ≤ to → tabs_in line from to ≡ tab_bits (drop from line)
   tabs_in-past from to past = ap tab_bits (take_all (to - from) (drop from line) (omega (arith, length-drop from line)))
 
-  -- the tabs of the last 64 bytes, without those before a place
+  -- the tabs of the last 64 bytes, shifted by the bytes before `from`, are the tabs from `from` on
   pub tabs_in-last : (from : ℕ) → 64 ≤ length line → from < length line → length line < from + 64
       → tab_bits (take 64 (drop (length line - 64) line)) / 2 ^ (from + 64 - length line) ≡ tabs_in line from (from + 64)
   tabs_in-last from long in_line last =
@@ -61,28 +63,32 @@ module _ (line : List ℕ) where
         (tabs_in-past from (from + 64)),
       )
 
--- where a bit is set, a tab stands among the bytes
+-- if a bit is set, a tab stands among the bytes
 some_tab : (bytes : List ℕ) → 0 < tab_bits bytes → prefix_len (λ byte. not (byte == 9)) bytes < length bytes
 some_tab [] some = absurd (omega arith)
 some_tab (byte ∷ bytes) some = grind (arith, some_tab bytes)
 
--- the lowest bit is the first tab
+-- the lowest set bit marks the first tab between `from` and `to`
 record FirstTab (line : List ℕ) (from to at : ℕ) : Type 0 where
   before : at < to
   in_line : at < length line
   clear : NoTab line from at
   is : (get_or line at 0 == 9) ≡ true
 
+-- the place of the first tab from `from` on, by the count of trailing zeros
 abbrev next_tab : List ℕ → ℕ → ℕ → ℕ
 next_tab line from to = from + count_trailing_zeros 64 (tabs_in line from to)
 
 module _ (line : List ℕ) (from to : ℕ) where
+  -- the slice from `from` to `to` is no longer than the rest of the line
   size : length (take (to - from) (drop from line)) ≡ min (to - from) (length line - from)
   size = length-take (to - from) (drop from line) ∙ ap (min (to - from)) (length-drop from line)
 
+  -- byte `k` of the slice is a tab exactly if byte `from + k` of the line is
   byte_at : (k : ℕ) → k < to - from → (get_or (take (to - from) (drop from line)) k 0 == 9) ≡ (get_or line (from + k) 0 == 9)
   byte_at k below = ap (λ byte. byte == 9) (get_or-take (to - from) (drop from line) k 0 below ∙ get_or-drop from line k 0)
 
+  -- no byte from `from` up to the first tab is a tab
   clear_front : NoTab line from (from + prefix_len (λ byte. not (byte == 9)) (take (to - from) (drop from line)))
   clear_front k above below =
       let bytes = take (to - from) (drop from line) in
@@ -95,6 +101,7 @@ module _ (line : List ℕ) (from to : ℕ) where
         (prefix_len_passes (λ byte. not (byte == 9)) bytes (k - from) 0),
       )
 
+  -- if a bit is set, `next_tab` is the first tab between `from` and `to`
   first_tab : to ≤ from + 64 → 0 < tabs_in line from to → FirstTab line from to (next_tab line from to)
   first_tab few some =
       let bytes = take (to - from) (drop from line) in
@@ -115,23 +122,25 @@ module _ (line : List ℕ) (from to : ℕ) where
         );
       })
 
-  -- where no bit is set, there is no tab
+  -- if no bit is set, no byte between `from` and `to` is a tab
   no_tab : tabs_in line from to ≡ 0 → NoTab line from (min to (length line))
   no_tab none k above below =
       clear_front k above (omega (arith, size, leading_from_mask_l (λ byte. byte == 9) (take (to - from) (drop from line)) none))
 
--- there is none in what no bit is left of, nor behind the end of the line
+-- if no bit is set from `place` on and no tab stands before `place`, no tab stands between `from` and `to`
 pub none_left : (line : List ℕ) (from place to : ℕ) → NoTab line from place → tabs_in line place to ≡ 0 → NoTab line from to
 none_left line from place to before none = grind (arith, cases_lt, get_or_past, no_tab, inl, inr)
 
--- the parts that are left behind a place, where a tab or the end of the line is next
+-- ---- the parts of a line from a place on, up to the next tab or the end
 module _ (line : List ℕ) where
+  -- a tab at `at` ends the part from `start` on, and the other parts begin after it
   next_part : (start at : ℕ) → start ≤ at → at < length line → NoTab line start at → eqb (get_or line at 0) 9 ≡ true
       → parts_from line start ≡ take (at - start) (drop start line) ∷ parts_from line (at + 1)
   next_part start at le in_line clear is =
       let count = at - start in
       grind (arith, (parts_cut 9 (drop start line) count), (length-drop start line), (get_or-drop start line), clear, is, (drop-drop (count + 1) start line))
 
+  -- without a tab from `start` on, the rest of the line is the one part left
   pub last_part : (start : ℕ) → start ≤ length line → NoTab line start (length line) → parts_from line start ≡ take (length line - start) (drop start line) ∷ []
   last_part start le clear =
       grind (
@@ -144,7 +153,7 @@ module _ (line : List ℕ) where
         (take_rest line start),
       )
 
--- what `grind` takes where the fields of a line are put into a list: of the lowest bit that is left, and of the parts
+-- the lowest set bit of the tabs is the next tab; shifted past it, the bits are the tabs after it
 pub lowest_tab : (line : List ℕ) (from to : ℕ) → to ≤ from + 64 → 0 < tabs_in line from to
     → (tabs_in line from to ≡ tabs_in line from to) × (next_tab line from to < to) × (next_tab line from to < length line)
     × (tabs_in line from to / 2 ^ count_trailing_zeros 64 (tabs_in line from to) / 2 ≡ tabs_in line (next_tab line from to + 1) to)
@@ -163,13 +172,16 @@ lowest_tab line from to few some =
       ),
     )
 
+-- the bytes up to the next tab, then the parts after it, are the parts from `start` on
 pub next_field : (line : List ℕ) (start from to : ℕ) → start ≤ from → NoTab line start from → to ≤ from + 64 → 0 < tabs_in line from to
     → take (next_tab line from to - start) (drop start line) ∷ parts_from line (next_tab line from to + 1) ≡ parts_from line start
 next_field line start from to ahead clear few some = search (rules, first_tab, next_part)
 
+-- rules for `grind` for a field that a tab ends
 pub ruleset fields_cut = (lowest_tab, next_field, map_push, append_assoc, length-append, length-map)
 
+-- rules for `grind` for the field that the end of the line ends
 pub ruleset last_field = (last_part, map_push, between_to_end, take_rest)
 
--- and where the tabs of a line's next bytes are told
+-- rules for `grind` for the tabs of the next 64 bytes of a line
 pub ruleset shifts = (tab_bits-shifted, tabs_in-last, tabs_in-past)

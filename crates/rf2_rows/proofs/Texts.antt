@@ -1,4 +1,4 @@
--- Words that stand in texts.
+-- Lemmas on texts: UTF-8, UUIDs, the name in a path, and words in a text.
 use Rattle.std.proofs.lemmas.Bool.Decides.{nat_tests, Decides-eqb}
 use Rattle.std.proofs.lemmas.Grind.{common_steps}
 use Rattle.std.proofs.Common.{◌≡◌, ℕ, zero, suc, ◌+◌, ◌-◌, ◌<◌, ◌≤◌, get_or, add-sub_cancel, true, false, List, [], ◌∷◌, Option, None, Some, length, drop, refl, ◌∙◌, inl, inr, arith, length-drop, nat_eq, ◌==◌, ◌↔◌, is_some}
@@ -13,13 +13,14 @@ use Rattle.bstr.specs.Find.{OccursAt}
 use Rattle.rf2_rows.specs.Files.{holds}
 use Rattle.uuid.specs.Text.{parsed, parsed_hyphenated}
 
--- the test of UTF-8 holds exactly where the text is accepted
+-- rules for `grind`: the test of UTF-8 holds exactly if the text is UTF-8
 pub ruleset utf8_tests = (is_utf8-from_IsUtf8, IsUtf8-from_is_utf8)
 
--- a text of 36 bytes is read in the hyphenated form alone
+-- a text of 36 bytes is read as a UUID in the hyphenated form alone
 parsed_at_36 : (text : List ℕ) → length text ≡ 36 → parsed text ≡ parsed_hyphenated text
 parsed_at_36 text long = rw long refl
 
+-- a text of 36 bytes that is no UUID is no hyphenated UUID
 pub not_hyphenated : (text : List ℕ) → length text ≡ 36 → ((id : List ℕ) × (parsed text ≡ Some id) → ⊥)
     → (length text ≡ length text) × (is_some (parsed_hyphenated text) ≡ false)
 not_hyphenated text long none = (refl, by (parsed_hyphenated text) refl)
@@ -28,25 +29,28 @@ not_hyphenated text long none = (refl, by (parsed_hyphenated text) refl)
     by None is = refl
     by (Some id) is = absurd (none (id, parsed_at_36 text long ∙ is))
 
--- what stands behind the last `/` of a path, or all of it where there is none
+-- if no `/` follows place `n` of a path, what follows its last `/` begins at `n`
 behind_from : (path : List ℕ) (n : ℕ) → n ≤ length path
     → ((k : ℕ) → n ≤ k → k < length path → (get_or path k 0 == 47) ≡ true → ⊥)
     → (0 < n → (get_or path (n - 1) 0 == 47) ≡ true) → after_last (λ byte. byte == 47) path ≡ drop n path
 behind_from path n fits none ends = grind (arith, common_steps, nat_tests, false_from_ne_true, not_from_false, not_from_true, suffix_len_is)
 
+-- if the last `/` of a path stands at `at`, the file's name begins after it
 pub behind_last : (path : List ℕ) (at : ℕ) → at < length path → (get_or path at 0 == 47) ≡ true
     → ((k : ℕ) → at + 1 ≤ k → k < length path → (get_or path k 0 == 47) ≡ true → ⊥)
     → (get_or path at 0 ≡ get_or path at 0) × (after_last (λ byte. byte == 47) path ≡ drop (at + 1) path)
 behind_last path at within is none = (refl, behind_from path (at + 1) (omega arith) none (λ some. rw add-sub_cancel is))
 
+-- a path without `/` is the file's name as a whole
 pub behind_none : (path : List ℕ) → ((k : ℕ) → 0 ≤ k → k < length path → (get_or path k 0 == 47) ≡ true → ⊥)
     → (length path ≡ length path) × (after_last (λ byte. byte == 47) path ≡ path)
 behind_none path none = (refl, behind_from path 0 (omega arith) none (λ some. absurd (omega arith)))
 
+-- rules for `grind` about the name of a file in a path, with and without `/`
 pub ruleset names_in_paths = (behind_last, behind_none, between_to_end)
 
 module _ (word : List ℕ) (some : 0 < length word) where
-  -- what is left behind a place begins with the word exactly where the word stands at the place
+  -- what is left after a place begins with the word exactly if the word stands at the place
   begins_OccursAt : (text : List ℕ) (k : ℕ) → starts_with nat_eq (drop k text) word ≡ true → OccursAt text word k
   begins_OccursAt text k begins =
       let rest = drop (length word) (drop k text) in
@@ -56,12 +60,13 @@ module _ (word : List ℕ) (some : 0 < length word) where
         reads = at_reads 0 text word k rest front;
       }
 
+  -- if the word stands at a place, what is left from there on begins with it
   OccursAt_begins : (text : List ℕ) (k : ℕ) → OccursAt text word k → starts_with nat_eq (drop k text) word ≡ true
   OccursAt_begins text k occurs =
       (starts_is Decides-eqb (drop k text) word (starts_with nat_eq (drop k text) word) refl).1
       (drop (k + length word) text) (at_from_reads 0 text word k occurs.fits occurs.reads)
 
-  -- where a text holds the word, it stands somewhere
+  -- a text that holds the word has a place from which on it begins with the word
   holds_begins : (text : List ℕ) → holds word text ≡ true → (k : ℕ) × (starts_with nat_eq (drop k text) word ≡ true)
   holds_begins [] is = cc
   holds_begins (byte ∷ text) is = elim (or_cases (starts_with nat_eq (byte ∷ text) word) (holds word text) is) [
@@ -69,12 +74,13 @@ module _ (word : List ℕ) (some : 0 < length word) where
     | inr later ↦ let found = holds_begins text later in (suc found.0, found.1)
   ]
 
-  -- and where it stands somewhere, the text holds it
+  -- a text that from some place on begins with the word holds the word
   begins_holds : (text : List ℕ) (k : ℕ) → starts_with nat_eq (drop k text) word ≡ true → holds word text ≡ true
   begins_holds [] k begins = absurd (omega (arith, (begins_OccursAt [] k begins).fits))
   begins_holds (byte ∷ text) zero begins = or_left _ _ begins
   begins_holds (byte ∷ text) (suc k) begins = or_right _ _ (begins_holds text k begins)
 
+  -- `holds` is true exactly if the word stands at some place of the text
   pub holds_tells : (text : List ℕ) → (holds word text ≡ holds word text) × ((holds word text ≡ true) ↔ ((k : ℕ) × OccursAt text word k))
   holds_tells text = (
     refl,

@@ -18,7 +18,7 @@ use Rattle.rf2_rows.proofs.PairLemmas.{tells_same_value}
 same_flag_tells : (one other : Bool) → Decides (same_flag one other) (one ≡ other)
 same_flag_tells one other = grind arith
 
--- what the texts of a column are read as, and what a text is read as
+-- the type of the values that the texts of a column are read as
 abbrev Meaning : Format → Type 0
 Meaning uuid_format = List ℕ
 Meaning time_format = Option ℕ
@@ -27,6 +27,7 @@ Meaning text_format = List ℕ
 Meaning value_format = Value
 Meaning _ = ℕ
 
+-- the value that a text of a column is read as
 abbrev meaning : (format : Format) → List ℕ → Meaning format
 meaning uuid_format text = uuid_of text
 meaning time_format text = time_of text
@@ -35,7 +36,7 @@ meaning text_format text = text
 meaning value_format text = value_of text
 meaning _ text = number_of text
 
--- texts have one value exactly where they are read as the same
+-- `same_value` holds for two texts exactly if both are read as one value
 tells : (format : Format) (one other : List ℕ) → Decides (same_value format one other) (meaning format one ≡ meaning format other)
 tells uuid_format one other = bytes_eq-Decides (uuid_of one) (uuid_of other)
 tells time_format one other = grind (arith, time_of)
@@ -44,16 +45,19 @@ tells text_format one other = bytes_eq-Decides one other
 tells value_format one other = tells_same_value (value_of one) (value_of other)
 tells _ one other = Decides-eqb (number_of one) (number_of other)
 
+-- `same_values` holds for fields and themselves, if there is one field for each column
 same_values-refl : (columns : List Column) (ones : List (List ℕ)) → length ones ≡ length columns → same_values columns ones ones ≡ true
 same_values-refl [] [] width = refl
 same_values-refl (column ∷ columns) (one ∷ ones) width = grind (arith, common_steps, nat_tests, and_from, tells, (same_values-refl columns ones (omega arith)))
 same_values-refl _ _ width = absurd (omega arith)
 
+-- `same_values` is symmetric
 same_values-sym : (columns : List Column) (ones others : List (List ℕ)) → same_values columns ones others ≡ true → same_values columns others ones ≡ true
 same_values-sym [] [] [] is = is
 same_values-sym (column ∷ columns) (one ∷ ones) (other ∷ others) is = grind (arith, tells, (same_values-sym columns ones others))
 same_values-sym _ _ _ is = absurd (false≢true is)
 
+-- `same_values` is transitive
 same_values-trans : (columns : List Column) (ones others thirds : List (List ℕ))
     → same_values columns ones others ≡ true → same_values columns others thirds ≡ true → same_values columns ones thirds ≡ true
 same_values-trans [] [] [] thirds is also = also
@@ -66,17 +70,19 @@ same_values-trans _ _ _ thirds is also = absurd (false≢true is)
 pub same_row-refl : (kind : FileKind) (one : List ℕ) → row_fault kind one ≡ None → IsTrue (same_row kind one one)
 same_row-refl kind one accepted = same_values-refl (columns_of kind) (fields_of one) (width_of_line kind one accepted)
 
--- what `grind` takes of accepted lines
+-- rules for `grind` about accepted lines: they have at most 10 fields, and each is one row with itself
 pub ruleset accepted_lines = (few_fields, same_row-refl)
 
+-- if `one` is one row with `other`, then `other` is one row with `one`
 pub same_row-sym : (kind : FileKind) (one other : List ℕ) → IsTrue (same_row kind one other) → IsTrue (same_row kind other one)
 same_row-sym kind one other is = same_values-sym (columns_of kind) (fields_of one) (fields_of other) is
 
+-- if `one` is one row with `other` and `other` with `third`, then `one` is one row with `third`
 pub same_row-trans : (kind : FileKind) (one other third : List ℕ) → IsTrue (same_row kind one other)
     → IsTrue (same_row kind other third) → IsTrue (same_row kind one third)
 same_row-trans kind one other third is also = grind (arith, common_steps, nat_tests, same_values-trans)
 
--- so being one row is an equivalence
+-- being one row is an equivalence of accepted lines
 pub rows_are_equivalent : IsEquivalenceOfRows
 rows_are_equivalent kind = (same_row-refl kind, same_row-sym kind, same_row-trans kind)
 

@@ -18,7 +18,7 @@ use Rattle.rf2_rows.specs.declared.fault.RowCause.TheVariants.{Fields, Id, Time,
 use Rattle.numerals.specs.Numbers.{is_number}
 use Rattle.rf2_rows.specs.Values.{value_cause}
 
--- what the texts of a column are
+-- the format of a column: what its texts may be
 pub data Format : Type 0 where
   -- the identifier of a component of the part
   id_format : Part → Format
@@ -26,7 +26,7 @@ pub data Format : Type 0 where
   component_format : Format
   -- a UUID: 36 characters, hexadecimal digits in groups of 8, 4, 4, 4 and 12 with hyphens between
   uuid_format : Format
-  -- a date of eight digits, YYYYMMDD, or nothing where the row is not published yet
+  -- a date of eight digits, YYYYMMDD, or no byte if the row is not published yet
   time_format : Format
   -- 0 or 1
   active_format : Format
@@ -34,14 +34,17 @@ pub data Format : Type 0 where
   group_format : Format
   -- a text in UTF-8
   text_format : Format
-  -- a number behind `#`, or else a text in UTF-8
+  -- a number after `#`, or another text in UTF-8
   value_format : Format
 
 -- a column: its name in the header, and what its texts are
 pub record Column : Type 0 where
+  -- the name of the column in the header
   pub name : List ℕ
+  -- the format of the column's texts
   pub format : Format
 
+-- makes a column of a name and a format
 abbrev pub column : List ℕ → Format → Column
 column name format = record { name = name; format = format }
 
@@ -113,8 +116,8 @@ is_part Description Description = true
 is_part Relationship Relationship = true
 is_part _ _ = false
 
--- the first fault of a text as an identifier of a part: its own fault where it is no identifier
--- at all, and the partition where it is one of another part
+-- the first fault of a text as an identifier of a part: its own fault if it is no identifier, and the partition if it
+-- is one of another part
 abbrev pub fault_for : Part → List ℕ → Option IdFault
 fault_for part text = option_or (fault_of text) (if is_part (part_of text) part then None else Some Partition)
 

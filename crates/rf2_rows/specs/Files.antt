@@ -10,7 +10,7 @@ use Rattle.rf2_rows.specs.declared.kind.FileKind.TheVariants.{Concept, Descripti
 abbrev pub file_name : List ℕ → List ℕ
 file_name path = after_last (λ byte. byte == 47) path
 
--- the elements of a file's name: what stands between its underscores
+-- the elements of a file's name: the parts between its underscores
 abbrev pub elements_of : List ℕ → List (List ℕ)
 elements_of name = parts_at 95 name
 
@@ -19,15 +19,15 @@ abbrev pub holds : List ℕ → List ℕ → Bool
 holds word [] = false
 holds word (byte ∷ text) = starts_with nat_eq (byte ∷ text) word || holds word text
 
--- FileType: a file of components, released or in a test release
+-- whether a FileType is that of a file of components, released or in a test release
 abbrev pub is_terminology : List ℕ → Bool
 is_terminology file_type = bytes_eq file_type (codes "sct2") || bytes_eq file_type (codes "xsct2")
 
--- FileType: a file of reference sets, released or in a test release
+-- whether a FileType is that of a file of reference sets, released or in a test release
 abbrev pub is_reference_set : List ℕ → Bool
 is_reference_set file_type = bytes_eq file_type (codes "der2") || bytes_eq file_type (codes "xder2")
 
--- ContentType of a file of components: what the rows describe
+-- the kind of a file of components, by its ContentType, which names what the rows describe
 abbrev pub component_kind : List ℕ → Option FileKind
 component_kind content =
     if bytes_eq content (codes "Concept") then Some Concept
@@ -36,22 +36,23 @@ component_kind content =
     else if bytes_eq content (codes "RelationshipConcreteValues") then Some Concrete
     else None
 
--- ContentType of a file of reference sets: without letters in front it has no columns of its own
+-- the kind of a file of reference sets, by its ContentType: without letters before `Refset` the file has no columns of
+-- its own
 abbrev pub reference_set_kind : List ℕ → Option FileKind
 reference_set_kind content = if bytes_eq content (codes "Refset") then Some Member else None
 
--- the kind that a FileType and a ContentType tell of
+-- the kind of file that a FileType and a ContentType name
 abbrev pub kind_named : List ℕ → List ℕ → Option FileKind
 kind_named file_type content =
     if is_terminology file_type then component_kind content
     else if is_reference_set file_type then reference_set_kind content
     else None
 
--- ContentSubType: the release type Snapshot, at the end or before the code of a language
+-- whether a ContentSubType has the release type Snapshot, at its end or before the code of a language
 abbrev pub is_snapshot : List ℕ → Bool
 is_snapshot subtype = ends_with nat_eq subtype (codes "Snapshot") || holds (codes "Snapshot-") subtype
 
--- the kind that the elements tell of
+-- the kind of file that the elements of a name name
 abbrev pub kind_of_elements : List (List ℕ) → Option FileKind
 kind_of_elements (file_type ∷ content ∷ subtype ∷ others) =
     if is_snapshot subtype then kind_named file_type content else None
@@ -61,6 +62,6 @@ kind_of_elements _ = None
 abbrev pub stem_of : List ℕ → Option (List ℕ)
 stem_of name = if ends_with nat_eq name (codes ".txt") then Some (take (length name - 4) name) else None
 
--- the kind of a file by its path, or none where the file is no part of the release
+-- the kind of a file by its path, or none if the file is no part of the release
 unfoldable pub file_kind_of : List ℕ → Option FileKind
 file_kind_of path = option_and_then (λ stem. kind_of_elements (elements_of stem)) (stem_of (file_name path))

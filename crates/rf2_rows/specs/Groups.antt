@@ -1,7 +1,6 @@
--- The groups of a concept's attributes (Release File Specification, "Relationship file",
--- relationshipGroup). A group is told by its number and not by what is in it, so two groups with the
--- same pairs stay two. Group 0 is no group: each of its distinct pairs is a group by itself (this
--- project's choice).
+-- The groups of a concept's attributes (Release File Specification, "Relationship file", relationshipGroup). A group
+-- is identified by its number and not by its pairs, so two groups with equal pairs stay two groups. Group 0 is no
+-- group: each of its distinct pairs is a group by itself (this project's choice).
 use Rattle.std.specs.Prelude.{ℕ, ◌==◌, ◌++◌, not, List, [], ◌∷◌, map, filter, nat_eq}
 use Rattle.rf2_rows.specs.Release.{Release}
 use Rattle.rf2_rows.specs.Pairs.{Pair, pair_eq, pair_of, rows_of}

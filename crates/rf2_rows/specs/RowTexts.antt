@@ -1,4 +1,4 @@
--- A row of any kind as what it says.
+-- A row of any kind, with the bytes of its texts.
 use Rattle.std.specs.Prelude.{ℕ, List}
 use Rattle.rf2_rows.specs.Rows.{ConcreteText, DescriptionText, concept_row, concrete_row, concrete_text, description_row, description_text, member_row, relationship_row}
 use Rattle.rf2_rows.specs.declared.kind.FileKind.{FileKind}
@@ -17,7 +17,7 @@ pub data RowText : Type 0 where
   of_concrete : ConcreteText → RowText
   of_member : MemberRow → RowText
 
--- the row that an accepted line of a kind is
+-- the row that stands in an accepted line of a kind of file
 abbrev pub row_text : FileKind → List ℕ → RowText
 row_text file.Concept line = of_concept (concept_row line)
 row_text file.Description line = of_description (description_row line)
@@ -25,7 +25,7 @@ row_text file.Relationship line = of_relationship (relationship_row line)
 row_text file.Concrete line = of_concrete (concrete_row line)
 row_text file.Member line = of_member (member_row line)
 
--- what a row of the program says
+-- a row of the program with the bytes of the texts that it was lent
 abbrev pub text_in : Row → RowText
 text_in (Concept row) = of_concept row
 text_in (Description row) = of_description (description_text row)

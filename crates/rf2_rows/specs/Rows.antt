@@ -1,6 +1,6 @@
--- What a line of a file is as a row (Release File Specification, "Concept file", "Description file",
--- "Relationship file", "Relationship concrete values file" and "Simple reference set"): its fields, its
--- first fault, and the row that an accepted line stands for.
+-- A line of a file as a row (Release File Specification, "Concept file", "Description file", "Relationship file",
+-- "Relationship concrete values file" and "Simple reference set"): its fields, its first fault, and the row that an
+-- accepted line stands for.
 use Rattle.std.specs.Prelude.{◌≡◌, ℕ, ◌+◌, ◌==◌, Bool, if◌then◌else◌, List, [], ◌∷◌, length, codes, bytes_eq, slice_index_or, Option, None, Some, option_map, unwrap_or, Result, MatchResult}
 use Rattle.std.specs.Option.{option_or}
 use Rattle.std.specs.List.{position_or_len}
@@ -25,7 +25,7 @@ use Rattle.text_parts.specs.Parts.{parts_at}
 use Rattle.rf2_rows.specs.Release.{Value, concept_value, number_value, text_value}
 use Rattle.rf2_rows.specs.Values.{value_of}
 
--- the fields of a line: what stands between its tabs
+-- the fields of a line: the parts between its tabs
 abbrev pub fields_of : List ℕ → List (List ℕ)
 fields_of line = parts_at tab line
 
@@ -33,7 +33,7 @@ fields_of line = parts_at tab line
 abbrev pub column_fault : ℕ → Option RowCause → Option RowFault
 column_fault number cause = option_map (λ cause. record { cause = cause; column = number }) cause
 
--- the fault of the first column whose text is not accepted, where the first column has this number
+-- the fault of the first of `columns` whose text is not accepted; `number` is the number of the first column
 abbrev pub first_column_fault : ℕ → List Column → List (List ℕ) → Option RowFault
 first_column_fault number (column ∷ columns) (text ∷ texts) =
     option_or (column_fault number (cause_of column.format text)) (first_column_fault (number + 1) columns texts)
@@ -45,7 +45,7 @@ fields_fault kind fields =
     if length fields == length (columns_of kind) then first_column_fault 1 (columns_of kind) fields
     else Some (record { cause = Fields; column = 0 })
 
--- the first fault of a line, or none where it is a row
+-- the first fault of a line, or none if the line is a row
 unfoldable pub row_fault : FileKind → List ℕ → Option RowFault
 row_fault kind line = fields_fault kind (fields_of line)
 
@@ -53,7 +53,7 @@ row_fault kind line = fields_fault kind (fields_of line)
 abbrev pub text_in : FileKind → List (List ℕ) → List ℕ → List ℕ
 text_in kind fields name = slice_index_or fields (position_or_len (λ column. bytes_eq column.name name) (columns_of kind)) []
 
--- an effective time: the number that its digits write, or none where there are none
+-- an effective time: the number that its digits write, or none if the text is empty
 abbrev pub time_of : List ℕ → Option ℕ
 time_of text = if length text == 0 then None else Some (number_of text)
 
@@ -75,14 +75,23 @@ concept_of fields =
 
 -- a row of the Description file, whose texts are bytes
 pub record DescriptionText : Type 0 where
+  -- the identifier of the description
   pub id : ℕ
+  -- the date YYYYMMDD from which the row counts, none if it is unpublished
   pub effective_time : Option ℕ
+  -- whether the description is active
   pub active : Bool
+  -- the module that the row belongs to
   pub module_id : ℕ
+  -- the concept that is described
   pub concept_id : ℕ
+  -- the language code of the term
   pub language_code : List ℕ
+  -- the kind of description: fully specified name, synonym or definition
   pub type_id : ℕ
+  -- the term in UTF-8
   pub term : List ℕ
+  -- which letters of the term may change their case
   pub case_significance_id : ℕ
 
 -- a row with the bytes of the texts that it was lent
@@ -140,15 +149,25 @@ value_lent (LentOther text) = text_value text.now
 
 -- a row of the Relationship concrete values file, whose value is that of a release
 pub record ConcreteText : Type 0 where
+  -- the identifier of the relationship
   pub id : ℕ
+  -- the date YYYYMMDD from which the row counts, none if it is unpublished
   pub effective_time : Option ℕ
+  -- whether the relationship is active
   pub active : Bool
+  -- the module that the row belongs to
   pub module_id : ℕ
+  -- the concept that has the value
   pub source_id : ℕ
+  -- the value: a number or a text
   pub value : Value
+  -- the relationship group, 0 for none
   pub relationship_group : ℕ
+  -- the attribute
   pub type_id : ℕ
+  -- whether the row is inferred, stated or other
   pub characteristic_type_id : ℕ
+  -- the modifier of the relationship
   pub modifier_id : ℕ
 
 -- a row with the bytes of the value that it was lent
@@ -183,7 +202,7 @@ concrete_of fields =
       modifier_id = number_of (text (codes "modifierId"));
     }
 
--- the 16 bytes of a UUID
+-- the 16 bytes that the text of a UUID writes
 abbrev pub uuid_of : List ℕ → List ℕ
 uuid_of text = unwrap_or (parsed_hyphenated text) []
 
@@ -200,27 +219,31 @@ member_of fields =
       referenced_component_id = number_of (text (codes "referencedComponentId"));
     }
 
--- the rows that lines stand for: what they are where the line has no fault
+-- the row that an accepted line of a Concept file stands for
 unfoldable pub concept_row : List ℕ → ConceptRow
 concept_row line = concept_of (fields_of line)
 
+-- the row that an accepted line of a Description file stands for
 unfoldable pub description_row : List ℕ → DescriptionText
 description_row line = description_of (fields_of line)
 
+-- the row that an accepted line of a Relationship file stands for
 unfoldable pub relationship_row : List ℕ → RelationshipRow
 relationship_row line = relationship_of (fields_of line)
 
+-- the row that an accepted line of a Relationship concrete values file stands for
 unfoldable pub concrete_row : List ℕ → ConcreteText
 concrete_row line = concrete_of (fields_of line)
 
+-- the row that an accepted line of a simple reference set file stands for
 unfoldable pub member_row : List ℕ → MemberRow
 member_row line = member_of (fields_of line)
 
--- what reading answers: a value where there is no fault, and else the fault
+-- the result of reading: `value` if there is no fault, otherwise the fault
 abbrev pub IsReading : {T : Type 0} → Option RowFault → T → Result T RowFault → Type 0
 IsReading fault value result = MatchResult result (λ found. (fault ≡ None) × (found ≡ value)) (λ found. fault ≡ Some found)
 
--- the same of what is lent, of which only its view counts
+-- the result of reading a lent value: its `view` is `value` if there is no fault, otherwise the result is the fault
 abbrev pub IsReadingLent : {Lent T : Type 0} → (Lent → T) → Option RowFault → T → Result Lent RowFault → Type 0
 IsReadingLent view fault value result = MatchResult result (λ found. (fault ≡ None) × (view found ≡ value)) (λ found. fault ≡ Some found)
 

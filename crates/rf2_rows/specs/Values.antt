@@ -1,5 +1,5 @@
--- The values of attributes that are no concepts (Release File Specification, "Relationship concrete
--- values file"): a number stands behind `#`, and every other text is a value itself.
+-- The values of attributes that are no concepts (Release File Specification, "Relationship concrete values file"): a
+-- number stands after `#`, and every other text is a value itself.
 use Rattle.std.specs.Prelude.{ℕ, pos, nat_eq, Bool, if◌then◌else◌, List, drop, codes, Option, None, Some, is_some, unwrap_or}
 use Rattle.std.specs.List.{starts_with}
 use Rattle.std.specs.Str.{is_utf8}
@@ -19,7 +19,7 @@ value_cause text =
     else if is_utf8 text then None
     else Some Utf8
 
--- the value that a text without such a cause writes
+-- the value that a text writes, if it has no cause to be refused
 abbrev pub value_of : List ℕ → Value
 value_of text =
     if begins_with_hash text then number_value (unwrap_or (decimal_of (drop 1 text)) (pos 0))

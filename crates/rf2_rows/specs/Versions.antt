@@ -1,5 +1,5 @@
--- The versions of components (Release File Specification, "effectiveTime" and "Release types": a component, told by
--- its identifier, has one row for each time at which it changed).
+-- The versions of components (Release File Specification, "effectiveTime" and "Release types"): a component, which its
+-- identifier names, has one row for each time at which it changed.
 use Rattle.std.specs.Prelude.{◌≡◌, ℕ, Bool, true, false, not, ◌&&◌, ◌==◌, IsTrue, List, [], ◌∷◌, bytes_eq, Option, None, Some}
 use Rattle.std.specs.Int.{w128, from_be_bytes}
 use Rattle.rf2_rows.specs.Columns.{Column, Format, columns_of, id_format, component_format, uuid_format, time_format, active_format, group_format, text_format, value_format}
@@ -17,7 +17,7 @@ use Rattle.rf2_rows.specs.declared.row.Row.TheVariants as typed
 abbrev pub member_number : MemberRow → ℕ
 member_number row = from_be_bytes w128 row.id
 
--- the identifier of the row that an accepted line of a kind is
+-- the identifier in an accepted line of a kind of file
 abbrev pub id_on : FileKind → List ℕ → ℕ
 id_on Concept line = (concept_row line).id
 id_on Description line = (description_row line).id
@@ -25,7 +25,7 @@ id_on Relationship line = (relationship_row line).id
 id_on Concrete line = (concrete_row line).id
 id_on Member line = member_number (member_row line)
 
--- its effective time, none where it is not published yet
+-- the effective time in an accepted line of a kind of file, none if the row is not published yet
 abbrev pub time_on : FileKind → List ℕ → Option ℕ
 time_on Concept line = (concept_row line).effective_time
 time_on Description line = (description_row line).effective_time
@@ -33,18 +33,19 @@ time_on Relationship line = (relationship_row line).effective_time
 time_on Concrete line = (concrete_row line).effective_time
 time_on Member line = (member_row line).effective_time
 
--- two effective times are one
+-- whether two effective times are equal, or both are none
 abbrev pub same_time : Option ℕ → Option ℕ → Bool
 same_time None None = true
 same_time (Some one) (Some other) = one == other
 same_time one other = false
 
--- two components are both active or both inactive
+-- whether two components are both active or both inactive
 abbrev pub same_flag : Bool → Bool → Bool
 same_flag true other = other
 same_flag false other = not other
 
--- two accepted texts of a column have one value: `0` and `00` are one group, and a UUID is one in capitals or not
+-- whether two accepted texts of a column have one value: `0` and `00` are one group, and the case of a UUID's letters
+-- does not matter
 abbrev pub same_value : Format → List ℕ → List ℕ → Bool
 same_value (id_format part) one other = number_of one == number_of other
 same_value component_format one other = number_of one == number_of other
@@ -55,13 +56,13 @@ same_value group_format one other = number_of one == number_of other
 same_value text_format one other = bytes_eq one other
 same_value value_format one other = value_eq (value_of one) (value_of other)
 
--- the fields of two lines have one value in each column
+-- whether the fields of two lines have one value in each column
 abbrev pub same_values : List Column → List (List ℕ) → List (List ℕ) → Bool
 same_values (column ∷ columns) (one ∷ ones) (other ∷ others) = same_value column.format one other && same_values columns ones others
 same_values [] [] [] = true
 same_values _ _ _ = false
 
--- two accepted lines of a kind are one row: each column has one value
+-- whether two accepted lines of a kind are one row: each column has one value
 abbrev pub same_row : FileKind → List ℕ → List ℕ → Bool
 same_row kind one other = same_values (columns_of kind) (fields_of one) (fields_of other)
 

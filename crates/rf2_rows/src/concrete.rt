@@ -14,7 +14,7 @@ use crate::value::Value;
 use numerals::decimal;
 use sctid::Part;
 
-/// The row of the Relationship concrete values file that the fields of a line stand for.
+/// Reads the row of the Relationship concrete values file that the fields of a line stand for.
 pub fn read_concrete<'a>(
     recent: &mut RecentConcepts,
     fields: &[&'a [u8]],
@@ -47,7 +47,7 @@ pub fn read_concrete<'a>(
     })
 }
 
-// A number behind `#`, or another text.
+// Reads a value: a number after `#`, or another text.
 #[tactic(auto, unfolding(crate::specs::Columns::cause_of))]
 fn concrete_value<'a>(field: &'a [u8], column: u8) -> Result<Value<'a>, RowFault>
     ensures { IsReadingLent value_lent (column_fault column (cause_of value_format field.now))

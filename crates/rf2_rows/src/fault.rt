@@ -10,27 +10,27 @@ pub enum RowCause {
     /// The line has more or fewer fields than the header has columns.
     #[error("the line has not as many fields as the header")]
     Fields,
-    /// No identifier of the part that the column asks for. A valid identifier of another part has
-    /// the fault `IdFault::Partition`.
+    /// The text is no identifier of the part that the column asks for. A valid identifier of another part has the
+    /// fault `IdFault::Partition`.
     #[error("no identifier of this column: {0}")]
     Id(IdFault),
-    /// Neither eight digits nor empty.
+    /// The text is neither empty nor eight digits.
     #[error("an effective time has eight digits or none")]
     Time,
-    /// Neither `0` nor `1`.
+    /// The text is neither `0` nor `1`.
     #[error("active is 0 or 1")]
     Active,
-    /// Not 1 to 9 digits.
+    /// The text is not 1 to 9 digits.
     #[error("a relationship group has 1 to 9 digits")]
     Group,
-    /// Behind `#` no number: a sign or none, 1 to 18 digits, and 1 to 18 digits behind a point if
-    /// there is one.
+    /// No number follows `#`. A number is an optional sign, 1 to 18 digits, and optionally a point and 1 to 18
+    /// digits.
     #[error("a value that begins with # has 1 to 18 digits before and behind its point")]
     Value,
-    /// Not UTF-8.
+    /// The text is not UTF-8.
     #[error("the text is not UTF-8")]
     Utf8,
-    /// No UUID of 36 characters, with hyphens.
+    /// The text is no UUID of 36 characters, with hyphens.
     #[error("a member is identified by a UUID of 36 characters")]
     Uuid,
 }
@@ -41,7 +41,7 @@ pub enum RowCause {
 pub struct RowFault {
     /// Why the line is refused.
     pub cause: RowCause,
-    /// The number of the column from 1, or 0 where the number of fields is wrong.
+    /// The number of the column from 1, or 0 if the number of fields is wrong.
     pub column: u8,
 }
 

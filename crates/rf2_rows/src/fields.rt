@@ -1,4 +1,4 @@
-//! Reading the fields of a line, each as its column asks for.
+//! Reading the fields of a line, each in the format of its column.
 ghost use Rattle.std.specs.Prelude.{◌≡◌};
 ghost use Rattle.rf2_rows.specs.Columns.{cause_of, id_format, component_format, uuid_format, time_format, active_format, group_format, text_format};
 ghost use Rattle.numerals.specs.Numbers.{number_of};
@@ -9,7 +9,7 @@ use numerals::digits;
 use sctid::{IdFault, Part, SctId};
 use uuid::Uuid;
 
-/// An identifier of the part that the column asks for.
+/// Reads an identifier of the part that the column asks for.
 #[tactic(auto, unfolding(crate::specs::Columns::cause_of), using(crate::proofs::Identifiers::number_read))]
 pub fn identifier(text: &[u8], part: Part, column: u8) -> Result<SctId, RowFault>
     ensures { IsReading (column_fault column (cause_of (id_format part) text.now)) (number_of text.now)
@@ -22,7 +22,7 @@ pub fn identifier(text: &[u8], part: Part, column: u8) -> Result<SctId, RowFault
     }
 }
 
-/// An identifier of a component of any part.
+/// Reads an identifier of a component of any part.
 #[tactic(auto, unfolding(crate::specs::Columns::cause_of), using(crate::proofs::Identifiers::number_read))]
 pub fn component(text: &[u8], column: u8) -> Result<SctId, RowFault>
     ensures { IsReading (column_fault column (cause_of component_format text.now)) (number_of text.now) result }
@@ -33,7 +33,7 @@ pub fn component(text: &[u8], column: u8) -> Result<SctId, RowFault>
     }
 }
 
-/// A UUID of 36 characters: the other forms of a UUID have other lengths.
+/// Reads a UUID of 36 characters. The length decides the form: the other forms of a UUID have other lengths.
 #[tactic(auto, unfolding(crate::specs::Columns::cause_of), using(crate::proofs::Texts::not_hyphenated))]
 pub fn hyphenated(text: &[u8], column: u8) -> Result<Uuid, RowFault>
     ensures { IsReading (column_fault column (cause_of uuid_format text.now)) (uuid_of text.now) result }
@@ -47,7 +47,7 @@ pub fn hyphenated(text: &[u8], column: u8) -> Result<Uuid, RowFault>
     }
 }
 
-/// Eight digits, or none where the row is unpublished.
+/// Reads an effective time: eight digits, or an empty text (`None`) if the row is unpublished.
 #[tactic(auto, unfolding(crate::specs::Columns::cause_of))]
 pub fn time(text: &[u8], column: u8) -> Result<Option<u32>, RowFault>
     ensures { IsReading (column_fault column (cause_of time_format text.now)) (time_of text.now) result }
@@ -61,7 +61,7 @@ pub fn time(text: &[u8], column: u8) -> Result<Option<u32>, RowFault>
     }
 }
 
-/// Whether a component is active.
+/// Reads whether a component is active.
 #[tactic(auto, unfolding(crate::specs::Columns::cause_of))]
 pub fn flag(text: &[u8], column: u8) -> Result<bool, RowFault>
     ensures { IsReading (column_fault column (cause_of active_format text.now)) (active_of text.now) result }
@@ -73,7 +73,7 @@ pub fn flag(text: &[u8], column: u8) -> Result<bool, RowFault>
     }
 }
 
-/// The number of a group.
+/// Reads the number of a relationship group.
 #[tactic(auto, unfolding(crate::specs::Columns::cause_of))]
 pub fn group(text: &[u8], column: u8) -> Result<u32, RowFault>
     ensures { IsReading (column_fault column (cause_of group_format text.now)) (number_of text.now) result }
@@ -84,7 +84,7 @@ pub fn group(text: &[u8], column: u8) -> Result<u32, RowFault>
     }
 }
 
-/// A text in UTF-8.
+/// Checks that a text is UTF-8 and returns it.
 #[tactic(auto, unfolding(crate::specs::Columns::cause_of), using(crate::proofs::Texts::utf8_tests))]
 pub fn text(text: &[u8], column: u8) -> Result<&str, RowFault>
     ensures { IsReadingLent (λ found. found.now) (column_fault column (cause_of text_format text.now)) text.now
@@ -96,7 +96,7 @@ pub fn text(text: &[u8], column: u8) -> Result<&str, RowFault>
     }
 }
 
-/// A fault of a column.
+/// Makes a fault of a column.
 pub fn fault(cause: RowCause, column: u8) -> RowFault
     ensures { result ≡ record { cause = cause; column = column } }
 {

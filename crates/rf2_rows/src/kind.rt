@@ -1,4 +1,4 @@
-//! The kinds of file, told by their names, and their headers.
+//! The kinds of file, which the names of files tell, and their headers.
 ghost use Rattle.std.specs.Prelude.{◌≡◌, None, Some, IsNone, IfSome};
 ghost use Rattle.rf2_rows.specs.Columns.{header_of};
 ghost use Rattle.rf2_rows.specs.Files.{file_kind_of, file_name, stem_of, elements_of, kind_of_elements, kind_named};
@@ -7,7 +7,7 @@ ghost use Rattle.rf2_rows.specs.Files.{component_kind, reference_set_kind, is_sn
 use bstr::ByteSlice;
 use text_parts::cut;
 
-/// What the rows of a file describe.
+/// The kind of a file: what its rows describe.
 #[derive(Clone, Copy, Debug, PartialEq, Eq)]
 pub enum FileKind {
     /// Concepts (Release File Specification, "Concept file").
@@ -24,8 +24,8 @@ pub enum FileKind {
     Member,
 }
 
-/// The kind of a Snapshot file by its name (Release File Specification, "File naming convention"),
-/// of which only what follows the last `/` counts. `None` for every file that the engine passes over.
+/// Returns the kind of a Snapshot file by its name (Release File Specification, "File naming convention"). Only what
+/// follows the last `/` counts. Returns `None` for every file that the engine passes over.
 #[tactic(auto, unfolding(crate::specs::Files::file_kind_of))]
 pub fn file_kind(name: &str) -> Option<FileKind>
     ensures { result ≡ file_kind_of name.now }
@@ -33,7 +33,7 @@ pub fn file_kind(name: &str) -> Option<FileKind>
     kind_of_stem(stem_of(file_name(name.as_bytes()))?)
 }
 
-/// The first line of each file of a kind: the names of its columns, joined by tabs.
+/// Returns the first line of each file of a kind: the names of its columns, joined by tabs.
 #[tactic(auto, unfolding(crate::specs::Columns::header_of))]
 pub fn header(kind: FileKind) -> &'static str
     ensures { result.now ≡ header_of kind }
@@ -53,7 +53,7 @@ pub fn header(kind: FileKind) -> &'static str
     }
 }
 
-// What follows the last `/` of a path.
+// Returns what follows the last `/` of a path.
 #[tactic(auto, using(crate::proofs::Texts::names_in_paths))]
 fn file_name(path: &[u8]) -> &[u8]
     ensures { result.now ≡ file_name path.now }
@@ -64,7 +64,7 @@ fn file_name(path: &[u8]) -> &[u8]
     }
 }
 
-// A file's name without the extension `.txt`, if it has that.
+// Returns a file's name without the extension `.txt`, if the name has it.
 fn stem_of(name: &[u8]) -> Option<&[u8]>
     ensures other { IsNone result → stem_of name.now ≡ None }
     ensures stem { IfSome result (λ stem. stem_of name.now ≡ Some stem.now) }
@@ -76,7 +76,7 @@ fn stem_of(name: &[u8]) -> Option<&[u8]>
     }
 }
 
-// The kind that the elements of a file's name tell of.
+// Returns the kind of file that the elements of a name tell.
 fn kind_of_stem(stem: &[u8]) -> Option<FileKind>
     ensures { result ≡ kind_of_elements (elements_of stem.now) }
 {
@@ -90,7 +90,7 @@ fn kind_of_stem(stem: &[u8]) -> Option<FileKind>
     }
 }
 
-// The kind that the first two elements of a file's name tell of.
+// Returns the kind of file that the first two elements of a name tell.
 fn kind_named(file_type: &[u8], content: &[u8]) -> Option<FileKind>
     ensures { result ≡ kind_named file_type.now content.now }
 {
@@ -117,7 +117,7 @@ fn is_reference_set(file_type: &[u8]) -> bool
     file_type == b"der2".as_slice() || file_type == b"xder2".as_slice()
 }
 
-// The kind that the second element of a terminology file's name tells of.
+// Returns the kind of file that the second element of a terminology file's name tells.
 fn component_kind(content: &[u8]) -> Option<FileKind>
     ensures { result ≡ component_kind content.now }
 {
@@ -134,7 +134,7 @@ fn component_kind(content: &[u8]) -> Option<FileKind>
     }
 }
 
-// The kind that the second element of a reference set file's name tells of.
+// Returns the kind of file that the second element of a reference set file's name tells.
 fn reference_set_kind(content: &[u8]) -> Option<FileKind>
     ensures { result ≡ reference_set_kind content.now }
 {
@@ -145,8 +145,8 @@ fn reference_set_kind(content: &[u8]) -> Option<FileKind>
     }
 }
 
-// Whether the third element of a file's name is that of a Snapshot file, with or without a
-// language or the mark of an extension.
+// Whether the third element of a file's name is that of a Snapshot file. A language or the mark of an extension may
+// stand in it.
 #[tactic(auto, using(crate::proofs::Texts::holds_tells))]
 fn is_snapshot(subtype: &[u8]) -> bool
     ensures { result ≡ is_snapshot subtype.now }

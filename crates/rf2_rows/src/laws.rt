@@ -3,14 +3,14 @@ ghost use Rattle.number_lists.specs.Distinct.{KeepsEachNumberOnce};
 ghost use Rattle.rf2_rows.specs.Pairs.{KeepsEachPairOnce, TellsSamePair, TellsSameValue};
 ghost use Rattle.rf2_rows.specs.Versions.{IsEquivalenceOfRows};
 
-/// The test whether two pairs of a type and a value are the same says exactly that they are equal.
+/// `value_eq` holds exactly for equal values, and `pair_eq` exactly for equal pairs.
 #[tactic(auto, using(crate::proofs::PairLemmas::tells_same_value, crate::proofs::PairLemmas::tells_same_pair))]
 pub fn same_pairs_are_told()
     ensures value { TellsSameValue }
     ensures pair { TellsSamePair }
 {}
 
-/// Of numbers, and of pairs, the distinct ones are the same members, each once.
+/// `distinct` keeps each member of a list once and adds none, for numbers and for pairs.
 pub fn distinct_keeps_each_once()
     ensures numbers { KeepsEachNumberOnce }
     ensures pairs { KeepsEachPairOnce }

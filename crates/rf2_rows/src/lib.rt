@@ -1,6 +1,5 @@
-//! The files and rows of an RF2 release (SNOMED CT Release File Specification): what kind of file a
-//! name tells of, the header of each kind, the typed row that a line stands for, and whether two lines
-//! stand for one row.
+//! The files and rows of an RF2 release (SNOMED CT Release File Specification): the kind of a file by its name, the
+//! header of each kind, the typed row that a line stands for, and whether two lines stand for one row.
 #![tactic(auto)]
 
 mod concrete;

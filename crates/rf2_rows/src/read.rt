@@ -15,8 +15,8 @@ use crate::shared::{VersionColumns, read_relationship_end, read_version_columns}
 use crate::tabs::{Fields, push_fields};
 use sctid::{Part, SctId};
 
-/// Reads a line, without its end, as a row of a kind. A fault is the first: the number of fields,
-/// then the columns from left to right. The texts of a row are lent from the line. Takes no memory.
+/// Reads a line, without its end, as a row of a kind. Returns the first fault: the number of fields, then the
+/// columns from left to right. The texts of a row are lent from the line. Takes no memory.
 pub fn read_row<'a>(kind: FileKind, line: &'a [u8]) -> Result<Row<'a>, RowFault>
     ensures row { IfOk result (λ row. IsRow kind line.now row) }
     ensures accepted { IfOk result (λ _. row_fault kind line.now ≡ None) }
@@ -25,23 +25,22 @@ pub fn read_row<'a>(kind: FileKind, line: &'a [u8]) -> Result<Row<'a>, RowFault>
     RowReader::new().read_row(kind, line)
 }
 
-/// Reads lines as rows, one after another, as `read_row` does, and faster: in the columns in which
-/// most rows are alike, as that of the module, an identifier is not read again where its text is that
-/// of the row before.
+/// Reads lines as rows, one after another. It returns what `read_row` returns, and is faster: in columns such as
+/// that of the module most rows are alike, and an identifier whose text the column had before is not read again.
 #[derive(Drop)]
 pub struct RowReader {
     recent: RecentConcepts,
 }
 
 impl RowReader {
-    /// A reader that has read no row yet. Takes no memory.
+    /// Makes a reader that has read no row yet. Takes no memory.
     pub fn new() -> RowReader {
         RowReader {
             recent: RecentConcepts::new(),
         }
     }
 
-    /// Reads a line as `read_row` does. Takes no memory.
+    /// Reads a line; returns what the function `read_row` returns. Takes no memory.
     #[tactic(auto, unfolding(crate::specs::Rows::row_fault, crate::specs::Rows::concept_row, crate::specs::Rows::description_row, crate::specs::Rows::relationship_row, crate::specs::Rows::concrete_row, crate::specs::Rows::member_row))]
     pub fn read_row<'a>(&mut self, kind: FileKind, line: &'a [u8]) -> Result<Row<'a>, RowFault>
         ensures row { IfOk result (λ row. IsRow kind line.now row) }
@@ -79,7 +78,7 @@ impl RowReader {
     }
 }
 
-// The row of the Concept file that the fields of a line stand for.
+// Reads the row of the Concept file that the fields of a line stand for.
 fn read_concept(recent: &mut RecentConcepts, fields: &[&[u8]]) -> Result<ConceptRow, RowFault>
     ensures { let texts = texts_of fields.now in
         IsReading (fields_fault FileKind.Concept texts) (concept_of texts) result }
@@ -99,7 +98,7 @@ fn read_concept(recent: &mut RecentConcepts, fields: &[&[u8]]) -> Result<Concept
     })
 }
 
-// The row of the Description file that the fields of a line stand for.
+// Reads the row of the Description file that the fields of a line stand for.
 fn read_description<'a>(
     recent: &mut RecentConcepts,
     fields: &[&'a [u8]],
@@ -115,7 +114,7 @@ fn read_description<'a>(
     read_description_end(recent, id, version, fields)
 }
 
-// The row of the Description file whose first columns are read.
+// Reads the columns of a description after its module, and makes the row. `id` and `version` are the columns before.
 fn read_description_end<'a>(
     recent: &mut RecentConcepts,
     id: SctId,
@@ -144,7 +143,7 @@ fn read_description_end<'a>(
     })
 }
 
-// The row of the Relationship file that the fields of a line stand for.
+// Reads the row of the Relationship file that the fields of a line stand for.
 fn read_relationship(
     recent: &mut RecentConcepts,
     fields: &[&[u8]],
@@ -174,7 +173,7 @@ fn read_relationship(
     })
 }
 
-// The row of a simple reference set file that the fields of a line stand for.
+// Reads the row of a simple reference set file that the fields of a line stand for.
 fn read_member(recent: &mut RecentConcepts, fields: &[&[u8]]) -> Result<MemberRow, RowFault>
     ensures { let texts = texts_of fields.now in
         IsReading (fields_fault FileKind.Member texts) (member_of texts) result }

@@ -1,4 +1,4 @@
-//! Identifiers that stand in one row after another: those of modules, types and modifiers.
+//! The concepts that a column had last. Columns such as module, type and modifier have few concepts, row after row.
 ghost use Rattle.std.specs.Prelude.{◌≡◌, true, None, IfSome, length};
 ghost use Rattle.rf2_rows.specs.Columns.{cause_of, id_format};
 ghost use Rattle.numerals.specs.Numbers.{number_of};
@@ -12,11 +12,11 @@ use sctid::{Part, SctId};
 use std::marker::Model;
 use std::mem::swap;
 
-// The identifiers of SNOMED CT's own metadata have so many digits.
+// How many digits the identifiers of SNOMED CT's own metadata have.
 const METADATA_DIGITS: usize = 18;
 
-/// The two concepts that a column had last: where the next text is that of one of them, it is not read again. Many
-/// columns have two by turns, as that of a description's type.
+/// The two concepts that a column had last. If the next text is that of one of them, the text is not read again.
+/// Many columns alternate between two concepts, for example the type of a description.
 #[derive(Drop)]
 pub struct Recent {
     last: ReadConcept,
@@ -24,6 +24,7 @@ pub struct Recent {
 }
 
 impl Recent {
+    /// Makes a reader of a column that keeps no concept yet.
     pub fn new() -> Recent {
         Recent {
             last: ReadConcept::none(),
@@ -31,7 +32,7 @@ impl Recent {
         }
     }
 
-    /// The identifier of a concept, as `identifier` reads it.
+    /// Reads the identifier of a concept; returns what `identifier` returns.
     pub fn read(&mut self, text: &[u8], column: u8) -> Result<SctId, RowFault>
         ensures { IsReading (column_fault column (cause_of (id_format Concept) text.now)) (number_of text.now) result }
     {
@@ -44,7 +45,7 @@ impl Recent {
         self.read_anew(text, column)
     }
 
-    // Reads an identifier and keeps it with its text, in place of the one that was read before the last.
+    // Reads an identifier and keeps it with its text. It replaces the one that was read before the last.
     fn read_anew(&mut self, text: &[u8], column: u8) -> Result<SctId, RowFault>
         ensures { IsReading (column_fault column (cause_of (id_format Concept) text.now)) (number_of text.now) result }
     {
@@ -80,7 +81,7 @@ impl Model for ReadConcept {
 }
 
 impl ReadConcept {
-    // None.
+    // Makes an empty `ReadConcept`.
     fn none() -> ReadConcept
         ensures { result ≡ None }
     {
@@ -90,7 +91,7 @@ impl ReadConcept {
         }
     }
 
-    // The concept, if this is its text.
+    // Returns the kept concept, if `text` is its text.
     fn concept_of(&self, text: &[u8]) -> Option<SctId>
         ensures { IfSome result (λ concept. (cause_of (id_format Concept) text.now ≡ None) × (concept ≡ number_of text.now)) }
     {
@@ -101,7 +102,8 @@ impl ReadConcept {
     }
 }
 
-// Whether two texts are the same. Two of the length of most are compared as a whole.
+// Returns true only if two texts are the same. Most have `METADATA_DIGITS` bytes; those are compared as arrays,
+// which is faster.
 fn is_same(one: &[u8], other: &[u8]) -> bool
     ensures { result ≡ true → one.now ≡ other.now }
 {
@@ -111,7 +113,7 @@ fn is_same(one: &[u8], other: &[u8]) -> bool
     one == other
 }
 
-// Whether the first bytes of two texts that have no others are the same.
+// Returns true only if two texts of `METADATA_DIGITS` bytes are the same.
 fn is_same_start(one: &[u8], other: &[u8]) -> bool
     requires one { length one.now ≡ 18 }
     requires other { length other.now ≡ 18 }

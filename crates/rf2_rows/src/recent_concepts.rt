@@ -1,7 +1,7 @@
-//! The identifiers that are kept from row to row.
+//! The concepts that are kept from row to row, for each column in which most rows are alike.
 use crate::recent::Recent;
 
-/// The concepts that the columns had last in which most rows are alike.
+/// For each column in which most rows are alike, the concepts that the column had last.
 #[derive(Drop)]
 pub struct RecentConcepts {
     pub module_id: Recent,
@@ -13,6 +13,7 @@ pub struct RecentConcepts {
 }
 
 impl RecentConcepts {
+    /// Makes readers of all such columns, with no concept kept yet.
     pub fn new() -> RecentConcepts {
         RecentConcepts {
             module_id: Recent::new(),

@@ -11,7 +11,7 @@ use uuid::Uuid;
 pub struct ConceptRow {
     /// The concept.
     pub id: SctId,
-    /// The date from which the row counts, as a number YYYYMMDD, or `None` where it is unpublished.
+    /// The date from which the row counts, as a number YYYYMMDD, or `None` if it is unpublished.
     pub effective_time: Option<u32>,
     /// Whether the concept is active.
     pub active: bool,
@@ -27,19 +27,19 @@ pub struct ConceptRow {
 pub struct DescriptionRow<'a> {
     /// The description.
     pub id: SctId,
-    /// The date from which the row counts, as a number YYYYMMDD, or `None` where it is unpublished.
+    /// The date from which the row counts, as a number YYYYMMDD, or `None` if it is unpublished.
     pub effective_time: Option<u32>,
     /// Whether the description is active.
     pub active: bool,
     /// The module that the row belongs to.
     pub module_id: SctId,
-    /// The concept that the description is of.
+    /// The concept that is described.
     pub concept_id: SctId,
     /// The code of the term's language, as `en`.
     pub language_code: &'a str,
     /// Whether the term is a fully specified name, a synonym or a definition.
     pub type_id: SctId,
-    /// The words themselves.
+    /// The text of the description.
     pub term: &'a str,
     /// Which letters of the term may change their case.
     pub case_significance_id: SctId,
@@ -50,15 +50,15 @@ pub struct DescriptionRow<'a> {
 pub struct RelationshipRow {
     /// The relationship.
     pub id: SctId,
-    /// The date from which the row counts, as a number YYYYMMDD, or `None` where it is unpublished.
+    /// The date from which the row counts, as a number YYYYMMDD, or `None` if it is unpublished.
     pub effective_time: Option<u32>,
     /// Whether the relationship is active.
     pub active: bool,
     /// The module that the row belongs to.
     pub module_id: SctId,
-    /// The concept that the row says something of.
+    /// The concept that has the attribute, or the child of an is-a row.
     pub source_id: SctId,
-    /// The concept that is the value.
+    /// The concept that is the value, or the parent of an is-a row.
     pub destination_id: SctId,
     /// The group of the relationship, 0 for none: at most 999,999,999.
     pub relationship_group: u32,
@@ -76,13 +76,13 @@ pub struct RelationshipRow {
 pub struct ConcreteRow<'a> {
     /// The relationship.
     pub id: SctId,
-    /// The date from which the row counts, as a number YYYYMMDD, or `None` where it is unpublished.
+    /// The date from which the row counts, as a number YYYYMMDD, or `None` if it is unpublished.
     pub effective_time: Option<u32>,
     /// Whether the relationship is active.
     pub active: bool,
     /// The module that the row belongs to.
     pub module_id: SctId,
-    /// The concept that the row says something of.
+    /// The concept that has the attribute.
     pub source_id: SctId,
     /// The value: a number or another text, and never a concept.
     pub value: Value<'a>,
@@ -101,7 +101,7 @@ pub struct ConcreteRow<'a> {
 pub struct MemberRow {
     /// The member.
     pub id: Uuid,
-    /// The date from which the row counts, as a number YYYYMMDD, or `None` where it is unpublished.
+    /// The date from which the row counts, as a number YYYYMMDD, or `None` if it is unpublished.
     pub effective_time: Option<u32>,
     /// Whether the member is active.
     pub active: bool,
@@ -129,7 +129,7 @@ pub enum Row<'a> {
 }
 
 impl Row<'_> {
-    /// The effective time of the row, `None` where it is unpublished.
+    /// Returns the effective time of the row, `None` if it is unpublished.
     pub fn effective_time(&self) -> Option<u32>
         ensures { result ≡ time_in self.now }
     {

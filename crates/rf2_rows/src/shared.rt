@@ -10,7 +10,7 @@ use crate::recent::Recent;
 use crate::recent_concepts::RecentConcepts;
 use sctid::{Part, SctId};
 
-/// The columns behind the identifier, which rows of every kind have.
+/// The second to the fourth column, which rows of every kind have.
 #[derive(Clone, Copy)]
 pub struct VersionColumns {
     pub effective_time: Option<u32>,
@@ -18,7 +18,7 @@ pub struct VersionColumns {
     pub module_id: SctId,
 }
 
-/// Reads the columns behind the identifier, which are the second to the fourth.
+/// Reads the second to the fourth column.
 pub fn read_version_columns(
     recent: &mut Recent,
     fields: &[&[u8]],
@@ -36,7 +36,7 @@ pub fn read_version_columns(
     })
 }
 
-/// The columns behind the destination or the value, which the rows of both relationship files have.
+/// The seventh to the tenth column, which the rows of both relationship files have.
 #[derive(Clone, Copy)]
 pub struct RelationshipEnd {
     pub relationship_group: u32,
@@ -45,7 +45,7 @@ pub struct RelationshipEnd {
     pub modifier_id: SctId,
 }
 
-/// Reads the columns behind the destination or the value, which are the seventh to the tenth.
+/// Reads the seventh to the tenth column of a row of a relationship file.
 pub fn read_relationship_end(
     recent: &mut RecentConcepts,
     fields: &[&[u8]],

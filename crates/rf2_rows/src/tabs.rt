@@ -7,10 +7,10 @@ ghost use Rattle.rf2_rows.specs.inside.Tabs.{NoTab, parts_from, tab_bits, tabs_i
 use arrayvec::ArrayVec;
 use std::simd::prelude::*;
 
-/// The fields of a line, as many as the widest kind has columns at the most.
+/// The fields of a line. The widest kind of file has 10 columns.
 pub type Fields<'a> = ArrayVec<&'a [u8], 10>;
 
-/// The fields of a line between its tabs, or `None` where there are more than 10. Takes no memory.
+/// Cuts a line at its tabs into fields. Returns `None` if there are more than 10. Takes no memory.
 pub fn cut_fields(line: &[u8]) -> Option<Fields<'_>>
     ensures more { IsNone result → 10 < length (fields_of line.now) }
     ensures fields { IfSome result (λ fields. texts_of fields.items ≡ fields_of line.now) }
@@ -20,8 +20,8 @@ pub fn cut_fields(line: &[u8]) -> Option<Fields<'_>>
     Some(fields)
 }
 
-/// Puts the fields of a line between its tabs where none were, or tells `None` where there are more than 10: who
-/// has a place for them spares the copy that `cut_fields` hands out. Takes no memory.
+/// Cuts a line at its tabs and puts the fields into the empty list `fields`. Returns `None` if there are more than
+/// 10. A caller that has a place for the fields saves the copy that `cut_fields` makes. Takes no memory.
 #[tactic(auto, using(crate::proofs::TabBits::last_field))]
 pub fn push_fields<'a>(fields: &mut Fields<'a>, line: &'a [u8]) -> Option<()>
     requires empty { fields.old.items ≡ [] }
@@ -41,8 +41,8 @@ pub fn push_fields<'a>(fields: &mut Fields<'a>, line: &'a [u8]) -> Option<()>
     }
 }
 
-// Adds the fields that end at the tabs among 64 bytes of a line, which are marked, one bit to a byte.
-// Tells where the field behind them starts, or `None` where there is no room.
+// Adds the fields that end at the tabs among 64 bytes of a line. `marks` has a bit for each of these bytes, set for
+// a tab. Returns the start of the next field, or `None` if `fields` is full.
 #[inline]
 #[tactic(auto, using(crate::proofs::TabBits::fields_cut))]
 fn push_ended<'a>(
@@ -77,7 +77,7 @@ fn push_ended<'a>(
     Some(start)
 }
 
-// The tabs among the next 64 bytes of a line, or as many as there are, one bit to a byte.
+// Returns the tabs among the next 64 bytes of a line as bits. Bytes after the end of the line have no tab.
 #[inline]
 #[tactic(auto, using(crate::proofs::TabBits::shifts))]
 fn tabs_from(line: &[u8], from: usize) -> u64
@@ -88,14 +88,14 @@ fn tabs_from(line: &[u8], from: usize) -> u64
     if length - from >= 64 {
         tabs(u8x64::from_slice(&line[from..]))
     } else if length >= 64 {
-        // the last 64 bytes, without those that were looked at before
+        // the last 64 bytes of the line; the shift drops the tabs before `from`
         tabs(u8x64::from_slice(&line[length - 64..])) >> (from + 64 - length)
     } else {
         tabs_of_short(line) >> from
     }
 }
 
-// The tabs of a line that is shorter than a block.
+// Returns the tabs of a line that is shorter than 64 bytes.
 #[tactic(auto, using(crate::proofs::TabBits::padded_block))]
 fn tabs_of_short(line: &[u8]) -> u64
     requires { length line.now < 64 }
@@ -106,7 +106,7 @@ fn tabs_of_short(line: &[u8]) -> u64
     tabs(u8x64::from_array(block))
 }
 
-// The tabs among 64 bytes.
+// Returns the tabs among 64 bytes as bits, one to a byte.
 #[inline]
 fn tabs(block: u8x64) -> u64
     ensures { result ≡ tab_bits block }

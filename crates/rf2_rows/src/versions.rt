@@ -1,4 +1,4 @@
-//! Whether two lines are one row, whatever the texts of their columns look like.
+//! Whether two lines are one row, even if the texts of their columns differ.
 ghost use Rattle.std.specs.Prelude.{◌≡◌, ◌==◌, true, map, None, bytes_eq};
 ghost use Rattle.rf2_rows.specs.Columns.{cause_of, columns_of, time_format, uuid_format, value_format};
 ghost use Rattle.rf2_rows.specs.inside.Formats.{format_of};
@@ -16,7 +16,7 @@ use numerals::{decimal, digits};
 use sctid::Part;
 use uuid::Uuid;
 
-// What the texts of a column are.
+// The format of a column: what its texts may be.
 #[derive(Clone, Copy)]
 enum Format {
     // The identifier of a component of the part.
@@ -25,7 +25,7 @@ enum Format {
     Component,
     // A UUID.
     Uuid,
-    // A date, or nothing where the row is not published yet.
+    // A date, or an empty text if the row is not published yet.
     Time,
     // 0 or 1.
     Active,
@@ -33,11 +33,11 @@ enum Format {
     Group,
     // A text in UTF-8.
     Text,
-    // A number behind `#`, or another text.
+    // A number after `#`, or another text.
     Value,
 }
 
-// The columns of the Concept file.
+// The formats of the columns of the Concept file.
 static CONCEPT: [Format; 5] = [
     Format::Id(Part::Concept),
     Format::Time,
@@ -46,7 +46,7 @@ static CONCEPT: [Format; 5] = [
     Format::Id(Part::Concept),
 ];
 
-// The columns of the Description file.
+// The formats of the columns of the Description file.
 static DESCRIPTION: [Format; 9] = [
     Format::Id(Part::Description),
     Format::Time,
@@ -59,7 +59,7 @@ static DESCRIPTION: [Format; 9] = [
     Format::Id(Part::Concept),
 ];
 
-// The columns of the Relationship file.
+// The formats of the columns of the Relationship file.
 static RELATIONSHIP: [Format; 10] = [
     Format::Id(Part::Relationship),
     Format::Time,
@@ -73,7 +73,7 @@ static RELATIONSHIP: [Format; 10] = [
     Format::Id(Part::Concept),
 ];
 
-// The columns of the Relationship concrete values file.
+// The formats of the columns of the Relationship concrete values file.
 static CONCRETE: [Format; 10] = [
     Format::Id(Part::Relationship),
     Format::Time,
@@ -87,7 +87,7 @@ static CONCRETE: [Format; 10] = [
     Format::Id(Part::Concept),
 ];
 
-// The columns of a simple reference set file.
+// The formats of the columns of a simple reference set file.
 static MEMBER: [Format; 6] = [
     Format::Uuid,
     Format::Time,
@@ -97,9 +97,9 @@ static MEMBER: [Format; 6] = [
     Format::Component,
 ];
 
-/// Whether two lines, each a row of the kind, are one row: each column has one value. Texts compare by
-/// their bytes, identifiers, groups and times by their numbers, UUIDs by their 16 bytes, and concrete
-/// values by the numbers that they write or else by their bytes. Takes no memory.
+/// Whether two lines, each a row of the kind, are one row: each column has one value. Texts compare by their bytes,
+/// identifiers, groups and times by their numbers, and UUIDs by their 16 bytes. Concrete values compare by the
+/// numbers that they write, or if they are texts, by their bytes. Takes no memory.
 #[tactic(auto, unfolding(crate::specs::Rows::row_fault), using(crate::proofs::VersionLemmas::accepted_lines))]
 pub fn same_row(kind: FileKind, one: &[u8], other: &[u8]) -> bool
     requires one { row_fault kind one.now ≡ None }
@@ -109,7 +109,7 @@ pub fn same_row(kind: FileKind, one: &[u8], other: &[u8]) -> bool
     if one == other {
         return true;
     }
-    // a row has 10 fields at the most
+    // a row has at most 10 fields, so both lines can be cut
     let Some(ones) = cut_fields(one) else {
         return false;
     };
@@ -133,7 +133,7 @@ fn same_fields(kind: FileKind, ones: &[&[u8]], others: &[&[u8]]) -> bool
     true
 }
 
-// What the texts of each column of a kind are, from left to right.
+// Returns the formats of the columns of a kind of file, from left to right.
 fn formats(kind: FileKind) -> &'static [Format]
     ensures { map format_of result.now ≡ map (λ column. column.format) (columns_of kind) }
 {
@@ -179,14 +179,14 @@ fn same_uuid(one: &[u8], other: &[u8]) -> bool
     requires other { cause_of uuid_format other.now ≡ None }
     ensures { result ≡ bytes_eq (uuid_of one.now) (uuid_of other.now) }
 {
-    // both are accepted, so no fault names a column
+    // both texts are accepted, so no fault arises, and the column number 0 is never used
     match (hyphenated(one, 0), hyphenated(other, 0)) {
         (Ok(one), Ok(other)) => one == other,
         _ => false,
     }
 }
 
-// Whether two effective times are one, or both are none.
+// Whether two effective times are equal, or both are none.
 #[tactic(auto, unfolding(crate::specs::Columns::cause_of))]
 fn same_time(one: &[u8], other: &[u8]) -> bool
     requires one { cause_of time_format one.now ≡ None }
@@ -203,7 +203,7 @@ fn is_active(text: &[u8]) -> bool
     text == b"1".as_slice()
 }
 
-// Whether two concrete values are one.
+// Whether two concrete values are equal.
 #[tactic(auto, unfolding(crate::specs::Columns::cause_of))]
 fn same_concrete(one: &[u8], other: &[u8]) -> bool
     requires one { cause_of value_format one.now ≡ None }

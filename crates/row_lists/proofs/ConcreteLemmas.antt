@@ -1,4 +1,4 @@
--- Values that are no concepts stay the same while the buffer of their texts grows.
+-- Values that are not concepts stay the same if the buffer of their texts grows.
 use Rattle.std.proofs.Common.{ℕ, ◌≡◌, List, ap, refl}
 use Rattle.row_lists.specs.inside.ConcreteInside.{IsPlaced, concrete_in}
 use Rattle.row_lists.specs.ConcreteValues.{a_text}
@@ -8,10 +8,12 @@ use Rattle.row_lists.specs.declared.concrete_values.KeptConcrete.TheVariants.{De
 use Rattle.row_lists.proofs.SpanLemmas.{span-extends, text-extends}
 
 module _ (texts grown : List ℕ) (extends : Extends texts grown) where
+  -- a text that stands within the buffer stays within if the buffer grows
   pub placed-extends : (value : KeptConcrete) → IsPlaced texts value → IsPlaced grown value
   placed-extends (Decimal decimal) placed = tt
   placed-extends (Other span) placed = span-extends texts grown extends span placed
 
+  -- a kept value stands for one value before and after the buffer grows
   pub concrete-extends : (value : KeptConcrete) → IsPlaced texts value → concrete_in grown value ≡ concrete_in texts value
   concrete-extends (Decimal decimal) placed = refl
   concrete-extends (Other span) placed = ap a_text (text-extends texts grown extends span placed)

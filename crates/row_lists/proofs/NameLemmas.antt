@@ -1,4 +1,4 @@
--- Name rows keep their texts while the buffer grows.
+-- Name rows keep their texts if the buffer grows.
 use Rattle.std.proofs.Common.{rules, arith, ℕ, ◌≡◌, ◌<◌, length, get_or, List, [], ◌∷◌, map, refl, IsUtf8, Bool, filter}
 use Rattle.std.proofs.lemmas.Bool.Decides.{nat_tests}
 use Rattle.std.proofs.lemmas.Grind.{common_steps}
@@ -12,29 +12,34 @@ use Rattle.row_lists.proofs.ChosenItemLemmas.{map-marked}
 use Rattle.row_lists.proofs.SpanLemmas.{text-extends, text_span-extends}
 
 module _ (texts grown : List ℕ) (extends : Extends texts grown) where
+  -- a row stands for one name before and after the buffer grows
   pub name-extends : (row : NameRow) → IsPlaced texts row → name_in grown row ≡ name_in texts row
   name-extends row placed = grind (arith, common_steps, nat_tests, text-extends)
 
+  -- texts that stand in the buffer still stand there after it grows
   pub placed-extends : IsUtf8 texts → IsUtf8 grown → (row : NameRow) → IsPlaced texts row → IsPlaced grown row
   placed-extends whole all row placed = search (rules, text_span-extends)
 
--- what a test of what rows stand for leaves of them
+-- filtering rows by what they stand for, and then applying `f`, is applying `f` and then filtering
 pub map-filter : {X Y : Type 0} (f : X → Y) (test : Y → Bool) (xs : List X) → map f (filter (λ x. test (f x)) xs) ≡ filter test (map f xs)
 map-filter f test [] = refl
 map-filter f test (x ∷ xs) = grind (arith, common_steps, nat_tests, cases_Bool, (map-filter f test xs))
 
--- the row at a place stands for the name there, as `grind` finds it
+-- the row that reading past the end of a list yields
 abbrev no_row : NameRow
 no_row = record { id = 0; concept = 0; language = no_span; term = no_span }
 
+-- the row at index `place` stands for the name at that index
 pub name_at_place : (texts : List ℕ) (rows : List NameRow) (place : ℕ) (default : Name) → place < length rows
     → get_or (map (name_in texts) rows) place default ≡ name_in texts (get_or rows place no_row)
 name_at_place texts rows place default within = get_or-map (name_in texts) rows place no_row default within
 
+-- a row that is read at an index within the list does not depend on the default of reading
 pub row_at_place : (rows : List NameRow) (place : ℕ) (row : NameRow) → place < length rows → row ≡ get_or rows place row → row ≡ get_or rows place no_row
 row_at_place rows place row within is = get_or_read rows place row within is no_row
 
--- what `grind` takes where a row is read, and where rows are chosen
+-- the rules with which `grind` reads a row
 pub ruleset rows_read = (name_at_place, row_at_place, length-map)
 
+-- the rules with which `grind` chooses rows
 pub ruleset rows_chosen = (map-marked)

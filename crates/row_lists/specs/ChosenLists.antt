@@ -1,4 +1,4 @@
--- The lists of a release with a row more, and those of the chosen rows.
+-- The lists of a release after one more row, and the lists of the chosen rows.
 use Rattle.std.specs.Prelude.{Bool, true, false, List, [], ◌∷◌, ◌++◌, map, option_to_list}
 use Rattle.rf2_rows.specs.RowTexts.{RowText}
 use Rattle.row_lists.specs.Marked.{marked}
@@ -6,7 +6,7 @@ use Rattle.row_lists.specs.ReleaseLists.{ReleaseLists, attribute_listed, concept
 use Rattle.row_lists.specs.declared.row_lists.Listing.{Listing}
 use Rattle.row_lists.specs.declared.row_lists.Listing.TheVariants as listing
 
--- the lists with a row more
+-- the lists after one more row
 abbrev pub listed_behind : ReleaseLists → RowText → ReleaseLists
 listed_behind listed row = record {
   marks = listed.marks ++ listing_of row ∷ [];
@@ -18,11 +18,11 @@ listed_behind listed row = record {
   member_ends = listed.member_ends ++ option_to_list (member_listed row);
 }
 
--- but for its mark
+-- the lists after one more row, but with the marks as they were
 abbrev pub filled : ReleaseLists → RowText → ReleaseLists
 filled listed row = record (listed_behind listed row) { marks = listed.marks }
 
--- two lists are one
+-- `one` and `other` are one list
 abbrev pub same_listing : Listing → Listing → Bool
 same_listing listing.Nowhere listing.Nowhere = true
 same_listing listing.Concept listing.Concept = true
@@ -33,16 +33,16 @@ same_listing listing.Member listing.Member = true
 same_listing listing.Inactive listing.Inactive = true
 same_listing one other = false
 
--- of the items of a list those whose rows are chosen, where it is told of each row whether it is in the list and
+-- the items of a list whose rows are chosen; `heres` says for each row whether it is in the list, and `choices`
 -- whether it is chosen
 abbrev pub items_chosen : {X : Type 0} → List Bool → List Bool → List X → List X
 items_chosen heres choices items = marked (marked heres choices) items
 
--- the rows that are in a list
+-- for each row, whether it is in `list`
 abbrev pub in_list : Listing → List Listing → List Bool
 in_list list marks = map (λ mark. same_listing mark list) marks
 
--- the lists of the chosen rows
+-- the lists of the chosen rows; the marks stay as they were
 abbrev pub listed_chosen : ReleaseLists → List Bool → ReleaseLists
 listed_chosen listed choices = record listed {
   active_concepts = items_chosen (in_list listing.Concept listed.marks) choices listed.active_concepts;

@@ -1,8 +1,9 @@
--- The numbers of the faults of a load, in the order in which the faults are looked for.
+-- The numbers of the faults of a load, in the order in which a load looks for the faults.
 use Rattle.std.specs.Prelude.{ℕ}
 use Rattle.row_lists.specs.declared.fault.LoadFault.{LoadFault}
 use Rattle.row_lists.specs.declared.fault.LoadFault.TheVariants.{NoConceptFile, Header, Row, Conflict, TooMany, Cycle, Device, Memory}
 
+-- the number of a fault of a load
 abbrev pub fault_number : LoadFault → ℕ
 fault_number NoConceptFile = 1
 fault_number (Header file) = 2

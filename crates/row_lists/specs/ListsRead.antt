@@ -1,9 +1,9 @@
--- What the lists of rows that were read say.
+-- How contracts see the lists of rows that were read.
 use Rattle.std.specs.Prelude.{◌≤◌, ℕ, [], length}
 use Rattle.row_lists.specs.ReleaseLists.{ReleaseLists}
 use Rattle.row_lists.specs.declared.row_lists.RowLists.{RowLists}
 
--- with the marks of the rows
+-- the lists that `lists` holds, with the marks of the rows
 abbrev pub listed_in : RowLists → ReleaseLists
 listed_in lists = record {
   marks = lists.marks.items;
@@ -15,7 +15,7 @@ listed_in lists = record {
   member_ends = lists.member_ends.items;
 }
 
--- what the lists that are read say, without the marks of the rows
+-- the lists that `lists` holds, without the marks of the rows
 abbrev pub read_in : RowLists → ReleaseLists
 read_in lists = record {
   marks = [];
@@ -27,16 +27,23 @@ read_in lists = record {
   member_ends = lists.member_ends.items;
 }
 
--- what is listed, without these marks
+-- the lists `listed` without the marks of the rows
 abbrev pub unmarked : ReleaseLists → ReleaseLists
 unmarked listed = record listed { marks = [] }
 
 -- there are few enough rows to number, and no list has more items than there are rows
 pub record AreFew (count : ℕ) (listed : ReleaseLists) : Type 0 where
+  -- there are at most 68,000,000 rows
   pub few : count ≤ 68000000
+  -- there are no more active concepts than rows
   pub few_concepts : length listed.active_concepts ≤ count
+  -- there are no more inactive concepts than rows
   pub few_inactive : length listed.inactive_concepts ≤ count
+  -- there are no more names than rows
   pub few_names : length listed.names ≤ count
+  -- there are no more is-a rows than rows
   pub few_isa : length listed.isa_ends ≤ count
+  -- there are no more attributes than rows
   pub few_attributes : length listed.attributes ≤ count
+  -- there are no more members than rows
   pub few_members : length listed.member_ends ≤ count

@@ -1,4 +1,4 @@
--- What a load lists of the rows that it has read, as far as the rows themselves tell.
+-- The lists that a load makes of the rows that it has read, by what each row itself says.
 use Rattle.std.specs.Prelude.{ℕ, ◌==◌, ◌&&◌, Bool, not, if◌then◌else◌, List, map, Option, None, Some, option_and_then}
 use Rattle.std.specs.List.{filter_map}
 use Rattle.rf2_rows.specs.Release.{Attribute, Name}
@@ -12,26 +12,32 @@ use Rattle.row_lists.specs.Metadata.{is_a, inferred_relationship}
 use Rattle.row_lists.specs.declared.row_lists.Listing.{Listing}
 use Rattle.row_lists.specs.declared.row_lists.Listing.TheVariants as listing
 
--- for each row the list that it is in; the active concepts; the inactive concepts; the name rows; child and parent of
--- the active, inferred is-a rows; the other active, inferred rows of both kinds of relationship; and reference set and
--- component of the active member rows, all in the order of the rows
+-- the lists that a load makes of rows, each in the order of the rows
 pub record ReleaseLists : Type 0 where
+  -- for each row, the list that it is in
   pub marks : List Listing
+  -- the identifiers of the active concepts
   pub active_concepts : List ℕ
+  -- the identifiers of the inactive concepts
   pub inactive_concepts : List ℕ
+  -- the active fully specified names
   pub names : List Name
+  -- child and parent of the active, inferred is-a rows
   pub isa_ends : List (ℕ × ℕ)
+  -- the other active, inferred rows, of relationships and of concrete values
   pub attributes : List Attribute
+  -- reference set and component of the active member rows
   pub member_ends : List (ℕ × ℕ)
 
--- the row itself says that it belongs to the hierarchy
+-- the relationship row says of itself that it belongs to the hierarchy: it is active, inferred and of type |Is a|
 abbrev pub is_isa : RelationshipRow → Bool
 is_isa row = row.active && (row.characteristic_type_id == inferred_relationship) && (row.type_id == is_a)
 
--- the row itself says that it is an attribute
+-- the relationship row says of itself that it is an attribute: it is active, inferred and not of type |Is a|
 abbrev pub is_attribute : RelationshipRow → Bool
 is_attribute row = row.active && (row.characteristic_type_id == inferred_relationship) && not (row.type_id == is_a)
 
+-- the row of a concrete value says of itself that it is an attribute: it is active, inferred and not of type |Is a|
 abbrev pub is_concrete_attribute : ConcreteText → Bool
 is_concrete_attribute row = row.active && (row.characteristic_type_id == inferred_relationship) && not (row.type_id == is_a)
 
@@ -43,31 +49,36 @@ listing_of (of_relationship row) = if is_isa row then listing.IsA else if is_att
 listing_of (of_concrete row) = if is_concrete_attribute row then listing.Attribute else listing.Nowhere
 listing_of (of_member row) = if row.active then listing.Member else listing.Nowhere
 
--- what each list has of a row
+-- the identifier of the row's concept, if the row is an active concept row
 abbrev pub concept_listed : RowText → Option ℕ
 concept_listed row = option_and_then (λ (row : ConceptRow). if row.active then Some row.id else None) (concept_in row)
 
+-- the identifier of the row's concept, if the row is an inactive concept row
 abbrev pub inactive_listed : RowText → Option ℕ
 inactive_listed row =
     option_and_then (λ (row : ConceptRow). if not row.active then Some row.id else None) (concept_in row)
 
+-- the name row that the row stands for, if it is an active fully specified name
 abbrev pub name_listed : RowText → Option Name
 name_listed row = option_and_then (λ (row : DescriptionText). if is_name row then Some (name_on row) else None) (description_in row)
 
+-- child and parent of the row, if it is an active, inferred is-a row
 abbrev pub isa_listed : RowText → Option (ℕ × ℕ)
 isa_listed row =
     option_and_then (λ (row : RelationshipRow). if is_isa row then Some (row.source_id, row.destination_id) else None) (relationship_in row)
 
+-- the attribute of the row, if the row says of itself that it is one
 abbrev pub attribute_listed : RowText → Option Attribute
 attribute_listed (of_relationship row) = if is_attribute row then Some (relationship_attribute row) else None
 attribute_listed (of_concrete row) = if is_concrete_attribute row then Some (concrete_attribute row) else None
 attribute_listed other = None
 
+-- reference set and component of the row, if it is an active member row
 abbrev pub member_listed : RowText → Option (ℕ × ℕ)
 member_listed row =
     option_and_then (λ (row : MemberRow). if row.active then Some (row.refset_id, row.referenced_component_id) else None) (member_in row)
 
--- the lists of rows
+-- the lists that a load makes of `rows`
 abbrev pub listed_of : List RowText → ReleaseLists
 listed_of rows = record {
   marks = map listing_of rows;

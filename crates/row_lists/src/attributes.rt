@@ -15,14 +15,14 @@ use sctid::SctId;
 use std::alloc::{AllocError, Global};
 use std::marker::Model;
 
-/// The value of an attribute: a concept, or where it stands among the values that are none.
+/// The value of an attribute: a concept, or the index of a value that is not a concept.
 #[derive(Clone, Copy)]
 enum KeptValue {
     Concept(SctId),
     Concrete(usize),
 }
 
-/// An attribute row: its source, type, group and value.
+/// An attribute row as the program keeps it: source, type, group and value.
 #[derive(Clone, Copy)]
 struct KeptRow {
     source: SctId,
@@ -31,7 +31,7 @@ struct KeptRow {
     value: KeptValue,
 }
 
-/// An attribute row as it was read, whose text is lent.
+/// An attribute row as it was read; it borrows its text.
 #[derive(Clone, Copy)]
 pub struct ReadRow<'a> {
     pub source: SctId,
@@ -44,7 +44,7 @@ pub struct ReadRow<'a> {
 #[derive(Drop)]
 pub struct Attributes {
     rows: Vec<KeptRow>,
-    // the values that are no concepts
+    // the values that are not concepts
     concrete: ConcreteValues,
 }
 
@@ -71,14 +71,14 @@ impl Attributes {
         }
     }
 
-    /// How many rows there are.
+    /// The number of rows.
     pub fn len(&self) -> usize
         ensures { result ≡ length self.now }
     {
         self.rows.len()
     }
 
-    /// The row at a place.
+    /// The row at index `place`.
     pub fn row(&self, place: usize) -> ReadRow<'_>
         requires { place < length self.now }
         ensures { (default : Attribute) → attribute_read result ≡ slice_index_or self.now place default }
@@ -112,8 +112,8 @@ impl Attributes {
         Ok(())
     }
 
-    /// Leaves the rows that are made of chosen rows of the release, where for each of these it is told
-    /// which list it is in and whether it is chosen.
+    /// Keeps the rows that were made of chosen rows of the release. For each row of the release, `marks` says
+    /// which list it is in, and `choices` whether it is chosen.
     pub(crate) fn choose(
         &mut self,
         alloc: Global,
@@ -133,7 +133,7 @@ impl Attributes {
     }
 }
 
-// Keeps a value, behind the others if it is no concept.
+// Keeps a value. Adds it at the end of `concrete` if it is not a concept.
 fn keep_value(concrete: &mut ConcreteValues, value: &Value<'_>) -> Result<KeptValue, AllocError>
     ensures grown { Extends concrete.old concrete.new }
     ensures value { IfOk result (λ kept. value_in concrete.new kept ≡ value_lent value.now) }
@@ -152,7 +152,7 @@ fn keep_value(concrete: &mut ConcreteValues, value: &Value<'_>) -> Result<KeptVa
     }
 }
 
-// A value that is kept, with its text lent.
+// Lends a kept value with its text.
 fn lend_value(concrete: &ConcreteValues, value: KeptValue) -> Value<'_>
     requires { IsWithinValues concrete.now value }
     ensures { value_lent result ≡ value_in concrete.now value }
@@ -163,7 +163,7 @@ fn lend_value(concrete: &ConcreteValues, value: KeptValue) -> Value<'_>
     }
 }
 
-// A value that is no concept as the value of an attribute.
+// The value of an attribute for a value that is not a concept.
 fn as_value(value: LentConcrete<'_>) -> Value<'_>
     ensures { value_lent result ≡ concrete_value (concrete_lent value.entry) }
 {

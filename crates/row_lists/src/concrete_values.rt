@@ -1,4 +1,4 @@
-//! The values of attributes that are no concepts, with their texts in one buffer.
+//! The values of attributes that are not concepts, with their texts in one buffer.
 ghost use Rattle.std.specs.Prelude.{◌≡◌, ◌≤◌, ◌<◌, ◌+◌, [], IfOk, length, slice_index_or};
 ghost use Rattle.row_lists.specs.ConcreteValues.{a_number, a_text, concrete_lent, no_text};
 ghost use Rattle.row_lists.specs.inside.ConcreteInside.{IsPlaced, concrete_in};
@@ -9,26 +9,26 @@ use rf2_rows::Decimal;
 use std::alloc::{AllocError, Global};
 use std::marker::Model;
 
-/// A value that is no concept. The text of one that is no number stands in the buffer.
+/// A value that is not a concept. If it is not a number, its text stands in the buffer.
 #[derive(Clone, Copy)]
 enum KeptConcrete {
     Decimal(Decimal),
     Other(Span),
 }
 
-/// A value that is no concept, with its text lent.
+/// A value that is not a concept; it borrows its text.
 #[derive(Clone, Copy)]
 pub enum LentConcrete<'a> {
     Decimal(Decimal),
     Other(&'a [u8]),
 }
 
-/// Values that are no concepts, one after another: few rows have one, and the others take no room for it. Contracts see
-/// the list of them.
+/// A list of values that are not concepts. Few rows have such a value, and the other rows take no room for it.
+/// Contracts see the list.
 #[derive(Drop)]
 pub struct ConcreteValues {
     values: Vec<KeptConcrete>,
-    // the texts of values, one behind the other
+    // the texts of values, one after another
     texts: Vec<u8>,
 }
 
@@ -55,7 +55,7 @@ impl ConcreteValues {
         }
     }
 
-    /// Adds a number, and answers its place.
+    /// Adds a number. Returns its index.
     pub fn push_decimal(&mut self, decimal: Decimal) -> Result<usize, AllocError>
         ensures grown { Extends self.old self.new }
         ensures count { length self.new ≤ length self.old + 1 }
@@ -67,7 +67,7 @@ impl ConcreteValues {
         Ok(place)
     }
 
-    /// Adds another text, and answers its place.
+    /// Adds a text that is not a number. Returns its index.
     pub fn push_text(&mut self, text: &[u8]) -> Result<usize, AllocError>
         ensures grown { Extends self.old self.new }
         ensures count { length self.new ≤ length self.old + 1 }
@@ -80,7 +80,7 @@ impl ConcreteValues {
         Ok(place)
     }
 
-    /// The value at a place, with its text lent.
+    /// Lends the value at index `place` with its text.
     pub fn value(&self, place: usize) -> LentConcrete<'_>
         requires { place < length self.now }
         ensures { concrete_lent result ≡ slice_index_or self.now place no_text }
@@ -89,7 +89,7 @@ impl ConcreteValues {
     }
 }
 
-// A value that is kept, with its text lent.
+// Lends a kept value with its text.
 fn lend_concrete(texts: &[u8], value: KeptConcrete) -> LentConcrete<'_>
     requires { IsPlaced texts.now value }
     ensures { concrete_lent result ≡ concrete_in texts.now value }

@@ -1,14 +1,14 @@
-//! Why a list of files is no release.
+//! The faults for which a list of files is not a release.
 use rf2_rows::RowFault;
 use sctid::SctId;
 use std::alloc::{AllocError, AllocFailed};
 use thiserror::Error;
 
-/// The first fault of a list of files, or the want of memory. A `file` is a place in the list that
-/// was handed in, from 0, and a `line` the number of a line in it, from 1.
+/// The first fault of a list of files, or want of memory. A `file` is an index in the list that the caller
+/// gave, from 0, and a `line` is the number of a line in that file, from 1.
 #[derive(Clone, Copy, Debug, PartialEq, Eq, Error)]
 pub enum LoadFault {
-    /// No file of the list has the name of a Concept file. This is looked for first.
+    /// No file of the list has the name of a Concept file. A load looks for this fault first.
     #[error("there is no Snapshot file of concepts")]
     NoConceptFile,
     /// The first line is not the header of the file's kind, or there is no line.
@@ -17,14 +17,14 @@ pub enum LoadFault {
         /// The file.
         file: usize,
     },
-    /// A line is no row of its kind.
+    /// A line is not a row of its kind.
     #[error("file {file}, line {line}: {fault}")]
     Row {
         /// The file.
         file: usize,
         /// The line.
         line: u64,
-        /// What is wrong with it.
+        /// The fault of the row.
         fault: RowFault,
     },
     /// An earlier row of the same kind, active or not, has the same identifier and the same effective
@@ -36,7 +36,7 @@ pub enum LoadFault {
         /// The line of the later row.
         line: u64,
     },
-    /// The line goes past the limit on bytes of a file, or its row past the limit on rows of its kind.
+    /// The line ends past the limit of bytes of a file, or its row is past the limit of rows of its kind.
     #[error("file {file}, line {line}: more than the limits allow")]
     TooMany {
         /// The file.
@@ -44,13 +44,13 @@ pub enum LoadFault {
         /// The first line past the limit.
         line: u64,
     },
-    /// This concept, the least such, reaches itself by is-a rows. This is looked for last.
+    /// This concept reaches itself by is-a rows, and is the least that does. A load looks for this fault last.
     #[error("concept {} is its own descendant", .0.number())]
     Cycle(SctId),
-    /// The device failed: at the file, or where the files were listed.
+    /// The device failed at the file, or, if there is none, when it was to list the files.
     #[error("a file could not be read")]
     Device {
-        /// The file.
+        /// The file, or `None` if the files could not be listed.
         file: Option<usize>,
     },
     /// A growth of memory was refused.
@@ -62,7 +62,7 @@ impl LoadFault {
     ghost use Rattle.std.specs.Prelude.{◌≡◌};
     ghost use Rattle.row_lists.specs.FaultNumbers.{fault_number};
 
-    /// The number of the fault, from 1.
+    /// The number of the fault, from 1 to 8.
     pub fn number(self) -> u8
         ensures { result ≡ fault_number self }
     {

@@ -1,4 +1,5 @@
-//! What is read of a release: the lists of its rows, as far as the rows themselves tell; or why a list of files is none.
+//! The lists that a load makes of the rows of a release, by what each row itself says; or the fault for which a
+//! list of files is not a release.
 #![tactic(auto)]
 
 mod attributes;

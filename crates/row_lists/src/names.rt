@@ -11,7 +11,8 @@ use sctid::SctId;
 use std::alloc::{AllocError, Global};
 use std::marker::Model;
 
-/// A name row: the description, the concept that it names, and where its texts stand in the buffer.
+/// A name row as the program keeps it: the description, the concept that it names, and the places of its texts
+/// in the buffer.
 #[derive(Clone, Copy)]
 struct NameRow {
     id: SctId,
@@ -20,7 +21,7 @@ struct NameRow {
     term: Span,
 }
 
-/// A name row as it was read, whose texts are lent.
+/// A name row as it was read; it borrows its texts.
 #[derive(Clone, Copy)]
 pub struct ReadName<'a> {
     pub id: SctId,
@@ -29,14 +30,14 @@ pub struct ReadName<'a> {
     pub term: &'a str,
 }
 
-/// Some concepts, which are told from the others by their identifiers.
+/// A set of concepts, which it tells by their identifiers.
 pub trait KnownConcepts {
     ghost use Rattle.std.specs.Prelude.{◌≡◌, ℕ, Bool};
 
-    /// Whether the concept with an identifier is one of them.
+    /// The concept with the identifier is in the set.
     ghost knows: { Self → ℕ → Bool };
 
-    /// Whether the concept with an identifier is one of them.
+    /// Whether the concept with the identifier `id` is in the set.
     fn has(&self, id: u64) -> bool
         ensures { result ≡ knows self.now id };
 }
@@ -45,7 +46,7 @@ pub trait KnownConcepts {
 #[derive(Drop)]
 pub struct Names {
     rows: Vec<NameRow>,
-    // the language code and the term of each row, one behind the other
+    // the language code and the term of each row, one after another
     texts: String,
 }
 
@@ -72,7 +73,7 @@ impl Names {
         }
     }
 
-    /// How many rows there are.
+    /// The number of rows.
     pub fn len(&self) -> usize
         ensures { result ≡ length self.now }
     {
@@ -100,8 +101,8 @@ impl Names {
         Ok(())
     }
 
-    /// Leaves the rows that are made of chosen rows of the release, where for each of these it is told
-    /// which list it is in and whether it is chosen.
+    /// Keeps the rows that were made of chosen rows of the release. For each row of the release, `marks` says
+    /// which list it is in, and `choices` whether it is chosen.
     #[tactic(auto, using(crate::proofs::NameLemmas::rows_chosen))]
     pub(crate) fn choose(
         &mut self,
@@ -115,7 +116,7 @@ impl Names {
         Ok(())
     }
 
-    /// The row at a place.
+    /// The row at index `place`.
     #[tactic(auto, using(crate::proofs::NameLemmas::rows_read))]
     pub fn row(&self, place: usize) -> ReadName<'_>
         requires { place < length self.now }
@@ -130,7 +131,7 @@ impl Names {
         }
     }
 
-    /// Leaves the rows of some concepts. The texts of the others stay in the buffer.
+    /// Keeps the rows of `concepts`. The texts of the other rows stay in the buffer.
     pub fn retain_among<C: KnownConcepts>(&mut self, concepts: &C)
         ensures { self.new ≡ filter (λ (name : Name). C.knows concepts.now name.concept) self.old }
     {
@@ -154,7 +155,7 @@ fn term_of<'a>(texts: &'a str, row: &NameRow) -> &'a str
     row.term.text_in(texts)
 }
 
-// Whether a row is of one of some concepts.
+// Whether the concept of a row is in `concepts`.
 fn is_row_among<C: KnownConcepts>(concepts: &C, row: &NameRow) -> bool
     ensures { result ≡ C.knows concepts.now row.now.concept }
 {

@@ -1,24 +1,24 @@
-//! What reading the files of a release gives.
+//! The result of reading the files of a release.
 ghost use Rattle.std.specs.Prelude.{◌≡◌, true};
 ghost use Rattle.row_lists.specs.ListsRead.{AreFew, read_in};
 
 use crate::row_lists::RowLists;
 
-/// More rows are not numbered. No list of files that is told has more within the limits; of one that is not told nothing is
-/// known, so its rows are counted before they are numbered.
+/// The greatest number of rows that are numbered. Files that a source tells never have more within the limits.
+/// About other files nothing is known, so a load counts their rows before it numbers them.
 pub const MOST_ROWS: u64 = 68_000_000;
 
-/// What the chosen rows of files are made of, and how many rows there are, chosen or not.
+/// The lists made of the chosen rows of files, and the number of all rows.
 #[derive(Drop)]
 pub struct ReadRows {
-    /// What the chosen rows are made of.
+    /// The lists made of the chosen rows.
     pub lists: RowLists,
-    /// How many rows there are.
+    /// The number of rows, chosen or not.
     pub count: u64,
 }
 
 impl ReadRows {
-    /// Whether the rows, and what they are made of, are few enough to number.
+    /// Whether the rows and the items of each list are few enough to number.
     pub fn are_few(&self) -> bool
         ensures few { result ≡ true → AreFew self.now.count (read_in self.now.lists) }
         ensures told { AreFew self.now.count (read_in self.now.lists) → result ≡ true }

@@ -1,4 +1,4 @@
-//! What a load lists of the rows that it reads, as far as the rows themselves tell.
+//! The lists that a load makes of the rows that it reads, by what each row itself says.
 ghost use Rattle.std.specs.Prelude.{◌≡◌, ◌&&◌, ◌==◌, [], IfOk, OnOk};
 ghost use Rattle.rf2_rows.specs.RowTexts.{of_concept, of_concrete, of_description, of_member, of_relationship, text_in};
 ghost use Rattle.rf2_rows.specs.Rows.{concrete_text, description_text};
@@ -35,7 +35,7 @@ pub enum Listing {
     Inactive,
 }
 
-/// What the rows of a release are made of, as far as the rows themselves tell.
+/// The lists that a load makes of the rows of a release, by what each row itself says.
 #[derive(Drop)]
 pub struct RowLists {
     /// The active concepts.
@@ -50,12 +50,12 @@ pub struct RowLists {
     pub attributes: Attributes,
     /// Reference set and component of the active member rows.
     pub member_ends: Vec<(SctId, SctId)>,
-    // for each row the list that it is in
+    // for each row, the list that it is in
     marks: Vec<Listing>,
 }
 
 impl RowLists {
-    /// Of no rows.
+    /// Creates the lists of no rows.
     pub fn new(alloc: Global) -> RowLists
         ensures { listed_in result ≡ listed_of [] }
     {
@@ -70,7 +70,7 @@ impl RowLists {
         }
     }
 
-    /// Lists a row.
+    /// Adds a row to the list that it belongs to.
     pub fn add(&mut self, row: &Row<'_>) -> Result<(), AllocError>
         ensures { OnOk result (listed_in self.new ≡ listed_behind (listed_in self.old) (text_in row.now)) }
     {
@@ -151,7 +151,7 @@ impl RowLists {
         Ok(Listing::Member)
     }
 
-    /// Leaves what the chosen rows are made of.
+    /// Keeps the items that were made of chosen rows.
     pub fn choose(&mut self, alloc: Global, choices: &[bool]) -> Result<(), AllocError>
         ensures { OnOk result (listed_in self.new ≡ listed_chosen (listed_in self.old) choices.now) }
     {
@@ -189,7 +189,8 @@ impl RowLists {
     }
 }
 
-/// Of the items that were made of the rows in a list those whose rows are chosen.
+/// Returns the items of `list` whose rows are chosen. For each row, `marks` says which list it is in, and
+/// `choices` whether it is chosen.
 pub fn chosen_items<T: Copy>(
     alloc: Global,
     items: &[T],
@@ -220,21 +221,21 @@ pub fn chosen_items<T: Copy>(
     Ok(chosen)
 }
 
-// Whether two lists are one.
+// Whether `one` and `other` are one list.
 fn is_listing(one: Listing, other: Listing) -> bool
     ensures { result ≡ same_listing one other }
 {
     one == other
 }
 
-// Whether a row of a relationship counts, as far as the row itself tells.
+// Whether a row of a relationship says of itself that it counts: it is active and inferred.
 fn is_inferred(active: bool, characteristic_type: SctId) -> bool
     ensures { result ≡ (active && (characteristic_type == inferred_relationship)) }
 {
     active && characteristic_type.number() == INFERRED
 }
 
-// Whether a row names a concept, as far as the row itself tells.
+// Whether a description row says of itself that it names a concept: it is active and a fully specified name.
 fn is_name(row: &DescriptionRow<'_>) -> bool
     ensures { result ≡ is_name_row (description_text row.now) }
 {

@@ -1,4 +1,4 @@
-//! Texts in a buffer, and the spans where they stand.
+//! Texts in a buffer, and the spans at which they stand.
 ghost use Rattle.std.specs.Prelude.{◌≡◌, ◌≤◌, ◌+◌, ◌++◌, IfOk, OnErr, OnOk, string_bytes};
 ghost use Rattle.row_lists.specs.Spans.{IsSpanOf, IsTextSpanOf, StandsAt, text_at};
 
@@ -7,21 +7,21 @@ use std::alloc::AllocError;
 /// Where a text stands in a buffer.
 #[derive(Clone, Copy)]
 pub struct Span {
-    /// The place of its first byte.
+    /// The index of its first byte.
     pub start: usize,
-    /// The place behind its last byte.
+    /// The index after its last byte.
     pub end: usize,
 }
 
 impl Span {
-    /// Where it begins.
+    /// The index of its first byte.
     pub fn start(self) -> usize
         ensures { result ≡ self.start }
     {
         self.start
     }
 
-    /// How many bytes stand there.
+    /// The number of its bytes.
     pub fn len(self) -> usize
         requires { self.start ≤ self.end }
         ensures { self.start + result ≡ self.end }
@@ -29,7 +29,7 @@ impl Span {
         self.end - self.start
     }
 
-    /// The bytes that stand there.
+    /// Its bytes in `texts`.
     pub fn bytes_in<'a>(self, texts: &'a [u8]) -> &'a [u8]
         requires { IsSpanOf texts.now self }
         ensures { result.now ≡ text_at texts.now self }
@@ -37,7 +37,7 @@ impl Span {
         &texts[self.start..self.end]
     }
 
-    /// The text that stands there.
+    /// Its text in `texts`.
     pub fn text_in<'a>(self, texts: &'a str) -> &'a str
         requires { IsTextSpanOf texts.now self }
         ensures { result.now ≡ text_at texts.now self }
@@ -46,7 +46,7 @@ impl Span {
     }
 }
 
-/// Puts a text behind the others, and answers where it stands.
+/// Adds a text at the end of `texts`. Returns where it stands.
 #[tactic(auto, using(crate::proofs::SpanLemmas::ends_of_text))]
 pub fn push_text(texts: &mut String, text: &str) -> Result<Span, AllocError>
     ensures grown { OnOk result (string_bytes texts.new ≡ string_bytes texts.old ++ text.now) }
@@ -60,7 +60,7 @@ pub fn push_text(texts: &mut String, text: &str) -> Result<Span, AllocError>
     Ok(Span { start, end })
 }
 
-/// Puts the bytes of a text behind the others, and answers where they stand.
+/// Adds the bytes of a text at the end of `texts`. Returns where they stand.
 pub fn push_bytes(texts: &mut Vec<u8>, text: &[u8]) -> Result<Span, AllocError>
     ensures grown { OnOk result (texts.new.items ≡ texts.old.items ++ text.now) }
     ensures same { OnErr result (texts.new.items ≡ texts.old.items) }

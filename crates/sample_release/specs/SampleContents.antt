@@ -1,10 +1,10 @@
--- What the built-in files are to load as.
+-- The contents that the built-in files load as.
 use Rattle.std.specs.Prelude.{ℕ, List, [], ◌∷◌, codes}
 use Rattle.constraint_tree.specs.Sample.{sample}
 use Rattle.held_release.specs.Contents.{Contents}
 
--- the sample release, with English names first: one concept is inactive, all five files are read, and six of their rows
--- are in no list of the release
+-- the contents of the sample release, with English names first. One concept is inactive, all five files are read, and
+-- six of their rows are in no list of the release
 abbrev pub sample_contents : Contents
 sample_contents = record {
   release = sample;

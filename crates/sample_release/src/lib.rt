@@ -9,8 +9,7 @@ ghost use Rattle.sample_release.specs.SampleContents.{sample_contents, sample_na
 
 use release_files::NamedBytes;
 
-/// The five files of the sample release, in the byte order of their names. They load as the
-/// sample release. Lines end in CR LF.
+/// Returns the five files of the sample release, in the byte order of their names. Their lines end in CR LF.
 pub fn sample_files() -> [NamedBytes<'static>; 5]
     ensures release { load_of standard_limits (codes "en") (map file_text result) ≡ Ok sample_contents }
     ensures names { map (λ (file : FileText). file.name) (map file_text result) ≡ sample_names }
@@ -39,7 +38,7 @@ pub fn sample_files() -> [NamedBytes<'static>; 5]
     ]
 }
 
-// One simple reference set with three members, the last of them inactive.
+// The members of one simple reference set: three, of which the last is inactive.
 const MEMBERS: &[u8] = b"id\teffectiveTime\tactive\tmoduleId\trefsetId\treferencedComponentId\r\n\
 00000000-0000-4000-8000-000000000001\t20240101\t1\t900000000000207008\t108003\t101009\r\n\
 00000000-0000-4000-8000-000000000002\t20240101\t1\t900000000000207008\t108003\t103007\r\n\
@@ -59,7 +58,7 @@ const CONCEPTS: &[u8] = b"id\teffectiveTime\tactive\tmoduleId\tdefinitionStatusI
 108003\t20240101\t1\t900000000000207008\t900000000000074008\r\n\
 109006\t20240101\t0\t900000000000207008\t900000000000074008\r\n";
 
-// A synonym, then fully specified names, the last of them Danish.
+// A synonym, then fully specified names, of which the last is Danish.
 const DESCRIPTIONS: &[u8] =
     b"id\teffectiveTime\tactive\tmoduleId\tconceptId\tlanguageCode\ttypeId\tterm\tcaseSignificanceId\r\n\
 100014\t20240101\t1\t900000000000207008\t100005\ten\t900000000000013009\tAlpha\t900000000000448009\r\n\

@@ -18,7 +18,7 @@ use Rattle.numerals.proofs.DigitLemmas.{digit_in}
 abbrev pub block_text : (ℕ → ℕ) → List ℕ
 block_text digit = map (λ i. digit i + 48) (range_with_len 0 8)
 
--- eight digits, by their indices
+-- each of eight numbers is a digit
 abbrev pub AreDigits : (ℕ → ℕ) → Type 0
 AreDigits digit = (i : ℕ) → i < 8 → digit i < 10
 
@@ -26,10 +26,11 @@ AreDigits digit = (i : ℕ) → i < 8 → digit i < 10
 abbrev pub digit_in_text : List ℕ → ℕ → ℕ
 digit_in_text bytes i = get_or bytes i 0 - 48
 
+-- the bytes of a text of eight digits are digits
 pub are_digits : (bytes : List ℕ) → length bytes ≡ 8 → list_all is_ascii_digit bytes ≡ true → AreDigits (digit_in_text bytes)
 are_digits bytes eight digits i within = digit-lt (get_or bytes i 0) (digit_in bytes i (omega arith) digits)
 
--- a text of eight digits is made of them
+-- a text of eight digits is the text of its digits
 pub spelled : (bytes : List ℕ) → length bytes ≡ 8 → list_all is_ascii_digit bytes ≡ true → bytes ≡ block_text (digit_in_text bytes)
 spelled bytes eight digits =
     same_number_lists bytes (block_text (digit_in_text bytes)) eight (λ k within.
@@ -40,15 +41,16 @@ spelled bytes eight digits =
 abbrev word : ℕ → ℕ → ℕ → ℕ → ℕ → ℕ → ℕ → ℕ → ℕ
 word a b c d e f g h = a + 256 * (b + 256 * (c + 256 * (d + 256 * (e + 256 * (f + 256 * (g + 256 * h))))))
 
--- which is what the bytes are read as
+-- a word of eight bytes is the number that is read from them
 word_sum : (n a b c d e f g h : ℕ) → n ≡ word a b c d e f g h → n ≡ from_le_bytes w64 (a ∷ b ∷ c ∷ d ∷ e ∷ f ∷ g ∷ h ∷ [])
 word_sum n a b c d e f g h n_is = omega arith
 
+-- the number that is read from eight bytes is their word
 sum_word : (n a b c d e f g h : ℕ) → n ≡ from_le_bytes w64 (a ∷ b ∷ c ∷ d ∷ e ∷ f ∷ g ∷ h ∷ []) → n ≡ word a b c d e f g h
 sum_word n a b c d e f g h n_is = omega arith
 
--- ten times a word of eight digits, and the same a byte further down, has in each byte the number of a
--- digit and its right neighbour
+-- ten times a word of eight digits, plus the word shifted down by a byte, has in each byte the number of a digit and
+-- its right neighbour
 pairs_word : (n a b c d e f g h : ℕ) → a < 10 → n ≡ word (a + 48) (b + 48) (c + 48) (d + 48) (e + 48) (f + 48) (g + 48) (h + 48) →
     (n - 3472328296227680304) * 10 + (n - 3472328296227680304) / 256
     ≡ word (a * 10 + b) (b * 10 + c) (c * 10 + d) (d * 10 + e) (e * 10 + f) (f * 10 + g) (g * 10 + h) (h * 10)
@@ -74,7 +76,7 @@ halves a b c d e f g h a_in b_in c_in d_in e_in f_in g_in h_in =
     ∙ times_assoc (times (times last (times f e)) (times d c)) b a (times-lt _ _ right_in second_in) b_in a_in
     ∙ times_assoc (times last (times f e)) (times d c) (times b a) right_in second_in first_in
 
--- a list of bytes has a byte at each place
+-- if every byte of a list is below 256, and a byte in front is, every byte of the longer list is
 byte_more : (x : ℕ) (xs : List ℕ) → x < 256 → ((i : ℕ) → get_or xs i 0 < 256) → (i : ℕ) → get_or (x ∷ xs) i 0 < 256
 byte_more x xs first rest zero = first
 byte_more x xs first rest (suc i) = rest i
@@ -97,6 +99,7 @@ bytes_of_word n a b c d e f g h a_in b_in c_in d_in e_in f_in g_in h_in n_is =
 abbrev pub pair : (ℕ → ℕ) → ℕ → ℕ
 pair digit i = digit i * 10 + digit (i + 1)
 
+-- the number of two digits is below 100
 pub pair-lt : (digit : ℕ → ℕ) (i : ℕ) → AreDigits digit → i < 7 → pair digit i < 100
 pair-lt digit i small within = omega (arith, small i (omega arith), small (i + 1) (omega arith))
 
@@ -104,7 +107,7 @@ pair-lt digit i small within = omega (arith, small i (omega arith), small (i + 1
 abbrev pub pairs : (ℕ → ℕ) → List ℕ
 pairs digit = pair digit 0 ∷ pair digit 1 ∷ pair digit 2 ∷ pair digit 3 ∷ pair digit 4 ∷ pair digit 5 ∷ pair digit 6 ∷ digit 7 * 10 ∷ []
 
--- they are the bytes of the word that the code makes
+-- the bytes of the word that the code makes are the numbers of the digits and their right neighbours
 pub block_pairs : (bytes : List ℕ) (n : ℕ) → length bytes ≡ 8 → list_all is_ascii_digit bytes ≡ true → n ≡ from_le_bytes w64 bytes →
     to_le_bytes w64 ((n - 3472328296227680304) * 10 + (n - 3472328296227680304) / 256) ≡ pairs (digit_in_text bytes)
 block_pairs bytes n eight digits n_is =
@@ -119,10 +122,11 @@ block_pairs bytes n eight digits n_is =
     (sum_word n (digit 0 + 48) (digit 1 + 48) (digit 2 + 48) (digit 3 + 48) (digit 4 + 48) (digit 5 + 48)
     (digit 6 + 48) (digit 7 + 48) (n_is ∙ ap (from_le_bytes w64) (spelled bytes eight digits))))
 
+-- the byte of a digit has the value of this digit
 value_is : (digit : ℕ) → digit < 10 → digit_value (digit + 48) ≡ digit
 value_is digit is_digit = omega (arith, digit_value_digit (digit + 48) (omega arith, omega arith))
 
--- the number that eight digits write, by their pairs
+-- the number that eight digits write is made of the numbers of their four pairs
 pub block_value : (bytes : List ℕ) → length bytes ≡ 8 → list_all is_ascii_digit bytes ≡ true →
     digits_value 10 bytes ≡ ((pair (digit_in_text bytes) 0 * 100 + pair (digit_in_text bytes) 2) * 100
     + pair (digit_in_text bytes) 4) * 100 + pair (digit_in_text bytes) 6
@@ -137,10 +141,11 @@ paired digit =
     times (times (times (permuted 0 (digit 7)) (permuted 1 (digit 6))) (times (permuted 2 (digit 5)) (permuted 3 (digit 4))))
     (times (times (permuted 4 (digit 3)) (permuted 5 (digit 2))) (times (permuted 6 (digit 1)) (permuted 7 (digit 0))))
 
--- a digit is its byte less that of 0
+-- a digit is its byte less the byte of 0
 less : (digit : ℕ) → digit + 48 - 48 ≡ digit
 less digit = omega arith
 
+-- the check product of a text of eight digits is the product of its pairs
 text_product : (digit : ℕ → ℕ) → AreDigits digit → check_product (block_text digit) ≡ paired digit
 text_product digit small =
     let lt = λ (place i : ℕ) (within : i < 8). permuted-lt place (digit i) (small i within) in
@@ -150,12 +155,13 @@ text_product digit small =
     (lt 3 4 (omega arith)) (lt 2 5 (omega arith)) (lt 1 6 (omega arith)) (lt 0 7 (omega arith)) in
     simp less multiplied
 
+-- the check product of eight bytes that are digits is the product of the digits' pairs
 pub block_product : (bytes : List ℕ) → length bytes ≡ 8 → list_all is_ascii_digit bytes ≡ true → check_product bytes ≡ paired (digit_in_text bytes)
 block_product bytes eight digits =
     let small = are_digits bytes eight digits in
     ap check_product (spelled bytes eight digits) ∙ text_product (digit_in_text bytes) small
 
--- the two factors of a pair
+-- the factors that the code takes for a pair are those of its two digits
 pub pair_factors : (digit : ℕ → ℕ) (index i value : ℕ) → AreDigits digit → i < 7 → value ≡ pair digit i →
     times (permuted (2 * index) (value % 10)) (permuted (2 * index + 1) (value / 10))
     ≡ times (permuted (2 * index) (digit (i + 1))) (permuted (2 * index + 1) (digit i))
@@ -165,7 +171,7 @@ pair_factors digit index i value small within value_is_pair =
     ap (λ d. times (permuted (2 * index) d) (permuted (2 * index + 1) (value / 10))) ones
     ∙ ap (λ d. times (permuted (2 * index) (digit (i + 1))) (permuted (2 * index + 1) d)) tens
 
--- four pairs' products, each known, are multiplied
+-- if each of four products is known, so is the product that is made of them in two halves
 pub four_pairs : (a b c d left right all w x y z : ℕ) → all ≡ times right left → right ≡ times a b → left ≡ times c d → a ≡ w → b ≡ x → c ≡ y → d ≡ z →
     all ≡ times (times w x) (times y z)
 four_pairs a b c d left right all w x y z all_is right_is left_is a_is b_is c_is d_is = cc

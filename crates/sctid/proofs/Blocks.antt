@@ -1,5 +1,5 @@
--- A text of digits, read from the left by what is in front of its whole blocks of eight, and then
--- block by block.
+-- A text of digits, read from the left: first the part in front of its whole blocks of eight, and then block
+-- by block.
 use Rattle.std.proofs.Common.{◌≡◌, ℕ, ◌+◌, ◌*◌, ◌/◌, ◌%◌, ◌<◌, ◌&&◌, zero, suc, true, false, List, [], ◌∷◌, ◌++◌, length, get_or, take, drop, length-drop, refl, sym, ap, ◌∙◌, arith}
 use Rattle.std.specs.Char.{is_ascii_digit}
 use Rattle.std.specs.List.{list_all}
@@ -12,15 +12,15 @@ use Rattle.sctid.specs.Identifier.{times, check_product}
 use Rattle.sctid.proofs.Block.{block_text, digit_in_text, spelled}
 use Rattle.sctid.proofs.Product.{check_product-block}
 
--- what was read of a text behind so many blocks
+-- the text up to the end of the first `i` blocks
 abbrev pub so_far : List ℕ → ℕ → List ℕ
 so_far text i = take (length text % 8 + 8 * i) text
 
--- the block at an index of a text
+-- the block at index `i` of a text
 abbrev pub block_at : List ℕ → ℕ → List ℕ
 block_at text i = take 8 (drop (8 * i) (drop (length text % 8) text))
 
--- the chunks of a list, by their indices
+-- chunk `i` of a list is its 8 items from place `8 * i` on
 chunk_at : (k i : ℕ) (xs : List ℕ) → i < k → get_or (first_chunks 8 k xs) i [] ≡ take 8 (drop (8 * i) xs)
 chunk_at zero i xs within = absurd (omega arith)
 chunk_at (suc k) zero xs within = refl
@@ -28,12 +28,13 @@ chunk_at (suc k) (suc i) xs within =
     let next : 8 + 8 * i ≡ 8 * suc i = omega arith in
     chunk_at k i (drop 8 xs) (omega arith) ∙ ap (take 8) (drop-drop (8 * i) 8 xs ∙ ap (λ n. drop n xs) next)
 
+-- block `i` of the chunks of a text is the text's block at `i`
 pub block_is : (text : List ℕ) (blocks : List (List ℕ)) (i : ℕ) → i < length text / 8
     → blocks ≡ first_chunks 8 (length text / 8) (drop (length text % 8) text) → get_or blocks i [] ≡ block_at text i
 block_is text blocks i within blocks_are =
     ap (λ bs. get_or bs i []) blocks_are ∙ chunk_at (length text / 8) i (drop (length text % 8) text) within
 
--- before the first block, what is in front is read
+-- before the first block, the text so far is the part in front of the blocks
 pub front_is : (text front : List ℕ) → front ≡ take (length text % 8) text → so_far text 0 ≡ front
 front_is text front is =
     let same : length text % 8 + 0 ≡ length text % 8 = omega arith in
@@ -46,7 +47,7 @@ block_long text i within =
     let front = length-drop (length text % 8) text in
     length-take-le 8 (drop (8 * i) (drop (length text % 8) text)) (omega arith)
 
--- one more block is read
+-- the text so far with one block more is the text so far and this block
 so_far-more : (text : List ℕ) (i : ℕ) → so_far text (i + 1) ≡ so_far text i ++ block_at text i
 so_far-more text i =
     let more : length text % 8 + 8 * (i + 1) ≡ (length text % 8 + 8 * i) + 8 = omega arith in
@@ -54,13 +55,13 @@ so_far-more text i =
     ∙ take-add (length text % 8 + 8 * i) 8 text
     ∙ ap (λ rest. so_far text i ++ take 8 rest) (sym (drop-drop (8 * i) (length text % 8) text))
 
--- a text whose front is none of digits is none
+-- a text that begins with a part not made of digits is not made of digits
 pub not_digits : (text : List ℕ) (n : ℕ) → list_all is_ascii_digit (take n text) ≡ false → list_all is_ascii_digit text ≡ false
 not_digits text n front =
     ap (list_all is_ascii_digit) (sym (take-append-drop n text))
     ∙ list_all-append is_ascii_digit (take n text) (drop n text) ∙ ap (λ b. b && list_all is_ascii_digit (drop n text)) front
 
--- with one more block it is digits where the block is
+-- the text so far with one block more is digits exactly if the block is, given that the text so far is
 pub digits-block : (text : List ℕ) (i : ℕ) → list_all is_ascii_digit (so_far text i) ≡ true
     → list_all is_ascii_digit (so_far text (i + 1)) ≡ list_all is_ascii_digit (block_at text i)
 digits-block text i front =
@@ -68,14 +69,16 @@ digits-block text i front =
     ∙ list_all-append is_ascii_digit (so_far text i) (block_at text i)
     ∙ ap (λ b. b && list_all is_ascii_digit (block_at text i)) front
 
--- the number goes on from what was read
+-- the value of a text after `n` is the value of its end after that of its beginning
 value_append : (left right : List ℕ) (n : ℕ) → digits_value_after 10 n (left ++ right) ≡ digits_value_after 10 (digits_value_after 10 n left) right
 value_append [] right n = refl
 value_append (byte ∷ left) right n = value_append left right _
 
+-- the value of eight digits after `n` is `n` times 10^8 plus their value
 value_after : (n : ℕ) (digit : ℕ → ℕ) → digits_value_after 10 n (block_text digit) ≡ n * 100000000 + digits_value 10 (block_text digit)
 value_after n digit = omega arith
 
+-- the value with one block more is the value so far times 10^8 plus the value of the block
 pub value-block : (text : List ℕ) (i : ℕ) → i < length text / 8 → list_all is_ascii_digit (block_at text i) ≡ true →
     digits_value 10 (so_far text (i + 1)) ≡ digits_value 10 (so_far text i) * 100000000 + digits_value 10 (block_at text i)
 value-block text i within digits =
@@ -86,7 +89,7 @@ value-block text i within digits =
     ∙ value_after (digits_value 10 (so_far text i)) (digit_in_text (block_at text i))
     ∙ ap (λ block. digits_value 10 (so_far text i) * 100000000 + digits_value 10 block) (sym block_is)
 
--- and the product
+-- the check product with one block more is the product of the block times the product so far
 pub product-block : (text : List ℕ) (i : ℕ) → i < length text / 8 → list_all is_ascii_digit (so_far text i) ≡ true
     → list_all is_ascii_digit (block_at text i) ≡ true →
     check_product (so_far text (i + 1)) ≡ times (check_product (block_at text i)) (check_product (so_far text i))

@@ -1,15 +1,15 @@
--- The group of the check digit, its permutation, and the tables that the code keeps of them. What is
--- said of all elements is computed, element by element.
+-- The group of the check digit, its permutation, and the tables that the code keeps of them. A law on all
+-- elements is computed, element by element.
 use Rattle.std.proofs.Common.{◌≡◌, ℕ, ◌+◌, ◌*◌, ◌/◌, ◌%◌, ◌<◌, Bool, zero, suc, true, ◌==◌, nat_lt, [], slice_index, slice_index_or, refl, sym, ap, ◌∙◌, arith}
 use Rattle.std.proofs.lemmas.Bool.{agree_below, agree_below_at, eqb-true, ltb-true}
 use Rattle.sctid.specs.declared.check.TheConstants.{PRODUCTS, PERMUTATIONS, PAIR_PRODUCTS}
 use Rattle.sctid.specs.Identifier.{times, permutation, permuted}
 
--- a test passes at each number below a bound
+-- a test passes at each number below `n`
 abbrev passes_below : ℕ → (ℕ → Bool) → Bool
 passes_below n test = agree_below test (λ _. true) n
 
--- where all numbers below a bound pass, each of them does
+-- if a test passes at each number below `n`, it passes at `k` below `n`
 passes_below_at : (n : ℕ) (test : ℕ → Bool) (k : ℕ) → passes_below n test ≡ true → k < n → test k ≡ true
 passes_below_at n test k all within = agree_below_at test (λ _. true) n k all within
 
@@ -19,17 +19,18 @@ times-lt a b a_in b_in =
     let row = passes_below_at 10 (λ x. passes_below 10 (λ y. nat_lt (times x y) 10)) a refl a_in in
     ltb-true _ 10 (passes_below_at 10 (λ y. nat_lt (times a y) 10) b row b_in)
 
--- the order in which three elements are multiplied is free
+-- the product of elements is associative
 pub times_assoc : (a b c : ℕ) → a < 10 → b < 10 → c < 10 → times (times a b) c ≡ times a (times b c)
 times_assoc a b c a_in b_in c_in =
     let plane = passes_below_at 10 (λ x. passes_below 10 (λ y. passes_below 10 (λ z. times (times x y) z == times x (times y z)))) a refl a_in in
     let row = passes_below_at 10 (λ y. passes_below 10 (λ z. times (times a y) z == times a (times y z))) b plane b_in in
     eqb-true _ _ (passes_below_at 10 (λ z. times (times a b) z == times a (times b z)) c row c_in)
 
--- 0 is the unit, on the left and on the right
+-- 0 is the unit on the left
 pub zero-times : (a : ℕ) → a < 10 → times 0 a ≡ a
 zero-times a a_in = eqb-true _ _ (passes_below_at 10 (λ x. times 0 x == x) a refl a_in)
 
+-- 0 is the unit on the right
 pub times-zero : (a : ℕ) → a < 10 → times a 0 ≡ a
 times-zero a a_in = eqb-true _ _ (passes_below_at 10 (λ x. times x 0 == x) a refl a_in)
 
@@ -49,8 +50,8 @@ table-times a b a_in b_in =
     let row = passes_below_at 10 (λ x. passes_below 10 (λ y. slice_index (slice_index_or PRODUCTS x []) y == times x y)) a refl a_in in
     eqb-true _ _ (passes_below_at 10 (λ y. slice_index (slice_index_or PRODUCTS a []) y == times a y) b row b_in)
 
--- a row of the table of permutations is the row before it, behind one more permutation, and the
--- first row is also the one after the last
+-- a row of the table of permutations applies one permutation more than the row before it, and the first row follows
+-- the last
 next_row : (row digit : ℕ) → row < 8 → digit < 10
     → slice_index (slice_index_or PERMUTATIONS ((row + 1) % 8) []) digit
     ≡ slice_index (slice_index_or PERMUTATIONS row []) (slice_index permutation digit)
@@ -71,14 +72,14 @@ table-permuted (suc place) digit is_digit =
     ∙ next_row (place % 8) digit (omega arith) is_digit
     ∙ table-permuted place (slice_index permutation digit) (permutation-lt digit is_digit)
 
--- eight places further to the left a digit is permuted to the same
+-- a digit eight places further to the left is permuted to the same digit
 pub permuted-eight : (place digit : ℕ) → digit < 10 → permuted (place + 8) digit ≡ permuted place digit
 permuted-eight place digit is_digit =
     let row_is : (place + 8) % 8 ≡ place % 8 = omega arith in
     sym (table-permuted (place + 8) digit is_digit)
     ∙ ap (λ row. slice_index (slice_index_or PERMUTATIONS row []) digit) row_is ∙ table-permuted place digit is_digit
 
--- the table of pairs has the products of two digits' factors
+-- the table of pairs has the product of the factors of two digits
 pub table-pair : (index pair : ℕ) → index < 4 → pair < 100
     → slice_index (slice_index_or PAIR_PRODUCTS index []) pair
     ≡ times (permuted (2 * index) (pair % 10)) (permuted (2 * index + 1) (pair / 10))

@@ -10,7 +10,7 @@ use Rattle.sctid.specs.Identifier.{fault_of, digit_at}
 valid_text_long : (text : List ℕ) → fault_of text ≡ None → 6 ≤ length text
 valid_text_long text valid = grind (arith, nat_tests)
 
--- a number that has at least 6 digits is not below 100
+-- a number of at least 6 digits is at least 100
 long_number : (n : ℕ) → n < 10 ^ 18 → 6 ≤ length (decimal n) → 100 ≤ n
 long_number n small long =
     elim (cases_lt n 100) [
@@ -18,7 +18,7 @@ long_number n small long =
       | inr above ↦ above
     ]
 
--- the digit before the last one in a list that ends in two
+-- the item before the last one of a list that ends in `a` and `b` is `a`
 before_last : (front : List ℕ) (a b : ℕ) → get_or ((front ++ (a ∷ [])) ++ (b ∷ [])) (length ((front ++ (a ∷ [])) ++ (b ∷ [])) - 1 - 1) 0 ≡ a
 before_last front a b =
     let lengths = length-append front ((a ∷ []) ++ (b ∷ [])) in

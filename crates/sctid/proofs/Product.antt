@@ -8,24 +8,24 @@ use Rattle.numerals.proofs.DigitLemmas.{digit_in}
 use Rattle.sctid.specs.Identifier.{times, permuted, check_product}
 use Rattle.sctid.proofs.Group.{times-lt, times_assoc, times-zero, permuted-lt, permuted-eight}
 
--- what a digit stands for is below ten
+-- the value of a digit is below ten
 pub digit-lt : (byte : ℕ) → is_ascii_digit byte ≡ true → byte - 48 < 10
 digit-lt byte digit = let at_most : byte ≤ 57 = leb-true byte 57 (and_parts (nat_le 48 byte) (nat_le byte 57) digit).1 in omega arith
 
--- the product of a text of digits is an element of the group
+-- the check product of a text of digits is an element of the group
 pub check_product-lt : (text : List ℕ) → list_all is_ascii_digit text ≡ true → check_product text < 10
 check_product-lt [] digits = omega arith
 check_product-lt (byte ∷ right) digits =
     let parts = and_parts _ _ digits in
     times-lt (check_product right) _ (check_product-lt right parts.1) (permuted-lt (length right) (byte - 48) (digit-lt byte parts.0))
 
--- what is left of a text of digits are digits
+-- a text of digits without its first `i` bytes is digits
 digits-drop : (i : ℕ) (text : List ℕ) → list_all is_ascii_digit text ≡ true → list_all is_ascii_digit (drop i text) ≡ true
 digits-drop zero text digits = digits
 digits-drop (suc i) [] digits = digits
 digits-drop (suc i) (byte ∷ right) digits = digits-drop i right (and_parts _ _ digits).1
 
--- taking one more digit from the left puts its factor in front of the product so far
+-- reading one more digit from the left puts its factor in front of the product so far
 pub check_product-more : (text : List ℕ) (i place product : ℕ) → i < length text
     → list_all is_ascii_digit text ≡ true → place + (i + 1) ≡ length text → product < 10 →
     check_product text ≡ times (check_product (drop i text)) product →
@@ -39,8 +39,8 @@ check_product-more text i place product within digits placed element so_far =
     let right_in = check_product-lt right (digits-drop (i + 1) text digits) in
     so_far ∙ ap (λ p. times p product) step ∙ times_assoc (check_product right) (permuted place digit) product right_in factor_in element
 
--- in front of eight digits, whose places are a whole round of the permutation, digits have the product
--- that they have alone
+-- the check product of digits followed by eight digits is the product of the eight times that of the first digits
+-- alone
 pub check_product-block : (left right : List ℕ) → list_all is_ascii_digit left ≡ true
     → list_all is_ascii_digit right ≡ true → length right ≡ 8
     → check_product (left ++ right) ≡ times (check_product right) (check_product left)

@@ -14,14 +14,14 @@ abbrev pub digit_at : List ℕ → ℕ → ℕ
 digit_at text place = slice_index text (length text - 1 - place) - 48
 
 -- the product of two elements of the dihedral group of order 10: 0 to 4 are the rotations of a
--- pentagon, 5 to 9 are its reflections, and behind a reflection a rotation goes the other way round
+-- pentagon, 5 to 9 are its reflections, and after a reflection a rotation goes the other way round
 abbrev pub times : ℕ → ℕ → ℕ
 times a b =
     if nat_lt a 5
     then (if nat_lt b 5 then (a + b) % 5 else 5 + (a + b) % 5)
     else (if nat_lt b 5 then 5 + (a - b) % 5 else (5 + a - b) % 5)
 
--- the permutation of the ten digits: where it takes each of them
+-- the permutation of the ten digits: entry `d` is the digit to which it takes `d`
 abbrev pub permutation : List ℕ
 permutation = 1 ∷ 5 ∷ 7 ∷ 6 ∷ 2 ∷ 8 ∷ 3 ∷ 0 ∷ 9 ∷ 4 ∷ []
 
@@ -41,7 +41,7 @@ abbrev pub has_partition : List ℕ → Bool
 has_partition text =
     nat_le (digit_at text 1) 2 && ((digit_at text 2 == 0) || ((digit_at text 2 == 1) && nat_le 11 (length text)))
 
--- the first fault of a text, or none where it is a valid identifier
+-- the first fault of a text, or none if it is a valid identifier
 abbrev pub fault_of : List ℕ → Option IdFault
 fault_of text =
     if nat_lt (length text) 6 || nat_lt 18 (length text) then Some Length
@@ -55,7 +55,7 @@ fault_of text =
 abbrev pub part_of : List ℕ → Part
 part_of text = if digit_at text 1 == 0 then Concept else if digit_at text 1 == 1 then Description else Relationship
 
--- the faults in the order in which they are looked for
+-- the number of a fault, from 1 in the order in which the code looks for faults
 abbrev pub fault_number : IdFault → ℕ
 fault_number Length = 1
 fault_number Digit = 2

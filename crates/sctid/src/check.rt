@@ -61,7 +61,7 @@ const PAIR_PRODUCTS: [[u8; 100]; 4] = [
     ],
 ];
 
-/// The product of two elements of the dihedral group of order 10.
+/// Multiplies two elements of the dihedral group of order 10.
 pub fn times(a: u8, b: u8) -> u8
     requires left { a < 10 }
     requires right { b < 10 }
@@ -71,7 +71,7 @@ pub fn times(a: u8, b: u8) -> u8
     PRODUCTS[usize::from(a)][usize::from(b)]
 }
 
-/// A digit, permuted as its place asks. Places are counted from the right.
+/// Permutes a digit once for each place that it stands to the left of the check digit.
 pub fn permuted(place: usize, digit: u8) -> u8
     requires { digit < 10 }
     ensures digit { result ≡ permuted place digit }
@@ -80,7 +80,7 @@ pub fn permuted(place: usize, digit: u8) -> u8
     PERMUTATIONS[place % 8][usize::from(digit)]
 }
 
-/// The product of two permuted digits that stand side by side, the factor of the right one first. They
+/// Multiplies two permuted digits that stand side by side, the factor of the right one first. The digits
 /// write the number `pair`, and the place of the right one is `2 * index`.
 pub fn pair_product(index: usize, pair: u8) -> u8
     requires index { index < 4 }

@@ -1,5 +1,5 @@
-//! What the digits of a text say: the number that they write and their check product, in one pass. The
-//! text is read in blocks of eight digits that end where it ends, and digit by digit in front of them.
+//! Reads the digits of a text: the number that they write and their check product, in one pass. It reads
+//! blocks of eight digits that end where the text ends, and the part in front of them digit by digit.
 
 ghost use Rattle.std.specs.Prelude.{◌≡◌, ◌^◌, ◌<◌, ◌≤◌, true, IfSome, is_some, length};
 ghost use Rattle.std.specs.Char.{is_ascii_digit};
@@ -9,7 +9,7 @@ ghost use Rattle.sctid.specs.Identifier.{check_product};
 
 use crate::check::{pair_product, permuted, times};
 
-/// What a text of digits says.
+/// The number and the check product of a text of digits.
 #[derive(Clone, Copy)]
 pub struct Digits {
     /// The number that the digits write.
@@ -18,7 +18,7 @@ pub struct Digits {
     pub check_product: u8,
 }
 
-/// Reads a text of at most 18 digits. It answers `None` where a byte is no digit.
+/// Reads a text of at most 18 digits. It answers `None` if a byte is no digit.
 pub fn read_digits(text: &[u8]) -> Option<Digits>
     requires { length text.now ≤ 18 }
     ensures digits { is_some result ≡ list_all is_ascii_digit text.now }
@@ -30,8 +30,8 @@ pub fn read_digits(text: &[u8]) -> Option<Digits>
     let Some(mut read) = read_front(front) else {
         return None;
     };
-    // The places of eight digits are a whole round of the permutation, so that the product of what
-    // stands in front of a block is the same as without the block.
+    // The places of eight digits are a whole round of the permutation, so that a block does not change the
+    // product of the digits in front of it.
     for block in blocks {
         if !is_digits(block) {
             return None;
@@ -45,8 +45,8 @@ pub fn read_digits(text: &[u8]) -> Option<Digits>
     Some(read)
 }
 
-// Reads what stands in front of the blocks, digit by digit from the left. Each factor goes in front of
-// the product so far.
+// Reads the part in front of the blocks, digit by digit from the left. Each factor goes in front of the
+// product so far.
 fn read_front(text: &[u8]) -> Option<Digits>
     requires { length text.now ≤ 18 }
     ensures digits { is_some result ≡ list_all is_ascii_digit text.now }
@@ -71,7 +71,7 @@ fn read_front(text: &[u8]) -> Option<Digits>
     })
 }
 
-// Whether eight bytes are digits. It looks at each of them whatever the others are, so that it compiles
+// Tells whether eight bytes are digits. It looks at each of them whatever the others are, so that it compiles
 // to a few steps for all of them.
 fn is_digits(block: &[u8; 8]) -> bool
     ensures { result ≡ list_all is_ascii_digit block.now }

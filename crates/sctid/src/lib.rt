@@ -54,7 +54,7 @@ pub enum IdFault {
 impl IdFault {
     ghost use Rattle.sctid.specs.Identifier.{fault_number};
 
-    /// The number of the fault, from 1 in the order in which faults are looked for.
+    /// The number of the fault, from 1 in the order in which `parse` looks for faults.
     pub fn number(self) -> u8
         ensures { result ≡ fault_number self }
     {
@@ -93,8 +93,8 @@ impl Model for SctId {
 impl SctId {
     ghost use Rattle.sctid.specs.Identifier.{fault_of, part_of};
 
-    /// Reads an identifier from its decimal text. It answers `Ok` exactly where the text is valid,
-    /// and else the first fault in the order of `IdFault`.
+    /// Reads an identifier from its decimal text. It answers `Ok` exactly if the text is valid, and
+    /// else the first fault in the order of `IdFault`.
     pub fn parse(text: &[u8]) -> Result<SctId, IdFault>
         ensures valid { IfOk result (λ id. fault_of text.now ≡ None) }
         ensures same { IfOk result (λ id. decimal id ≡ text.now) }
@@ -140,7 +140,7 @@ impl SctId {
         self.number
     }
 
-    /// Puts the digits of the identifier into `digits`, in place of what it held.
+    /// Replaces the content of `digits` by the digits of the identifier.
     pub fn write_to(self, digits: &mut ArrayVec<u8, 18>)
         ensures { digits.new.items ≡ decimal self }
     {
@@ -150,7 +150,7 @@ impl SctId {
     }
 }
 
-// Whether the two digits before the last are a partition, and the long form has room for its
+// Tells whether the two digits before the last are a partition, and the long form has room for its
 // namespace of seven digits.
 fn has_partition(text: &[u8]) -> bool
     requires room { 3 ≤ length text.now }

@@ -12,7 +12,7 @@ use Rattle.std.proofs.lemmas.Slice.{between_to_end}
 use Rattle.numerals.proofs.DigitLemmas.{digit_in, numerals}
 use Rattle.session_line.specs.SessionRequest.{cut_of, is_number, number_in}
 
--- a text is cut where its first space stands
+-- `cut_of` cuts a text at its first space
 cut_there : (text : List ℕ) (at : ℕ) → at < length text
     → ((k : ℕ) → 0 ≤ k → k < at → (get_or text k 0 == 32) ≡ true → ⊥)
     → (get_or text at 0 == 32) ≡ true → cut_of text ≡ Some (take at text, drop (suc at) text)
@@ -26,7 +26,7 @@ cut_there (byte ∷ bytes) (suc at) within before is =
     ∙ ap (option_map (λ (cut : List ℕ × List ℕ). (byte ∷ cut.0, cut.1)))
     (cut_there bytes at (omega arith) (λ k least below. before (suc k) (omega arith) (omega arith)) is)
 
--- the same, where the rest is a part of the text up to its end
+-- `cut_of` gives the bytes before the first space, and the slice from after the space to the end of the text
 pub cut_at : (text : List ℕ) (at : ℕ) → at < length text
     → ((k : ℕ) → 0 ≤ k → k < at → (get_or text k 0 == 32) ≡ true → ⊥) → (get_or text at 0 == 32) ≡ true
     → Some (take at text, take (length text - (at + 1)) (drop (at + 1) text)) ≡ cut_of text
@@ -49,6 +49,7 @@ not_cut (byte ∷ bytes) none =
     ∙ sym (λ i. cond (other i) (Some ([], bytes))
     (option_map (λ (cut : List ℕ × List ℕ). (byte ∷ cut.0, cut.1)) (cut_of bytes)))
 
+-- the lemmas for `cut_word`: a text with a space is cut, and a text without one is not
 pub ruleset cuts = (cut_at, not_cut)
 
 -- a text of digits begins with no sign
@@ -59,11 +60,11 @@ no_sign (byte ∷ bytes) digits =
     let least : 48 ≤ byte = leb-true 48 byte (and_parts (nat_le 48 byte) (nat_le byte 57) first.0).0 in
     λ i. drop (cond (ne_eqb byte 43 (λ same. absurd (omega arith)) i) 1 0) (byte ∷ bytes)
 
--- a text of digits, and its number has 64 bits
+-- a text is a numeral in base ten, and its number is below 2^64
 abbrev IsShort : List ℕ → Type 0
 IsShort text = IsNumeral 10 text × (digits_value 10 text < 2 ^ 64)
 
--- what is read of a text of digits is its number, where it has 64 bits
+-- the number that is read from a text of digits is `number_in` of the text, if 64 bits hold it
 pub digits_read : (text : List ℕ) (number : ℕ) → list_all is_ascii_digit text ≡ true
     → IsShort (without_leading_plus text) → number ≡ digits_value 10 (without_leading_plus text)
     → Some number ≡ number_in text
@@ -75,7 +76,7 @@ digits_read text number digits read value =
     ap (λ (read : ℕ). Some read) (value ∙ ap (digits_value 10) plain)
     ∙ sym (λ i. cond (are i) (Some (digits_value 10 text)) None)
 
--- a text that is a number is one of digits, and short
+-- a text that `is_number` accepts has digits alone, and a number below 2^64
 number_parts : (text : List ℕ) → is_number text ≡ true → (list_all is_ascii_digit text ≡ true) × IsShort text
 number_parts text are =
     let some = and_parts (nat_lt 0 (length text))
@@ -85,7 +86,7 @@ number_parts text are =
       ((ltb-true 0 (length text) some.0, numerals.to text small.0), ltb-true (digits_value 10 text) (2 ^ 64) small.1),
     )
 
--- a text of digits of which nothing is read has no number
+-- a text of digits has no number if it is empty or 64 bits do not hold its number
 pub digits_refused : (text : List ℕ) → list_all is_ascii_digit text ≡ true → ¬ IsShort (without_leading_plus text)
     → None ≡ number_in text
 digits_refused text digits refused =
@@ -93,7 +94,7 @@ digits_refused text digits refused =
     λ are. refused (subst IsShort (sym (no_sign text digits)) (number_parts text are).1) in
     sym (λ i. cond (false_from_ne_true (is_number text) never i) (Some (digits_value 10 text)) None)
 
--- a text that has another byte is no number
+-- a text with a byte that is no digit has no number
 pub not_digits : (text : List ℕ) → list_all is_ascii_digit text ≡ false → None ≡ number_in text
 not_digits text other =
     let never : ¬ (is_number text ≡ true) =
@@ -104,4 +105,5 @@ not_digits text other =
 pub digits_utf8 : (text : List ℕ) → list_all is_ascii_digit text ≡ true → IsUtf8 text
 digits_utf8 text digits = IsUtf8-from_ascii text (IsAscii-from_digits text (numerals.to text digits))
 
+-- the lemmas for `number`: digits that are read, digits that are refused, and a text with another byte
 pub ruleset numbers = (digits_read, digits_refused, not_digits)

@@ -1,4 +1,4 @@
-//! What a line of `session` asks for.
+//! Reading what a line of `session` asks for.
 ghost use Rattle.std.specs.Prelude.{◌≡◌, true};
 ghost use Rattle.std.specs.Char.{is_ascii_digit};
 ghost use Rattle.std.specs.List.{list_all};
@@ -9,20 +9,20 @@ ghost use Rattle.session_line.specs.SessionRequest.{asks_concept, asks_plan, pag
 use bstr::ByteSlice;
 use std::str::from_utf8;
 
-/// Which concepts of an answer are asked for.
+/// The part of an answer that a line asks for.
 #[derive(Clone, Copy, Debug, PartialEq, Eq)]
 pub struct Page {
-    /// How many concepts are left out before the first.
+    /// How many concepts of the answer to skip.
     pub offset: u64,
-    /// How many concepts are asked for at most; all that are left where it is `None`.
+    /// How many concepts to list at most; `None` for all that are left.
     pub count: Option<u64>,
-    /// How many items the plan may visit at most; any number where it is `None`.
+    /// How many items the plan may visit at most; `None` for any number.
     pub limit: Option<u64>,
-    /// Whether the names of the concepts are asked for.
+    /// Whether to list the names of the concepts.
     pub names: bool,
 }
 
-/// What a line of `session` asks for.
+/// The request that a line of `session` makes.
 #[derive(Clone, Copy, Debug, PartialEq, Eq)]
 pub enum SessionRequest<'a> {
     /// A page of the answer to a constraint's text.
@@ -31,13 +31,14 @@ pub enum SessionRequest<'a> {
     Plan(&'a [u8]),
     /// What a release says of a concept.
     Concept(&'a [u8]),
-    /// Nothing that there is: the verb is none, a number is none, or the text is missing.
+    /// No request: the verb is unknown, a number is malformed, or the text is missing.
     Nothing,
 }
 
-/// What a line asks for: `list OFFSET COUNT LIMIT ECL` and `ids OFFSET COUNT LIMIT ECL` for a page, `explain ECL` for a
-/// plan, `describe ID` for a concept. One space stands between the words. OFFSET, COUNT and LIMIT are decimal numbers of 64
-/// bits, or `-` for none in the place of the latter two. The text behind is not empty.
+/// Reads a line. `list OFFSET COUNT LIMIT ECL` asks for a page with names, `ids OFFSET COUNT LIMIT ECL` for one
+/// without, `explain ECL` for a plan, `describe ID` for a concept. One space stands between the words. OFFSET,
+/// COUNT and LIMIT are decimal numbers of 64 bits; COUNT and LIMIT may be `-` for none. The text at the end is not
+/// empty.
 pub fn read_request(line: &[u8]) -> SessionRequest<'_>
     ensures { asked_in result ≡ asked line.now }
 {
@@ -62,7 +63,7 @@ pub fn read_request(line: &[u8]) -> SessionRequest<'_>
     SessionRequest::Nothing
 }
 
-// What is asked for by a page and a text, if there are both.
+// Makes the request for a page, if a page was read and the text after it is not empty.
 fn page_request(page: Option<(Page, &[u8])>) -> SessionRequest<'_>
     ensures { asked_in result ≡ page_asked (page_read page.entry) }
 {
@@ -72,7 +73,7 @@ fn page_request(page: Option<(Page, &[u8])>) -> SessionRequest<'_>
     }
 }
 
-// A page, and the text behind it.
+// Reads a page, and returns it with the text after it.
 fn read_page(names: bool, text: &[u8]) -> Option<(Page, &[u8])>
     ensures { page_read result ≡ page_in names text.now }
 {
@@ -88,7 +89,7 @@ fn read_page(names: bool, text: &[u8]) -> Option<(Page, &[u8])>
     Some((page, text))
 }
 
-// The number before the first space, and what stands behind that.
+// Reads the number before the first space, and returns it with the text after that space.
 fn number_before(text: &[u8]) -> Option<(u64, &[u8])>
     ensures { read_first result ≡ first_read number_in text.now }
 {
@@ -97,7 +98,7 @@ fn number_before(text: &[u8]) -> Option<(u64, &[u8])>
     Some((number, rest))
 }
 
-// The number before the first space, or none where `-` stands there, and what stands behind that.
+// Reads the number before the first space, or `-` for none, and returns it with the text after that space.
 fn number_or_none_before(text: &[u8]) -> Option<(Option<u64>, &[u8])>
     ensures { read_first result ≡ first_read number_or_none_in text.now }
 {
@@ -106,7 +107,7 @@ fn number_or_none_before(text: &[u8]) -> Option<(Option<u64>, &[u8])>
     Some((number, rest))
 }
 
-// The number that a text is, or none where it is `-`.
+// Reads a number, or `-` for none.
 fn number_or_none(text: &[u8]) -> Option<Option<u64>>
     ensures { result ≡ number_or_none_in text.now }
 {
@@ -117,7 +118,7 @@ fn number_or_none(text: &[u8]) -> Option<Option<u64>>
     Some(Some(number))
 }
 
-// The number of 64 bits that a text of digits alone is.
+// Reads a number of 64 bits from a text of digits alone.
 #[tactic(auto, using(crate::proofs::RequestLemmas::numbers))]
 fn number(text: &[u8]) -> Option<u64>
     ensures { result ≡ number_in text.now }
@@ -131,7 +132,7 @@ fn number(text: &[u8]) -> Option<u64>
     }
 }
 
-// The number of 64 bits that digits write.
+// Reads the number of 64 bits that digits write.
 #[tactic(auto, using(crate::proofs::RequestLemmas::numbers))]
 fn digits_number(digits: &str) -> Option<u64>
     requires { list_all is_ascii_digit digits.now ≡ true }
@@ -143,14 +144,15 @@ fn digits_number(digits: &str) -> Option<u64>
     }
 }
 
-// Whether a text is of digits alone.
+// Tests whether a text has digits alone.
 fn is_all_digits(text: &[u8]) -> bool
     ensures { result ≡ list_all is_ascii_digit text.now }
 {
     text.iter().all(|byte| byte.is_ascii_digit())
 }
 
-// What stands before the first space of a text, and what stands behind it, if there is one.
+// Cuts a text at its first space. Returns the bytes before the space and those after it, or `None` if there is no
+// space.
 #[tactic(auto, using(crate::proofs::RequestLemmas::cuts))]
 fn cut_word(text: &[u8]) -> Option<(&[u8], &[u8])>
     ensures { cut_read result ≡ cut_of text.now }

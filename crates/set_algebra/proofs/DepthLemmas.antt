@@ -6,6 +6,7 @@ use Rattle.set_algebra.specs.Depth.{plan_depth, plans_depth, group_depth, groups
 use Rattle.set_algebra.specs.Lowering.{lowered, lowered_trees, lowered_refinement, lowered_refinements, lowered_attribute, lowered_set, lowered_sets, lowered_in_group, lowered_test}
 
 mutual
+  -- the plan of a constraint is as deep as its tree
   pub lowered_depth : (tree : Tree) → plan_depth (lowered tree) ≡ depth_of tree
   lowered_depth (concept_tree number) = refl
   lowered_depth any_tree = refl

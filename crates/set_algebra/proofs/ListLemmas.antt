@@ -9,62 +9,75 @@ use Rattle.set_algebra.specs.Plan.{Plan, Plans, no_plans, plan_then, values_plan
 use Rattle.set_algebra.specs.Depth.{plan_depth, plans_depth, group_depth, groups_depth}
 use Rattle.set_algebra.proofs.PlanLemmas.{plan_of-Values}
 
--- one more plan at the end
+-- the list of plans of concepts with one more plan at its end
 unfoldable pub plans_push : Plans → Plan → Plans
 plans_push no_plans plan = plan_then plan no_plans
 plans_push (plan_then first rest) plan = plan_then first (plans_push rest plan)
 
+-- the list of plans of groups with one more plan at its end
 unfoldable pub groups_push : PlansOfUnits → PlanOfUnits → PlansOfUnits
 groups_push no_unit_plans plan = unit_plan_then plan no_unit_plans
 groups_push (unit_plan_then first rest) plan = unit_plan_then first (groups_push rest plan)
 
+-- the plans of a list with `part` at its end are the plans of the list with the plan of `part` at their end
 pub plans_of-push : (parts : List ConceptPlan) (part : ConceptPlan) → plans_of (parts ++ part ∷ []) ≡ plans_push (plans_of parts) (plan_of part)
 unfolding plans_push
 plans_of-push [] part = refl
 plans_of-push (first ∷ rest) part = ap (plan_then (plan_of first)) (plans_of-push rest part)
 
+-- the plans of a list of plans of groups with `part` at its end are its plans with the plan of `part` at their end
 pub unit_plans_of-push : (parts : List UnitPlan) (part : UnitPlan) → unit_plans_of (parts ++ part ∷ []) ≡ groups_push (unit_plans_of parts) (unit_plan_of part)
 unfolding groups_push
 unit_plans_of-push [] part = refl
 unit_plans_of-push (first ∷ rest) part = ap (unit_plan_then (unit_plan_of first)) (unit_plans_of-push rest part)
 
+-- a list of plans of concepts with `part` at its end is as deep as the deeper of the list and `part`
 pub plans_depth-push : (parts : Plans) (part : Plan) → plans_depth (plans_push parts part) ≡ max (plans_depth parts) (plan_depth part)
 unfolding plans_push
 plans_depth-push no_plans part = omega arith
 plans_depth-push (plan_then first rest) part = omega (arith, plans_depth-push rest part)
 
+-- a list of plans of groups with `part` at its end is as deep as the deeper of the list and `part`
 pub groups_depth-push : (parts : PlansOfUnits) (part : PlanOfUnits) → groups_depth (groups_push parts part) ≡ max (groups_depth parts) (group_depth part)
 unfolding groups_push
 groups_depth-push no_unit_plans part = omega arith
 groups_depth-push (unit_plan_then first rest) part = omega (arith, groups_depth-push rest part)
 
--- the plans so far, and the next: the step of a loop over the parts
+-- loop step: the plans of the first `i + 1` parts are those of the first `i`, with the plan of part `i` at their end
 pub plans_so_far : (parts : List ConceptPlan) (i : ℕ) (part : ConceptPlan) → i < length parts
     → part ≡ get_or parts i part → plans_of (take (i + 1) parts) ≡ plans_push (plans_of (take i parts)) (plan_of part)
 plans_so_far parts i part within is = rw (take_more parts i part within, ← is) (plans_of-push (take i parts) part)
 
+-- loop step for plans of groups: the plans of the first `i + 1` parts are those of the first `i`, with the plan of
+-- part `i` at their end
 pub groups_so_far : (parts : List UnitPlan) (i : ℕ) (part : UnitPlan) → i < length parts → part ≡ get_or parts i part
     → unit_plans_of (take (i + 1) parts) ≡ groups_push (unit_plans_of (take i parts)) (unit_plan_of part)
 groups_so_far parts i part within is = rw (take_more parts i part within, ← is) (unit_plans_of-push (take i parts) part)
 
--- the deepest so far, and the next. Both are cut off at a limit
+-- loop step: the larger of the depth of `parts` and the depth of `part`, both cut off at `limit`, is the depth of the
+-- list with `part` at its end, cut off at `limit`
 pub deepest_more : (parts next : Plans) (part : Plan) (deepest depth limit : ℕ) → next ≡ plans_push parts part
     → deepest ≡ min (plans_depth parts) limit → depth ≡ min (plan_depth part) limit
     → max deepest depth ≡ min (plans_depth next) limit
 deepest_more parts next part deepest depth limit is deepest_is depth_is = rw is (omega (arith, plans_depth-push parts part))
 
+-- loop step for plans of groups: the larger of the depth of `parts` and the depth of `part`, both cut off at `limit`,
+-- is the depth of the list with `part` at its end, cut off at `limit`
 pub deepest_unit_more : (parts next : PlansOfUnits) (part : PlanOfUnits) (deepest depth limit : ℕ)
     → next ≡ groups_push parts part → deepest ≡ min (groups_depth parts) limit → depth ≡ min (group_depth part) limit
     → max deepest depth ≡ min (groups_depth next) limit
 deepest_unit_more parts next part deepest depth limit is deepest_is depth_is = rw is (omega (arith, groups_depth-push parts part))
 
--- what was made so far of the plans so far, and the next: the step of a loop that makes a `Vec`
+-- loop step: if the plans of `made` are `parts` and the plan of `new` is `part`, then `made` with `new` at its end
+-- has the plans `parts` with `part` at their end
 pub plans_more : (made next_made : List ConceptPlan) (new : ConceptPlan) (parts next : Plans) (part : Plan)
     → next_made ≡ made ++ new ∷ [] → next ≡ plans_push parts part → plans_of made ≡ parts → plan_of new ≡ part
     → plans_of next_made ≡ next
 plans_more made next_made new parts next part made_is next_is so_far one =
     ap plans_of made_is ∙ plans_of-push made new ∙ ap (λ (plans : Plans). plans_push plans (plan_of new)) so_far ∙ ap (plans_push parts) one ∙ sym next_is
 
+-- loop step for plans of groups: if the plans of `made` are `parts` and the plan of `new` is `part`, then `made` with
+-- `new` at its end has the plans `parts` with `part` at their end
 pub groups_more : (made next_made : List UnitPlan) (new : UnitPlan) (parts next : PlansOfUnits) (part : PlanOfUnits)
     → next_made ≡ made ++ new ∷ [] → next ≡ groups_push parts part → unit_plans_of made ≡ parts
     → unit_plan_of new ≡ part → unit_plans_of next_made ≡ next
@@ -72,7 +85,8 @@ groups_more made next_made new parts next part made_is next_is so_far one =
     ap unit_plans_of made_is ∙ unit_plans_of-push made new
     ∙ ap (λ (plans : PlansOfUnits). groups_push plans (unit_plan_of new)) so_far ∙ ap (groups_push parts) one ∙ sym next_is
 
--- values from a start along names, where those of the `Vec` are known
+-- the plan of a `Values` node is `values_plan from along` if its start has the plan `from` and its names have the
+-- plans `along`
 pub values_made : (start : Box ConceptPlan Global) (names : Vec ConceptPlan Global) (from : Plan) (along : Plans)
     → plan_of start.value ≡ from → plans_of names.items ≡ along
     → plan_of (concept_plan.Values start names) ≡ values_plan from along

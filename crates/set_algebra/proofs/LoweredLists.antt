@@ -29,19 +29,24 @@ unfolding groups_push
 lowered_sets-push [] part = refl
 lowered_sets-push (first ∷ rest) part = ap (unit_plan_then (lowered_set (set_tree_of first))) (lowered_sets-push rest part)
 
--- the plans of the parts so far, and of the next
+-- loop step for constraints: the plans of the first `i + 1` parts are those of the first `i`, with the plan of part
+-- `i` at their end
 pub lowered_so_far : (parts : List Constraint) (i : ℕ) (part : Constraint) → i < length parts
     → part ≡ get_or parts i part
     → lowered_trees (trees_of (take (i + 1) parts))
     ≡ plans_push (lowered_trees (trees_of (take i parts))) (lowered (tree_of part))
 lowered_so_far parts i part within is = rw (take_more parts i part within, ← is) (lowered-push (take i parts) part)
 
+-- loop step for refinements: the plans of the first `i + 1` parts are those of the first `i`, with the plan of part
+-- `i` at their end
 pub lowered_refinements_so_far : (parts : List Refinement) (i : ℕ) (part : Refinement) → i < length parts
     → part ≡ get_or parts i part
     → lowered_refinements (refinement_trees_of (take (i + 1) parts))
     ≡ plans_push (lowered_refinements (refinement_trees_of (take i parts))) (lowered_refinement (refinement_tree_of part))
 lowered_refinements_so_far parts i part within is = rw (take_more parts i part within, ← is) (lowered_refinements-push (take i parts) part)
 
+-- loop step for attribute sets: the plans of the first `i + 1` parts are those of the first `i`, with the plan of
+-- part `i` at their end
 pub lowered_sets_so_far : (parts : List AttributeSet) (i : ℕ) (part : AttributeSet) → i < length parts
     → part ≡ get_or parts i part
     → lowered_sets (set_trees_of (take (i + 1) parts))

@@ -13,7 +13,8 @@ use Rattle.constraint_tree.proofs.WalkLemmas.{tells_in_force}
 use Rattle.set_algebra.specs.Meaning.{means, all_mean, some_means, leads, unit_means, all_units_mean, some_unit_means, value_passes, has_pairs, has_groups, pairs_of}
 use Rattle.set_algebra.specs.Lowering.{lowered, lowered_trees, lowered_attribute, lowered_in_group, lowered_refinement, lowered_refinements, lowered_set, lowered_sets, lowered_test}
 
--- what is in the focus is in force, so the second test of that changes nothing
+-- testing the conjunction of focus and refinement once more for a concept in force changes nothing, since the focus
+-- denotes only concepts in force
 in_both : (in_force focus holds : Bool) → (focus ≡ true → in_force ≡ true) → (in_force && (focus && ((in_force && holds) && true))) ≡ (focus && holds)
 in_both true true true is = refl
 in_both true true false is = refl
@@ -21,32 +22,35 @@ in_both true false holds is = refl
 in_both false true holds is = absurd (cc (is refl))
 in_both false false holds is = refl
 
--- one more part of a conjunction, and of a disjunction, of which each part asks for a concept in force
+-- under a test for concepts in force, a conjunct that makes that test itself equals one that does not
 and_more : (in_force meant holds others rest : Bool) → meant ≡ (in_force && holds)
     → (in_force && others) ≡ (in_force && rest) → (in_force && (meant && others)) ≡ (in_force && (holds && rest))
 and_more true meant holds others rest one more = cc
 and_more false meant holds others rest one more = refl
 
+-- a test for concepts in force that both disjuncts make may stand before the disjunction instead
 or_more : (in_force meant holds others rest : Bool) → meant ≡ (in_force && holds) → others ≡ (in_force && rest)
     → (meant || others) ≡ (in_force && (holds || rest))
 or_more true meant holds others rest one more = cc
 or_more false meant holds others rest one more = cc
 
+-- the empty disjunction under a test for concepts in force is false
 or_none : (in_force : Bool) → false ≡ (in_force && false)
 or_none true = refl
 or_none false = refl
 
--- what a constraint denotes is in force
+-- each concept that a constraint denotes is in force
 in_force_if_denoted : (release : Release) (tree : Tree) (concept : ℕ) → denotes release tree concept ≡ true → has_concept release concept ≡ true
 in_force_if_denoted release tree concept holds = (tells_in_force release concept).1 (denotes_concepts_in_force release tree concept holds)
 
--- the same types and the same values pass
+-- `has_pairs` does not change if its types and its values are replaced by equal ones
 pairs_alike : (count : Cardinality) (pairs : List Pair) (types other : ℕ → Bool) (values others : Value → Bool)
     → types ≡ other → values ≡ others → has_pairs count types values pairs ≡ has_pairs count other others pairs
 pairs_alike count pairs types other values others same_types same_values =
     ap (λ (set : ℕ → Bool). has_pairs count set values pairs) same_types ∙ ap (λ (set : Value → Bool). has_pairs count other set pairs) same_values
 
 mutual
+  -- over each release the plan of a constraint means exactly the concepts that the constraint denotes
   pub same_meaning : (release : Release) (tree : Tree) (concept : ℕ) → means release (lowered tree) concept ≡ denotes release tree concept
   same_meaning release (concept_tree number) concept = refl
   same_meaning release any_tree concept = refl

@@ -1,4 +1,4 @@
--- A plan means concepts in force alone.
+-- A plan means only concepts in force.
 use Rattle.std.proofs.Common.{ℕ, ◌≡◌, inl, inr, Bool, true}
 use Rattle.std.proofs.lemmas.Bool.{false≢true, or_cases, and_parts}
 use Rattle.rf2_rows.specs.Release.{Release}
@@ -8,7 +8,7 @@ use Rattle.constraint_tree.proofs.WalkLemmas.{tells_in_force}
 use Rattle.set_algebra.specs.Meaning.{means, some_means, leads, MeansConceptsInForce}
 use Rattle.set_algebra.specs.Plan.{Plan, empty_plan, all_plan, one_plan, walk_plan, members_plan, and_plan, or_plan, minus_plan, values_plan, pairs_plan, units_plan, Plans, no_plans, plan_then}
 
--- the values along types are in force where those of the set are
+-- each concept reached along `names` is in force if each concept of `set` is
 leads_in_force : (names : Plans) (release : Release) (set : ℕ → Bool)
     → ((value : ℕ) → set value ≡ true → has_concept release value ≡ true) → (concept : ℕ)
     → leads release set names concept ≡ true → has_concept release concept ≡ true
@@ -16,8 +16,9 @@ leads_in_force no_plans release set each concept holds = each concept holds
 leads_in_force (plan_then types others) release set each concept holds =
     leads_in_force others release (is_value release set (means release types)) (λ value found. (and_parts (has_concept release value) _ found).0) concept holds
 
--- what a plan means is in force
+-- each concept that a plan or a disjunction means is in force
 mutual
+  -- each concept that a plan means passes the test for concepts in force
   pub in_force_if_meant : (release : Release) (plan : Plan) (concept : ℕ) → means release plan concept ≡ true → has_concept release concept ≡ true
   in_force_if_meant release empty_plan concept holds = absurd (false≢true holds)
   in_force_if_meant release all_plan concept holds = holds
@@ -40,6 +41,6 @@ mutual
     | inr later ↦ in_force_if_some_means release rest concept later
   ]
 
--- so it is one of the release's concepts
+-- each concept that a plan means is in the release's list of concepts in force
 pub means_concepts_in_force : MeansConceptsInForce
 means_concepts_in_force release plan concept holds = (tells_in_force release concept).0 (in_force_if_meant release plan concept holds)

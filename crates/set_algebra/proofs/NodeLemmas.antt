@@ -1,11 +1,11 @@
--- What is put at a place stands there, and the rest is as it was.
+-- A node put at a place stands there, and the other children stay as they were.
 use Rattle.std.proofs.Common.{ℕ, zero, suc, ◌≡◌, Option, Some, None, List, [], ◌∷◌, refl, sym, ap, ◌∙◌}
 use Rattle.std.specs.Prelude.{slice_get, slice_set}
 use Rattle.set_algebra.specs.Places.{Node, concept_node, group_node, plan_nodes, group_nodes, test_nodes, plan_children, group_children, children, inside, node_at, plans_with, groups_with, test_with, plan_with, group_with, with_child, with_changed, put_at, AreOfOneSort, ReplacesOneChild, FindsWhatIsPut, PutsBack}
 use Rattle.set_algebra.specs.Plan.{Plan, empty_plan, all_plan, one_plan, walk_plan, members_plan, and_plan, or_plan, minus_plan, values_plan, pairs_plan, units_plan, Plans, no_plans, plan_then, PlanOfUnits, nothing_unit, every_unit, and_units, or_units, minus_units, pairs_units, PlansOfUnits, no_unit_plans, unit_plan_then, TestPlan, within_plan, outside_plan, number_plan}
 use Rattle.set_algebra.proofs.PlaceLemmas.{no_group_among, no_group_in_test, no_plan_among}
 
--- the nodes of a list with another in it
+-- `plans_with` sets the node at index `number` of a list of plans of concepts, and leaves the others
 plans_replaced : (parts : Plans) (number : ℕ) (new : Plan) → plan_nodes (plans_with parts number new) ≡ slice_set (plan_nodes parts) number (concept_node new)
 plans_replaced no_plans number new = refl
 plans_replaced (plan_then first rest) zero new = refl
@@ -96,6 +96,7 @@ group_replaced (minus_units first second) (suc (suc number)) old new is = absurd
 group_replaced (pairs_units count types test) zero old new is = absurd (cc)
 group_replaced (pairs_units count types test) (suc number) old new is = absurd (no_group_in_test test number old is)
 
+-- `with_child` replaces child `number` by a node of its sort, and leaves the other children
 pub replaces_one_child : ReplacesOneChild
 replaces_one_child (concept_node plan) number (concept_node old) (concept_node new) is sort = plan_replaced plan number old new is
 replaces_one_child (concept_node plan) number (group_node old) (group_node new) is sort = braces_replaced plan number old new is
@@ -106,14 +107,14 @@ replaces_one_child (concept_node plan) number (group_node old) (concept_node new
 replaces_one_child (group_node plan) number (concept_node old) (group_node new) is sort = absurd sort
 replaces_one_child (group_node plan) number (group_node old) (concept_node new) is sort = absurd sort
 
--- an item that is set is found
+-- the index that `slice_set` sets holds the new node
 found_where_set : (nodes : List Node) (number : ℕ) (old new : Node) → slice_get nodes number ≡ Some old
     → slice_get (slice_set nodes number new) number ≡ Some new
 found_where_set [] number old new is = absurd (cc)
 found_where_set (first ∷ rest) zero old new is = refl
 found_where_set (first ∷ rest) (suc number) old new is = found_where_set rest number old new is
 
--- what stands at a place of a child is of the sort of what was put there, so the child is of its own
+-- a node stays of its sort if `new`, of the sort of the old node, is put at one of its places
 same_sort_put : (place : List ℕ) (whole old new : Node) → node_at place whole ≡ Some old → AreOfOneSort old new → AreOfOneSort whole (put_at place new whole)
 same_sort_put [] (concept_node plan) (concept_node old) (concept_node new) is sort = tt
 same_sort_put [] (group_node plan) (group_node old) (group_node new) is sort = tt
@@ -140,6 +141,7 @@ found_in whole number old new find change (Some child) is each there =
     ∙ ap (inside find) (found_where_set (children whole) number child (change child) is)
     ∙ in_child.0
 
+-- a node of the sort of the old one stands at the place where `put_at` puts it
 pub finds_what_is_put : FindsWhatIsPut
 finds_what_is_put [] whole old new is sort = refl
 finds_what_is_put (number ∷ place) whole old new is sort =
@@ -147,7 +149,7 @@ finds_what_is_put (number ∷ place) whole old new is sort =
     (λ child at_child. (finds_what_is_put place child old new at_child sort, same_sort_put place child old new at_child sort))
     is
 
--- a node with the child that it has
+-- a list of plans of concepts does not change if the plan at index `number` is put there again
 plans_back : (parts : Plans) (number : ℕ) (old : Plan) → slice_get (plan_nodes parts) number ≡ Some (concept_node old) → plans_with parts number old ≡ parts
 plans_back no_plans number old is = refl
 plans_back (plan_then first rest) zero old is = let here : first ≡ old = cc in ap (λ (plan : Plan). plan_then plan rest) (sym here)
@@ -226,6 +228,7 @@ back_in whole number old find change None is each there = refl
 back_in whole number old find change (Some child) is each there =
     ap (with_child whole number) (each child there) ∙ child_back whole number child is
 
+-- a node does not change if the node at one of its places is put there again
 pub puts_back : PutsBack
 puts_back [] whole old is = let here : whole ≡ old = cc in sym here
 puts_back (number ∷ place) whole old is =

@@ -17,7 +17,7 @@ use Rattle.set_algebra.specs.Physical.{physical_units_of, physical_units_or, phy
 use Rattle.set_algebra.specs.Physical.{row_of_physical_units, row_of_physicals}
 use mathlib.Core.Former.{Count}
 
--- the physical plans of a row are those of its items
+-- the physical plans of a row of plans of concepts are those of its items
 row_of_physicals-items : {size : Count} (row : Row_of-ConceptPlan size) → row_of_physicals row ≡ physicals_of (items-the_row-ConceptPlan size row)
 row_of_physicals-items end_of-ConceptPlan = refl
 row_of_physicals-items (more_of-ConceptPlan first rest) = ap (physical_then (physical_of first)) (row_of_physicals-items rest)
@@ -37,30 +37,34 @@ row_of_groups parts =
     row_of_physical_units-items (hidden-the_row-UnitPlan-1 parts)
     ∙ ap physical_units_list_of (items_hidden-the_row-UnitPlan-1 parts)
 
--- the physical plan of a variant with a `Vec`, by the items
+-- the physical plan of an `And` is `physical_and` of the physical plans of its items
 pub physical_of-And : (parts : Vec ConceptPlan Global) → physical_of (concept_plan.And parts) ≡ physical_and (physicals_of parts.items)
 physical_of-And parts = ap physical_and (row_of_concepts parts)
 
+-- the physical plan of an `Or` is `physical_or` of the physical plans of its items
 pub physical_of-Or : (parts : Vec ConceptPlan Global) → physical_of (concept_plan.Or parts) ≡ physical_or (physicals_of parts.items)
 physical_of-Or parts = ap physical_or (row_of_concepts parts)
 
+-- the physical plan of a `Values` is `physical_values` of the physical plans of its start and its names
 pub physical_of-Values : (start : Box ConceptPlan Global) (names : Vec ConceptPlan Global)
     → physical_of (concept_plan.Values start names) ≡ physical_values (physical_of start.value) (physicals_of names.items)
 physical_of-Values start names = ap (physical_values (physical_of start.value)) (row_of_concepts names)
 
+-- the physical plan of an `And` of groups is `physical_units_and` of the physical plans of its items
 pub physical_units_of-And : (parts : Vec UnitPlan Global)
     → physical_units_of (unit_plan.And parts) ≡ physical_units_and (physical_units_list_of parts.items)
 physical_units_of-And parts = ap physical_units_and (row_of_groups parts)
 
+-- the physical plan of an `Or` of groups is `physical_units_or` of the physical plans of its items
 pub physical_units_of-Or : (parts : Vec UnitPlan Global)
     → physical_units_of (unit_plan.Or parts) ≡ physical_units_or (physical_units_list_of parts.items)
 physical_units_of-Or parts = ap physical_units_or (row_of_groups parts)
 
--- all of them, for functions that go down a plan
+-- the lemmas on the physical plans of all variants with a `Vec`, for functions that go down a plan
 pub ruleset physicals_of_items = (physical_of-And, physical_of-Or, physical_of-Values, physical_units_of-And, physical_units_of-Or)
 
--- the logical plan of the physical plan of a value of the code is its plan
 mutual
+  -- the logical plan of the physical plan of a plan of concepts in the code is its plan
   pub logical-physical_of : (plan : ConceptPlan) → logical (physical_of plan) ≡ plan_of plan
   logical-physical_of concept_plan.Empty = refl
   logical-physical_of concept_plan.All = refl
@@ -81,6 +85,7 @@ mutual
   logicals-row end_of-ConceptPlan = refl
   logicals-row (more_of-ConceptPlan first rest) = λ i. plan_then (logical-physical_of first i) (logicals-row rest i)
 
+  -- the logical plan of the physical plan of a plan of groups in the code is its plan
   pub logical_units-physical : (plan : UnitPlan) → logical_units (physical_units_of plan) ≡ unit_plan_of plan
   logical_units-physical unit_plan.Nothing = refl
   logical_units-physical unit_plan.Every = refl
@@ -95,6 +100,7 @@ mutual
   logical_units-row end_of-UnitPlan = refl
   logical_units-row (more_of-UnitPlan first rest) = λ i. unit_plan_then (logical_units-physical first i) (logical_units-row rest i)
 
+  -- the logical test of the physical test of a test in the code is its test
   pub logical_test-physical : (test : ValueTest) → logical_test (physical_test_of test) ≡ test_plan_of test
   logical_test-physical (value_test.Within' pointer operand) = ap within_plan (logical-physical_of operand)
   logical_test-physical (value_test.Outside' pointer operand) = ap outside_plan (logical-physical_of operand)

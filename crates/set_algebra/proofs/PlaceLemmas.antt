@@ -1,5 +1,5 @@
--- A node that means the same, put at the place of another, leaves what the whole means: by what lies
--- between, one child at a time.
+-- A plan keeps its meaning if a node in it is replaced by one that means the same. The proof goes from the node up to
+-- the root, one child at a time.
 use Rattle.std.proofs.Common.{ℕ, zero, suc, ◌≡◌, ◌&&◌, ◌||◌, not, Bool, Option, Some, None, List, [], ◌∷◌, refl, sym, ap, subst, ◌∙◌}
 use Rattle.std.specs.Prelude.{slice_get}
 use Rattle.std.proofs.Math.Path.{fun_ext}
@@ -12,7 +12,7 @@ use Rattle.set_algebra.specs.Meaning.{means, all_mean, some_means, leads, unit_m
 use Rattle.set_algebra.specs.Places.{Node, concept_node, group_node, plan_nodes, group_nodes, test_nodes, plan_children, group_children, children, inside, node_at, plans_with, groups_with, test_with, plan_with, group_with, with_child, with_changed, put_at, MeanTheSame, KeepsMeaningAtPlaces}
 use Rattle.set_algebra.specs.Plan.{Plan, empty_plan, all_plan, one_plan, walk_plan, members_plan, and_plan, or_plan, minus_plan, values_plan, pairs_plan, units_plan, Plans, no_plans, plan_then, PlanOfUnits, nothing_unit, every_unit, and_units, or_units, minus_units, pairs_units, PlansOfUnits, no_unit_plans, unit_plan_then, TestPlan, within_plan, outside_plan, number_plan}
 
--- a child that is there and means the same as another
+-- the plan of concepts found as `child` means the same as `new` if `child` does
 found_plan : (release : Release) (here child new : Plan) → Some (concept_node here) ≡ Some (concept_node child)
     → means release child ≡ means release new → means release here ≡ means release new
 found_plan release here child new is same = let same_child : here ≡ child = cc in ap (means release) same_child ∙ same
@@ -21,7 +21,7 @@ found_group : (release : Release) (here child new : PlanOfUnits) → Some (group
     → unit_means release child ≡ unit_means release new → unit_means release here ≡ unit_means release new
 found_group release here child new is same = let same_child : here ≡ child = cc in ap (unit_means release) same_child ∙ same
 
--- in a list of plans
+-- a conjunction of concepts keeps its meaning if one part is replaced by one that means the same
 all_keep : (release : Release) (parts : Plans) (number : ℕ) (child new : Plan)
     → slice_get (plan_nodes parts) number ≡ Some (concept_node child) → means release child ≡ means release new
     → all_mean release parts ≡ all_mean release (plans_with parts number new)
@@ -73,7 +73,7 @@ some_groups_keep release (unit_plan_then first rest) (suc number) child new is s
     ap {B = List Pair → Bool} (λ (set : List Pair → Bool) (pairs : List Pair). unit_means release first pairs
     || set pairs) (some_groups_keep release rest number child new is same)
 
--- in a test
+-- a test lets the same values pass after its plan is replaced by one that means the same
 test_keeps : (release : Release) (test : TestPlan) (number : ℕ) (child new : Plan)
     → slice_get (test_nodes test) number ≡ Some (concept_node child) → means release child ≡ means release new
     → value_passes release test ≡ value_passes release (test_with test number new)
@@ -83,7 +83,7 @@ test_keeps release (outside_plan operand) zero child new is same = ap is_outside
 test_keeps release (outside_plan operand) (suc number) child new is same = absurd (cc)
 test_keeps release (number_plan compare value) number child new is same = absurd (cc)
 
--- a plan of concepts in a plan of concepts
+-- a plan of concepts keeps its meaning if a child that is a plan of concepts is replaced by one that means the same
 plan_keeps : (release : Release) (plan : Plan) (number : ℕ) (child new : Plan)
     → slice_get (plan_children plan) number ≡ Some (concept_node child) → means release child ≡ means release new
     → means release plan ≡ means release (plan_with plan number (concept_node new))
@@ -118,12 +118,13 @@ plan_keeps release (pairs_plan back count types test) (suc number) child new is 
 plan_keeps release (units_plan count units) zero child new is same = absurd (cc)
 plan_keeps release (units_plan count units) (suc number) child new is same = absurd (cc)
 
--- a plan of groups in a plan of concepts: its braces
+-- no child in a list of plans of concepts is a plan of groups
 pub no_group_among : (parts : Plans) (number : ℕ) (child : PlanOfUnits) → slice_get (plan_nodes parts) number ≡ Some (group_node child) → ⊥
 no_group_among no_plans number child is = absurd (cc)
 no_group_among (plan_then first rest) zero child is = absurd (cc)
 no_group_among (plan_then first rest) (suc number) child is = no_group_among rest number child is
 
+-- no child of a test is a plan of groups
 pub no_group_in_test : (test : TestPlan) (number : ℕ) (child : PlanOfUnits) → slice_get (test_nodes test) number ≡ Some (group_node child) → ⊥
 no_group_in_test (within_plan operand) zero child is = absurd (cc)
 no_group_in_test (within_plan operand) (suc number) child is = absurd (cc)
@@ -131,6 +132,7 @@ no_group_in_test (outside_plan operand) zero child is = absurd (cc)
 no_group_in_test (outside_plan operand) (suc number) child is = absurd (cc)
 no_group_in_test (number_plan compare value) number child is = absurd (cc)
 
+-- a plan of concepts keeps its meaning if the plan of groups in its braces is replaced by one that means the same
 braces_keep : (release : Release) (plan : Plan) (number : ℕ) (child new : PlanOfUnits)
     → slice_get (plan_children plan) number ≡ Some (group_node child)
     → unit_means release child ≡ unit_means release new
@@ -156,12 +158,14 @@ braces_keep release (units_plan count units) zero child new is same =
     && has_groups release count set concept) (found_group release units child new is same)
 braces_keep release (units_plan count units) (suc number) child new is same = absurd (cc)
 
--- a plan of concepts in a plan of groups: the types and the values of its pairs
+-- no child in a list of plans of groups is a plan of concepts
 pub no_plan_among : (parts : PlansOfUnits) (number : ℕ) (child : Plan) → slice_get (group_nodes parts) number ≡ Some (concept_node child) → ⊥
 no_plan_among no_unit_plans number child is = absurd (cc)
 no_plan_among (unit_plan_then first rest) zero child is = absurd (cc)
 no_plan_among (unit_plan_then first rest) (suc number) child is = no_plan_among rest number child is
 
+-- a plan of groups keeps its meaning if the types or the values of its pairs are replaced by a plan of concepts that
+-- means the same
 group_keeps_plan : (release : Release) (plan : PlanOfUnits) (number : ℕ) (child new : Plan)
     → slice_get (group_children plan) number ≡ Some (concept_node child) → means release child ≡ means release new
     → unit_means release plan ≡ unit_means release (group_with plan number (concept_node new))
@@ -177,7 +181,7 @@ group_keeps_plan release (pairs_units count types test) zero child new is same =
 group_keeps_plan release (pairs_units count types test) (suc number) child new is same =
     ap (λ (values : Value → Bool). has_pairs count (means release types) values) (test_keeps release test number child new is same)
 
--- a plan of groups in a plan of groups
+-- a plan of groups keeps its meaning if a child that is a plan of groups is replaced by one that means the same
 group_keeps : (release : Release) (plan : PlanOfUnits) (number : ℕ) (child new : PlanOfUnits)
     → slice_get (group_children plan) number ≡ Some (group_node child)
     → unit_means release child ≡ unit_means release new
@@ -196,7 +200,7 @@ group_keeps release (minus_units first second) (suc (suc number)) child new is s
 group_keeps release (pairs_units count types test) zero child new is same = absurd (cc)
 group_keeps release (pairs_units count types test) (suc number) child new is same = absurd (no_group_in_test test number child is)
 
--- a node of either sort in one of either sort
+-- a node of either sort keeps its meaning if a child is replaced by one that means the same
 child_keeps : (release : Release) (whole : Node) (number : ℕ) (child new : Node)
     → slice_get (children whole) number ≡ Some child → MeanTheSame release child new
     → MeanTheSame release whole (with_child whole number new)
@@ -213,7 +217,7 @@ child_keeps release (concept_node plan) number (group_node child) (concept_node 
 child_keeps release (group_node plan) number (concept_node child) (group_node new) is same = absurd same
 child_keeps release (group_node plan) number (group_node child) (concept_node new) is same = absurd same
 
--- the same at a place in a child, if there is one
+-- a node keeps its meaning under a change of child `number` if the child, in which `find` finds `old`, keeps its own
 changed_keeps : (release : Release) (whole : Node) (number : ℕ) (old : Node) (find : Node → Option Node)
     (change : Node → Node) (found : Option Node) → slice_get (children whole) number ≡ found
     → ((child : Node) → find child ≡ Some old → MeanTheSame release child (change child))
@@ -222,6 +226,7 @@ changed_keeps release whole number old find change None is keeps there = absurd 
 changed_keeps release whole number old find change (Some child) is keeps there =
     child_keeps release whole number child (change child) is (keeps child there)
 
+-- a node keeps its meaning if the node at one of its places is replaced by one that means the same
 pub keeps_meaning_at_places : KeepsMeaningAtPlaces
 keeps_meaning_at_places release [] whole old new there same =
     let here : whole ≡ old = cc in subst (λ (node : Node). MeanTheSame release node new) (sym here) same

@@ -1,4 +1,4 @@
--- Lists of equal plans, and what is equal of two variants with a `Vec`.
+-- Equal lists of plans, and equal plans of variants with a `Vec`.
 use Rattle.std.proofs.Common.{ℕ, zero, suc, ◌≡◌, ◌↔◌, ◌+◌, ◌<◌, ◌≤◌, Bool, List, [], ◌∷◌}
 use Rattle.std.proofs.Common.{length, get_or, take, take_all, Vec, Box, IsTrue, refl, sym, ap, ◌∙◌, arith}
 use Rattle.std.specs.declared.alloc.Global.{Global}
@@ -9,13 +9,14 @@ use Rattle.set_algebra.specs.Plan.{Plans, values_plan, plan_of, plans_of, PlansO
 use Rattle.set_algebra.proofs.ListLemmas.{plans_push, groups_push, plans_so_far, groups_so_far}
 use Rattle.set_algebra.proofs.PlanLemmas.{plan_of-Values}
 
--- equal lists have one length, and equal plans at each place
+-- two lists of plans of concepts that have equal plans have one length
 pub same_lengths : (parts others : List ConceptPlan) → plans_of parts ≡ plans_of others → length parts ≡ length others
 same_lengths [] [] same = refl
 same_lengths [] (other ∷ others) same = absurd (cc)
 same_lengths (first ∷ rest) [] same = absurd (cc)
 same_lengths (first ∷ rest) (other ∷ others) same = let tails : plans_of rest ≡ plans_of others = cc in ap suc (same_lengths rest others tails)
 
+-- two lists of plans of groups that have equal plans have one length
 pub same_unit_lengths : (parts others : List UnitPlan) → unit_plans_of parts ≡ unit_plans_of others → length parts ≡ length others
 same_unit_lengths [] [] same = refl
 same_unit_lengths [] (other ∷ others) same = absurd (cc)
@@ -23,6 +24,7 @@ same_unit_lengths (first ∷ rest) [] same = absurd (cc)
 same_unit_lengths (first ∷ rest) (other ∷ others) same = let tails : unit_plans_of rest ≡ unit_plans_of others =
     cc in ap suc (same_unit_lengths rest others tails)
 
+-- two lists of plans of concepts that have equal plans have an equal plan at each index `i`
 pub same_at : (parts others : List ConceptPlan) (i : ℕ) (part other : ConceptPlan) → i < length parts
     → part ≡ get_or parts i part → other ≡ get_or others i other → plans_of parts ≡ plans_of others → plan_of part ≡ plan_of other
 same_at [] others i part other within is other_is same = absurd (omega arith)
@@ -32,6 +34,7 @@ same_at (first ∷ rest) (other_first ∷ others) zero part other within is othe
 same_at (first ∷ rest) (other_first ∷ others) (suc i) part other within is other_is same =
     let tails : plans_of rest ≡ plans_of others = cc in same_at rest others i part other (omega arith) is other_is tails
 
+-- two lists of plans of groups that have equal plans have an equal plan at each index `i`
 pub same_unit_at : (parts others : List UnitPlan) (i : ℕ) (part other : UnitPlan) → i < length parts
     → part ≡ get_or parts i part → other ≡ get_or others i other → unit_plans_of parts ≡ unit_plans_of others
     → unit_plan_of part ≡ unit_plan_of other
@@ -42,7 +45,8 @@ same_unit_at (first ∷ rest) (other_first ∷ others) zero part other within is
 same_unit_at (first ∷ rest) (other_first ∷ others) (suc i) part other within is other_is same =
     let tails : unit_plans_of rest ≡ unit_plans_of others = cc in same_unit_at rest others i part other (omega arith) is other_is tails
 
--- the same so far, and the next: the step of a loop over two lists
+-- loop step over two lists of plans of concepts: if the first `i` plans are equal and the plans at `i` are, then the
+-- first `i + 1` plans are equal
 pub same_more : (parts others : List ConceptPlan) (i : ℕ) (part other : ConceptPlan) → i < length parts
     → length parts ≡ length others → part ≡ get_or parts i part → other ≡ get_or others i other
     → plans_of (take i parts) ≡ plans_of (take i others) → plan_of part ≡ plan_of other
@@ -53,6 +57,8 @@ same_more parts others i part other within long is other_is so_far one =
     ∙ ap (plans_push (plans_of (take i others))) one
     ∙ sym (plans_so_far others i other (omega arith) other_is)
 
+-- loop step over two lists of plans of groups: if the first `i` plans are equal and the plans at `i` are, then the
+-- first `i + 1` plans are equal
 pub same_unit_more : (parts others : List UnitPlan) (i : ℕ) (part other : UnitPlan) → i < length parts
     → length parts ≡ length others → part ≡ get_or parts i part → other ≡ get_or others i other
     → unit_plans_of (take i parts) ≡ unit_plans_of (take i others) → unit_plan_of part ≡ unit_plan_of other
@@ -63,18 +69,22 @@ same_unit_more parts others i part other within long is other_is so_far one =
     ∙ ap (groups_push (unit_plans_of (take i others))) one
     ∙ sym (groups_so_far others i other (omega arith) other_is)
 
--- the same so far, to the end: the lists are the same
+-- two lists of plans of concepts of one length have equal plans if their first `i` plans are equal and `i` is at
+-- least that length
 pub same_all : (parts others : List ConceptPlan) (i : ℕ) → length parts ≤ i → length parts ≡ length others
     → plans_of (take i parts) ≡ plans_of (take i others) → plans_of parts ≡ plans_of others
 same_all parts others i past long so_far =
     sym (ap plans_of (take_all i parts past)) ∙ so_far ∙ ap plans_of (take_all i others (omega arith))
 
+-- two lists of plans of groups of one length have equal plans if their first `i` plans are equal and `i` is at least
+-- that length
 pub same_unit_all : (parts others : List UnitPlan) (i : ℕ) → length parts ≤ i → length parts ≡ length others
     → unit_plans_of (take i parts) ≡ unit_plans_of (take i others) → unit_plans_of parts ≡ unit_plans_of others
 same_unit_all parts others i past long so_far =
     sym (ap unit_plans_of (take_all i parts past)) ∙ so_far ∙ ap unit_plans_of (take_all i others (omega arith))
 
--- plans of values are the same exactly where those by the items of their lists are
+-- `result` tells whether two `Values` plans are equal if it tells so for `values_plan` of their starts and their
+-- items
 pub values_are_same : (one one_other : ConceptPlan) (start start_other : Box ConceptPlan Global)
     (names others : Vec ConceptPlan Global) (from from_other : ConceptPlan) (along along_other : List ConceptPlan)
     (result : Bool) → one ≡ concept_plan.Values start names → one_other ≡ concept_plan.Values start_other others

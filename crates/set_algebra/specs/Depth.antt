@@ -1,9 +1,10 @@
--- How deep a plan is: the number of nodes on the longest way from the root, where the plans of both
--- sorts are nodes, and a test is none.
+-- The depth of a plan: the number of nodes on the longest path from the root. A plan of concepts and a plan of
+-- groups are nodes, and a test is not.
 use Rattle.std.specs.Prelude.{ℕ, suc, max}
 use Rattle.set_algebra.specs.Plan.{Plan, empty_plan, all_plan, one_plan, walk_plan, members_plan, and_plan, or_plan, minus_plan, values_plan, pairs_plan, units_plan, Plans, no_plans, plan_then, PlanOfUnits, nothing_unit, every_unit, and_units, or_units, minus_units, pairs_units, PlansOfUnits, no_unit_plans, unit_plan_then, TestPlan, within_plan, outside_plan, number_plan}
 
 abbrev mutual
+  -- the number of nodes on the longest path from the root of a plan of concepts
   pub plan_depth : Plan → ℕ
   plan_depth empty_plan = 1
   plan_depth all_plan = 1
@@ -17,11 +18,12 @@ abbrev mutual
   plan_depth (pairs_plan back count types test) = suc (max (plan_depth types) (test_depth test))
   plan_depth (units_plan count units) = suc (group_depth units)
 
-  -- of the deepest
+  -- the depth of the deepest plan of a list, or 0 for the empty list
   pub plans_depth : Plans → ℕ
   plans_depth no_plans = 0
   plans_depth (plan_then first rest) = max (plan_depth first) (plans_depth rest)
 
+  -- the number of nodes on the longest path from the root of a plan of groups
   pub group_depth : PlanOfUnits → ℕ
   group_depth nothing_unit = 1
   group_depth every_unit = 1
@@ -30,10 +32,12 @@ abbrev mutual
   group_depth (minus_units first second) = suc (max (group_depth first) (group_depth second))
   group_depth (pairs_units count types test) = suc (max (plan_depth types) (test_depth test))
 
+  -- the depth of the deepest plan of groups of a list, or 0 for the empty list
   pub groups_depth : PlansOfUnits → ℕ
   groups_depth no_unit_plans = 0
   groups_depth (unit_plan_then first rest) = max (group_depth first) (groups_depth rest)
 
+  -- the depth of the plan that a test holds, or 0 for a test by number
   pub test_depth : TestPlan → ℕ
   test_depth (within_plan operand) = plan_depth operand
   test_depth (outside_plan operand) = plan_depth operand

@@ -1,4 +1,4 @@
--- Whether two plans are the same data, as a test that computes.
+-- Tests, as definitions that compute, of whether two plans are equal data.
 use Rattle.std.specs.Prelude.{ℕ, ◌==◌, ◌&&◌, Bool, true, false, Option, Some, None}
 use Rattle.std.specs.Ordering.{int_eq}
 use Rattle.std.proofs.Math.Bool.{beq}
@@ -9,6 +9,7 @@ use Rattle.constraint_tree.specs.declared.operator.Compare.TheVariants.{Equal, N
 use Rattle.constraint_tree.specs.declared.operator.Operator.TheVariants.{Descendants, DescendantsOrSelf, Children, ChildrenOrSelf, Ancestors, AncestorsOrSelf, Parents, ParentsOrSelf, Top, Bottom}
 use Rattle.set_algebra.specs.Plan.{Plan, empty_plan, all_plan, one_plan, walk_plan, members_plan, and_plan, or_plan, minus_plan, values_plan, pairs_plan, units_plan, Plans, no_plans, plan_then, PlanOfUnits, nothing_unit, every_unit, and_units, or_units, minus_units, pairs_units, PlansOfUnits, no_unit_plans, unit_plan_then, TestPlan, within_plan, outside_plan, number_plan}
 
+-- whether two hierarchy operators are equal
 abbrev pub same_operator : Operator → Operator → Bool
 same_operator Descendants Descendants = true
 same_operator DescendantsOrSelf DescendantsOrSelf = true
@@ -22,6 +23,7 @@ same_operator Top Top = true
 same_operator Bottom Bottom = true
 same_operator one other = false
 
+-- whether two comparisons of numbers are equal
 abbrev pub same_comparison : Compare → Compare → Bool
 same_comparison Equal Equal = true
 same_comparison NotEqual NotEqual = true
@@ -31,15 +33,18 @@ same_comparison Greater Greater = true
 same_comparison GreaterOrEqual GreaterOrEqual = true
 same_comparison one other = false
 
+-- whether two maxima are equal; `None` stands for no maximum
 abbrev pub same_most : Option ℕ → Option ℕ → Bool
 same_most None None = true
 same_most (Some most) (Some other) = most == other
 same_most one other = false
 
+-- whether two cardinalities have equal minima and equal maxima
 abbrev pub same_cardinality : Cardinality → Cardinality → Bool
 same_cardinality one other = (one.min == other.min) && same_most one.max other.max
 
 abbrev mutual
+  -- whether two plans of concepts have one variant and equal parts
   pub same_plan : Plan → Plan → Bool
   same_plan empty_plan empty_plan = true
   same_plan all_plan all_plan = true
@@ -59,11 +64,13 @@ abbrev mutual
       same_cardinality count other_count && same_group units others
   same_plan one other = false
 
+  -- whether two lists of plans of concepts have one length and equal plans at each index
   pub same_plans : Plans → Plans → Bool
   same_plans no_plans no_plans = true
   same_plans (plan_then first rest) (plan_then other others) = same_plan first other && same_plans rest others
   same_plans some others = false
 
+  -- whether two plans of groups have one variant and equal parts
   pub same_group : PlanOfUnits → PlanOfUnits → Bool
   same_group nothing_unit nothing_unit = true
   same_group every_unit every_unit = true
@@ -75,11 +82,13 @@ abbrev mutual
       same_cardinality count other_count && (same_plan types others && same_test test other)
   same_group one other = false
 
+  -- whether two lists of plans of groups have one length and equal plans at each index
   pub same_groups : PlansOfUnits → PlansOfUnits → Bool
   same_groups no_unit_plans no_unit_plans = true
   same_groups (unit_plan_then first rest) (unit_plan_then other others) = same_group first other && same_groups rest others
   same_groups some others = false
 
+  -- whether two tests of values have one variant and equal parts
   pub same_test : TestPlan → TestPlan → Bool
   same_test (within_plan operand) (within_plan other) = same_plan operand other
   same_test (outside_plan operand) (outside_plan other) = same_plan operand other

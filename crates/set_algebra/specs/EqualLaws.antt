@@ -1,4 +1,4 @@
--- The tests of same plans tell which data are equal.
+-- `same_plan`, `same_group` and `same_test` hold exactly of equal data.
 use Rattle.std.proofs.Common.{ℕ, ◌≡◌, ◌==◌, ◌&&◌, ◌∙◌, Bool, true, Option, Some, None, refl, ap, subst}
 use Rattle.std.specs.Bool.{Decides}
 use Rattle.std.specs.Cmp.{booleans_Decides}
@@ -74,8 +74,9 @@ cardinality_is one other same =
 cardinality_itself : (one : Cardinality) → same_cardinality one one ≡ true
 cardinality_itself one = and_from _ _ ((Decides-eqb one.min one.min).1 refl) (most_itself one.max)
 
--- what the tests call the same is equal
+-- two plans or tests are equal if the test of equality holds of them
 mutual
+  -- two plans of concepts are equal if `same_plan` holds of them
   plan_is : (one other : Plan) → same_plan one other ≡ true → one ≡ other
   plan_is empty_plan empty_plan same = refl
   plan_is all_plan all_plan same = refl
@@ -151,8 +152,9 @@ mutual
       ∙ ap (number_plan other_compare) ((Decides-int_eq number other).0 parts.1)
   test_is one other same = absurd (false≢true same)
 
--- and each is the same as itself
+-- the test of equality holds of each plan or test and itself
 mutual
+  -- `same_plan` holds of a plan of concepts and itself
   plan_itself : (plan : Plan) → same_plan plan plan ≡ true
   plan_itself empty_plan = refl
   plan_itself all_plan = refl
@@ -191,11 +193,14 @@ mutual
   test_itself (outside_plan operand) = plan_itself operand
   test_itself (number_plan compare number) = and_from _ _ (comparison_itself compare) ((Decides-int_eq number number).1 refl)
 
+-- `same_plan` holds of two plans of concepts exactly if they are equal
 pub decides_plan : (one other : Plan) → Decides (same_plan one other) (one ≡ other)
 decides_plan one other = (plan_is one other, λ is. subst (λ (plan : Plan). same_plan one plan ≡ true) is (plan_itself one))
 
+-- `same_group` holds of two plans of groups exactly if they are equal
 pub decides_group : (one other : PlanOfUnits) → Decides (same_group one other) (one ≡ other)
 decides_group one other = (group_is one other, λ is. subst (λ (plan : PlanOfUnits). same_group one plan ≡ true) is (group_itself one))
 
+-- `same_test` holds of two tests of values exactly if they are equal
 pub decides_test : (one other : TestPlan) → Decides (same_test one other) (one ≡ other)
 decides_test one other = (test_is one other, λ is. subst (λ (test : TestPlan). same_test one test ≡ true) is (test_itself one))

@@ -1,5 +1,5 @@
--- What a plan means over a release: a plan of concepts a set of concepts in force, a plan of groups a set
--- of groups of concepts (Expression Constraint Language, "Simple Expression Constraints", "Refinements"
+-- The meaning of a plan over a release. A plan of concepts means a set of concepts in force, and a plan of groups
+-- a set of groups of concepts (Expression Constraint Language, "Simple Expression Constraints", "Refinements"
 -- and "Cardinality"; Release File Specification, "Relationship file", relationshipGroup). A group is the
 -- list of its distinct pairs. The definitions are tests that compute.
 use Rattle.std.specs.Prelude.{ℕ, Bool, true, false, not, ◌==◌, ◌&&◌, ◌||◌, if◌then◌else◌, IsTrue, List, Contains, filter, count_by}
@@ -12,21 +12,21 @@ use Rattle.constraint_tree.specs.Walks.{has_concept, walks}
 use Rattle.constraint_tree.specs.Denotation.{is_component, is_value}
 use Rattle.set_algebra.specs.Plan.{Plan, empty_plan, all_plan, one_plan, walk_plan, members_plan, and_plan, or_plan, minus_plan, values_plan, pairs_plan, units_plan, Plans, no_plans, plan_then, PlanOfUnits, nothing_unit, every_unit, and_units, or_units, minus_units, pairs_units, PlansOfUnits, no_unit_plans, unit_plan_then, TestPlan, within_plan, outside_plan, number_plan}
 
--- the distinct pairs of a concept, or those of type and source of the rows whose value it is
+-- the distinct pairs of a concept; with `back`, those of type and source of the rows whose value it is
 abbrev pub pairs_of : Release → Bool → ℕ → List Pair
 pairs_of release back concept = if back then in_pairs release concept else out_pairs release concept
 
--- whether as many of the pairs as the cardinality asks have a type in the set and a value that passes
+-- whether the number of pairs with a type in `types` and a value that passes lies in `count`
 abbrev pub has_pairs : Cardinality → (ℕ → Bool) → (Value → Bool) → List Pair → Bool
 has_pairs count types passes pairs =
     lies_in count (count_by (λ pair. types pair.type_id && passes pair.value) pairs)
 
--- whether as many of the concept's groups as the cardinality asks are in the set
+-- whether the number of the concept's groups that are in `set` lies in `count`
 abbrev pub has_groups : Release → Cardinality → (List Pair → Bool) → ℕ → Bool
 has_groups release count set concept = lies_in count (count_by set (groups_of release concept))
 
 abbrev mutual
-  -- whether a concept is in the set that a plan means
+  -- whether a concept is in the set that a plan of concepts means
   pub means : Release → Plan → ℕ → Bool
   means release empty_plan concept = false
   means release all_plan concept = has_concept release concept
@@ -45,24 +45,26 @@ abbrev mutual
   means release (units_plan count units) concept =
       has_concept release concept && has_groups release count (unit_means release units) concept
 
-  -- of no plans everything is in all, and nothing in some
+  -- whether a concept is in the set of each plan of a list; it is if the list is empty
   pub all_mean : Release → Plans → ℕ → Bool
   all_mean release no_plans concept = true
   all_mean release (plan_then first rest) concept =
       means release first concept && all_mean release rest concept
 
+  -- whether a concept is in the set of at least one plan of a list; it is not if the list is empty
   pub some_means : Release → Plans → ℕ → Bool
   some_means release no_plans concept = false
   some_means release (plan_then first rest) concept =
       means release first concept || some_means release rest concept
 
-  -- from a set along types: the values of the attributes with a type in the first, then along the others
+  -- whether a concept is reached from `set` along attributes: the type of the first is in the first plan, that of the
+  -- second in the second, up to the last
   pub leads : Release → (ℕ → Bool) → Plans → ℕ → Bool
   leads release set no_plans concept = set concept
   leads release set (plan_then types others) concept =
       leads release (is_value release set (means release types)) others concept
 
-  -- whether a group is in the set that a plan means
+  -- whether a group, given by its distinct pairs, is in the set that a plan of groups means
   pub unit_means : Release → PlanOfUnits → List Pair → Bool
   unit_means release nothing_unit pairs = false
   unit_means release every_unit pairs = true
@@ -73,17 +75,19 @@ abbrev mutual
   unit_means release (pairs_units count types test) pairs =
       has_pairs count (means release types) (value_passes release test) pairs
 
+  -- whether a group is in the set of each plan of groups of a list; it is if the list is empty
   pub all_units_mean : Release → PlansOfUnits → List Pair → Bool
   all_units_mean release no_unit_plans pairs = true
   all_units_mean release (unit_plan_then first rest) pairs =
       unit_means release first pairs && all_units_mean release rest pairs
 
+  -- whether a group is in the set of at least one plan of groups of a list; it is not if the list is empty
   pub some_unit_means : Release → PlansOfUnits → List Pair → Bool
   some_unit_means release no_unit_plans pairs = false
   some_unit_means release (unit_plan_then first rest) pairs =
       unit_means release first pairs || some_unit_means release rest pairs
 
-  -- whether the value of a pair passes a test
+  -- whether the value of a pair passes a test of values
   pub value_passes : Release → TestPlan → Value → Bool
   value_passes release (within_plan operand) value = is_within (means release operand) value
   value_passes release (outside_plan operand) value = is_outside (means release operand) value
@@ -93,7 +97,7 @@ abbrev mutual
 abbrev pub meaning : Release → Plan → List ℕ
 meaning release plan = filter (means release plan) release.concepts
 
--- no plan means anything but concepts in force
+-- each concept that a plan means over a release is in force there
 abbrev pub MeansConceptsInForce : Type 0
 MeansConceptsInForce =
     (release : Release) (plan : Plan) (concept : ℕ) →

@@ -1,5 +1,6 @@
--- Physical plans as data without pointers: a plan in which each leaf has the choice of the rows that it is answered from. A leaf is a
--- node that counts pairs, of concepts or of groups. The plan of `Plan` is the logical one: what is meant does not depend on choices.
+-- Physical plans as data without pointers. In a physical plan each leaf has a choice: the attribute rows that answer
+-- it. A leaf is a node that counts pairs, of concepts or of groups. `Plan` is the logical plan, which has no choices:
+-- a choice does not change the meaning.
 use Rattle.std.specs.Prelude.{ℕ, ℤ, Bool, List, [], ◌∷◌, map}
 use Rattle.constraint_tree.specs.declared.operator.Operator.{Operator}
 use Rattle.constraint_tree.specs.declared.operator.Compare.{Compare}
@@ -17,7 +18,8 @@ use Rattle.set_algebra.specs.Plan.{PlanOfUnits, nothing_unit, every_unit, and_un
 use Rattle.set_algebra.specs.Plan.{PlansOfUnits, no_unit_plans, unit_plan_then, TestPlan, within_plan, outside_plan, number_plan}
 
 mutual
-  -- of concepts. `physical_pairs` has whether rows are read backwards, the cardinality, the types, the test and the choice
+  -- a physical plan of concepts. `physical_pairs` has whether rows are read backwards, the cardinality, the types,
+  -- the test and the choice
   pub data Physical : Type 0 where
     physical_empty : Physical
     physical_all : Physical
@@ -31,11 +33,12 @@ mutual
     physical_pairs : Bool → Cardinality → Physical → PhysicalTest → Choice → Physical
     physical_units : Cardinality → PhysicalUnits → Physical
 
+  -- a list of physical plans of concepts
   pub data Physicals : Type 0 where
     no_physicals : Physicals
     physical_then : Physical → Physicals → Physicals
 
-  -- of groups
+  -- a physical plan of groups
   pub data PhysicalUnits : Type 0 where
     physical_nothing : PhysicalUnits
     physical_every : PhysicalUnits
@@ -44,27 +47,30 @@ mutual
     physical_units_minus : PhysicalUnits → PhysicalUnits → PhysicalUnits
     physical_units_pairs : Cardinality → Physical → PhysicalTest → Choice → PhysicalUnits
 
+  -- a list of physical plans of groups
   pub data PhysicalUnitsList : Type 0 where
     no_physical_units : PhysicalUnitsList
     physical_units_then : PhysicalUnits → PhysicalUnitsList → PhysicalUnitsList
 
-  -- what the value of a pair must pass
+  -- a physical test of values: the value of a pair must pass it
   pub data PhysicalTest : Type 0 where
     physical_within : Physical → PhysicalTest
     physical_outside : Physical → PhysicalTest
     physical_number : Compare → ℤ → PhysicalTest
 
--- the physical plans of a list
+-- a list of physical plans of concepts as `Physicals`
 abbrev pub physicals_from : List Physical → Physicals
 physicals_from [] = no_physicals
 physicals_from (plan ∷ plans) = physical_then plan (physicals_from plans)
 
+-- a list of physical plans of groups as `PhysicalUnitsList`
 abbrev pub physical_units_from : List PhysicalUnits → PhysicalUnitsList
 physical_units_from [] = no_physical_units
 physical_units_from (plan ∷ plans) = physical_units_then plan (physical_units_from plans)
 
--- the physical plan of a value of the code
+-- the physical plan that a value of the code stands for
 abbrev mutual
+  -- the physical plan of a plan of concepts in the code
   pub physical_of : ConceptPlan → Physical
   physical_of concept_plan.Empty = physical_empty
   physical_of concept_plan.All = physical_all
@@ -79,10 +85,12 @@ abbrev mutual
       physical_pairs back count (physical_of types) (physical_test_of test) choice
   physical_of (concept_plan.Units' count pointer units) = physical_units count (physical_units_of units)
 
+  -- the physical plans of a row of plans of concepts, the form in which the toolchain hides the items of a `Vec`
   pub row_of_physicals : {size : _} → Row_of-ConceptPlan size → Physicals
   row_of_physicals end_of-ConceptPlan = no_physicals
   row_of_physicals (more_of-ConceptPlan first rest) = physical_then (physical_of first) (row_of_physicals rest)
 
+  -- the physical plan of a plan of groups in the code
   pub physical_units_of : UnitPlan → PhysicalUnits
   physical_units_of unit_plan.Nothing = physical_nothing
   physical_units_of unit_plan.Every = physical_every
@@ -93,24 +101,28 @@ abbrev mutual
   physical_units_of (unit_plan.Pairs' count pointer types test choice) =
       physical_units_pairs count (physical_of types) (physical_test_of test) choice
 
+  -- the physical plans of a row of plans of groups, the form in which the toolchain hides the items of a `Vec`
   pub row_of_physical_units : {size : _} → Row_of-UnitPlan size → PhysicalUnitsList
   row_of_physical_units end_of-UnitPlan = no_physical_units
   row_of_physical_units (more_of-UnitPlan first rest) = physical_units_then (physical_units_of first) (row_of_physical_units rest)
 
+  -- the physical test of a test of values in the code
   pub physical_test_of : ValueTest → PhysicalTest
   physical_test_of (value_test.Within' pointer operand) = physical_within (physical_of operand)
   physical_test_of (value_test.Outside' pointer operand) = physical_outside (physical_of operand)
   physical_test_of (value_test.Number compare decimal) = physical_number compare decimal.0
 
--- the physical plans of the items of a `Vec` or a slice
+-- the physical plans of the plans of concepts in a `Vec` or a slice
 abbrev pub physicals_of : List ConceptPlan → Physicals
 physicals_of parts = physicals_from (map physical_of parts)
 
+-- the physical plans of the plans of groups in a `Vec` or a slice
 abbrev pub physical_units_list_of : List UnitPlan → PhysicalUnitsList
 physical_units_list_of parts = physical_units_from (map physical_units_of parts)
 
--- the logical plan, which has no choices
+-- the logical plan of a physical plan: it leaves out the choices
 abbrev mutual
+  -- the logical plan of a physical plan of concepts: it leaves out the choices
   pub logical : Physical → Plan
   logical physical_empty = empty_plan
   logical physical_all = all_plan
@@ -124,10 +136,12 @@ abbrev mutual
   logical (physical_pairs back count types test choice) = pairs_plan back count (logical types) (logical_test test)
   logical (physical_units count units) = units_plan count (logical_units units)
 
+  -- the logical plans of a list of physical plans of concepts
   pub logicals : Physicals → Plans
   logicals no_physicals = no_plans
   logicals (physical_then first rest) = plan_then (logical first) (logicals rest)
 
+  -- the logical plan of a physical plan of groups: it leaves out the choices
   pub logical_units : PhysicalUnits → PlanOfUnits
   logical_units physical_nothing = nothing_unit
   logical_units physical_every = every_unit
@@ -136,10 +150,12 @@ abbrev mutual
   logical_units (physical_units_minus first second) = minus_units (logical_units first) (logical_units second)
   logical_units (physical_units_pairs count types test choice) = pairs_units count (logical types) (logical_test test)
 
+  -- the logical plans of a list of physical plans of groups
   pub logical_units_list : PhysicalUnitsList → PlansOfUnits
   logical_units_list no_physical_units = no_unit_plans
   logical_units_list (physical_units_then first rest) = unit_plan_then (logical_units first) (logical_units_list rest)
 
+  -- the logical test of a physical test of values
   pub logical_test : PhysicalTest → TestPlan
   logical_test (physical_within operand) = within_plan (logical operand)
   logical_test (physical_outside operand) = outside_plan (logical operand)

@@ -1,6 +1,6 @@
--- Plans as data without pointers, and the one that a value of the code stands for. Every definition and
+-- Plans as data without pointers, and the plan that a value of the code stands for. Every definition and
 -- every contract speaks of this data, since two equal plans of the code may lie at different places in
--- memory. There are two sorts: a plan of concepts, and a plan of groups of concepts.
+-- memory. There are two sorts: plans of concepts, and plans of groups of concepts.
 use Rattle.std.specs.Prelude.{ℕ, ℤ, Bool, List, [], ◌∷◌, map}
 use Rattle.constraint_tree.specs.declared.operator.Operator.{Operator}
 use Rattle.constraint_tree.specs.declared.operator.Compare.{Compare}
@@ -13,7 +13,7 @@ use Rattle.set_algebra.specs.declared.plan.ValueTest.{ValueTest}
 use Rattle.set_algebra.specs.declared.plan.ValueTest.TheVariants as value_test
 
 mutual
-  -- of concepts. `pairs_plan` has whether rows are read backwards, the cardinality, the types and the test
+  -- a plan of concepts. `pairs_plan` has whether rows are read backwards, the cardinality, the types and the test
   pub data Plan : Type 0 where
     empty_plan : Plan
     all_plan : Plan
@@ -27,11 +27,12 @@ mutual
     pairs_plan : Bool → Cardinality → Plan → TestPlan → Plan
     units_plan : Cardinality → PlanOfUnits → Plan
 
+  -- a list of plans of concepts
   pub data Plans : Type 0 where
     no_plans : Plans
     plan_then : Plan → Plans → Plans
 
-  -- of groups
+  -- a plan of groups. `pairs_units` has the cardinality, the types and the test
   pub data PlanOfUnits : Type 0 where
     nothing_unit : PlanOfUnits
     every_unit : PlanOfUnits
@@ -40,27 +41,30 @@ mutual
     minus_units : PlanOfUnits → PlanOfUnits → PlanOfUnits
     pairs_units : Cardinality → Plan → TestPlan → PlanOfUnits
 
+  -- a list of plans of groups
   pub data PlansOfUnits : Type 0 where
     no_unit_plans : PlansOfUnits
     unit_plan_then : PlanOfUnits → PlansOfUnits → PlansOfUnits
 
-  -- what the value of a pair must pass
+  -- a test of values: the value of a pair must pass it
   pub data TestPlan : Type 0 where
     within_plan : Plan → TestPlan
     outside_plan : Plan → TestPlan
     number_plan : Compare → ℤ → TestPlan
 
--- the plans of a list
+-- a list of plans of concepts as `Plans`
 abbrev pub plans_from : List Plan → Plans
 plans_from [] = no_plans
 plans_from (plan ∷ plans) = plan_then plan (plans_from plans)
 
+-- a list of plans of groups as `PlansOfUnits`
 abbrev pub units_from : List PlanOfUnits → PlansOfUnits
 units_from [] = no_unit_plans
 units_from (plan ∷ plans) = unit_plan_then plan (units_from plans)
 
--- the plan of a value of the code: a `Box` is what it holds, a `Vec` the list of its items
+-- the plan that a value of the code stands for: a `Box` stands for its content, and a `Vec` for the list of its items
 abbrev mutual
+  -- the plan that a plan of concepts in the code stands for; the choice of a leaf is left out
   pub plan_of : ConceptPlan → Plan
   plan_of concept_plan.Empty = empty_plan
   plan_of concept_plan.All = all_plan
@@ -74,10 +78,12 @@ abbrev mutual
   plan_of (concept_plan.Pairs' back count pointer types test choice) = pairs_plan back count (plan_of types) (test_plan_of test)
   plan_of (concept_plan.Units' count pointer units) = units_plan count (unit_plan_of units)
 
+  -- the plans of a row of plans of concepts, the form in which the toolchain hides the items of a `Vec`
   pub row_of_plans : {size : _} → Row_of-ConceptPlan size → Plans
   row_of_plans end_of-ConceptPlan = no_plans
   row_of_plans (more_of-ConceptPlan first rest) = plan_then (plan_of first) (row_of_plans rest)
 
+  -- the plan that a plan of groups in the code stands for; the choice of a leaf is left out
   pub unit_plan_of : UnitPlan → PlanOfUnits
   unit_plan_of unit_plan.Nothing = nothing_unit
   unit_plan_of unit_plan.Every = every_unit
@@ -86,18 +92,21 @@ abbrev mutual
   unit_plan_of (unit_plan.Minus' pointer first other second) = minus_units (unit_plan_of first) (unit_plan_of second)
   unit_plan_of (unit_plan.Pairs' count pointer types test choice) = pairs_units count (plan_of types) (test_plan_of test)
 
+  -- the plans of a row of plans of groups, the form in which the toolchain hides the items of a `Vec`
   pub row_of_units : {size : _} → Row_of-UnitPlan size → PlansOfUnits
   row_of_units end_of-UnitPlan = no_unit_plans
   row_of_units (more_of-UnitPlan first rest) = unit_plan_then (unit_plan_of first) (row_of_units rest)
 
+  -- the test that a test of values in the code stands for
   pub test_plan_of : ValueTest → TestPlan
   test_plan_of (value_test.Within' pointer operand) = within_plan (plan_of operand)
   test_plan_of (value_test.Outside' pointer operand) = outside_plan (plan_of operand)
   test_plan_of (value_test.Number compare decimal) = number_plan compare decimal.0
 
--- the plans of the items of a `Vec` or a slice
+-- the plans of the plans of concepts in a `Vec` or a slice
 abbrev pub plans_of : List ConceptPlan → Plans
 plans_of parts = plans_from (map plan_of parts)
 
+-- the plans of the plans of groups in a `Vec` or a slice
 abbrev pub unit_plans_of : List UnitPlan → PlansOfUnits
 unit_plans_of parts = units_from (map unit_plan_of parts)

@@ -1,6 +1,6 @@
--- The plans of the worked queries, and the concepts that they mean in the sample release: facts that
--- follow by computing. Each list is the one that the query denotes there. Above each query stands its
--- text, with numbers in place of names.
+-- The plans of the worked queries, and the concepts that they mean in the sample release. These facts follow by
+-- computing. Each list holds the concepts that the query denotes there. The comment above a query is its text, with
+-- numbers in place of names.
 use Rattle.std.specs.Prelude.{ℕ, ◌≡◌, false, List, [], ◌∷◌}
 use Rattle.constraint_tree.specs.declared.operator.Compare.TheVariants.{Equal, Less, LessOrEqual, Greater, GreaterOrEqual}
 use Rattle.constraint_tree.specs.declared.operator.Operator.TheVariants.{Descendants, DescendantsOrSelf, Children, ChildrenOrSelf, AncestorsOrSelf, ParentsOrSelf, Top, Bottom}
@@ -13,10 +13,11 @@ use Rattle.set_algebra.specs.Plan.{Plan, all_plan, one_plan, walk_plan, and_plan
 
 -- Four plans.
 
+-- the plan of the constraint `query` is `plan`
 abbrev pub HasPlan : Tree → Plan → Type 0
 HasPlan query plan = lowered query ≡ plan
 
--- what is below Alpha
+-- the plan of the descendants of Alpha
 abbrev pub below_alpha_plan : Plan
 below_alpha_plan = walk_plan Descendants (one_plan alpha)
 
@@ -32,10 +33,11 @@ HasPlanOfNumber =
     HasPlan (with_attribute any_tree (has type_u (number_test Greater two)))
     (both_plan all_plan (pairs_plan false (at_least 1) (one_plan type_u) (number_plan Greater two)))
 
--- 104001=<<106004 and 105000=*, of a group
+-- the groups that satisfy 104001=<<106004
 abbrev pub x_group : PlanOfUnits
 x_group = pairs_units (at_least 1) (one_plan type_t) (within_plan (walk_plan DescendantsOrSelf (one_plan value_x)))
 
+-- the groups that satisfy 105000=*
 abbrev pub u_group : PlanOfUnits
 u_group = pairs_units (at_least 1) (one_plan type_u) (within_plan all_plan)
 
@@ -51,8 +53,9 @@ HasPlanOfTwice =
     HasPlan (all_of (concept_tree alpha ∷ concept_tree alpha ∷ []))
     (and_plan (plans_from (one_plan alpha ∷ one_plan alpha ∷ [])))
 
--- What the plans mean.
+-- The meanings of the plans.
 
+-- the plan of the constraint `query` means exactly the concepts `answer` in the sample release
 abbrev pub PlanMeans : Tree → List ℕ → Type 0
 PlanMeans query answer = meaning sample (lowered query) ≡ answer
 
@@ -133,7 +136,7 @@ MeansNumbers =
     × PlanMeans (with_attribute any_tree (has type_u (number_test Equal two_and_a_half))) (gamma ∷ [])
     × PlanMeans (with_attribute any_tree (has type_u (number_test Less two_point_six))) (gamma ∷ [])
 
--- a bound that is met, and one that is not
+-- each comparison on a bound that it meets, and on one that it does not meet
 -- *:105000<=#2.5
 -- *:105000<#2.5
 -- *:105000>=#2.5
@@ -145,7 +148,7 @@ MeansBounds =
     × PlanMeans (with_attribute any_tree (has type_u (number_test GreaterOrEqual two_and_a_half))) (gamma ∷ delta ∷ [])
     × PlanMeans (with_attribute any_tree (has type_u (number_test GreaterOrEqual two_point_six))) (delta ∷ [])
 
--- what is in the first and not in the second
+-- `MINUS` gives the concepts of the first operand that are not in the second
 -- <<100005 MINUS 101009
 -- <<100005 MINUS <<101009
 -- 101009 MINUS <<100005
@@ -192,7 +195,7 @@ MeansOperands =
     × PlanMeans (all_of (self_or_descendants_of beta ∷ self_or_descendants_of gamma ∷ [])) (delta ∷ [])
     × PlanMeans (all_of (below_alpha ∷ concept_tree beta ∷ [])) (beta ∷ [])
 
--- neither number is a concept in force, and three at least and one at most is never satisfied
+-- neither number is a concept in force, and no count is both at least three and at most one
 -- 109006
 -- 999999
 -- <100005:[3..1]105000=*

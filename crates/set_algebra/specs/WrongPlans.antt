@@ -1,5 +1,5 @@
--- Plans that look as if they meant the same as the plan of a query, and mean other concepts in the sample
--- release. Above each query stands its text.
+-- Plans that look as if they meant the same as the plan of a query, but mean other concepts in the sample release.
+-- The comment above a plan also has the text of the query.
 use Rattle.std.specs.Prelude.{ℕ, ◌≡◌, ◌≢◌, false, List, [], ◌∷◌}
 use Rattle.constraint_tree.specs.Tree.{Tree, one_set}
 use Rattle.constraint_tree.specs.Sample.{sample, beta, gamma, delta, type_t, type_u}
@@ -9,38 +9,42 @@ use Rattle.set_algebra.specs.Meaning.{meaning}
 use Rattle.set_algebra.specs.Plan.{Plan, all_plan, one_plan, and_plan, or_plan, pairs_plan, units_plan, plans_from, PlanOfUnits, pairs_units, within_plan}
 use Rattle.set_algebra.specs.WorkedPlans.{below_alpha_plan, x_group, u_group}
 
--- the plan of the query means the first list, and the other plan the second, which is another
+-- in the sample release the plan of `query` means `right` and `plan` means `wrong`, and these two lists differ
 abbrev pub Misplans : Tree → Plan → List ℕ → List ℕ → Type 0
 Misplans query plan right wrong =
     (meaning sample (lowered query) ≡ right) × (meaning sample plan ≡ wrong) × (right ≢ wrong)
 
--- `{ a , b }` as `{ a }` and `{ b }`: each in some group
+-- the plan that reads `{ a , b }` as `{ a }` and `{ b }`: each attribute in any group
 -- <100005:{104001=<<106004,105000=*}
 abbrev pub split_braces_plan : Plan
 split_braces_plan =
     both_plan below_alpha_plan
     (and_plan (plans_from (units_plan (at_least 1) x_group ∷ units_plan (at_least 1) u_group ∷ [])))
 
+-- the plan with split braces also means Gamma and Delta, which the query does not denote
 abbrev pub MisplansSplitBraces : Type 0
 MisplansSplitBraces = Misplans braces_query split_braces_plan (beta ∷ []) (beta ∷ gamma ∷ delta ∷ [])
 
--- `[2..*] { a OR b }` as `[2..*] { a }` or `[2..*] { b }`: two groups of one kind
--- <100005:[2..*]{104001=* OR 105000=*}
+-- the groups that have an attribute T
 abbrev pub t_group : PlanOfUnits
 t_group = pairs_units (at_least 1) (one_plan type_t) (within_plan all_plan)
 
+-- the plan that reads `[2..*] { a OR b }` as `[2..*] { a }` or `[2..*] { b }`: two groups of one kind
+-- <100005:[2..*]{104001=* OR 105000=*}
 abbrev pub spread_count_plan : Plan
 spread_count_plan =
     both_plan below_alpha_plan
     (or_plan (plans_from (units_plan (at_least 2) t_group ∷ units_plan (at_least 2) u_group ∷ [])))
 
+-- the plan with the spread count misses Gamma, which the query denotes
 abbrev pub MisplansSpreadCount : Type 0
 MisplansSpreadCount = Misplans two_groups_query spread_count_plan (gamma ∷ delta ∷ []) (delta ∷ [])
 
--- `[2..*] { a }` as `[2..*] a`: two pairs, in whatever groups
+-- the plan that reads `[2..*] { a }` as `[2..*] a`: two pairs, in any groups
 -- <100005:[2..*]{105000=*}
 abbrev pub no_braces_plan : Plan
 no_braces_plan = both_plan below_alpha_plan (pairs_plan false (at_least 2) (one_plan type_u) (within_plan all_plan))
 
+-- the plan without braces misses Delta, which the query denotes
 abbrev pub MisplansCountOfBraces : Type 0
 MisplansCountOfBraces = Misplans (with_braces below_alpha (at_least 2) (one_set finds_u)) no_braces_plan (delta ∷ []) []

@@ -1,13 +1,13 @@
-//! The ways in which a leaf of a plan can be answered.
+//! The choice of the rows that answer a leaf of a plan.
 
-/// Which attribute rows a leaf of a plan is answered from. A leaf is a node that counts pairs, of concepts or of groups
+/// Which attribute rows answer a leaf of a plan. A leaf is a node that counts pairs, of concepts or of groups
 /// (Expression Constraint Language, "Refinements").
 #[derive(Clone, Copy, Debug, PartialEq, Eq)]
 pub enum Choice {
-    /// Those of the values that pass its test, which says within which set a value is.
+    /// The rows whose value is in the set of the leaf's `Within` test.
     ByValue,
-    /// Those of its types.
+    /// The rows with one of the leaf's types.
     ByType,
-    /// All.
+    /// All attribute rows.
     Scan,
 }

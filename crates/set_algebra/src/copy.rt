@@ -1,4 +1,4 @@
-//! Copies of plans and of their pieces.
+//! Copies of plans and of their parts.
 ghost use Rattle.std.specs.Prelude.{◌≡◌, IfOk};
 ghost use Rattle.set_algebra.specs.Plan.{plan_of, plans_of, unit_plan_of, unit_plans_of, test_plan_of};
 
@@ -6,7 +6,7 @@ use crate::plan::{ConceptPlan, UnitPlan, ValueTest};
 use std::alloc::{AllocError, Global};
 
 impl ConceptPlan {
-    /// A plan that is equal to this one, with memory of its own. The error is want of memory.
+    /// Copies the plan into memory of its own. The error is want of memory.
     #[cycle(copy)]
     #[tactic(auto, using(crate::proofs::PlanLemmas::plans_of_items))]
     pub fn copy(&self, alloc: Global) -> Result<ConceptPlan, AllocError>
@@ -52,7 +52,7 @@ impl ConceptPlan {
 }
 
 impl UnitPlan {
-    /// A plan that is equal to this one, with memory of its own. The error is want of memory.
+    /// Copies the plan of groups into memory of its own. The error is want of memory.
     #[cycle(copy)]
     #[tactic(auto, using(crate::proofs::PlanLemmas::plans_of_items))]
     pub fn copy(&self, alloc: Global) -> Result<UnitPlan, AllocError>
@@ -82,7 +82,7 @@ impl UnitPlan {
 }
 
 impl ValueTest {
-    /// A test that is equal to this one, with memory of its own. The error is want of memory.
+    /// Copies the test into memory of its own. The error is want of memory.
     #[cycle(copy)]
     pub fn copy(&self, alloc: Global) -> Result<ValueTest, AllocError>
         ensures { IfOk result (λ copy. test_plan_of copy ≡ test_plan_of self.now) }
@@ -95,7 +95,7 @@ impl ValueTest {
     }
 }
 
-/// A copy of the plan in a box. The error is want of memory.
+/// Copies the plan into a box. The error is want of memory.
 #[cycle(copy)]
 pub fn boxed(alloc: Global, plan: &ConceptPlan) -> Result<Box<ConceptPlan>, AllocError>
     ensures { IfOk result (λ copy. plan_of copy.value ≡ plan_of plan.now) }
@@ -104,7 +104,7 @@ pub fn boxed(alloc: Global, plan: &ConceptPlan) -> Result<Box<ConceptPlan>, Allo
     Ok(Box::new(alloc, copy)?)
 }
 
-/// A copy of the plan of groups in a box. The error is want of memory.
+/// Copies the plan of groups into a box. The error is want of memory.
 #[cycle(copy)]
 pub fn boxed_unit(alloc: Global, plan: &UnitPlan) -> Result<Box<UnitPlan>, AllocError>
     ensures { IfOk result (λ copy. unit_plan_of copy.value ≡ unit_plan_of plan.now) }
@@ -113,7 +113,7 @@ pub fn boxed_unit(alloc: Global, plan: &UnitPlan) -> Result<Box<UnitPlan>, Alloc
     Ok(Box::new(alloc, copy)?)
 }
 
-/// A copy of each plan, in their order. The error is want of memory.
+/// Copies each plan, and keeps their order. The error is want of memory.
 #[cycle(copy)]
 pub fn each(alloc: Global, plans: &[ConceptPlan]) -> Result<Vec<ConceptPlan>, AllocError>
     ensures { IfOk result (λ copies. plans_of copies.items ≡ plans_of plans.now) }
@@ -126,7 +126,7 @@ pub fn each(alloc: Global, plans: &[ConceptPlan]) -> Result<Vec<ConceptPlan>, Al
     Ok(copies)
 }
 
-/// A copy of each plan of groups, in their order. The error is want of memory.
+/// Copies each plan of groups, and keeps their order. The error is want of memory.
 #[cycle(copy)]
 pub fn each_unit(alloc: Global, plans: &[UnitPlan]) -> Result<Vec<UnitPlan>, AllocError>
     ensures { IfOk result (λ copies. unit_plans_of copies.items ≡ unit_plans_of plans.now) }

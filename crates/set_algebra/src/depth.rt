@@ -1,4 +1,4 @@
-//! How deep a plan is.
+//! The depth of a plan.
 ghost use Rattle.std.specs.Prelude.{◌≡◌, ◌-◌, ◌^◌, min};
 ghost use Rattle.set_algebra.specs.Depth.{plan_depth, plans_depth, group_depth, groups_depth, test_depth};
 ghost use Rattle.set_algebra.specs.Plan.{plan_of, plans_of, unit_plan_of, unit_plans_of, test_plan_of};
@@ -6,8 +6,8 @@ ghost use Rattle.set_algebra.specs.Plan.{plan_of, plans_of, unit_plan_of, unit_p
 use crate::plan::{ConceptPlan, UnitPlan, ValueTest};
 
 impl ConceptPlan {
-    /// The number of nodes on the longest way from the root, where each plan of concepts and of groups is a
-    /// node and a test is none: `All` has 1. A number above `u64::MAX` is given as that. It takes no memory.
+    /// The number of nodes on the longest path from the root. Each plan of concepts or of groups is a node, and
+    /// a test is not: `All` has depth 1. A larger depth than `u64::MAX` counts as `u64::MAX`. It takes no memory.
     #[cycle(depth)]
     #[tactic(auto, using(crate::proofs::PlanLemmas::plans_of_items))]
     pub fn depth(&self) -> u64
@@ -34,7 +34,8 @@ impl ConceptPlan {
 }
 
 impl UnitPlan {
-    /// The number of nodes on the longest way from the root, as for a plan of concepts: `Every` has 1.
+    /// The number of nodes on the longest path from the root. Each plan of concepts or of groups is a node, and
+    /// a test is not: `Every` has depth 1. A larger depth than `u64::MAX` counts as `u64::MAX`. It takes no memory.
     #[cycle(depth)]
     #[tactic(auto, using(crate::proofs::PlanLemmas::plans_of_items))]
     pub fn depth(&self) -> u64
@@ -52,7 +53,7 @@ impl UnitPlan {
 }
 
 impl ValueTest {
-    // A test is no node: it is as deep as its plan.
+    // The depth of the test's plan, or 0 for a test by number: a test is not a node.
     #[cycle(depth)]
     fn depth(&self) -> u64
         ensures { result ≡ min (test_depth (test_plan_of self.now)) (2 ^ 64 - 1) }
@@ -64,7 +65,7 @@ impl ValueTest {
     }
 }
 
-// The depth of the deepest, or 0 where there is none.
+// The depth of the deepest part, or 0 if there are no parts.
 #[cycle(depth)]
 fn deepest(parts: &[ConceptPlan]) -> u64
     ensures { result ≡ min (plans_depth (plans_of parts.now)) (2 ^ 64 - 1) }

@@ -1,4 +1,4 @@
-//! Equality of plans: two plans are equal exactly where their data are.
+//! Equality of plans: two plans are equal exactly if their data are.
 ghost use Rattle.std.specs.Prelude.{◌≡◌, ◌↔◌, IsTrue};
 ghost use Rattle.std.specs.Ordering.{on};
 ghost use Rattle.std.specs.Cmp.{on_equiv, partial_equiv_from_equiv, decided};
@@ -96,7 +96,8 @@ fn same(one: &ConceptPlan, other: &ConceptPlan) -> bool
     }
 }
 
-// The arms that compare several parts are functions of their own, so that each match only chooses.
+// Compares two walks. Each arm of `same` that compares several parts is a function of its own, so that `same` only
+// chooses.
 #[cycle(equal)]
 fn same_walk(
     operator: &Operator,
@@ -133,8 +134,8 @@ fn same_values(
     same(start, other) && same_each(names, others)
 }
 
-// Of pairs of groups, and of pairs of concepts once both are known to be read the same way: both have these parts, and
-// the contract names them by the plan that has no others.
+// Compares the parts that `Pairs` of concepts and of groups have in common. The contract names them by the plan of
+// groups, which has no other parts. `same` compares the direction of `Pairs` of concepts first.
 #[cycle(equal)]
 fn same_pairs(
     count: &Cardinality,

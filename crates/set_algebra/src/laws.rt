@@ -12,12 +12,12 @@ ghost use Rattle.set_algebra.specs.WrongPlans.{MisplansSplitBraces, MisplansSpre
 
 use constraint_tree::constraints_are_not_deep;
 
-/// A plan means concepts of the release alone, whatever the release and the plan are.
+/// Each concept that a plan means over a release is in force there, for every release and every plan.
 pub fn plans_mean_concepts_in_force()
     ensures { MeansConceptsInForce }
 {}
 
-/// The plan of a constraint is as deep as its tree, so that no text has a plan deeper than 326.
+/// The plan of a constraint is as deep as its tree. So the plan of a text is at most 326 deep.
 pub fn plans_are_as_deep_as_trees()
     ensures same { (tree : Tree) → plan_depth (lowered tree) ≡ depth_of tree }
     ensures most { (text : List ℕ) (tree : Tree) → IsConstraint text tree → plan_depth (lowered tree) ≤ most_deep }
@@ -25,22 +25,22 @@ pub fn plans_are_as_deep_as_trees()
     constraints_are_not_deep();
 }
 
-/// A plan that means the same over a release as the one at a place, put there in its stead, leaves what the
-/// whole means over that release: for plans of concepts and of groups, at every place in either, through
-/// braces and cardinalities.
+/// A plan keeps its meaning over a release if the plan at one of its places is replaced by one that means the same
+/// over that release. This holds for plans of concepts and of groups and at every place, through braces and
+/// cardinalities.
 pub fn places_keep_the_meaning()
     ensures { KeepsMeaningAtPlaces }
 {}
 
-/// What is put at a place stands there, the other children of each node on the way are as they were, and
-/// putting there what stands there changes nothing.
+/// A node put at a place stands there, the other children of each node on the path stay as they were, and
+/// putting at a place the node that stands there changes nothing.
 pub fn places_are_found_and_put()
     ensures child { ReplacesOneChild }
     ensures found { FindsWhatIsPut }
     ensures back { PutsBack }
 {}
 
-/// The plans of four queries.
+/// Four worked queries have the plans that `specs/WorkedPlans.antt` shows.
 pub fn worked_queries_have_plans()
     ensures attribute { HasPlanOfAttribute }
     ensures number { HasPlanOfNumber }
@@ -48,7 +48,7 @@ pub fn worked_queries_have_plans()
     ensures twice { HasPlanOfTwice }
 {}
 
-/// What the plans of worked queries mean on a small release: what the queries denote there.
+/// The plans of the worked queries mean on a small release the concepts that the queries denote there.
 pub fn worked_plans_hold()
     ensures everything { MeansEverything }
     ensures descendants { MeansDescendants }
@@ -69,7 +69,7 @@ pub fn worked_plans_hold()
     ensures empty_answers { MeansEmptyAnswers }
 {}
 
-/// What plans that look right mean on that release: each something else than the plan of the query.
+/// Three plans that look right mean other concepts on a small release than the plans of their queries.
 pub fn wrong_plans_differ()
     ensures split_braces { MisplansSplitBraces }
     ensures spread_count { MisplansSpreadCount }

@@ -1,5 +1,5 @@
-//! Plans: the form that a query is executed in, what they mean over a release, and what is said of a node on its way: which
-//! rows it is answered from, and how much it reads.
+//! Plans, the form in which a query is executed, and their meaning over a release. Two types describe a node:
+//! which rows answer it (`Choice`), and how many items it reads (`NodeLimits`).
 #![tactic(auto)]
 
 mod choice;

@@ -1,4 +1,4 @@
-//! From a constraint to its plan.
+//! Makes the plan of a constraint.
 ghost use Rattle.std.specs.Prelude.{ℕ, ◌≡◌, IfOk};
 ghost use Rattle.rf2_rows.specs.Release.{Release};
 ghost use Rattle.constraint_tree.specs.Denotation.{denotes};
@@ -12,8 +12,8 @@ use crate::plan::{ConceptPlan, UnitPlan, ValueTest};
 use constraint_tree::{Attribute, AttributeSet, Constraint, Refinement, Test};
 use std::alloc::{AllocError, Global};
 
-/// The plan of a constraint (Expression Constraint Language, "Simple Expression Constraints" to
-/// "Refinements"). Over every release it means exactly the concepts that the constraint denotes. It follows
+/// Makes the plan of a constraint (Expression Constraint Language, "Simple Expression Constraints" to
+/// "Refinements"). Over every release the plan means exactly the concepts that the constraint denotes. It follows
 /// the tree: `A : r` is `And` of A and r, an attribute is `Pairs`, braces are `Units`, lists stay lists, and
 /// a dotted constraint is `Values`. The error is want of memory.
 pub fn lower(alloc: Global, constraint: &Constraint) -> Result<ConceptPlan, AllocError>
@@ -24,7 +24,7 @@ pub fn lower(alloc: Global, constraint: &Constraint) -> Result<ConceptPlan, Allo
     Ok(plan)
 }
 
-// The plan of what a constraint denotes.
+// Makes the plan of a constraint.
 #[cycle(lower)]
 #[tactic(auto, using(constraint_tree::proofs::TreeLemmas::trees_of_items, crate::proofs::PlanLemmas::plans_of_items))]
 fn concepts(alloc: Global, constraint: &Constraint) -> Result<ConceptPlan, AllocError>
@@ -75,7 +75,7 @@ fn each(alloc: Global, parts: &[Constraint]) -> Result<Vec<ConceptPlan>, AllocEr
     Ok(plans)
 }
 
-// The plan of the concepts that satisfy a refinement.
+// Makes the plan of the concepts that satisfy a refinement.
 #[cycle(lower)]
 #[tactic(auto, using(constraint_tree::proofs::TreeLemmas::trees_of_items, crate::proofs::PlanLemmas::plans_of_items))]
 fn satisfying(alloc: Global, refinement: &Refinement) -> Result<ConceptPlan, AllocError>
@@ -110,7 +110,7 @@ fn each_satisfying(alloc: Global, parts: &[Refinement]) -> Result<Vec<ConceptPla
     Ok(plans)
 }
 
-// The plan of the groups that have what an attribute set asks.
+// Makes the plan of the groups that satisfy an attribute set.
 #[cycle(lower)]
 #[tactic(auto, using(constraint_tree::proofs::TreeLemmas::trees_of_items, crate::proofs::PlanLemmas::plans_of_items))]
 fn groups(alloc: Global, set: &AttributeSet) -> Result<UnitPlan, AllocError>

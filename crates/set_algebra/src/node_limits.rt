@@ -1,10 +1,10 @@
-//! How much a node of a plan reads.
+//! How many items a node of a plan reads.
 
-/// How many items a node visits beside its sub-plans.
+/// How many items a node visits, besides those that its sub-plans visit.
 #[derive(Clone, Copy, Debug)]
 pub struct NodeLimits {
-    /// At least: the floor of the node.
+    /// How many items the node visits at least.
     pub floor: u64,
-    /// At most, or `u64::MAX` where that is more: its own bound.
+    /// How many items the node visits at most; `u64::MAX` if the number is larger.
     pub bound: u64,
 }

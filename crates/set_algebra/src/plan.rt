@@ -1,4 +1,4 @@
-//! The plan of a query.
+//! Plans of concepts and of groups, and tests of values.
 use crate::choice::Choice;
 use constraint_tree::{Cardinality, Compare, Operator};
 use numerals::Decimal;
@@ -14,35 +14,36 @@ pub enum ConceptPlan {
     All,
     /// The concept in force with this number, if there is one.
     One(u64),
-    /// The concepts that the operator leads to from the set.
+    /// The concepts to which the hierarchy operator leads from the set.
     Walk(Operator, Box<ConceptPlan>),
     /// The components of the reference sets in the set.
     Members(Box<ConceptPlan>),
-    /// The concepts in all sets; of no sets each concept in force.
+    /// The concepts in all sets; each concept in force if there are no sets.
     And(Vec<ConceptPlan>),
-    /// The concepts in some set; of no sets none.
+    /// The concepts in at least one set; no concept if there are no sets.
     Or(Vec<ConceptPlan>),
     /// The concepts in the first set and not in the second.
     Minus(Box<ConceptPlan>, Box<ConceptPlan>),
-    /// From the first set the values of its attributes with a type in the first of the list, of those the
-    /// values with a type in the second, and so on (Expression Constraint Language, "Refinements", dotted
-    /// attributes).
+    /// The values of attributes with a type in the first set of the list, on concepts in the set before the
+    /// list; then the values of their attributes with a type in the second, up to the last (Expression Constraint
+    /// Language, "Refinements", dotted attributes).
     Values(Box<ConceptPlan>, Vec<ConceptPlan>),
-    /// The concepts so many of whose distinct pairs have a type in `types` and a value that passes `test`.
+    /// The concepts whose number of matching distinct pairs lies in `count`. A pair matches if its type is in
+    /// `types` and its value passes `test`.
     Pairs {
-        /// Whether the pairs are those of type and source of the rows whose value the concept is, and not
-        /// those of its own rows (Expression Constraint Language, "Refinements", reverse attributes).
+        /// Whether the pairs are type and source of the rows whose value is the concept, and not type and value
+        /// of its own rows (Expression Constraint Language, "Refinements", reverse attributes).
         back: bool,
         /// How many pairs must pass.
         count: Cardinality,
-        /// The concepts that the type may be.
+        /// The concepts that may be the type of a pair.
         types: Box<ConceptPlan>,
-        /// What the value must pass.
+        /// The test that the value of a pair must pass.
         test: ValueTest,
-        /// Which rows it is answered from. It is no part of what the plan means, and `==` does not look at it.
+        /// Which rows answer the leaf. It does not change the meaning of the plan, and `==` does not compare it.
         choice: Choice,
     },
-    /// The concepts so many of whose groups are in a set of groups (Release File Specification,
+    /// The concepts whose number of groups in `units` lies in `count` (Release File Specification,
     /// "Relationship file", relationshipGroup).
     Units {
         /// How many groups must be in the set.
@@ -52,8 +53,8 @@ pub enum ConceptPlan {
     },
 }
 
-/// A plan of a set of groups of concepts. Each group is the distinct pairs with one group number of one
-/// concept, or one pair that is in no group (Release File Specification, "Relationship file",
+/// A plan of a set of groups of concepts. A group is the distinct pairs of one concept with one group
+/// number, or one pair that is in no group (Release File Specification, "Relationship file",
 /// relationshipGroup).
 #[cycle(plan)]
 #[derive(Drop, Debug)]
@@ -62,26 +63,27 @@ pub enum UnitPlan {
     Nothing,
     /// Each group.
     Every,
-    /// The groups in all sets; of no sets each group.
+    /// The groups in all sets; each group if there are no sets.
     And(Vec<UnitPlan>),
-    /// The groups in some set; of no sets none.
+    /// The groups in at least one set; no group if there are no sets.
     Or(Vec<UnitPlan>),
     /// The groups in the first set and not in the second.
     Minus(Box<UnitPlan>, Box<UnitPlan>),
-    /// The groups so many of whose pairs have a type in `types` and a value that passes `test`.
+    /// The groups whose number of matching pairs lies in `count`. A pair matches if its type is in `types` and its
+    /// value passes `test`.
     Pairs {
         /// How many pairs must pass.
         count: Cardinality,
-        /// The concepts that the type may be.
+        /// The concepts that may be the type of a pair.
         types: Box<ConceptPlan>,
-        /// What the value must pass.
+        /// The test that the value of a pair must pass.
         test: ValueTest,
-        /// Which rows it is answered from. It is no part of what the plan means, and `==` does not look at it.
+        /// Which rows answer the leaf. It does not change the meaning of the plan, and `==` does not compare it.
         choice: Choice,
     },
 }
 
-/// What the value of a pair must pass (Expression Constraint Language, "Refinements", eclAttribute).
+/// A test that the value of a pair must pass (Expression Constraint Language, "Refinements", eclAttribute).
 #[cycle(plan)]
 #[derive(Drop, Debug)]
 pub enum ValueTest {
@@ -89,6 +91,6 @@ pub enum ValueTest {
     Within(Box<ConceptPlan>),
     /// A concept that is not in the set.
     Outside(Box<ConceptPlan>),
-    /// A number that compares so with this one.
+    /// A number that compares with this one as the comparison says.
     Number(Compare, Decimal),
 }

@@ -1,6 +1,6 @@
-//! Views of plans: what a plan, a test or a list of plans is made of, where it has the form asked for.
+//! Views of plans: the parts of a plan, a test or a list of plans, if it has the form asked for.
 //!
-//! `specs/Views.antt` has the words for what is there, so that a contract also says when there is nothing.
+//! `specs/inside/Views.antt` defines the parts of each form, so that a contract also says when there are none.
 ghost use Rattle.std.specs.Prelude.{◌≡◌, None, MatchResult};
 ghost use Rattle.set_algebra.specs.Plan.{plan_of, plans_of, unit_plan_of, unit_plans_of, test_plan_of, no_plans, plan_then, and_plan, or_plan, minus_plan, walk_plan, pairs_plan, units_plan, no_unit_plans, unit_plan_then, and_units, or_units, minus_units, pairs_units, within_plan};
 ghost use Rattle.set_algebra.specs.inside.Views.{and_parts, or_parts, minus_parts, walk_parts, pairs_parts, units_parts, group_and_parts, group_or_parts, group_minus_parts, group_pairs_parts, within_part, only_part, only_group_part};
@@ -8,7 +8,7 @@ ghost use Rattle.set_algebra.specs.inside.Views.{and_parts, or_parts, minus_part
 use crate::plan::{ConceptPlan, UnitPlan, ValueTest};
 use constraint_tree::{Cardinality, Operator};
 
-/// What a view answers where the plan, the test or the list has another form than the one asked for.
+/// The error of a view: the plan, the test or the list has another form than the one asked for.
 #[derive(Clone, Copy, Debug, PartialEq, Eq)]
 pub struct OtherForm;
 
@@ -34,7 +34,7 @@ pub fn or_of(plan: &ConceptPlan) -> Result<&[ConceptPlan], OtherForm>
     }
 }
 
-/// The first and the second of a `Minus`.
+/// The two operands of a `Minus`.
 pub fn minus_of(plan: &ConceptPlan) -> Result<(&ConceptPlan, &ConceptPlan), OtherForm>
     ensures { MatchResult result (λ both. plan_of plan.now ≡ minus_plan (plan_of both.0.now) (plan_of both.1.now)) (λ _. minus_parts (plan_of plan.now) ≡ None) }
 {
@@ -54,7 +54,7 @@ pub fn walk_of(plan: &ConceptPlan) -> Result<(Operator, &ConceptPlan), OtherForm
     }
 }
 
-/// Of `Pairs` whether they are read backwards, the count, the types and the test.
+/// Whether `Pairs` of concepts are read backwards, and their count, types and test.
 pub fn pairs_of(
     plan: &ConceptPlan,
 ) -> Result<(bool, Cardinality, &ConceptPlan, &ValueTest), OtherForm>
@@ -104,7 +104,7 @@ pub fn unit_or_of(plan: &UnitPlan) -> Result<&[UnitPlan], OtherForm>
     }
 }
 
-/// The first and the second of a `Minus` of groups.
+/// The two operands of a `Minus` of groups.
 pub fn unit_minus_of(plan: &UnitPlan) -> Result<(&UnitPlan, &UnitPlan), OtherForm>
     ensures { MatchResult result (λ both. unit_plan_of plan.now ≡ minus_units (unit_plan_of both.0.now) (unit_plan_of both.1.now)) (λ _. group_minus_parts (unit_plan_of plan.now) ≡ None) }
 {
@@ -129,7 +129,7 @@ pub fn unit_pairs_of(plan: &UnitPlan) -> Result<(Cardinality, &ConceptPlan, &Val
     }
 }
 
-/// The plan that values are to be within.
+/// The plan of a `Within` test.
 pub fn within_of(test: &ValueTest) -> Result<&ConceptPlan, OtherForm>
     ensures { MatchResult result (λ operand. test_plan_of test.now ≡ within_plan (plan_of operand.now)) (λ _. within_part (test_plan_of test.now) ≡ None) }
 {
@@ -139,7 +139,7 @@ pub fn within_of(test: &ValueTest) -> Result<&ConceptPlan, OtherForm>
     }
 }
 
-/// The first of a list that is not empty, and the rest.
+/// The first plan of a list that is not empty, and the rest.
 pub fn first_of(parts: &[ConceptPlan]) -> Result<(&ConceptPlan, &[ConceptPlan]), OtherForm>
     ensures { MatchResult result (λ list. plans_of parts.now ≡ plan_then (plan_of list.0.now) (plans_of list.1.now)) (λ _. plans_of parts.now ≡ no_plans) }
 {
@@ -149,7 +149,7 @@ pub fn first_of(parts: &[ConceptPlan]) -> Result<(&ConceptPlan, &[ConceptPlan]),
     }
 }
 
-/// The first of a list of plans of groups that is not empty, and the rest.
+/// The first plan of groups of a list that is not empty, and the rest.
 pub fn first_unit_of(parts: &[UnitPlan]) -> Result<(&UnitPlan, &[UnitPlan]), OtherForm>
     ensures { MatchResult result (λ list. unit_plans_of parts.now ≡ unit_plan_then (unit_plan_of list.0.now) (unit_plans_of list.1.now)) (λ _. unit_plans_of parts.now ≡ no_unit_plans) }
 {

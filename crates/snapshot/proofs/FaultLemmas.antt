@@ -1,4 +1,4 @@
--- The faults of what is made of the rows that were read.
+-- The faults of a release that is made of rows without a fault.
 use Rattle.std.proofs.Common.{ℕ, Bool, ◌≡◌, ◌≢◌, List, Option, None, Some, Result, Ok, Err, arith, false, refl}
 use Rattle.release_files.specs.Source.{History}
 use Rattle.row_lists.specs.ReleaseLists.{ReleaseLists}
@@ -8,11 +8,15 @@ use Rattle.held_release.specs.Contents.{Contents, IsFaultOf, least_cyclic, unles
 use Rattle.held_release.specs.Finished.{contents_from, finished, release_from}
 use Rattle.release_rows.specs.DeviceFaults.{FailsAtRead, RaisesOnlyAtDevice, file_of, is_device}
 
--- a fault that is neither the device's nor that of a file, nor the want of a Concept file
+-- the fault is not one of the device or of a file, nor that there is no Concept file
 pub record IsOfNoFile (fault : LoadFault) : Type 0 where
+  -- the fault is not one of the device
   pub own : is_device fault ≡ false
+  -- the fault names no file that failed
   pub kind : (reads : ℕ → Bool) → FailsAtRead reads fault
+  -- the fault names no file
   pub named : file_of fault ≡ None
+  -- the fault is not that there is no Concept file
   pub found : fault ≢ NoConceptFile
 
 cycle-own : (fault : LoadFault) (contents : Contents) (cyclic : Option ℕ)
@@ -24,13 +28,13 @@ cycle-own (Cycle concept) contents cyclic said =
 cycle-own fault contents None said = absurd (grind arith)
 cycle-own fault contents (Some concept) said = absurd (grind arith)
 
--- so is each fault of what is finished
+-- each fault of finishing a release is one of no file
 pub finished-own : (language : List ℕ) (files count : ℕ) (listed : ReleaseLists) (fault : LoadFault)
     → IsFaultOf fault (finished language files count listed) → IsOfNoFile fault
 finished-own language files count listed fault said =
     cycle-own fault (contents_from language files count listed) (least_cyclic (release_from listed)) said
 
--- where the count of failures stays the same nothing more is to be said of it
+-- if the count of failures stays the same, `RaisesOnlyAtDevice` holds
 pub raised_by_none : {T : Type 0} (old new : History) (result : Result T LoadFault)
     → new.failures ≡ old.failures → RaisesOnlyAtDevice result old new
 raised_by_none old new (Ok done) same = same

@@ -1,4 +1,4 @@
--- Cutting files one byte past the limit keeps their first fault and, where there is none, their places.
+-- Cutting files one byte past the limit keeps their first fault, and keeps their places if they have no fault.
 use Rattle.std.proofs.lemmas.Bool.Decides.{nat_tests}
 use Rattle.std.proofs.lemmas.Grind.{common_steps}
 use Rattle.std.proofs.Common.{◌≡◌, ℕ, zero, suc, ◌+◌, ◌-◌, ◌<◌, ◌≤◌, Bool, eqb, List, [], ◌∷◌, ◌++◌, length, map, take, drop, refl, sym, ap, ◌∙◌, inl, inr, arith, Option, None, Some, if◌then◌else◌, bytes_eq, eq-eqb, eqb-true, lt-ltb, take-take}
@@ -15,7 +15,7 @@ use Rattle.row_lists.specs.declared.fault.LoadFault.{LoadFault}
 use Rattle.row_lists.specs.declared.fault.LoadFault.TheVariants.{TooMany}
 use Rattle.release_rows.specs.declared.limits.Limits.{Limits}
 
--- the parts of the first bytes of a text and those of the text: the same up to one that reaches the cut in both
+-- the parts of a text that is cut and those of the text agree up to one that reaches the cut in both
 data PartsAgree : ℕ → List (List ℕ) → List (List ℕ) → Type 0 where
   no_part : (left : ℕ) → PartsAgree left [] []
   same_part : (left later : ℕ) (part : List ℕ) (short long : List (List ℕ)) → left ≡ length part + later
@@ -23,13 +23,13 @@ data PartsAgree : ℕ → List (List ℕ) → List (List ℕ) → Type 0 where
   past_cut : (left : ℕ) (front whole : List ℕ) (short long : List (List ℕ)) → left ≤ length front
       → left ≤ length whole → PartsAgree left (front ∷ short) (whole ∷ long)
 
--- with a byte before them
+-- putting one byte in front of both texts keeps the agreement of their parts
 parts_onto : (left byte : ℕ) (short long : List (List ℕ)) → PartsAgree left short long → PartsAgree (suc left) (onto_first byte short) (onto_first byte long)
 parts_onto left byte short long (no_part now) = same_part (suc now) now (byte ∷ []) [] [] (omega arith) (no_part now)
 parts_onto left byte short long (same_part now later part xs ys is agree) = same_part (suc now) later (byte ∷ part) xs ys (omega arith) agree
 parts_onto left byte short long (past_cut now front whole xs ys here there) = past_cut (suc now) (byte ∷ front) (byte ∷ whole) xs ys (omega arith) (omega arith)
 
--- a byte at which the text is cut
+-- if a text is cut after its first byte, the first part reaches the cut in both texts
 part_at_cut : (byte : ℕ) (long : List (List ℕ)) → PartsAgree 1 ((byte ∷ []) ∷ []) (onto_first byte long)
 part_at_cut byte [] = past_cut 1 (byte ∷ []) (byte ∷ []) [] [] (omega arith) (omega arith)
 part_at_cut byte (part ∷ long) = past_cut 1 (byte ∷ []) (byte ∷ part) [] long (omega arith) (omega arith)
@@ -47,7 +47,7 @@ parts_agree (suc left) (byte ∷ bytes) = elim (cases_eq byte 10) [
       (parts_onto (suc left) byte (parts (take (suc left) bytes)) (parts bytes) (parts_agree left bytes))
 ]
 
--- the lines of a file that is cut and those of the file: the same up to one that ends past the limit in both
+-- the lines of a file that is cut and those of the file agree up to one that ends past the limit in both
 data LinesAgree (limit : ℕ) : List LineText → List LineText → Type 0 where
   no_more : LinesAgree limit [] []
   same_line : (line : LineText) (short long : List LineText) → LinesAgree limit short long → LinesAgree limit (line ∷ short) (line ∷ long)
@@ -77,7 +77,7 @@ lines_agree limit bytes room =
     rw (same, rest) (numbered_agree limit 0 mark (suc (limit - mark)) (parts (take (suc (limit - mark)) (drop mark bytes))) (parts (drop mark bytes))
     (parts_agree (limit - mark) (drop mark bytes)) (sym whole))
 
--- the places of files that are cut and those of the files: the same up to one that has the same fault in both
+-- the places of files that are cut and those of the files agree up to one that has one fault in both
 data PlacesAgree (limits : Limits) : List Place → List Place → Type 0 where
   no_place : PlacesAgree limits [] []
   same_place : (place : Place) (short long : List Place) → PlacesAgree limits short long → PlacesAgree limits (place ∷ short) (place ∷ long)
@@ -132,7 +132,7 @@ files_agree : (limits : Limits) (file : ℕ) (files : List FileText) → 3 ≤ l
 files_agree limits file [] room = no_place
 files_agree limits file (text ∷ texts) room = grind (arith, common_steps, nat_tests, agree_append, file_agree, (files_agree limits (file + 1) texts room))
 
--- a place that has a fault by itself has it behind any others
+-- if a place has a fault by itself, that is the first fault, whatever places come before and after it
 faulty_first : (limits : Limits) (before later : List Place) (place : Place) (fault : LoadFault)
     → fault_here limits place ≡ Some fault → first_fault limits before (place ∷ later) ≡ Some fault
 faulty_first limits before later place fault here = rw here refl
@@ -167,7 +167,7 @@ cut_first_fault limits files room =
     agree_first_fault limits [] (places_from 0 (map (cut_file limits.bytes) files)) (places_from 0 files)
     (files_agree limits 0 files room)
 
--- and where there is none, they have the places of the files
+-- if files have no fault, cutting them one byte past the limit keeps their places
 pub cut_places : (limits : Limits) (files : List FileText) → 3 ≤ limits.bytes → first_fault limits [] (places_from 0 files) ≡ None
     → places_from 0 (map (cut_file limits.bytes) files) ≡ places_from 0 files
 cut_places limits files room none =

@@ -1,4 +1,4 @@
--- What is listed of rows makes the release that the definitions say, and what a load is then.
+-- The lists made of rows make the release that the definitions say, and what a load of these rows is.
 use Rattle.std.proofs.Common.{rules, arith, ℕ, ◌≡◌, ◌&&◌, ◌||◌, ◌==◌, List, [], ◌∷◌, length, map, Option, None, Some, Err, sym, ◌∙◌, ap, refl, Bool, true, false, cond, codes, is_some, option_and_then, filter, count_by, filter_map, not}
 use Rattle.std.proofs.lemmas.Bool.Decides.{nat_tests}
 use Rattle.std.proofs.lemmas.Grind.{common_steps}
@@ -31,7 +31,7 @@ use Rattle.snapshot.proofs.LimitLemmas.{cut_first_fault, cut_places}
 use Rattle.row_lists.specs.declared.fault.LoadFault.TheVariants.{NoConceptFile}
 use Rattle.release_rows.specs.declared.limits.Limits.{Limits}
 
--- what is in force of each row is what is listed of it, where this is kept
+-- an item that passes `keep`, if there is one
 abbrev kept : {X : Type 0} → (X → Bool) → Option X → Option X
 kept keep item = option_and_then (λ x. cond (keep x) (Some x) None) item
 
@@ -46,19 +46,19 @@ module _ {Row X : Type 0} (pick : RowText → Option Row) (item : Row → X) whe
   abbrev item_of : (Row → Bool) → Option Row → Option X
   item_of test found = option_and_then (λ row. cond (test row) (Some (item row)) None) found
 
-  -- the rows that pass a test are picked one by one
+  -- the items of the rows that pass a test are picked row by row
   picked : (test : Row → Bool) (rows : List RowText) → map item (filter test (filter_map pick rows)) ≡ filter_map (λ row. item_of test (pick row)) rows
   picked test [] = refl
   picked test (row ∷ rows) = grind (arith, common_steps, nat_tests, (picked test rows))
 
-  -- those that are in force are those listed that are kept
+  -- the items of the rows in force are the listed items that `keep` keeps, if this holds of each row
   in_force : (test listed : Row → Bool) (keep : X → Bool)
       → ((row : Row) → cond (test row) (Some (item row)) None ≡ kept keep (cond (listed row) (Some (item row)) None))
       → (rows : List RowAt) → map item (filter test (filter_map pick (map text_of_row rows)))
       ≡ filter keep (filter_map (λ row. item_of listed (pick row)) (map text_of_row rows))
   in_force test listed keep same rows = grind (arith, common_steps, nat_tests, kept-listed, picked)
 
--- a value that a text writes is no concept
+-- a value that a text writes is not a concept
 value_of-among : (concepts text : List ℕ) → is_value_among concepts (value_of text) ≡ true
 value_of-among concepts text = grind (arith, common_steps, nat_tests)
 
@@ -66,26 +66,26 @@ concrete_value-among : (concepts line : List ℕ) → is_value_among concepts (c
 unfolding concrete_row
 concrete_value-among concepts line = value_of-among concepts (text_in Concrete (fields_of line) (codes "value"))
 
--- the active concepts are those listed
+-- the active concepts are the listed ones
 pub concepts-listed : (rows : List RowText)
     → map (λ (row : ConceptRow). row.id) (filter (λ (row : ConceptRow). row.active) (concept_rows rows))
     ≡ filter_map concept_listed rows
 concepts-listed rows = picked concept_in (λ (row : ConceptRow). row.id) (λ (row : ConceptRow). row.active) rows
 
--- the inactive concepts are those listed, in rising order
+-- the inactive concepts are the listed ones, in rising order
 pub inactive-listed : (rows : List RowText) → inactive_concepts rows ≡ rising (filter_map inactive_listed rows)
 inactive-listed rows =
     ap rising (picked concept_in (λ (row : ConceptRow). row.id) (λ (row : ConceptRow). not row.active) rows)
 
 module _ (concepts : List ℕ) where
-  -- the names in force are the active fully specified names of concepts in force
+  -- the names in force are the listed names of concepts in force
   names_in_force-is : (rows : List RowAt)
       → names_in_force concepts (map text_of_row rows) ≡ names_among concepts (filter_map name_listed (map text_of_row rows))
   names_in_force-is rows =
       in_force description_in name_on (λ (row : DescriptionText). is_name row && has concepts row.concept_id) is_name
       (λ (name : Name). has concepts name.concept) (λ row. grind arith) rows
 
-  -- the pairs of rows in force are those between concepts in force
+  -- both concepts of a pair are in force
   abbrev between : ℕ × ℕ → Bool
   between pair = has concepts pair.0 && has concepts pair.1
 
@@ -101,7 +101,7 @@ module _ (concepts : List ℕ) where
       in_force member_in (λ (row : MemberRow). (row.refset_id, row.referenced_component_id))
       (is_member_in_force concepts) (λ (row : MemberRow). row.active) between (λ row. grind arith) rows
 
-  -- the attributes in force are those listed of concepts in force
+  -- the attribute of a row in force is the listed one, if its source and value are in force
   attribute-kept : (row : RowAt) → attribute_in concepts (text_of_row row)
       ≡ kept (λ (attribute : Attribute). has concepts attribute.source && is_value_among concepts attribute.value) (attribute_listed (text_of_row row))
   attribute-kept row = search (rules, and-false, concrete_value-among)
@@ -112,7 +112,7 @@ module _ (concepts : List ℕ) where
       kept-listed (λ (attribute : Attribute). has concepts attribute.source && is_value_among concepts attribute.value)
       (attribute_in concepts) attribute_listed attribute-kept rows
 
--- the release of rows is made of what is listed of them
+-- the release that rows make is made of the lists of the rows
 pub release_of-listed : (rows : List RowAt) → release_of (map text_of_row rows) ≡ release_from (listed_of (map text_of_row rows))
 release_of-listed rows =
     grind (
@@ -124,45 +124,48 @@ release_of-listed rows =
       (names_in_force-is (concepts_in_force (map text_of_row rows)) rows),
     )
 
--- how many files have a kind, and whether one has the kind of concepts
+-- counts of files by their names, for items that stand for files
 module _ {Item : Type 0} (file_of : Item → FileText) where
+  -- the number of items whose file has a kind is the number of files that have one
   pub kind_count-is : (items : List Item) → count_by (λ item. has_kind (file_of item)) items ≡ length (filter has_kind (map file_of items))
   kind_count-is items = grind (arith, common_steps, nat_tests, length-filter, has_kind)
 
+  -- one of the items stands for a Concept file exactly if one of the files is a Concept file
   pub names_concepts-is : (items : List Item) → list_any (λ item. is_concept_file (file_of item)) items ≡ list_any is_concept_file (map file_of items)
   names_concepts-is [] = refl
   names_concepts-is (item ∷ items) = ap (λ rest. is_concept_file (file_of item) || rest) (names_concepts-is items)
 
--- the files of some names
+-- the first files called by the names of the items are the listed files of these names
 pub listed-named : {Item : Type 0} (known : List FileText) (name_of : Item → List ℕ) (items : List Item)
     → map (λ item. text_named known (name_of item)) items ≡ listed known (map name_of items)
 listed-named known name_of [] = refl
 listed-named known name_of (item ∷ items) = ap (λ rest. text_named known (name_of item) ∷ rest) (listed-named known name_of items)
 
--- what places without a fault contain is made of what was listed of them
+-- the contents of places without a fault are made of the lists that were read
 contents_of-read : (limits : Limits) (language : List ℕ) (kinds : ℕ) (places : List Place) (count : ℕ) (listed : ReleaseLists)
     → IsReadFrom limits places count listed → contents_of language kinds places ≡ contents_from language kinds count listed
 contents_of-read limits language kinds places count listed read =
     grind (arith, common_steps, nat_tests, release_of-listed, inactive-listed)
 
--- what is made of places without a fault by file and line
+-- a load of places without a fault ends as finishing the lists that were read does
 pub loaded_from-read : (limits : Limits) (language : List ℕ) (kinds : ℕ) (places : List Place) (count : ℕ) (listed : ReleaseLists)
     → IsReadFrom limits places count listed → loaded_from limits language kinds places ≡ finished language kinds count listed
 loaded_from-read limits language kinds places count listed read = grind (arith, read.clean, (contents_of-read limits language kinds places count listed read))
 
--- a load of files of which one has the name of a Concept file
+-- if a file has the name of a Concept file, the load of the files is the load from their places
 pub load_of-named : (limits : Limits) (language : List ℕ) (files : List FileText) (kinds : ℕ)
     → list_any is_concept_file files ≡ true → kinds ≡ length (filter has_kind files)
     → load_of limits language files ≡ loaded_from (limits_in_force limits) language kinds (places_from 0 files)
 load_of-named limits language files kinds named counted = rw (named, counted) refl
 
--- and of files of which none has
+-- if no file has the name of a Concept file, the load of the files answers that fault
 pub load_of-none : (limits : Limits) (language : List ℕ) (files : List FileText) → list_any is_concept_file files ≡ false
     → load_of limits language files ≡ Err NoConceptFile
 load_of-none limits language files none = rw none refl
 
--- a load of the files of some names, that are cut one byte past the limit
+-- a load of the files that the items name, cut one byte past the limit
 module _ {Item : Type 0} (known : List FileText) (name_of : Item → List ℕ) (items : List Item) where
+  -- one of the named files is a Concept file exactly if one of the names is that of a Concept file
   pub names_concepts-listed : list_any is_concept_file (listed known (map name_of items))
       ≡ list_any (λ item. is_concept_kind (file_kind_of (name_of item))) items
   names_concepts-listed = ap (list_any is_concept_file) (sym (listed-named known name_of items))
@@ -171,6 +174,8 @@ module _ {Item : Type 0} (known : List FileText) (name_of : Item → List ℕ) (
   kinds-listed : count_by (λ item. is_some (file_kind_of (name_of item))) items ≡ length (filter has_kind (listed known (map name_of items)))
   kinds-listed = kind_count-is (λ item. text_named known (name_of item)) items ∙ ap (λ texts. length (filter has_kind texts)) (listed-named known name_of items)
 
+-- if one of the names is that of a Concept file, a load of the named files, cut one byte past the limit, is a load of
+-- these files
 pub load_named-is : {Item : Type 0} (limits own : Limits) (language : List ℕ) (known : List FileText)
     (name_of : Item → List ℕ) (items : List Item) (kinds : ℕ) → own ≡ limits_in_force limits
     → list_any (λ item. is_concept_kind (file_kind_of (name_of item))) items ≡ true → kinds ≡ count_by (λ item. is_some (file_kind_of (name_of item))) items

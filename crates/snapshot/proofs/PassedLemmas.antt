@@ -1,4 +1,4 @@
--- The rows that are in none of a release's lists are as many as the rows less those in its lists.
+-- The number of rows in none of a release's lists is the number of all rows less those in its lists.
 use Rattle.std.proofs.lemmas.Bool.Decides.{nat_tests}
 use Rattle.std.proofs.lemmas.Grind.{common_steps}
 use Rattle.std.proofs.Common.{ℕ, suc, ◌≡◌, ◌+◌, ◌&&◌, ◌==◌, List, [], ◌∷◌, ◌++◌, length, map, refl, arith, Bool, false, not, nat_eq, filter, count_by}
@@ -22,35 +22,36 @@ use Rattle.release_rows.proofs.ApartLemmas.{active-distinct}
 use Rattle.snapshot.proofs.LoadLemmas.{concepts-listed}
 use Rattle.number_lists.proofs.RisingOrderLemmas.{has-rising}
 
--- the rows that pass a test and those that fail it are all rows
+-- the rows that pass a test and those that fail it are together all rows
 split : {Row : Type 0} (test : Row → Bool) (rows : List Row) → length (filter test rows) + failing test rows ≡ length rows
 split test [] = refl
 split test (row ∷ rows) = grind (arith, common_steps, nat_tests, (split test rows))
 
--- a new number makes a rising list longer by one
+-- putting a new number into a rising list makes it longer by one
 length-put : (id : ℕ) (xs : List ℕ) → has xs id ≡ false → length (put id xs) ≡ suc (length xs)
 length-put id [] new = refl
 length-put id (x ∷ xs) new = grind (arith, nat_tests, length-put id xs, new)
 
--- a number that is the same as none of a list is not among them
+-- a list does not contain a number that differs from each of its numbers
 not_among : (x : ℕ) (xs : List ℕ) → AllByRecursion (λ y. nat_eq x y ≡ false) xs → has xs x ≡ false
 not_among x [] apart = refl
 not_among x (y ∷ ys) apart = grind (arith, nat_tests, apart.0, (not_among x ys apart.1))
 
--- numbers that stand there once are as many in rising order
+-- if each number occurs once, putting the numbers in rising order keeps their count
 length-rising : (xs : List ℕ) → IsDistinct nat_eq xs → length (rising xs) ≡ length xs
 unfolding IsDistinct
 length-rising [] apart = refl
 length-rising (x ∷ xs) apart = grind (arith, common_steps, nat_tests, has-rising, length-put, not_among, (length-rising xs apart.1))
 
--- how many relationships are is-a rows
+-- how many relationship rows are is-a rows
 abbrev isa_count : List ℕ → List RelationshipRow → ℕ
 isa_count concepts rows = length (filter (λ (row : RelationshipRow). is_in_force concepts row && (row.type_id == is_a)) rows)
 
 abbrev is_listed : List ℕ → ConcreteText → Bool
 is_listed concepts row = is_concrete_in_force concepts row && not (row.type_id == is_a)
 
--- the rows of both kinds of relationship are attribute rows, is-a rows, or passed over
+-- the rows of relationships and of concrete values are together the attribute rows, the is-a rows, and those that a
+-- load passes over
 abbrev IsCounted : List ℕ → List Attribute → List RelationshipRow → List ConcreteText → Type 0
 IsCounted concepts attributes relationships concretes =
     length attributes + isa_count concepts relationships + failing (is_in_force concepts) relationships + failing (is_listed concepts) concretes
@@ -65,7 +66,7 @@ counts_relationships concepts (of_relationship row ∷ rows) = grind (arith, nat
 counts_relationships concepts (of_concrete row ∷ rows) = grind (arith, nat_tests, counts_relationships concepts rows)
 counts_relationships concepts (of_member row ∷ rows) = counts_relationships concepts rows
 
--- the rows of the kinds are all rows
+-- the rows of the five kinds are together all rows
 all_kinds : (rows : List RowText)
     → length (concept_rows rows) + length (description_rows rows) + length (relationship_rows rows)
     + length (concrete_rows rows) + length (member_rows rows) ≡ length rows
@@ -76,18 +77,19 @@ all_kinds (of_relationship row ∷ rows) = omega (arith, all_kinds rows)
 all_kinds (of_concrete row ∷ rows) = omega (arith, all_kinds rows)
 all_kinds (of_member row ∷ rows) = omega (arith, all_kinds rows)
 
--- the rows that are chosen and those that are not are all rows
+-- the chosen rows and those that are not chosen are together all rows
 choices_split : (rows earlier later : List RowAt)
     → length (marked (choices rows earlier later) later) + count_by not (choices rows earlier later) ≡ length later
 choices_split rows earlier [] = refl
 choices_split rows earlier (row ∷ later) = grind (arith, common_steps, nat_tests, sum_by-append, (choices_split rows (earlier ++ row ∷ []) later))
 
--- of rows of which no two active concepts have one identifier each is listed or passed over
+-- if no two active concepts have one identifier, each row is listed or passed over
 listed_or_passed : (rows : List RowText)
     → IsDistinct nat_eq (map (λ (row : ConceptRow). row.id) (filter (λ (row : ConceptRow). row.active) (concept_rows rows)))
     → listed_count (release_of rows) + passed_texts rows ≡ length rows
 listed_or_passed rows apart = grind (arith, common_steps, nat_tests, all_kinds, counts_relationships, length-map, length-rising, split)
 
+-- the count of rows that a load passes over is the number of rows in none of the lists
 pub counts_passed_rows : CountsPassedRows
 counts_passed_rows limits language files places clean =
     grind (arith, common_steps, nat_tests, active-distinct, choices_split, concepts-listed, length-map, listed_or_passed, nat_eq)

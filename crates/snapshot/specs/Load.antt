@@ -1,4 +1,4 @@
--- What a list of files contains, or which fault it has.
+-- The contents of a list of files, or their first fault.
 use Rattle.std.specs.Prelude.{ℕ, ◌-◌, if◌then◌else◌, List, [], length, map, filter, Option, None, Some, Result, Err}
 use Rattle.std.specs.List.{list_any}
 use Rattle.release_files.specs.Source.{FileText}
@@ -12,7 +12,7 @@ use Rattle.release_rows.specs.Files.{Place, places_from, rows_of, text_of_row, i
 use Rattle.release_rows.specs.Limits.{limits_in_force}
 use Rattle.release_rows.specs.declared.limits.Limits.{Limits}
 
--- what the places of so many files without a fault contain: the release that the chosen rows make, and the inactive
+-- the contents of `count` files whose places have no fault: the release that the chosen rows make, and the inactive
 -- concepts among these rows
 abbrev pub contents_of : List ℕ → ℕ → List Place → Contents
 contents_of language count places =
@@ -26,16 +26,17 @@ contents_of language count places =
       passed = length (rows_of places) - listed_count release;
     }
 
+-- the contents, or `fault` if there is one, or else the least concept that is its own descendant
 abbrev pub unless_faulty : Contents → Option LoadFault → Result Contents LoadFault
 unless_faulty contents None = unless_cyclic contents (least_cyclic contents.release)
 unless_faulty contents (Some fault) = Err fault
 
--- what the places of so many files contain, or their first fault: by file and line, then a cycle
+-- the contents of `count` files with the given places, or their first fault: by file and line, and then a cycle
 abbrev pub loaded_from : Limits → List ℕ → ℕ → List Place → Result Contents LoadFault
 loaded_from limits language count places = unless_faulty (contents_of language count places) (first_fault limits [] places)
 
--- what a list of files contains, or its first fault: no file with the name of a Concept file, or that of
--- their places
+-- the contents of a list of files, or their first fault: that no file has the name of a Concept file, or the first
+-- fault of their places
 abbrev pub load_of : Limits → List ℕ → List FileText → Result Contents LoadFault
 load_of limits language files =
     if list_any is_concept_file files

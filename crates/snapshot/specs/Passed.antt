@@ -1,4 +1,4 @@
--- The rows of a release that are passed over: those that are in none of its lists, kind by kind.
+-- The rows of a release that a load passes over: those that are in none of its lists, kind by kind.
 use Rattle.std.specs.Prelude.{◌≡◌, ℕ, ◌+◌, ◌==◌, ◌&&◌, Bool, not, List, [], count_by, length, filter, map, None}
 use Rattle.rf2_rows.specs.RowTexts.{RowText}
 use Rattle.rf2_rows.specs.Rows.{ConcreteText, DescriptionText}
@@ -12,48 +12,48 @@ use Rattle.row_lists.specs.InForce.{concept_rows, concepts_in_force, concrete_ro
 use Rattle.row_lists.specs.Metadata.{is_a}
 use Rattle.release_rows.specs.declared.limits.Limits.{Limits}
 
--- how many rows fail a test
+-- how many of `rows` fail `test`
 abbrev pub failing : {Row : Type 0} → (Row → Bool) → List Row → ℕ
 failing test rows = length (filter (λ row. not (test row)) rows)
 
--- the concept rows that are inactive
+-- how many concept rows are inactive
 abbrev pub passed_concepts : List RowText → ℕ
 passed_concepts rows = failing (λ (row : ConceptRow). row.active) (concept_rows rows)
 
--- the description rows that are no name row of a concept in force
+-- how many description rows are not name rows of a concept in force
 abbrev pub passed_descriptions : List ℕ → List RowText → ℕ
 passed_descriptions concepts rows =
     failing (λ (row : DescriptionText). is_name row && has concepts row.concept_id) (description_rows rows)
 
--- the relationship rows that are not in force: one in force is an is-a row or an attribute row
+-- how many relationship rows are not in force; a row in force is an is-a row or an attribute row
 abbrev pub passed_relationships : List ℕ → List RowText → ℕ
 passed_relationships concepts rows = failing (is_in_force concepts) (relationship_rows rows)
 
--- the rows of concrete values that are not in force, or whose type is |Is a|
+-- how many rows of concrete values are not in force, or have the type |Is a|
 abbrev pub passed_concrete_values : List ℕ → List RowText → ℕ
 passed_concrete_values concepts rows =
     failing (λ (row : ConcreteText). is_concrete_in_force concepts row && not (row.type_id == is_a)) (concrete_rows rows)
 
--- the member rows that are not in force
+-- how many member rows are not in force
 abbrev pub passed_members : List ℕ → List RowText → ℕ
 passed_members concepts rows = failing (is_member_in_force concepts) (member_rows rows)
 
--- the chosen rows of all kinds that are in none of the lists
+-- how many chosen rows of all kinds are in none of the lists
 abbrev pub passed_texts : List RowText → ℕ
 passed_texts rows =
     let concepts = concepts_in_force rows in
     passed_concepts rows + passed_descriptions concepts rows + passed_relationships concepts rows
     + passed_concrete_values concepts rows + passed_members concepts rows
 
--- the rows that are not chosen: a later one of their component is, or an equal one before them
+-- how many rows are not chosen: a later row of their component is, or an equal one before them
 abbrev pub superseded_rows : List RowAt → ℕ
 superseded_rows rows = count_by not (choices rows [] rows)
 
--- the rows that are in none of the lists
+-- how many rows are in none of the lists
 abbrev pub passed_rows : List RowAt → ℕ
 passed_rows rows = superseded_rows rows + passed_texts (map text_of_row (chosen rows))
 
--- of places without a fault, the rows that are said to be passed over are those in none of the lists
+-- if places have no fault, the count of rows that a load passes over is the number of rows in none of the lists
 abbrev pub CountsPassedRows : Type 0
 CountsPassedRows =
     (limits : Limits) (language : List ℕ) (count : ℕ) (places : List Place)

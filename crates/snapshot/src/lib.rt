@@ -1,4 +1,5 @@
-//! Loading a release: the files are read, and of each component the row that counts is chosen; what these rows make is held.
+//! Loads a release: reads its files, chooses for each component the row that counts, and holds what these rows
+//! make.
 #![tactic(auto)]
 
 mod laws;

@@ -1,4 +1,4 @@
-//! Loading a release: its files are read, and what the rows that count make is held.
+//! Loads a release: reads its files, and holds what the rows that count make.
 ghost use Rattle.std.specs.Prelude.{◌≡◌, ◌≢◌, ◌↔◌, ◌+◌, ◌<◌, ◌≤◌, ◌⊎◌, ℕ, Err, Some, Ok, false, IfOk, IfErr, IfSome, is_some, map, max, length, string_bytes, count_by};
 ghost use Rattle.std.specs.List.{list_any};
 ghost use Rattle.std.specs.Cmp.Lexicographic.{slice_cmp};
@@ -22,17 +22,17 @@ use rf2_rows::{FileKind, file_kind};
 use row_lists::LoadFault;
 use std::alloc::{AllocError, Global};
 
-/// Loading a release from its files.
+/// Loads a release from its files.
 pub trait LoadSnapshot {
-    /// Loads the Snapshot files of a list, and passes over the others. The faults, of which the
-    /// first is answered, are looked for in this order: `NoConceptFile` on the names alone; then
-    /// file by file and line by line `TooMany` by bytes, `Header` on line 1 or in a file without
-    /// lines, `Row`, `Conflict`, `TooMany` by rows; last `Cycle`. `Memory` is answered where a
-    /// growth is refused, and never where no file has the name of a Concept file. `lang` is the
-    /// language code whose names come first.
+    /// Loads the Snapshot files of a list, and passes over the other files. Answers the first fault, in this
+    /// order: `NoConceptFile`, by the names alone; then, file by file and line by line, `TooMany` by bytes,
+    /// `Header` on line 1 or in a file without lines, `Row`, `Conflict`, `TooMany` by rows; last `Cycle`.
+    /// Answers `Memory` if a growth is refused, but never if no file has the name of a Concept file. `lang` is
+    /// the language code whose names come first.
     ///
-    /// It is for files that one trusts: what they hold is hashed over a fixed seed, and whoever knows the seed can
-    /// make files that take very long to load and to index. A source of files tells a seed of its own (`load_from`).
+    /// Use it for files that you trust: it hashes their contents over a fixed seed, and whoever knows the seed
+    /// can make files that take very long to load and to index. A source of files tells its own seed
+    /// (`load_from`).
     fn load(
         alloc: Global,
         files: &[NamedBytes<'_>],
@@ -44,13 +44,13 @@ pub trait LoadSnapshot {
         ensures unnamed { (result ≡ Err LoadFault.NoConceptFile) ↔ (list_any (λ file. is_concept_file (file_text file)) files.now ≡ false) }
         ensures named { IfErr result (FileIs (λ file. file < length files.now)) };
 
-    /// Loads the files that a source lists, in the byte order of their names, as `load` does, each
-    /// read in pieces and no further than one byte past the limit. `names` is left with the names in
-    /// that order, by which a fault names a file: with none where the source doesn't list them.
+    /// Loads the files that a source lists, in the byte order of their names, as `load` does. It reads each
+    /// file in pieces, and no further than one byte past the limit. Leaves the names in that order in `names`;
+    /// a fault names a file by its index there. Leaves no names if the source does not list them.
     ///
-    /// Where the source fails, that is answered as `Device`, and nothing is left behind. A source
-    /// that lists a name twice has the first file of that name twice. It is `list_names` and then
-    /// `load_named`, for a caller who doesn't need to know in which of the two it failed.
+    /// Answers `Device` if the source fails, and then keeps nothing. If a source lists a name twice, the load
+    /// has the first file of that name twice. This is `list_names` and then `load_named`, for a caller who does
+    /// not need to know which of the two failed.
     fn load_from<S: FileSource>(
         alloc: Global,
         source: &mut S,
@@ -73,8 +73,8 @@ pub trait LoadSnapshot {
         ensures found { result ≡ Err LoadFault.NoConceptFile → name_concepts string_bytes names.new.items ≡ false }
         ensures named { IfErr result (FileIs (λ file. file < length names.new.items)) };
 
-    /// Loads the files of these names, in this order, as `load` does, each of which a source reads in
-    /// pieces. A fault names a file by its place among the names: so does `Device`, always.
+    /// Loads the files called `names`, in this order, as `load` does. A source reads each of them in pieces. A
+    /// fault names a file by its index in `names`; `Device` always does.
     fn load_named<S: FileSource>(
         alloc: Global,
         source: &mut S,
@@ -149,7 +149,7 @@ impl LoadSnapshot for Snapshot {
     }
 }
 
-// Loads files that are gone over place by place, so many of which have a kind.
+// Loads files place by place. `kinds` of them have a kind.
 fn load_places<P: PlaceSource>(
     alloc: Global,
     files: &mut P,
@@ -184,14 +184,14 @@ fn load_places<P: PlaceSource>(
     }
 }
 
-// Whether a file of the list has the name of a Concept file.
+// Whether one of the files has the name of a Concept file.
 fn has_concept_file(files: &[NamedBytes<'_>]) -> bool
     ensures { result ≡ list_any (λ file. is_concept_file (file_text file)) files.now }
 {
     files.iter().any(|file| is_concept_name(file.name))
 }
 
-// How many files have a kind.
+// The number of files that have a kind.
 fn kind_count(files: &[NamedBytes<'_>]) -> u64
     ensures { result ≡ count_by (λ file. has_kind_of (file_text file)) files.now }
 {
@@ -205,21 +205,21 @@ fn name_concept_file(names: &[String]) -> bool
     names.iter().any(|name| is_concept_name(name.as_str()))
 }
 
-// How many of the names are those of files of some kind.
+// The number of names that are those of files of some kind.
 fn named_kind_count(names: &[String]) -> u64
     ensures { result ≡ count_by (λ name. is_some (file_kind_of (string_bytes name))) names.now }
 {
     names.iter().filter(|name| has_kind(name.as_str())).count() as u64
 }
 
-// Whether a name is that of a Concept file.
+// Whether `name` is that of a Concept file.
 fn is_concept_name(name: &str) -> bool
     ensures { result ≡ is_concept_kind (file_kind_of name.now) }
 {
     matches!(file_kind(name), Some(FileKind::Concept))
 }
 
-// Whether a name is that of a file of some kind.
+// Whether `name` is that of a file of some kind.
 fn has_kind(name: &str) -> bool
     ensures { result ≡ is_some (file_kind_of name.now) }
 {

@@ -4,31 +4,33 @@ use Rattle.std.proofs.lemmas.List.Elements.{All-append, All-head, All-map, All-t
 use Rattle.std.proofs.lemmas.List.Kept.{AllPairs-cons}
 use Rattle.std.specs.List.{All, AllPairs}
 
--- what holds of everything holds of the items of a list
+-- a claim that holds of everything holds of all items of a list
 pub each : {X : Type 0} (P : X → Type 0) (items : List X) → ((item : X) → P item) → All P items
 each P items holds k default within = holds (get_or items k default)
 
--- no item is equal to one after it
+-- no item of the list equals one after it
 abbrev pub Differ : {X : Type 0} → List X → Type 0
 Differ items = AllPairs (λ one other. one ≢ other) items
 
--- the items of the empty list differ, and so does the one item of a list of one
+-- the items of the empty list differ
 pub differ_none : {X : Type 0} → Differ {X = X} []
 differ_none i j default before within = absurd (omega arith)
 
+-- the items of a list of one item differ
 pub differ_one : {X : Type 0} (only : X) → Differ (only ∷ [])
 differ_one only i j default before within = absurd (omega arith)
 
--- the first item of a list differs from the others
+-- if the items of a list differ, the first differs from all others
 pub differ_first : {X : Type 0} (first : X) (rest : List X) → Differ (first ∷ rest)
     → All (λ other. first ≢ other) rest
 differ_first first rest differ k default within = differ 0 (suc k) default (omega arith) (omega arith)
 
--- the others differ from one another
+-- if the items of a list differ, those after the first differ
 pub differ_rest : {X : Type 0} (first : X) (rest : List X) → Differ (first ∷ rest) → Differ rest
 differ_rest first rest differ i j default before within = differ (suc i) (suc j) default (omega arith) (omega arith)
 
--- of two lists one behind the other the items differ where they do in each, and those of one from those of the other
+-- if the items of each of two lists differ, and each item of the first differs from all of the second, the items of
+-- both together differ
 pub differ_append : {X : Type 0} (one other : List X) → Differ one → Differ other
     → All (λ item. All (λ later. item ≢ later) other) one → Differ (one ++ other)
 differ_append [] other first second apart = second
@@ -39,7 +41,7 @@ differ_append (item ∷ items) other first second apart =
     (differ_append items other (differ_rest item items first) second
     (All-tail (λ item. All (λ later. item ≢ later) other) item items apart))
 
--- items that differ are taken to items that differ, by what takes no two to one
+-- a function that takes different items to different results takes items that differ to results that differ
 pub differ_map : {X Y : Type 0} (take : X → Y) → ((one other : X) → take one ≡ take other → one ≡ other)
     → (items : List X) → Differ items → Differ (map take items)
 differ_map take own [] differ = differ_none

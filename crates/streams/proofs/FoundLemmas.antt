@@ -1,4 +1,4 @@
--- What stands in a folder adds to what was found: the paths of some of its names as files, of others as folders.
+-- What stands in a folder adds to what was found: the paths of some names as files, those of others as folders.
 use Rattle.std.proofs.Common.{◌≡◌, ◌∙◌, ℕ, ◌++◌, List, [], ◌∷◌, Bool, true, false, None, Some, Result, Ok, Err}
 use Rattle.std.proofs.Common.{ap, cond, map, refl, subst, sym}
 use Rattle.std.proofs.lemmas.List.{append-nil, append_assoc, map-append}
@@ -12,33 +12,36 @@ use Rattle.streams.specs.Walk.{FolderTree, Found, found_at, found_in, leads_nowh
 use Rattle.streams.specs.declared.system.Standing.{Standing}
 use Rattle.streams.specs.declared.system.Standing.TheVariants.{File, Folder, Other}
 
--- whether what stands at a path is listed as a file, and whether it is gone through as a folder
+-- a walk lists what stands at `path` as a file
 abbrev pub is_file : Result Standing ErrorKind → List ℕ → Bool
 is_file (Ok File) path = true
 is_file (Ok (Folder number)) path = false
 is_file (Ok Other) path = false
 is_file (Err kind) path = is_some (file_kind_of path)
 
+-- a folder stands at the path
 abbrev pub is_folder : Result Standing ErrorKind → Bool
 is_folder (Ok File) = false
 is_folder (Ok (Folder number)) = true
 is_folder (Ok Other) = false
 is_folder (Err kind) = false
 
--- the path of a folder as it stands before the names in it
+-- the path of a folder with a `/` at its end, as it stands before the names in it
 abbrev pub with_slash : List ℕ → List ℕ
 with_slash path = path ++ 47 ∷ []
 
--- these files and folders were found, behind those before
+-- `new` has the files and folders of `old`, followed by `files` and `folders`
 pub record Adds (old new : Found) (files folders : List (List ℕ)) : Type 0 where
+  -- the files are those before and then `files`
   pub files_are : new.files ≡ old.files ++ files
+  -- the folders are those before and then `folders`, each with a `/` at its end
   pub folders_are : new.folders ≡ old.folders ++ map with_slash folders
 
--- what did not change has nothing more
+-- no change adds nothing
 pub adds_none : (found : Found) → Adds found found [] []
 adds_none found = record { files_are = sym (append-nil found.files); folders_are = sym (append-nil found.folders) }
 
--- what is added in two steps is what the first adds and then what the second does
+-- two steps add what the first adds, and then what the second adds
 pub adds_more : (old middle new : Found) (files more folders below : List (List ℕ)) → Adds old middle files folders
     → Adds middle new more below → Adds old new (files ++ more) (folders ++ below)
 adds_more old middle new files more folders below one two = record {
@@ -51,15 +54,15 @@ adds_more old middle new files more folders below one two = record {
       ∙ ap (λ (list : List (List ℕ)). old.folders ++ list) (sym (map-append with_slash folders below));
 }
 
--- the path of a name below a folder
+-- the path of `name` within `below`
 abbrev pub path_of : List ℕ → List ℕ → List ℕ
 path_of below name = below ++ name
 
--- a path alone, where it is listed
+-- a list of `path` alone if it is listed, otherwise the empty list
 abbrev one_if : Bool → List ℕ → List (List ℕ)
 one_if listed path = cond listed (path ∷ []) []
 
--- a path that is listed where a test says so, and else is passed over where another does
+-- if a path is either listed as a file or passed over, it is added to the files exactly if it is listed
 choice_adds : (listed nowhere : Bool) (path : List ℕ) (old new : Found)
     → cond listed (Some (with_file path old)) (cond nowhere (Some old) None) ≡ Some new
     → Adds old new (one_if listed path) []
@@ -71,7 +74,7 @@ choice_adds false true path old new found =
     let is : old ≡ new = cc in subst (λ (last : Found). Adds old last [] []) is (adds_none old)
 choice_adds false false path old new found = absurd (cc)
 
--- what stands at a path adds it to the files, to the folders or to neither
+-- looking at a path adds it to the files, to the folders, or to neither
 at_adds : (what : Result Standing ErrorKind) (path : List ℕ) (old new : Found) → found_at what path old ≡ Some new
     → Adds old new (one_if (is_file what path) path) (one_if (is_folder what) path)
 at_adds (Ok File) path old new found = choice_adds true true path old new found
@@ -83,7 +86,7 @@ at_adds (Ok Other) path old new found = choice_adds false true path old new foun
 at_adds (Err kind) path old new found =
     choice_adds (is_some (file_kind_of path)) (leads_nowhere kind) path old new found
 
--- the path of a name that is listed stands before those of the others
+-- the path of the first name, if it is listed, comes before those of the others
 listed_first : (listed : Bool) (below name : List ℕ) (names : List (List ℕ))
     → one_if listed (below ++ name) ++ map (path_of below) names
     ≡ map (path_of below) (cond listed (name ∷ names) names)
@@ -91,14 +94,15 @@ listed_first true below name names = refl
 listed_first false below name names = refl
 
 module _ (tree : FolderTree) (folder : List ℕ) where
-  -- whether a name in a folder is that of a file, and whether it is that of a folder
+  -- a walk lists the name in the folder `below` as a file
   abbrev pub lists_file : List ℕ → List ℕ → Bool
   lists_file below name = is_file (tree.at (path_below folder (below ++ name))) (below ++ name)
 
+  -- the name in the folder `below` is that of a folder
   abbrev pub lists_folder : List ℕ → List ℕ → Bool
   lists_folder below name = is_folder (tree.at (path_below folder (below ++ name)))
 
-  -- what stands in a folder adds the paths of those names that are a file's, and of those that are a folder's
+  -- the names in a folder add the paths of those that are listed as files, and the paths of those that are folders
   pub in_adds : (below : List ℕ) (names : List (List ℕ)) (old new : Found)
       → found_in tree folder below names old ≡ Some new
       → Adds old new (map (path_of below) (filter (lists_file below) names))

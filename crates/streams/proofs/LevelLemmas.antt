@@ -1,5 +1,5 @@
--- The paths of the files that a walk finds differ. In those of one level equally many `/` stand, one more than in
--- those of the level above, and what stands before the last `/` tells the folder.
+-- The paths of the files that a walk finds differ. The paths of one level have equally many `/`, one more than those
+-- of the level above; and what stands before the last `/` tells the folder.
 use Rattle.std.proofs.Common.{◌≡◌, ◌≢◌, ◌∙◌, ℕ, ◌+◌, ◌<◌, ◌++◌, List, [], ◌∷◌}
 use Rattle.std.proofs.Common.{Bool, ap, arith, map, refl, subst, sym}
 use Rattle.std.proofs.lemmas.Cmp.{nat_list_eq_equiv}
@@ -23,23 +23,23 @@ use Rattle.streams.proofs.FoundLemmas.{Adds, adds_more, adds_none, in_adds, list
 use Rattle.streams.proofs.FoundLemmas.{with_slash}
 use Rattle.streams.proofs.SlashLemmas.{last_append, last_behind, no_slashes, same_below, slashes, slashes_append}
 
--- no `/` stands in a name
+-- the name has no `/`
 abbrev IsPlain : List ℕ → Type 0
 IsPlain name = slashes name ≡ 0
 
--- a path is that of a name in a folder
+-- `path` is that of a name in the folder `below`
 abbrev StandsUnder : List ℕ → List ℕ → Type 0
 StandsUnder below path = (name : List ℕ) × IsPlain name × (path ≡ below ++ name)
 
--- a path is that of a name in one of the folders of a level
+-- `path` is that of a name in one of the folders of a level
 abbrev StandsIn : List (List ℕ) → List ℕ → Type 0
 StandsIn level path = (below : List ℕ) × Contains level below × StandsUnder below path
 
--- a path of a level above: fewer `/` stand in it
+-- `path` belongs to a level above: it has fewer than `depth` `/`
 abbrev IsAbove : ℕ → List ℕ → Type 0
 IsAbove depth path = slashes path < depth
 
--- paths differ, and each stands where it is said
+-- the paths differ, and `Stands` holds of each
 record AreNew (Stands : List ℕ → Type 0) (paths : List (List ℕ)) : Type 0 where
   differ : Differ paths
   stand : All Stands paths
@@ -47,7 +47,7 @@ record AreNew (Stands : List ℕ → Type 0) (paths : List (List ℕ)) : Type 0 
 new_none : (Stands : List ℕ → Type 0) → AreNew Stands []
 new_none Stands = record { differ = differ_none; stand = All-nil Stands }
 
--- files and folders were found that differ from one another, and each stands where it is said
+-- a step found files and folders; the files differ, the folders differ, and `Stands` holds of each
 record AddsNew (Stands : List ℕ → Type 0) (old new : Found) : Type 0 where
   files : List (List ℕ)
   folders : List (List ℕ)
@@ -55,17 +55,17 @@ record AddsNew (Stands : List ℕ → Type 0) (old new : Found) : Type 0 where
   new_files : AreNew Stands files
   new_folders : AreNew Stands folders
 
--- the path of a folder that is gone through: so many `/` stand in it, and it is empty or ends with one
+-- the path of a folder at `depth`: it has `depth` `/`, and is empty or ends with one
 record IsBelow (depth : ℕ) (below : List ℕ) : Type 0 where
   deep : slashes below ≡ depth
   ends : last_behind 47 below ≡ 47
 
--- the folders of a level differ, and equally many `/` stand in the path of each
+-- the folders of a level differ, and each has its path at `depth`
 record IsLevel (depth : ℕ) (level : List (List ℕ)) : Type 0 where
   differ : Differ level
   below : All (IsBelow depth) level
 
--- the path of what stands in a folder of a level has as many `/` as the path of that folder
+-- a path in a folder of a level has as many `/` as the path of that folder
 stands_deep : (depth : ℕ) (level : List (List ℕ)) (path : List ℕ) → IsLevel depth level → StandsIn level path
     → slashes path ≡ depth
 stands_deep depth level path is (below, has, (name, plain, same)) =
@@ -73,7 +73,7 @@ stands_deep depth level path is (below, has, (name, plain, same)) =
     let sum = slashes_append below name in
     let all = ap slashes same in omega arith
 
--- the names in a folder differ, and no `/` stands in one
+-- the names in a folder differ and have no `/`
 names_differ : (tree : FolderTree) (path : List ℕ) (names : List (List ℕ)) → ListsNamesOnce tree
     → AreNamesIn tree path names → AreNew IsPlain names
 names_differ tree path names once are =
@@ -86,7 +86,7 @@ names_differ tree path names once are =
           (All-permutation (λ name. All (λ byte. byte ≢ 47) name) are.given names are.same given.1);
     }
 
--- the paths of some of the names in a folder differ
+-- the paths of those names in a folder that `keeps` keeps differ
 paths_differ : (below : List ℕ) (keeps : List ℕ → Bool) (names : List (List ℕ)) → AreNew IsPlain names
     → AreNew (StandsUnder below) (map (path_of below) (filter keeps names))
 paths_differ below keeps names new = record {
@@ -100,14 +100,14 @@ paths_differ below keeps names new = record {
       new.stand));
 }
 
--- what stands in one folder differs from what stands in another of its level
+-- two paths in different folders of one level differ
 under_apart : (depth : ℕ) (below other path later : List ℕ) → IsBelow depth below → IsBelow depth other
     → below ≢ other → StandsUnder below path → StandsUnder other later → path ≢ later
 under_apart depth below other path later one two apart under elsewhere same =
     apart (same_below 47 below other under.0 elsewhere.0 one.ends two.ends under.1 elsewhere.1
     (sym under.2 ∙ same ∙ elsewhere.2))
 
--- what stands in one folder of a level is new beside what stands in the others
+-- if the paths in one folder differ, and so do those in the other folders of the level, all of them differ
 new_more : (depth : ℕ) (below : List ℕ) (level own others : List (List ℕ)) → IsLevel depth (below ∷ level)
     → AreNew (StandsUnder below) own → AreNew (StandsIn level) others
     → AreNew (StandsIn (below ∷ level)) (own ++ others)
@@ -133,7 +133,7 @@ new_more depth below level own others is one two =
     }
 
 module _ (tree : FolderTree) (once : ListsNamesOnce tree) (folder : List ℕ) where
-  -- the paths that one folder adds differ
+  -- the paths that entering one folder adds differ
   enters_adds : (below : List ℕ) (entered after : List ℕ) (old new : Found)
       → Enters tree folder below entered old after new → AddsNew (StandsUnder below) old new
   enters_adds below _ _ _ _ (again number entered found stands met) = record {
@@ -152,7 +152,7 @@ module _ (tree : FolderTree) (once : ListsNamesOnce tree) (folder : List ℕ) wh
         new_folders = paths_differ below (lists_folder tree folder below) names own;
       }
 
-  -- the paths that a level adds differ
+  -- the paths that entering the folders of a level adds differ
   all_adds : (depth : ℕ) (level : List (List ℕ)) (entered last : List ℕ) (old new : Found)
       → EntersAll tree folder level entered old last new → IsLevel depth level → AddsNew (StandsIn level) old new
   all_adds depth _ _ _ _ _ (no_more entered found) is = record {
@@ -192,7 +192,7 @@ module _ (tree : FolderTree) (once : ListsNamesOnce tree) (folder : List ℕ) wh
         }) folders new.stand);
   }
 
-  -- the files that were found differ from those of the levels above
+  -- the files of a level differ from those of the levels above
   next_files : (depth : ℕ) (level files more : List (List ℕ)) → IsLevel depth level
       → AreNew (IsAbove depth) files
       → AreNew (StandsIn level) more → AreNew (IsAbove (depth + 1)) (files ++ more)
@@ -211,7 +211,7 @@ module _ (tree : FolderTree) (once : ListsNamesOnce tree) (folder : List ℕ) wh
         (λ path stands. let flat = stands_deep depth level path is stands in omega arith) more new.stand);
   }
 
-  -- the paths of all files that are found in the levels differ
+  -- the paths of all files that the levels have differ
   all_differ : (depth levels : ℕ) (level : List (List ℕ)) (entered : List ℕ) (files all : List (List ℕ))
       → Descends tree folder levels level entered files all → IsLevel depth level → AreNew (IsAbove depth) files
       → Differ all
@@ -224,7 +224,7 @@ module _ (tree : FolderTree) (once : ListsNamesOnce tree) (folder : List ℕ) wh
       (subst (AreNew (IsAbove (depth + 1))) (sym more.adds.files_are)
       (next_files depth level files more.files is old more.new_files))
 
-  -- the files below a folder have paths that differ
+  -- the paths of all files below a folder differ
   pub below_differ : (files : List (List ℕ)) → AreFilesBelow tree folder files → Differ files
   below_differ files descends =
       all_differ 0 17 ([] ∷ []) [] [] files descends (record {

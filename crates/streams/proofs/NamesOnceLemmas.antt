@@ -1,4 +1,5 @@
--- The names of the files of folders differ: those of one folder by their paths, those of two by the folders' numbers.
+-- The names of the files of folders differ: those of one folder by their paths, those of two folders by the folders'
+-- numbers.
 use Rattle.std.proofs.Common.{◌≡◌, ◌≢◌, ◌∙◌, ℕ, ◌+◌, ◌<◌, ◌≤◌, ◌^◌, ◌++◌, List, [], ◌∷◌}
 use Rattle.std.proofs.Common.{Global, String, arith, length, map, refl, string_bytes, subst, sym}
 use Rattle.std.proofs.lemmas.List.{append_cancel_left}
@@ -14,13 +15,13 @@ use Rattle.streams.proofs.DifferLemmas.{Differ, differ_append, differ_map, diffe
 use Rattle.streams.proofs.LevelLemmas.{below_differ}
 use Rattle.streams.proofs.SlashLemmas.{same_number}
 
--- one number stands before two paths alike only where they are one
+-- two paths with one number before them are equal if the names are equal
 same_path : (number : ℕ) (one other : List ℕ)
     → numbered_name number one ≡ numbered_name number other → one ≡ other
 same_path number one other same =
     let behind = append_cancel_left (decimal number) (47 ∷ one) (47 ∷ other) same in cc
 
--- the number of a file's folder is a number or a greater one, and below 2 ^ 64
+-- the number in the name is `least` or greater, and below 2^64
 record HasNumberFrom (least : ℕ) (name : List ℕ) : Type 0 where
   number : ℕ
   path : List ℕ
@@ -28,7 +29,7 @@ record HasNumberFrom (least : ℕ) (name : List ℕ) : Type 0 where
   small : number < 2 ^ 64
   is : name ≡ numbered_name number path
 
--- a file of a folder has another name than each of the folders behind it
+-- a file of a folder has another name than each file of a folder with a greater number
 numbers_apart : (number : ℕ) (path later : List ℕ) → number < 2 ^ 64 → HasNumberFrom (number + 1) later
     → numbered_name number path ≢ later
 numbers_apart number path later small from same =
@@ -45,7 +46,7 @@ from_less least name from =
       is = from.is;
     }
 
--- names differ, and the numbers of their folders are a number or greater ones
+-- the names differ, and the number in each is `least` or greater
 record AreNumberedFrom (least : ℕ) (names : List (List ℕ)) : Type 0 where
   differ : Differ names
   numbers : All (HasNumberFrom least) names
@@ -53,7 +54,7 @@ record AreNumberedFrom (least : ℕ) (names : List (List ℕ)) : Type 0 where
 numbered_none : (number : ℕ) → AreNumberedFrom number []
 numbered_none number = record { differ = differ_none; numbers = All-nil (HasNumberFrom number) }
 
--- the names of the files of a folder differ from those of the folders behind it
+-- the names of the files of a folder differ from one another and from those of the folders after it
 numbered_more : (number : ℕ) (own others : List (List ℕ)) → number < 2 ^ 64 → Differ own
     → AreNumberedFrom (number + 1) others → AreNumberedFrom number (map (numbered_name number) own ++ others)
 numbered_more number own others small differ behind = record {

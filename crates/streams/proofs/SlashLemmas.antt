@@ -1,4 +1,4 @@
--- How many `/` stand in a text, and where a text is cut at one.
+-- How many `/` a text has, and how `/` cuts it.
 use Rattle.std.proofs.Common.{◌≡◌, ◌≢◌, ℕ, ◌+◌, ◌%◌, ◌<◌, ◌^◌, ◌++◌, List, [], ◌∷◌}
 use Rattle.std.proofs.Common.{ap, arith, cond, eqb, refl, subst, sym}
 use Rattle.std.proofs.lemmas.Bool.{ne_eqb}
@@ -7,16 +7,16 @@ use Rattle.std.proofs.lemmas.List.Elements.{All-head, All-tail}
 use Rattle.std.specs.Fmt.{decimal}
 use Rattle.std.specs.List.{All}
 
--- one for a `/`, and nothing for any other byte
+-- 1 for the byte `/`, and 0 for any other byte
 abbrev pub slash_of : ℕ → ℕ
 slash_of byte = cond (eqb byte 47) 1 0
 
--- how many `/` stand in a text
+-- how many `/` a text has
 abbrev pub slashes : List ℕ → ℕ
 slashes [] = 0
 slashes (byte ∷ text) = slash_of byte + slashes text
 
--- the last byte of a text that stands behind a byte
+-- the last byte of `text`, or `before` if it is empty
 abbrev pub last_behind : ℕ → List ℕ → ℕ
 last_behind before [] = before
 last_behind before (byte ∷ text) = last_behind byte text
@@ -27,29 +27,29 @@ no_slash_of byte other = rw (ne_eqb byte 47 other) refl
 a_slash_of : (byte : ℕ) → byte ≡ 47 → slash_of byte ≡ 1
 a_slash_of byte is = ap slash_of is
 
--- a text of other bytes has none
+-- a text without the byte `/` has 0 of them
 pub no_slashes : (text : List ℕ) → All (λ byte. byte ≢ 47) text → slashes text ≡ 0
 no_slashes [] others = refl
 no_slashes (byte ∷ text) others =
     let first : slash_of byte ≡ 0 = no_slash_of byte (All-head (λ byte. byte ≢ 47) byte text others) in
     let rest : slashes text ≡ 0 = no_slashes text (All-tail (λ byte. byte ≢ 47) byte text others) in omega arith
 
--- two texts, one behind the other, have as many as both
+-- two texts joined have as many `/` as both together
 pub slashes_append : (one other : List ℕ) → slashes (one ++ other) ≡ slashes one + slashes other
 slashes_append [] other = omega arith
 slashes_append (byte ∷ one) other = let rest = slashes_append one other in omega arith
 
--- the last byte of a text is the one that was put behind it
+-- the last byte of a text with one byte added is that byte
 pub last_append : (before : ℕ) (text : List ℕ) (byte : ℕ) → last_behind before (text ++ byte ∷ []) ≡ byte
 last_append before [] byte = refl
 last_append before (first ∷ text) byte = last_append first text byte
 
--- what ends with a `/` has one
+-- a text that ends with `/` has at least one
 has_slash : (byte : ℕ) (text : List ℕ) → last_behind byte text ≡ 47 → 0 < slashes (byte ∷ text)
 has_slash byte [] ends = let one : slash_of byte ≡ 1 = a_slash_of byte ends in omega arith
 has_slash byte (next ∷ text) ends = let rest = has_slash next text ends in omega arith
 
--- what ends with a `/` is not the front of a text with none in it
+-- a text that ends with `/` is not the front of a text without `/`
 not_front : (byte : ℕ) (text behind name : List ℕ) → last_behind byte text ≡ 47 → slashes name ≡ 0
     → name ≡ (byte ∷ text) ++ behind → ⊥
 not_front byte text behind name ends none is =
@@ -57,7 +57,7 @@ not_front byte text behind name ends none is =
     let sum = slashes_append (byte ∷ text) behind in
     let same = ap slashes is in absurd (omega arith)
 
--- two texts that are empty or end with a `/` are one, where each with a name behind it is the same text
+-- two texts that are empty or end with `/` are equal if each, followed by a name without `/`, makes the same text
 pub same_below : (before : ℕ) (one other first second : List ℕ)
     → last_behind before one ≡ 47 → last_behind before other ≡ 47
     → slashes first ≡ 0 → slashes second ≡ 0
@@ -74,7 +74,7 @@ same_below before (byte ∷ one) (also ∷ other) first second ends_one ends_oth
     subst (λ (start : ℕ). last_behind start other ≡ 47) (sym head) ends_other in
     let rest = same_below byte one other first second ends_one ends none_one none_other tail in cc
 
--- what stands before the first `/` of a text is one
+-- two texts without `/` are equal if each, followed by `/` and some text, makes the same text
 pub same_before : (one other first second : List ℕ) → slashes one ≡ 0 → slashes other ≡ 0
     → one ++ 47 ∷ first ≡ other ++ 47 ∷ second → one ≡ other
 same_before [] [] first second none_one none_other same = refl
@@ -92,7 +92,7 @@ same_before (byte ∷ one) (also ∷ other) first second none_one none_other sam
 digit_no_slash : (digit : ℕ) → digit < 10 → slashes ((48 + digit) ∷ []) ≡ 0
 digit_no_slash digit small = let none = no_slash_of (48 + digit) (λ same. omega arith) in omega arith
 
--- no `/` stands in a number
+-- the digits of a number below 2^64 have no `/`
 pub number_no_slash : (number : ℕ) → number < 2 ^ 64 → slashes (decimal number) ≡ 0
 number_no_slash number small =
     decimal_by_steps (λ number text. slashes text ≡ 0) digit_no_slash
@@ -101,7 +101,7 @@ number_no_slash number small =
     let sum = slashes_append text ((48 + number % 10) ∷ []) in omega arith)
     number small
 
--- numbers before a `/` are one where the texts are
+-- two numbers below 2^64 are equal if each, followed by `/` and some text, makes the same text
 pub same_number : (one other : ℕ) (first second : List ℕ) → one < 2 ^ 64 → other < 2 ^ 64
     → decimal one ++ 47 ∷ first ≡ decimal other ++ 47 ∷ second → one ≡ other
 same_number one other first second small_one small_other same =

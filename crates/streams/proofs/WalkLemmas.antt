@@ -1,4 +1,4 @@
--- A walk through a folder, one name, one folder and one level after another.
+-- A walk through a folder, by names, folders and levels in turn.
 use Rattle.std.proofs.Common.{add-one, ◌≡◌, ◌∙◌, ℕ, suc, ◌+◌, ◌<◌, ◌≤◌, ◌++◌, List, [], ◌∷◌, Bool, true, false, Some}
 use Rattle.std.proofs.Common.{Result, Ok, Err, IfOk, OnOk, String, Global, get_or, length, drop, drop-cons, map, not}
 use Rattle.std.proofs.Common.{ap, sym, subst, refl, arith, is_lt, nat_cmp, string_bytes}
@@ -15,7 +15,7 @@ use Rattle.streams.specs.Walk.{AreFilesBelow, AreFilesOfAll, AreNamesIn, Descend
 use Rattle.streams.specs.Walk.{again, deeper, ended, first, found_in, no_more, numbered_name, one_more}
 use Rattle.streams.specs.declared.system.Standing.TheVariants.{Folder}
 
--- what is ahead of one text more
+-- the bytes of the texts from index `i` on are those of the text at `i` and those of the texts after it
 texts_ahead : (texts : List (String Global)) (i : ℕ) (d : String Global) (text : List ℕ) → i < length texts
     → text ≡ string_bytes (get_or texts i d)
     → map string_bytes (drop i texts) ≡ text ∷ map string_bytes (drop (i + 1) texts)
@@ -24,7 +24,7 @@ texts_ahead texts i d text within is =
     ∙ ap (λ (one : List ℕ). one ∷ map string_bytes (drop (suc i) texts)) (sym is)
     ∙ ap (λ (n : ℕ). text ∷ map string_bytes (drop n texts)) (sym (add-one i))
 
--- texts that rise have bytes that rise
+-- a list sorted by what `f` yields is sorted after applying `f`
 sorted_map : {X Y : Type 0} (f : X → Y) (lt : Y → Y → Bool) (xs : List X)
     → IsSortedBy (λ one other. lt (f one) (f other)) xs → IsSortedBy lt (map f xs)
 sorted_map f lt [] sorted k default low high = absurd (omega arith)
@@ -37,21 +37,23 @@ sorted_map f lt (x ∷ xs) sorted k default low high =
       (sorted k x low),
     )
 
+-- the bytes of sorted names are in byte order
 pub names_in_order : (sorted : List (String Global)) → IsSorted string_cmp sorted
     → IsSorted (slice_cmp nat_cmp) (map string_bytes sorted)
 names_in_order sorted rising = sorted_map string_bytes (λ one other. is_lt (slice_cmp nat_cmp one other)) sorted rising
 
--- whether a folder is new says whether its number was met
+-- a folder that is not new has a number that was met
 pub told_again : (met is_new : Bool) → is_new ≡ not met → is_new ≡ false → met ≡ true
 told_again true is_new is old = refl
 told_again false is_new is old = absurd (true≢false (sym is ∙ old))
 
+-- a folder that is new has a number that was not met
 pub told_first : (met is_new : Bool) → is_new ≡ not met → is_new ≡ true → met ≡ false
 told_first false is_new is new = refl
 told_first true is_new is new = absurd (true≢false (sym new ∙ is))
 
 module _ (tree : FolderTree) (folder : List ℕ) where
-  -- a folder that was entered before
+  -- entering a folder that was entered before finds nothing
   pub enters_again : (below path : List ℕ) (number : ℕ) (old new : List ℕ) (found : Found)
       → path ≡ path_below folder below
       → tree.at path ≡ Ok (Folder number) → list_any (nat_eq number) old ≡ true → new ≡ keys_behind old number
@@ -61,7 +63,7 @@ module _ (tree : FolderTree) (folder : List ℕ) where
       subst (λ (after : List ℕ). Enters tree folder below old found after found) (sym same)
       (again number old found (ap tree.at (sym below_is) ∙ stands) met)
 
-  -- a folder that was not
+  -- entering a folder for the first time finds what its names add
   pub enters_first : (below path : List ℕ) (number : ℕ) (old new : List ℕ) (before after : Found)
       (names : List (List ℕ))
       → path ≡ path_below folder below → tree.at path ≡ Ok (Folder number) → list_any (nat_eq number) old ≡ false
@@ -73,7 +75,7 @@ module _ (tree : FolderTree) (folder : List ℕ) where
       (first number old before after names (ap tree.at (sym below_is) ∙ stands) fresh
       (subst (λ (place : List ℕ). AreNamesIn tree place names) below_is are) found)
 
-  -- so where what stands in it could be taken
+  -- a walk enters a folder for the first time if it can take what stands under each of its names
   pub enters_ok : {E : Type 0} (below path : List ℕ) (number : ℕ) (old middle new : List ℕ) (before after : Found)
       (names : List (List ℕ))
       (result : Result (Unit {0}) E) → path ≡ path_below folder below → tree.at path ≡ Ok (Folder number)
@@ -86,7 +88,7 @@ module _ (tree : FolderTree) (folder : List ℕ) where
   enters_ok below path number old middle new before after names (Err error) below_is stands fresh keys same are found =
       tt
 
-  -- one folder of a level more was entered
+  -- entering one folder of a level and then the others enters all folders from index `i` on
   pub enters_next : (level : List (String Global)) (i : ℕ) (d : String Global) (below : List ℕ)
       (one middle last : List ℕ) (old between new : Found)
       → i < length level → below ≡ string_bytes (get_or level i d) → Enters tree folder below one old middle between
@@ -97,7 +99,7 @@ module _ (tree : FolderTree) (folder : List ℕ) where
       (sym (texts_ahead level i d below within is))
       (one_more below (map string_bytes (drop (i + 1) level)) one middle last old between new enters rest)
 
-  -- none is left
+  -- past the last folder of a level none is entered
   pub enters_none : (level : List (String Global)) (i : ℕ) (entered : List ℕ) (found : Found) → length level ≤ i
       → EntersAll tree folder (map string_bytes (drop i level)) entered found entered found
   enters_none level i entered found behind =
@@ -105,7 +107,7 @@ module _ (tree : FolderTree) (folder : List ℕ) where
       found)
       (sym (drop_all i level behind)) (no_more entered found)
 
-  -- one level more was gone through
+  -- going through one level and then the others below goes through all of them
   pub level_next : (levels left : ℕ) (level next : List (List ℕ)) (one last after : List ℕ) (old found new : Found)
       (all : List (List ℕ))
       → levels ≡ suc left → old.folders ≡ [] → EntersAll tree folder level one old last found
@@ -122,13 +124,13 @@ module _ (tree : FolderTree) (folder : List ℕ) where
       subst (λ (n : ℕ). Descends tree folder n level one old.files all) (sym is)
       (deeper left level one last old.files all found begun below)
 
-  -- no level is left
+  -- going through 0 levels finds no more files
   pub level_none : (levels : ℕ) (level : List (List ℕ)) (entered : List ℕ) (files : List (List ℕ)) → levels ≡ 0
       → Descends tree folder levels level entered files files
   level_none levels level entered files none =
       subst (λ (n : ℕ). Descends tree folder n level entered files files) (sym none) (ended level entered files)
 
--- one folder of several more was listed
+-- the files of the folders from index `i` on are those of the folder at `i` and those of the folders after it
 pub folder_next : (tree : FolderTree) (folders : List (String Global)) (i number : ℕ) (d : String Global)
     (folder : List ℕ)
     (own others : List (List ℕ)) → i < length folders → folder ≡ string_bytes (get_or folders i d)
@@ -144,13 +146,13 @@ folder_next tree folders i number d folder own others within is files rest =
       refl,
     )
 
--- none is left
+-- past the last folder there are no files
 pub folder_none : (tree : FolderTree) (folders : List (String Global)) (i number : ℕ) → length folders ≤ i
     → AreFilesOfAll tree number (drop i folders) []
 folder_none tree folders i number behind =
     subst (λ (some : List (String Global)). AreFilesOfAll tree number some []) (sym (drop_all i folders behind)) refl
 
--- what is said of a value that was given is said of it where it is answered
+-- a claim about the given value holds of the answered one, if they are one value
 pub given_ok : {T E F : Type 0} (P : T → Type 0) (result : Result T E) (given : Result T F)
     → IfOk result (λ value. given ≡ Ok value)
     → IfOk given P → IfOk result P

@@ -1,9 +1,9 @@
--- Where no folder lists a name twice.
+-- The premise that no folder lists a name twice.
 use Rattle.std.specs.Prelude.{◌≡◌, ◌≢◌, List, Ok, bytes_eq, ℕ}
 use Rattle.std.specs.List.{All, IsDistinct}
 use Rattle.streams.specs.Walk.{FolderTree}
 
--- each folder of a tree lists no name twice, and no name with a `/` in it
+-- each folder of the tree lists no name twice, and no name with a `/` in it
 abbrev pub ListsNamesOnce : FolderTree → Type 0
 ListsNamesOnce tree =
     (path : List ℕ) (names : List (List ℕ)) → tree.names path ≡ Ok names

@@ -1,5 +1,6 @@
--- What the files below a folder are, where the system tells its tree: those that a walk through the folder and its subfolders finds,
--- level by level, and in a folder in the byte order of the names. Links are followed, but each folder is entered once.
+-- The files below a folder, if the system tells its tree: those that a walk through the folder and its subfolders
+-- finds, level by level, and in each folder in the byte order of the names. The walk follows links, but enters each
+-- folder once.
 use Rattle.std.specs.Prelude.{◌≡◌, ◌≢◌, length, ◌⊎◌, ℕ, suc, ◌+◌, Bool, true, false, List, [], ◌∷◌, ◌++◌, Option, None, Some, Result, Ok, Err, IsPermutation, is_some, if◌then◌else◌, map, nat_eq, option_and_then, string_bytes}
 use Rattle.std.specs.Cmp.Lexicographic.{slice_cmp}
 use Rattle.std.specs.IoError.{error_kind}
@@ -16,37 +17,44 @@ use Rattle.streams.specs.Folders.{IsFolderAt, path_below}
 use Rattle.streams.specs.declared.system.Standing.{Standing}
 use Rattle.streams.specs.declared.system.Standing.TheVariants.{File, Folder, Other}
 
--- a tree: what stands at each path, links followed, and the names in each folder, in any order; a failure by its kind
+-- a tree of folders and files; each failure has its kind
 pub record FolderTree : Type 0 where
+  -- the kind of thing that stands at each path, after links are followed
   pub at : List ℕ → Result Standing ErrorKind
+  -- the names in each folder, in any order
   pub names : List ℕ → Result (List (List ℕ)) ErrorKind
 
--- a call tells what is so, or that memory was refused
+-- a call tells `so`, or that memory was refused
 abbrev pub Tells : {A T : Type 0} → (T → A) → Result A ErrorKind → Result T Error → Type 0
 Tells view so (Ok found) = so ≡ Ok (view found)
 Tells view so (Err error) = (error_kind error ≡ OutOfMemory) ⊎ (so ≡ Err (error_kind error))
 
--- a link leads nowhere
+-- the failure is that of a link that leads nowhere
 abbrev pub leads_nowhere : ErrorKind → Bool
 leads_nowhere NotFound = true
 leads_nowhere NotADirectory = true
 leads_nowhere FilesystemLoop = true
 leads_nowhere kind = false
 
--- what was found: the paths of files below the folder of the walk, and those of the folders of the next level, each with a `/` behind it
+-- the files and folders that a walk has found so far
 pub record Found : Type 0 where
+  -- the paths of the files below the folder of the walk
   pub files : List (List ℕ)
+  -- the paths of the folders of the next level, each with a `/` at its end
   pub folders : List (List ℕ)
 
+-- `found` with one more file
 abbrev pub with_file : List ℕ → Found → Found
 with_file path found = record { files = found.files ++ path ∷ []; folders = found.folders }
 
+-- `found` with one more folder, whose path gets a `/` at its end
 abbrev pub with_folder : List ℕ → Found → Found
 with_folder path found = record { files = found.files; folders = found.folders ++ (path ++ 47 ∷ []) ∷ [] }
 
--- what stands at a path is found: a plain file, or a folder, and nothing else. Where the system can't tell what stands there, the path is
--- that of a file if its name is that of one that is read, so that it fails where it is opened; else it is passed over if it is a link that
--- leads nowhere, and any other failure is one of the walk
+-- the files and folders found after looking at `path`, or `None` if the walk fails: it finds a plain file or a folder
+-- and nothing else. If the system cannot tell what stands there, the walk finds a file if the name is that of a file
+-- to be read, so that opening it fails; otherwise it passes over a link that leads nowhere, and fails at any other
+-- failure.
 abbrev pub found_at : Result Standing ErrorKind → List ℕ → Found → Option Found
 found_at (Ok File) path found = Some (with_file path found)
 found_at (Ok (Folder number)) path found = Some (with_folder path found)
@@ -56,20 +64,25 @@ found_at (Err kind) path found =
     else if leads_nowhere kind then Some found
     else None
 
--- so is what stands in a folder under each of some names
+-- the files and folders found after looking at all `names` in the folder `below`, or `None` if the walk fails
 abbrev pub found_in : FolderTree → List ℕ → List ℕ → List (List ℕ) → Found → Option Found
 found_in tree folder below [] found = Some found
 found_in tree folder below (name ∷ names) found =
     option_and_then (found_in tree folder below names) (found_at (tree.at (path_below folder (below ++ name))) (below ++ name) found)
 
--- the names in a folder, in byte order
+-- `names` are the names in the folder at `path`, in byte order
 pub record AreNamesIn (tree : FolderTree) (path : List ℕ) (names : List (List ℕ)) : Type 0 where
+  -- the names in the order in which the system gives them
   pub given : List (List ℕ)
+  -- the tree tells these names
   pub told : tree.names path ≡ Ok given
+  -- the names are those that the system gives, in some order
   pub same : IsPermutation given names
+  -- the names rise in byte order
   pub rising : IsSorted (slice_cmp nat_cmp) names
 
--- a folder is entered, unless it was entered before: what stands in it is found
+-- a walk enters the folder `below`: if it has not entered that folder before, it finds what stands there; otherwise
+-- nothing changes
 pub data Enters (tree : FolderTree) (folder below : List ℕ) : List ℕ → Found → List ℕ → Found → Type 0 where
   again : (number : ℕ) (entered : List ℕ) (found : Found) → tree.at (path_below folder below) ≡ Ok (Folder number)
       → list_any (nat_eq number) entered ≡ true → Enters tree folder below entered found entered found
@@ -77,29 +90,29 @@ pub data Enters (tree : FolderTree) (folder below : List ℕ) : List ℕ → Fou
       → list_any (nat_eq number) entered ≡ false → AreNamesIn tree (path_below folder below) names
       → found_in tree folder below names old ≡ Some new → Enters tree folder below entered old (entered ++ number ∷ []) new
 
--- the folders of a level are entered, one after the other
+-- a walk enters the folders of a level, one after another
 pub data EntersAll (tree : FolderTree) (folder : List ℕ) : List (List ℕ) → List ℕ → Found → List ℕ → Found → Type 0 where
   no_more : (entered : List ℕ) (found : Found) → EntersAll tree folder [] entered found entered found
   one_more : (below : List ℕ) (level : List (List ℕ)) (first middle last : List ℕ) (old between new : Found)
       → Enters tree folder below first old middle between → EntersAll tree folder level middle between last new
       → EntersAll tree folder (below ∷ level) first old last new
 
--- so many levels are gone through, each of the folders that were found in the one above it
+-- a walk goes through a number of levels; each level has the folders that were found in the one above it
 pub data Descends (tree : FolderTree) (folder : List ℕ) : ℕ → List (List ℕ) → List ℕ → List (List ℕ) → List (List ℕ) → Type 0 where
   ended : (level : List (List ℕ)) (entered : List ℕ) (files : List (List ℕ)) → Descends tree folder 0 level entered files files
   deeper : (levels : ℕ) (level : List (List ℕ)) (first last : List ℕ) (files all : List (List ℕ)) (found : Found)
       → EntersAll tree folder level first (record { files = files; folders = [] }) last found
       → Descends tree folder levels found.folders last found.files all → Descends tree folder (suc levels) level first files all
 
--- the files below a folder: the folder itself is gone through, and 16 levels of subfolders
+-- the files below a folder: those in the folder itself and in 16 levels of subfolders
 abbrev pub AreFilesBelow : FolderTree → List ℕ → List (List ℕ) → Type 0
 AreFilesBelow tree folder names = Descends tree folder 17 ([] ∷ []) [] [] names
 
--- the name of a file of several folders: the number of its folder, a `/`, and its path there
+-- the name of a file if there are several folders: the number of its folder, a `/`, and its path there
 abbrev pub numbered_name : ℕ → List ℕ → List ℕ
 numbered_name number path = decimal number ++ 47 ∷ path
 
--- the files of folders that are numbered from a number on, folder by folder
+-- the names of the files of `folders`, folder by folder, if the first folder has the number `number`
 abbrev pub AreFilesOfAll : {A : Type 0} → FolderTree → ℕ → List (String A) → List (List ℕ) → Type 0
 AreFilesOfAll tree number [] names = names ≡ []
 AreFilesOfAll tree number (folder ∷ folders) names =
@@ -107,7 +120,8 @@ AreFilesOfAll tree number (folder ∷ folders) names =
     × AreFilesBelow tree (string_bytes folder) own × AreFilesOfAll tree (number + 1) folders others
     × (names ≡ map (numbered_name number) own ++ others)
 
--- the files of folders: of one folder by their paths, of several behind the number of their folder, from 1
+-- the names of the files of `folders`: paths if there is one folder, otherwise paths after the number of the folder,
+-- from 1
 abbrev pub AreFilesOf : {A : Type 0} → FolderTree → List (String A) → List (List ℕ) → Type 0
 AreFilesOf tree folders names =
     (length folders ≡ 1 → (folder : List ℕ) × IsFolderAt folders 0 folder × AreFilesBelow tree folder names)

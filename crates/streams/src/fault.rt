@@ -13,5 +13,5 @@ pub enum AnswerFault {
     Write,
 }
 
-/// How often a read or a write is tried that is interrupted each time.
+/// The number of tries of a read or a write if each try is interrupted.
 pub const TRIES: u32 = 1_000;

@@ -1,4 +1,4 @@
-//! The files of the folders of a release.
+//! Reads the files of the folders of a release.
 ghost use Rattle.std.specs.Prelude.{◌≡◌, ◌≢◌, ◌≤◌, ◌++◌, ℕ, List, IfErr, IfOk, IfSome, IsSomeAnd, MatchOption, MatchResult, None, Ok, OnErr, OnOk, Some, length, map, string_bytes};
 ghost use Rattle.std.specs.Io.KnownBytes.{IsAtEnd, Keeps, ReadConsumes};
 ghost use Rattle.std.specs.IoError.{error_kind};
@@ -16,30 +16,29 @@ use std::fs::Files;
 use std::io;
 use std::io::{ErrorKind, Read};
 
-/// The plain files of folders and their subfolders as a source. The name of a file is its path below
-/// its folder, with `/` between the parts; of two folders and more it begins with the number of the
-/// folder, from 1, as `2/a/b.txt` does. Nothing is claimed of what the files hold; of the open file
-/// no byte is lost or given twice. The files are those of the host, or of any other system `R`.
+/// The plain files of folders and their subfolders as a source. The name of a file is its path below its
+/// folder, with `/` between the parts. If there are two folders or more, it begins with the number of the
+/// folder, from 1, as in `2/a/b.txt`. The source claims nothing about the contents of the files; it loses no
+/// byte of the open file and gives none twice. The files are those of the host, or of any other system `R`.
 ///
-/// `list` gives the names folder by folder. Links are followed, but below each of the folders each
-/// folder is entered once, whatever links lead to it: level by level, and in a folder in the byte
-/// order of the names. A link that leads nowhere is listed if its name tells of a kind of Snapshot
-/// file, so that it fails where it is opened, and is passed over otherwise. `open` opens plain files
-/// alone, and a file is closed where its end is read.
+/// `list` gives the names folder by folder. It follows links, but below each of the folders it enters each
+/// folder once, whatever links lead to it. It goes level by level, and in each folder in the byte order of the
+/// names. It lists a link that leads nowhere if its name is that of a kind of Snapshot file, so that opening it
+/// fails, and passes over it otherwise. `open` opens only plain files, and closes a file once its end is read.
 ///
-/// The seed is drawn from the system when the source is made. If that fails, so does each `list`.
+/// The source draws its seed from the system when it is made. If that fails, each `list` fails.
 #[derive(Drop)]
 pub struct FolderSource<'a, R: Files = HostRuntime> {
     rt: &'a R,
     folders: &'a [String],
     file: Option<R::File>,
     failures: u64,
-    // none where it could not be drawn
+    // `None` if the seed could not be drawn
     seed: Option<Seed>,
 }
 
 impl<'a, R: FolderSystem> FolderSource<'a, R> {
-    /// A source of the files of these folders, with none open.
+    /// Creates a source of the files of `folders`, with none open.
     pub fn new(rt: &'a R, folders: &'a [String]) -> FolderSource<'a, R>
         ensures { (⟦<FolderSource<'a, R> as FileSource>⟧.history result).failures ≡ 0 }
     {
@@ -52,7 +51,7 @@ impl<'a, R: FolderSystem> FolderSource<'a, R> {
         }
     }
 
-    // What the system gave. Its failure closes the file, and is counted unless it is want of memory.
+    // Answers what the system gave. A failure closes the file, and is counted unless it is want of memory.
     fn counted<T>(&mut self, given: io::Result<T>) -> Result<T, SourceFault>
         ensures value { IfOk result (λ value. given ≡ Ok value) }
         ensures answered { IfOk given (λ value. result ≡ Ok value) }
@@ -92,7 +91,8 @@ impl<'a, R: FolderSystem> FileSource for FolderSource<'a, R> {
         self.seed.unwrap_or(Seed::FIXED)
     }
 
-    /// Where the system tells its tree, the names are those of the files of the folders, and no failure was passed over.
+    /// If the system tells its tree, the names are those of the files of the folders, and no failure was passed
+    /// over.
     fn list(&mut self) -> Result<Vec<String>, SourceFault>
         ensures listed { (tree : FolderTree) → R.tree self.old.rt.now ≡ Some tree → IfOk result (λ names. AreFilesOf tree self.old.folders.now (map string_bytes names.items)) }
         ensures names { IfOk result (λ names. IfSome None (λ (known : List FileText). map string_bytes names.items ≡ map (λ file. file.name) known)) }
@@ -104,7 +104,7 @@ impl<'a, R: FolderSystem> FileSource for FolderSource<'a, R> {
         self.counted(names)
     }
 
-    /// The path by which the file is opened is that of its folder, `/` and the name below it.
+    /// Opens the file by the path of its folder, `/` and the name below it.
     fn open(&mut self, name: &str) -> Result<(), SourceFault>
         ensures path { OnOk result (IsSomeAnd self.new.file (λ file. IsOpenedBy R.opens self.old.folders.now name.now file)) }
         ensures opened { OnOk result (Opens None name.now (rest_of R.File.Read.remaining self.new.file)) }
@@ -130,7 +130,7 @@ impl<'a, R: FolderSystem> FileSource for FolderSource<'a, R> {
     }
 }
 
-// The names of the files of folders, unless there is no seed for what they hold.
+// The names of the files of `folders`. Fails if there is no seed for their contents.
 fn list_seeded<R: FolderSystem>(
     rt: &R,
     folders: &[String],
@@ -144,7 +144,7 @@ fn list_seeded<R: FolderSystem>(
     }
 }
 
-// The names of the files of folders, folder by folder.
+// The names of the files of `folders`, folder by folder.
 fn list_folders<R: FolderSystem>(rt: &R, folders: &[String], seed: Seed) -> io::Result<Vec<String>>
     ensures { (tree : FolderTree) → R.tree rt.now ≡ Some tree → IfOk result (λ names. AreFilesOf tree folders.now (map string_bytes names.items)) }
 {
@@ -154,7 +154,7 @@ fn list_folders<R: FolderSystem>(rt: &R, folders: &[String], seed: Seed) -> io::
     list_several(rt, folders, seed)
 }
 
-// The names of the files of several folders, each behind the number of its folder.
+// The names of the files of several folders, each after the number of its folder.
 fn list_several<R: FolderSystem>(rt: &R, folders: &[String], seed: Seed) -> io::Result<Vec<String>>
     ensures { (tree : FolderTree) → R.tree rt.now ≡ Some tree → IfOk result (λ names. AreFilesOfAll tree 1 folders.now (map string_bytes names.items)) }
 {
@@ -168,7 +168,7 @@ fn list_several<R: FolderSystem>(rt: &R, folders: &[String], seed: Seed) -> io::
     Ok(names)
 }
 
-// Adds the names of the files of a folder, each behind the number of the folder.
+// Adds the names of the files of a folder, each after the number of the folder.
 fn list_numbered<R: FolderSystem>(
     rt: &R,
     number: usize,
@@ -184,7 +184,7 @@ fn list_numbered<R: FolderSystem>(
     Ok(())
 }
 
-// Adds names, each behind a number.
+// Adds the names of `own`, each after `number`.
 fn add_numbered(
     alloc: Global,
     number: usize,
@@ -199,7 +199,7 @@ fn add_numbered(
     Ok(())
 }
 
-// A name behind a number.
+// A name after a number and `/`.
 fn numbered_name(alloc: Global, number: usize, name: &str) -> Result<String, AllocError>
     ensures { IfOk result (λ text. string_bytes text ≡ numbered_name number name.now) }
 {
@@ -215,7 +215,7 @@ fn open_file<R: FolderSystem>(rt: &R, folders: &[String], name: &str) -> io::Res
     }
 }
 
-// The folder of a file, and the path below it.
+// The folder of the file called `name`, and the path below it.
 fn folder_and_path<'a>(folders: &'a [String], name: &'a str) -> Option<(&'a str, &'a str)>
     ensures { MatchOption result (length folders.now ≢ 1) (λ place. IsPlace folders.now name.now place.0.now place.1.now) }
 {
@@ -234,7 +234,7 @@ fn numbered<'a>(folders: &'a [String], name: &'a str) -> Option<(&'a str, &'a st
     Some((folders.get(index)?.as_str(), below))
 }
 
-// Reads the next bytes. A read that is interrupted is tried again, 1,000 times in all.
+// Reads the next bytes. Tries an interrupted read again, up to 1,000 times in all.
 fn read_some<F: Read>(file: &mut F, buffer: &mut [u8]) -> io::Result<usize>
     ensures within { IfOk result (λ count. count ≤ length buffer.new) }
     ensures bytes { ReadConsumes (F.remaining file.old) (F.remaining file.new) result buffer.new }
@@ -252,7 +252,8 @@ fn read_some<F: Read>(file: &mut F, buffer: &mut [u8]) -> io::Result<usize>
     Err(io::Error::from(ErrorKind::Interrupted))
 }
 
-/// A path below a folder. The folder itself is its word as it stands, so that an empty word is none.
+/// The path of `below` within `folder`. The path of the folder itself is its word as it stands, so an empty
+/// word stays empty.
 pub fn joined(alloc: Global, folder: &str, below: &str) -> Result<String, AllocError>
     ensures { IfOk result (λ path. string_bytes path ≡ path_below folder.now below.now) }
 {

@@ -1,31 +1,30 @@
-//! Where queries are read from.
+//! The input from which the program reads queries.
 ghost use Rattle.std.specs.Prelude.{◌≡◌, ℕ, ◌+◌, ◌-◌, ◌^◌, ◌≤◌, ◌||◌, Bool, false, IfOk, List, Option, is_err, length, min};
 ghost use Rattle.std.specs.Io.KnownBytes.{ReadConsumes};
 
 use crate::fault::{IoFault, TRIES};
 use std::io::{ErrorKind, Read};
 
-/// Where queries are read from.
+/// An input from which the program reads queries.
 pub trait QueryInput {
-    /// The bytes that reads give from here on, up to the end; `None` where nothing is claimed of
-    /// them.
+    /// The bytes that reads give from here on, up to the end; `None` if the input claims nothing about them.
     ghost remaining: { Self → Option (List ℕ) };
 
-    /// How many reads there were, up to `u64::MAX`.
+    /// The number of reads, at most `u64::MAX`.
     ghost read_count: { Self → ℕ };
 
     /// Whether a read has failed.
     ghost has_failed: { Self → Bool };
 
-    /// Puts the next bytes at the front of `buffer`, and answers how many: 0 only at the end of
-    /// the input, or where `buffer` is empty. A read that fails takes no byte.
+    /// Puts the next bytes at the front of `buffer`. Returns how many: 0 only at the end of the input, or if
+    /// `buffer` is empty. A read that fails takes no byte.
     fn read(&mut self, buffer: &mut [u8]) -> Result<usize, IoFault>
         ensures within { IfOk result (λ count. count ≤ length buffer.new) }
         ensures bytes { ReadConsumes (remaining self.old) (remaining self.new) result buffer.new }
         ensures counted { read_count self.new ≡ min (read_count self.old + 1) (2 ^ 64 - 1) }
         ensures failure { has_failed self.new ≡ (has_failed self.old || is_err result) };
 
-    /// How many reads there were. The count stands still at `u64::MAX`.
+    /// The number of reads. It stops at `u64::MAX`.
     fn reads(&self) -> u64
         ensures { result ≡ read_count self.now };
 
@@ -64,7 +63,7 @@ impl<R: Read> QueryInput for StreamInput<R> {
 
     ghost has_failed = { λ input. input.failed };
 
-    /// An interrupted read is tried again, 1,000 times in all.
+    /// Tries an interrupted read again, up to 1,000 times in all.
     fn read(&mut self, buffer: &mut [u8]) -> Result<usize, IoFault> {
         self.reads = self.reads.saturating_add(1);
         for _ in 0..TRIES {

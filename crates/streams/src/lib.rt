@@ -1,5 +1,4 @@
-//! What the program reads from and writes to: streams of queries and of answers, and the folders of a
-//! release.
+//! The inputs and outputs of the program: streams of queries and of answers, and the folders of a release.
 #![tactic(auto)]
 
 mod fault;

@@ -1,20 +1,20 @@
-//! Where answers are written to.
+//! The output to which the program writes answers.
 ghost use Rattle.std.specs.Prelude.{◌≡◌, ℕ, ◌<◌, ◌≤◌, ◌||◌, Bool, false, IfOk, List, OnErr, OnOk, Option, is_err, length, take};
 ghost use Rattle.std.specs.Io.KnownBytes.{Appends, WriteAppends};
 
 use crate::fault::{IoFault, TRIES};
 use std::io::{ErrorKind, Write};
 
-/// Where answers are written to.
+/// An output to which the program writes answers.
 pub trait AnswerOutput {
-    /// The bytes that were written; `None` where nothing is claimed of them.
+    /// The bytes that were written; `None` if the output claims nothing about them.
     ghost written: { Self → Option (List ℕ) };
 
     /// Whether a write has failed.
     ghost has_failed: { Self → Bool };
 
-    /// Writes a front of `bytes`, and answers how many they are: at least one, unless `bytes` is
-    /// empty. A write that fails writes nothing.
+    /// Writes a front of `bytes`. Returns how many bytes it has: at least one, unless `bytes` is empty. A write
+    /// that fails writes nothing.
     fn write(&mut self, bytes: &[u8]) -> Result<usize, IoFault>
         ensures within { IfOk result (λ count. count ≤ length bytes.now) }
         ensures some { IfOk result (λ count. 0 < length bytes.now → 0 < count) }
@@ -26,8 +26,8 @@ pub trait AnswerOutput {
         ensures { result ≡ has_failed self.now };
 }
 
-/// A stream of the standard library as an output. One that keeps bytes back, as a `BufWriter`
-/// does, is flushed by no call here.
+/// A stream of the standard library as an output. No call here flushes a stream that keeps bytes back, such as
+/// a `BufWriter`.
 #[derive(Debug, Drop)]
 pub struct StreamOutput<W> {
     stream: W,
@@ -35,7 +35,7 @@ pub struct StreamOutput<W> {
 }
 
 impl<W: Write> StreamOutput<W> {
-    /// An output that was not written to yet.
+    /// An output to which nothing was written yet.
     pub fn new(stream: W) -> StreamOutput<W>
         ensures stream { result.stream ≡ stream }
         ensures failed { result.failed ≡ false }
@@ -52,8 +52,8 @@ impl<W: Write> AnswerOutput for StreamOutput<W> {
 
     ghost has_failed = { λ output. output.failed };
 
-    /// An interrupted write is tried again, 1,000 times in all. A stream that takes no byte of
-    /// some has failed.
+    /// Tries an interrupted write again, up to 1,000 times in all. A stream has failed if it takes no byte
+    /// although there are some.
     fn write(&mut self, bytes: &[u8]) -> Result<usize, IoFault> {
         for _ in 0..TRIES {
             match self.stream.write(bytes) {
@@ -79,8 +79,7 @@ impl<W: Write> AnswerOutput for StreamOutput<W> {
     }
 }
 
-/// Writes bytes to their end, by as many writes as it takes. Where the output fails a front of them
-/// was written.
+/// Writes all of `bytes`, in as many writes as it takes. If the output fails, a front of them was written.
 pub fn write_all<W: AnswerOutput>(bytes: &[u8], output: &mut W) -> Result<(), IoFault>
     requires { W.has_failed output.old ≡ false }
     ensures ok { OnOk result (Appends (W.written output.old) (W.written output.new) bytes.now) }

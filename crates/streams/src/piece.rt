@@ -1,4 +1,4 @@
-//! The piece in which what is written waits, so that an output is written to in few long writes.
+//! The buffer in which bytes wait, so that the program writes to an output in few long writes.
 ghost use Rattle.std.specs.Prelude.{◌≡◌, ◌+◌, ◌≤◌, ◌++◌, ◌∷◌, [], false, IfOk, OnErr, OnOk, is_err, length, vec_capacity, vec_len};
 ghost use Rattle.std.specs.Io.KnownBytes.{Appends};
 ghost use Rattle.streams.specs.Waiting.{Puts, WritesFront};
@@ -8,11 +8,11 @@ use crate::output::{AnswerOutput, write_all};
 use std::alloc::{AllocError, Global};
 use std::marker::Model;
 
-// How many bytes wait in a piece at the most.
+// The number of bytes that wait in a buffer at most.
 const PIECE_LENGTH: usize = 65_536;
 
-/// Bytes that wait to be written, 65,536 at the most. All memory is taken where a piece is made. Contracts
-/// see the bytes that wait.
+/// Bytes that wait to be written, at most 65,536. A piece takes all its memory when it is made. Contracts see
+/// the bytes that wait.
 #[derive(Drop)]
 pub struct Piece {
     bytes: Vec<u8>,
@@ -27,7 +27,7 @@ impl Model for Piece {
 }
 
 impl Piece {
-    /// A piece in which nothing waits. `AllocError` is answered where memory is refused.
+    /// Creates a piece in which nothing waits. Answers `AllocError` if memory is refused.
     pub fn new(alloc: Global) -> Result<Piece, AllocError>
         ensures { IfOk result (λ piece. piece ≡ []) }
     {
@@ -35,9 +35,9 @@ impl Piece {
         Ok(Piece { bytes })
     }
 
-    /// Puts bytes behind those that wait. Where there is no room for them what waits is written first, and then they are
-    /// too, if there are as many as a piece has room for. Where the output fails a front of what waited and of the bytes was
-    /// written, not all of it, and nothing waits any more.
+    /// Puts `bytes` after those that wait. If there is no room for them, first writes those that wait; then
+    /// also writes `bytes` if they fill a whole piece. If the output fails, a front of the bytes that waited
+    /// and of `bytes` was written, but not all, and nothing waits any more.
     pub fn put<W: AnswerOutput>(&mut self, bytes: &[u8], output: &mut W) -> Result<(), IoFault>
         requires { W.has_failed output.old ≡ false }
         ensures ok { OnOk result (Puts (W.written output.old) (W.written output.new) self.old bytes.now self.new) }
@@ -52,7 +52,7 @@ impl Piece {
         Ok(())
     }
 
-    /// Puts a line behind what waits: bytes, and then LF, as `put` does.
+    /// Puts a line after the bytes that wait: `bytes`, and then LF, as `put` does.
     pub fn put_line<W: AnswerOutput>(&mut self, bytes: &[u8], output: &mut W) -> Result<(), IoFault>
         requires { W.has_failed output.old ≡ false }
         ensures ok { OnOk result (Puts (W.written output.old) (W.written output.new) self.old
@@ -72,7 +72,7 @@ impl Piece {
         }
     }
 
-    // Puts bytes for which there is no room: what waits is written first.
+    // Puts bytes for which there is no room: writes those that wait first.
     fn put_behind_written<W: AnswerOutput>(
         &mut self,
         bytes: &[u8],
@@ -95,8 +95,8 @@ impl Piece {
         Ok(())
     }
 
-    /// Writes what waits. Where the output fails a front of it was written, not all of it. Nothing waits any more, in
-    /// either case.
+    /// Writes the bytes that wait. If the output fails, a front of them was written, but not all. In either
+    /// case nothing waits any more.
     pub fn flush<W: AnswerOutput>(&mut self, output: &mut W) -> Result<(), IoFault>
         requires { W.has_failed output.old ≡ false }
         ensures ok { OnOk result (Appends (W.written output.old) (W.written output.new) self.old) }
@@ -110,7 +110,7 @@ impl Piece {
     }
 }
 
-// Appends bytes for which there is room, so that no memory is taken.
+// Appends bytes for which there is room, so that it takes no memory.
 fn append(waiting: &mut Vec<u8>, bytes: &[u8])
     requires { vec_len waiting.old + length bytes.now ≤ vec_capacity waiting.old }
     ensures items { waiting.new.items ≡ waiting.old.items ++ bytes.now }
@@ -122,7 +122,7 @@ fn append(waiting: &mut Vec<u8>, bytes: &[u8])
     };
 }
 
-// Appends a line for which there is room, so that no memory is taken.
+// Appends a line for which there is room, so that it takes no memory.
 fn append_line(waiting: &mut Vec<u8>, bytes: &[u8])
     requires { vec_len waiting.old + length bytes.now + 1 ≤ vec_capacity waiting.old }
     ensures { waiting.new.items ≡ waiting.old.items ++ (bytes.now ++ 10 ∷ []) }

@@ -1,4 +1,4 @@
-//! The system that folders and files are read from.
+//! The system from which folders and files are read.
 ghost use Rattle.std.specs.Prelude.{◌≡◌, ℕ, IfOk, List, None, Option, Some, map, string_bytes, ⊤};
 ghost use Rattle.streams.specs.Walk.{FolderTree, Tells};
 
@@ -9,35 +9,34 @@ use std::os::unix::fs::MetadataExt;
 use std::random::RandomSource;
 use std::{fs, io};
 
-/// What stands at a path, links followed.
+/// The kind of thing that stands at a path, after links are followed.
 #[derive(Clone, Copy, Debug, PartialEq, Eq)]
 pub enum Standing {
     /// A plain file.
     File,
-    /// A folder, by a number that no other folder has.
+    /// A folder, with a number that no other folder has.
     Folder(u128),
     /// Something else.
     Other,
 }
 
-/// A system of folders and files, with memory and random bytes: the runtime that `main` has, or any other.
+/// A system of folders and files, with memory and random bytes: the runtime of `main`, or any other.
 ///
-/// No clause of the standard library tells what a system gives. A system can tell it here: what stands at each path, and which names each
-/// folder has (`tree`), and by which path a file was opened (`opens`). The runtime tells no tree, and of no file by which path it was
-/// opened.
+/// No clause of the standard library tells what a system gives. A system can tell it here: what stands at each
+/// path and which names each folder has (`tree`), and by which path a file was opened (`opens`). The runtime of
+/// `main` tells no tree, and does not tell by which path a file was opened.
 pub trait FolderSystem: Files + RandomSource + AllocGlobal + Clone + Drop {
-    /// Whether a file was opened by a path.
+    /// The file was opened by the path.
     ghost opens: { List ℕ → Self.File → Type 0 };
 
-    /// The folders and files; `None` where nothing is claimed of them.
+    /// The folders and files; `None` if the system claims nothing about them.
     ghost tree: { Self → Option FolderTree };
 
-    /// Opens a plain file by its path. Nothing else is opened, since to open a pipe may wait without
-    /// end.
+    /// Opens a plain file by its path. It opens nothing else, because opening a pipe may wait forever.
     fn open_plain(&self, path: &str) -> io::Result<Self::File>
         ensures { IfOk result (λ file. opens path.now file) };
 
-    /// What stands at a path. Links are followed.
+    /// Tells what stands at a path. Follows links.
     fn standing(&self, path: &str) -> io::Result<Standing>
         ensures { (known : FolderTree) → tree self.now ≡ Some known → Tells (λ found. found) (known.at path.now) result };
 
@@ -72,7 +71,8 @@ pub fn open_plain_at<R: Files>(system: &R, path: &str) -> io::Result<R::File> {
     Err(io::Error::from(ErrorKind::InvalidInput))
 }
 
-/// What stands at a path of a system of the standard library. A folder is told apart by its device and its number there.
+/// Tells what stands at a path of a system of the standard library. The number of a folder is made of its
+/// device and its number there.
 pub fn standing_at<R: Files>(system: &R, path: &str) -> io::Result<Standing> {
     let attributes = fs::metadata(system, path)?;
     if attributes.is_dir() {
@@ -95,7 +95,7 @@ pub fn names_at<R: Files + AllocGlobal + Clone + Drop>(
     Ok(names)
 }
 
-// Adds the names in a folder, in the order in which the system tells them.
+// Adds the names in a folder, in the order in which the system gives them.
 fn push_names<R: Files + AllocGlobal + Clone + Drop>(
     system: &R,
     path: &str,

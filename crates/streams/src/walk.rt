@@ -1,4 +1,4 @@
-//! The walk through a folder and its subfolders.
+//! Walks through a folder and its subfolders.
 ghost use Rattle.std.specs.Prelude.{◌∷◌, ◌++◌, ◌≡◌, ℕ, List, Result, Some, OnOk, [], IfOk, map, string_bytes};
 ghost use Rattle.std.specs.declared.io.ErrorKind.{ErrorKind};
 ghost use Rattle.streams.specs.Folders.{path_below};
@@ -14,10 +14,11 @@ use std::alloc::{AllocError, Global};
 use std::io::ErrorKind;
 use std::{io, mem};
 
-// The folder itself is gone through, and this many levels less one of subfolders; what lies deeper is not listed.
+// The number of levels: the folder itself and 16 levels of subfolders. What lies deeper is not listed.
 const LEVELS: usize = 17;
 
-/// The names of the plain files of a folder and its subfolders, level by level. The folders that were entered are hashed over `seed`.
+/// The names of the plain files of a folder and its subfolders, level by level. Hashes the folders that it has
+/// entered over `seed`.
 pub fn list_files<R: FolderSystem>(rt: &R, folder: &str, seed: Seed) -> io::Result<Vec<String>>
     ensures { (tree : FolderTree) → R.tree rt.now ≡ Some tree → IfOk result (λ names. AreFilesBelow tree folder.now (map string_bytes names.items)) }
 {
@@ -33,7 +34,7 @@ pub fn list_files<R: FolderSystem>(rt: &R, folder: &str, seed: Seed) -> io::Resu
     Ok(walk.files)
 }
 
-// The folder of a walk, as the only one of its level.
+// The first level, whose only folder is that of the walk.
 fn root(alloc: Global) -> Result<Vec<String>, AllocError>
     ensures { IfOk result (λ level. map string_bytes level.items ≡ [] ∷ []) }
 {
@@ -42,14 +43,14 @@ fn root(alloc: Global) -> Result<Vec<String>, AllocError>
     Ok(level)
 }
 
-// What a walk through a folder and its subfolders has found. A path is one below the folder.
+// The files and folders that a walk through a folder and its subfolders has found. Paths are below the folder.
 #[derive(Drop)]
 struct Walk {
     // the paths of the plain files
     files: Vec<String>,
-    // the paths of the folders of the next level, each with a `/` behind it
+    // the paths of the folders of the next level, each with a `/` at its end
     folders: Vec<String>,
-    // the numbers of the folders that were entered: a link may lead to one again
+    // the numbers of the folders that were entered, since a link may lead to one of them again
     entered: FirstMet,
 }
 
@@ -65,7 +66,7 @@ impl Walk {
         }
     }
 
-    // The folders of the next level, which is begun anew.
+    // Returns the folders of the next level, and begins a new list of them.
     fn take_folders(&mut self, alloc: Global) -> Vec<String>
         ensures taken { map string_bytes result.items ≡ (found_by self.old).folders }
         ensures found { found_by self.new ≡ record { files = (found_by self.old).files; folders = [] } }
@@ -93,7 +94,7 @@ impl Walk {
         Ok(())
     }
 
-    // Takes what a folder has, in the byte order of the names, unless the folder was entered before.
+    // Takes what stands in a folder, in the byte order of the names, unless the folder was entered before.
     fn enter<R: FolderSystem>(&mut self, rt: &R, folder: &str, below: &str) -> io::Result<()>
         ensures { (tree : FolderTree) → R.tree rt.now ≡ Some tree
             → OnOk result (Enters tree folder.now below.now self.old.entered (found_by self.old) self.new.entered (found_by self.new)) }
@@ -107,7 +108,7 @@ impl Walk {
         self.take_all(rt, folder, below, names.as_slice())
     }
 
-    // Takes what stands in a folder under each of some names.
+    // Takes what stands in a folder under each of `names`.
     fn take_all<R: FolderSystem>(
         &mut self,
         rt: &R,
@@ -128,7 +129,7 @@ impl Walk {
         Ok(())
     }
 
-    // Takes what stands in a folder under a name.
+    // Takes what stands in a folder under `name`.
     fn take<R: FolderSystem>(
         &mut self,
         rt: &R,
@@ -146,7 +147,8 @@ impl Walk {
         self.take_found(path, standing)
     }
 
-    // Takes a plain file or a folder by its path, or a file that is read where it can't be told what stands there, and nothing else.
+    // Takes a plain file or a folder by its path. If the system cannot tell what stands there, takes a file
+    // that would be read. Takes nothing else.
     fn take_found(&mut self, path: String, found: io::Result<Standing>) -> io::Result<()>
         ensures found { (so : Result Standing ErrorKind) → Tells (λ one. one) so found
             → OnOk result (found_at so (string_bytes path) (found_by self.old) ≡ Some (found_by self.new)) }
@@ -160,8 +162,9 @@ impl Walk {
         }
     }
 
-    // Takes a path of which the system can't tell what stands there if its name is that of a file that would be read, so that it fails
-    // where it is opened. Other links that lead nowhere are passed over.
+    // Takes a path at which the system cannot tell what stands, if its name is that of a file that would be
+    // read, so that opening it fails. Passes over other links that lead nowhere, and fails at any other
+    // failure.
     fn take_lost(&mut self, path: String, error: io::Error) -> io::Result<()>
         ensures found { (so : Result Standing ErrorKind) → Tells {T = Standing} (λ one. one) so (Err error)
             → OnOk result (found_at so (string_bytes path) (found_by self.old) ≡ Some (found_by self.new)) }
@@ -208,7 +211,7 @@ fn folder_number<R: FolderSystem>(rt: &R, path: &str) -> io::Result<u128>
     }
 }
 
-// What stands at a path below a folder.
+// Tells what stands at the path `below` within `folder`.
 fn standing_below<R: FolderSystem>(rt: &R, folder: &str, below: &str) -> io::Result<Standing>
     ensures { (tree : FolderTree) → R.tree rt.now ≡ Some tree → Tells (λ one. one) (tree.at (path_below folder.now below.now)) result }
 {

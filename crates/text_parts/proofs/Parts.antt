@@ -15,22 +15,25 @@ module _ (separator : ℕ) where
   pub parts_onto : (byte : ℕ) (text : List ℕ) → ((byte == separator) ≡ true → ⊥) → parts_at separator (byte ∷ text) ≡ onto_first byte (parts_at separator text)
   parts_onto byte text other = slice_split-cons_no (λ byte. byte == separator) byte text (false_from_ne_true _ other)
 
-  -- the first part goes up to the first separator, and the others are those of what stands behind it
+  -- the first part ends at the first separator, and the other parts are those of the text after it
   pub parts_cut : (text : List ℕ) (at : ℕ) → at < length text
       → ((k : ℕ) → k < at → (get_or text k 0 == separator) ≡ false) → (get_or text at 0 == separator) ≡ true
       → parts_at separator text ≡ take at text ∷ parts_at separator (drop (at + 1) text)
   parts_cut text at fits clear is = grind (arith, common_steps, nat_tests, position_or_len_is, slice_split_first)
 
-  -- the same as `grind` finds it where the separator is looked for
+  -- `take at text` and the parts of the text after byte `at` are the parts of `text`, if the first separator stands
+  -- at `at`; `grind` finds this form
   pub cut_at : (text : List ℕ) (at : ℕ) → at < length text
       → ((k : ℕ) → 0 ≤ k → k < at → (get_or text k 0 == separator) ≡ true → ⊥) → (get_or text at 0 == separator) ≡ true
       → ((get_or text at 0 == separator) ≡ (get_or text at 0 == separator)) × (parts_at separator text ≡ take at text ∷ parts_at separator (drop (at + 1) text))
   cut_at text at within none is = (refl, parts_cut text at within (λ k below. false_from_ne_true _ (none k (omega arith) below)) is)
 
+  -- a text without a separator is one part
   pub cut_nowhere : (text : List ℕ) → ((k : ℕ) → 0 ≤ k → k < length text → (get_or text k 0 == separator) ≡ true → ⊥) → parts_at separator text ≡ text ∷ []
   cut_nowhere text none =
       slice_split_none (λ byte. byte == separator) text
       (All-from_get_or (λ byte. (byte == separator) ≡ false) text 0
       (λ k below. false_from_ne_true _ (none k (omega arith) below)))
 
+-- the lemmas for `grind` on what `cut` returns
 pub ruleset cuts = (cut_at, cut_nowhere, between_to_end)

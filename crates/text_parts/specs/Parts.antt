@@ -3,15 +3,15 @@ use Rattle.std.specs.Prelude.{ℕ, ◌==◌, List, [], map, Option, None, Some}
 use Rattle.std.specs.Borrow.{Bor}
 use Rattle.std.specs.List.{slice_split}
 
--- what stands between the separators of a text: one part more than there are separators
+-- the parts of `text` between its separators: one part more than there are separators
 abbrev pub parts_at : ℕ → List ℕ → List (List ℕ)
 parts_at separator text = slice_split (λ byte. byte == separator) text
 
--- the parts of the text that is left, if one is
+-- the parts of the text that a cut left, or none if it left no text
 abbrev pub parts_left : ℕ → Option (Bor (List ℕ)) → List (List ℕ)
 parts_left separator None = []
 parts_left separator (Some text) = parts_at separator text.now
 
--- the texts that are lent
+-- the bytes of each borrowed text
 abbrev pub texts_of : List (Bor (List ℕ)) → List (List ℕ)
 texts_of lent = map (λ text. text.now) lent

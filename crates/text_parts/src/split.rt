@@ -4,7 +4,7 @@ ghost use Rattle.text_parts.specs.Parts.{parts_at, parts_left};
 
 use bstr::ByteSlice;
 
-/// The first part of a text, before the first separator, and the rest behind that, if there is one.
+/// Cuts `text` at the first `separator`. Returns the part before it, and the rest after it if there is a separator.
 #[tactic(auto, using(crate::proofs::Parts::cuts))]
 pub fn cut(text: &[u8], separator: u8) -> (&[u8], Option<&[u8]>)
     ensures { parts_at separator text.now ≡ result.0.now ∷ parts_left separator result.1 }

@@ -1,4 +1,5 @@
--- Where an operator leads from a set is known, of concepts that are asked by their own lists, of what the set has in these lists.
+-- To know where an operator leads from a set, among concepts that are tested by their own lists, it is enough to know
+-- which members of the set are in these lists.
 use Rattle.std.proofs.Common.{ℕ, Bool, ◌≡◌, ◌<◌, ◌∙◌, ◌==◌, inl, inr, true, false, not, ◌&&◌, ◌||◌, List, length, [], ◌∷◌, get_or, refl, sym, ap, subst, arith}
 use Rattle.std.specs.Prelude.{All, filter}
 use Rattle.std.specs.List.{flat_map, list_any, range_with_len}
@@ -31,7 +32,7 @@ use Rattle.walks.proofs.LedLemmas.{asked_apart, asked_back, asked_or_self, led_r
 use Rattle.number_lists.proofs.ListLemmas.{any_agree}
 use Rattle.walks.proofs.JoinedLemmas.{over_list, stands}
 
--- what is in the list of one of some concepts is in all of them, one behind the other
+-- what is in the list of one of `concepts` is in all their lists, one after the other
 in_joined : (each : ℕ → List ℕ) (concepts : List ℕ) (concept n : ℕ) → has concepts concept ≡ true → has (each concept) n ≡ true
     → has (flat_map each concepts) n ≡ true
 in_joined each [] concept n there within = absurd (false≢true there)
@@ -44,6 +45,7 @@ in_joined each (first ∷ rest) concept n there within =
       | inr later ↦ or_right (has (each first) n) (has (flat_map each rest) n) (in_joined each rest concept n later within)
     ]
 
+-- if the numbers in each list are below `count`, so are the numbers in all lists, one after the other
 below_joined : (count : ℕ) (each : ℕ → List ℕ) (concepts : List ℕ) → All (λ concept. All (λ n. n < count) (each concept)) concepts
     → All (λ n. n < count) (flat_map each concepts)
 below_joined count each [] below = All-nil (λ n. n < count)
@@ -52,7 +54,7 @@ below_joined count each (concept ∷ rest) below =
     (below_joined count each rest (All-tail (λ c. All (λ n. n < count) (each c)) concept rest below))
 
 module _ (count : ℕ) (hierarchy : Hierarchy) (over : IsOver count hierarchy) where
-  -- concepts, each with its list behind it, are numbers of concepts
+  -- concepts, each followed by its list, are numbers of concepts
   pub with_lists_below : (f : Family) (concepts : List ℕ) → All (λ concept. concept < count) concepts
       → All (λ n. n < count) (flat_map (λ concept. concept ∷ list_of (lists_of hierarchy f) concept) concepts)
   with_lists_below f concepts below =
@@ -64,7 +66,7 @@ module _ (count : ℕ) (hierarchy : Hierarchy) (over : IsOver count hierarchy) w
           (all_below count (list_of (lists_of hierarchy f) concept)
           (subst (IsRisingBelow count) (sym (over_list count hierarchy over f concept inside)) (numbers_where-rising count (stands over.release f concept))))
 
-  -- and they are enough for these
+  -- the concepts and their lists together are enough to test the concepts
   pub with_lists_enough : (f : Family) (concepts : List ℕ) → All (λ concept. concept < count) concepts
       → AreEnough (lists_of hierarchy f) (has concepts)
       (has (listed_numbers count (flat_map (λ concept. concept ∷ list_of (lists_of hierarchy f) concept) concepts)))
@@ -83,7 +85,7 @@ module _ (count : ℕ) (hierarchy : Hierarchy) (over : IsOver count hierarchy) w
           (subst (λ (m : ℕ). m < count) found.2 (with_lists_below f concepts below found.0 n found.1))
           ∙ told
 
-  -- what an operator leads to rises
+  -- the numbers that an operator leads to rise below `count`
   operator_rises : (operator : Operator) (items : List ℕ) → IsRisingBelow count items → IsRisingBelow count (led_to hierarchy count operator items)
   operator_rises Descendants items rises = led_rises count hierarchy over items rises hierarchy.descendants Listed
   operator_rises DescendantsOrSelf items rises = led_rises count hierarchy over items rises hierarchy.descendants ListedOrSelf
@@ -96,7 +98,7 @@ module _ (count : ℕ) (hierarchy : Hierarchy) (over : IsOver count hierarchy) w
   operator_rises Top items rises = led_rises count hierarchy over items rises hierarchy.ancestors Apart
   operator_rises Bottom items rises = led_rises count hierarchy over items rises hierarchy.descendants Apart
 
-  -- as many numbers below the count as it says are all of them
+  -- a rising list of `count` numbers below `count` has all of them
   each_there : (items : List ℕ) → IsRisingBelow count items → length items ≡ count → (n : ℕ) → n < count
       → has items n ≡ true
   each_there items rises full n inside =
@@ -120,7 +122,7 @@ module _ (count : ℕ) (hierarchy : Hierarchy) (over : IsOver count hierarchy) w
       told true none = refl
       told false none = sym none
 
-  -- from all numbers below a count an operator that leads to the concepts themselves too leads to all
+  -- the union of all numbers below `count` and other numbers is all numbers below `count`
   pub all_with_own : (items others : List ℕ) → IsRisingBelow count items → length items ≡ count
       → all_items count items others ≡ range_with_len 0 count
   all_with_own items others rises full =
@@ -128,7 +130,7 @@ module _ (count : ℕ) (hierarchy : Hierarchy) (over : IsOver count hierarchy) w
       (λ n inside. (λ i. each_there items rises full n inside i || has others n))
       ∙ numbers_where-all count
 
-  -- where a set has all numbers below a count, all that an operator leads to from it is in the set
+  -- if a set has all numbers below `count`, all that an operator leads to from it is in the set
   pub led_from_all : (operator : Operator) (items : List ℕ) → IsRisingBelow count items → length items ≡ count
       → filter (has items) (led_to hierarchy count operator items) ≡ led_to hierarchy count operator items
   led_from_all operator items rises full =
@@ -145,10 +147,10 @@ module _ (count : ℕ) (hierarchy : Hierarchy) (over : IsOver count hierarchy) w
       with_all true other there = there
       with_all false other there = refl
 
-  -- a part of a set that has, of some numbers, what the set has
+  -- two sets, `part` and `set`, that agree on the numbers in `enough`
   module _ (set part : List ℕ) (set_rises : IsRisingBelow count set) (part_rises : IsRisingBelow count part) (enough : ℕ → Bool)
       (same : (n : ℕ) → enough n ≡ true → has part n ≡ has set n) where
-    -- a list of such numbers has one of the part where it has one of the set
+    -- a list of numbers in `enough` has one of `part` exactly if it has one of `set`
     same_any : (list : List ℕ) → ((n : ℕ) → has list n ≡ true → enough n ≡ true) → list_any (has part) list ≡ list_any (has set) list
     same_any list all =
         any_agree list (has part) (has set) 0
@@ -156,6 +158,8 @@ module _ (count : ℕ) (hierarchy : Hierarchy) (over : IsOver count hierarchy) w
         (had_contained list (get_or list k 0) (k, within, get_or_default list k (get_or list k 0) 0 within))))
 
     module _ (f : Family) (concept : ℕ) (inside : concept < count) where
+      -- if the list that leads back from `concept` is in `enough`, the joined lists of `part` and of `set` agree on
+      -- `concept`
       listed : ((n : ℕ) → has (list_of (lists_of hierarchy (back_of f)) concept) n ≡ true → enough n ≡ true)
           → has (joined count (lists_of hierarchy f) part) concept ≡ has (joined count (lists_of hierarchy f) set) concept
       listed all =
@@ -163,6 +167,8 @@ module _ (count : ℕ) (hierarchy : Hierarchy) (over : IsOver count hierarchy) w
           ∙ same_any (list_of (lists_of hierarchy (back_of f)) concept) all
           ∙ asked_back count hierarchy over set set_rises f concept inside
 
+      -- if `concept` and the list that leads back from it are in `enough`, `part` and `set` with their joined lists
+      -- agree on `concept`
       or_self : enough concept ≡ true → ((n : ℕ) → has (list_of (lists_of hierarchy (back_of f)) concept) n ≡ true → enough n ≡ true)
           → has (all_items count part (joined count (lists_of hierarchy f) part)) concept
           ≡ has (all_items count set (joined count (lists_of hierarchy f) set)) concept
@@ -171,6 +177,7 @@ module _ (count : ℕ) (hierarchy : Hierarchy) (over : IsOver count hierarchy) w
           ∙ (λ i. same concept own i || listed all i)
           ∙ asked_or_self count hierarchy over set set_rises f concept inside
 
+      -- if `concept` and its list are in `enough`, it is kept apart in `part` exactly if it is in `set`
       kept : enough concept ≡ true → ((n : ℕ) → has (list_of (lists_of hierarchy f) concept) n ≡ true → enough n ≡ true)
           → has (apart (lists_of hierarchy f) part) concept ≡ has (apart (lists_of hierarchy f) set) concept
       kept own all =
@@ -178,7 +185,8 @@ module _ (count : ℕ) (hierarchy : Hierarchy) (over : IsOver count hierarchy) w
           ∙ (λ i. same concept own i && not (same_any (list_of (lists_of hierarchy f) concept) all i))
           ∙ asked_apart count hierarchy over set set_rises f concept inside
 
-    -- an operator leads from the part to a concept for which the numbers are enough where it leads there from the set
+    -- an operator leads to `concept` from `part` exactly if it does from `set`, if `concept` and the list by which it
+    -- is tested are in `enough`
     same_led : (operator : Operator) (concept : ℕ) → concept < count → enough concept ≡ true
         → ((n : ℕ) → has (list_of (asked_lists hierarchy operator) concept) n ≡ true → enough n ≡ true)
         → has (led_to hierarchy count operator part) concept ≡ has (led_to hierarchy count operator set) concept
@@ -193,7 +201,8 @@ module _ (count : ℕ) (hierarchy : Hierarchy) (over : IsOver count hierarchy) w
     same_led Top concept inside own all = kept family.Ancestors concept inside own all
     same_led Bottom concept inside own all = kept family.Descendants concept inside own all
 
-    -- of the candidates it leads to the same
+    -- an operator leads from `part` to the candidates that it leads to from `set`, if `enough` is enough to test the
+    -- candidates
     pub led_from_part : (operator : Operator) (may : ℕ → Bool) → AreEnough (asked_lists hierarchy operator) may enough
         → filter may (led_to hierarchy count operator part) ≡ filter may (led_to hierarchy count operator set)
     led_from_part operator may are_enough =

@@ -29,43 +29,45 @@ use Rattle.walks.specs.declared.family.Family.{Family}
 use Rattle.walks.specs.declared.family.Family.TheVariants as family
 
 -- ---- the lists of a hierarchy
--- how the concepts of a list stand to its concept
+-- whether the list of concept a has concept b, as the is-a rows say
 abbrev pub stands : Release → Family → ℕ → ℕ → Bool
 stands release family.Ancestors a b = reaches release.isa (get_or release.concepts a 0) (get_or release.concepts b 0)
 stands release family.Descendants a b = reaches release.isa (get_or release.concepts b 0) (get_or release.concepts a 0)
 stands release family.Parents a b = is_child release.isa (get_or release.concepts a 0) (get_or release.concepts b 0)
 stands release family.Children a b = is_child release.isa (get_or release.concepts b 0) (get_or release.concepts a 0)
 
+-- the list of a concept in the hierarchy of a release has the numbers that it stands to
 lists_are : (release : Release) (f : Family) → lists_of (hierarchy_of release) f ≡ lists_where (length release.concepts) (stands release f)
 lists_are release family.Ancestors = refl
 lists_are release family.Descendants = refl
 lists_are release family.Parents = refl
 lists_are release family.Children = refl
 
+-- in a hierarchy of `count` concepts, the list of a concept has the numbers that it stands to
 pub over_lists : (count : ℕ) (hierarchy : Hierarchy) (over : IsOver count hierarchy) (f : Family) → lists_of hierarchy f ≡ lists_where count (stands over.release f)
 over_lists count hierarchy over f =
     ap (λ (h : Hierarchy). lists_of h f) over.hierarchy_is ∙ lists_are over.release f
     ∙ ap (λ (n : ℕ). lists_where n (stands over.release f)) (sym over.count_is)
 
--- there is a list for each concept
+-- a family has one list for each concept
 pub over_length : (count : ℕ) (hierarchy : Hierarchy) → IsOver count hierarchy → (f : Family) → length (lists_of hierarchy f) ≡ count
 over_length count hierarchy over f = ap (λ (lists : List (List ℕ)). length lists) (over_lists count hierarchy over f)
     ∙ length-where count (stands over.release f)
 
--- the list of a concept has those that it stands to
+-- the list of `concept` has the numbers below `count` that it stands to
 pub over_list : (count : ℕ) (hierarchy : Hierarchy) (over : IsOver count hierarchy) (f : Family) (concept : ℕ) → concept < count
     → list_of (lists_of hierarchy f) concept ≡ numbers_where count (stands over.release f concept)
 over_list count hierarchy over f concept below =
     ap (λ (lists : List (List ℕ)). list_of lists concept) (over_lists count hierarchy over f) ∙ list_of-where count (stands over.release f) concept below
 
--- it rises
+-- the list of `concept` rises below `count`
 pub over_rising : (count : ℕ) (hierarchy : Hierarchy) → IsOver count hierarchy → (f : Family) (concept : ℕ)
     → concept < count → IsRisingBelow count (list_of (lists_of hierarchy f) concept)
 over_rising count hierarchy over f concept below =
     subst (λ (xs : List ℕ). IsRisingBelow count xs) (sym (over_list count hierarchy over f concept below))
     (numbers_where-rising count (stands over.release f concept))
 
--- what it has is so, and the other way round
+-- if the list of `concept` has n, n is below `count` and `concept` stands to it
 pub listed_stands : (count : ℕ) (hierarchy : Hierarchy) (over : IsOver count hierarchy) (f : Family) (concept n : ℕ) → concept < count
     → has (list_of (lists_of hierarchy f) concept) n ≡ true → (n < count) × (stands over.release f concept n ≡ true)
 listed_stands count hierarchy over f concept n below told =
@@ -73,13 +75,14 @@ listed_stands count hierarchy over f concept n below told =
     (contains_had (numbers_where count (stands over.release f concept)) n
     (ap (λ (xs : List ℕ). has xs n) (sym (over_list count hierarchy over f concept below)) ∙ told))
 
+-- if `concept` stands to n, the list of `concept` has n
 pub stands_listed : (count : ℕ) (hierarchy : Hierarchy) (over : IsOver count hierarchy) (f : Family) (concept n : ℕ) → concept < count → n < count
     → stands over.release f concept n ≡ true → has (list_of (lists_of hierarchy f) concept) n ≡ true
 stands_listed count hierarchy over f concept n below within holds =
     ap (λ (xs : List ℕ). has xs n) (over_list count hierarchy over f concept below)
     ∙ had_contained (numbers_where count (stands over.release f concept)) n (where_there count (stands over.release f concept) n within holds)
 
--- the list of a concept that is in a list is in that list, if the family is whole
+-- in a whole family, a concept that stands to b stands to all that b stands to
 stands_on : (release : Release) (f : Family) → is_whole f ≡ true → (a b c : ℕ) → stands release f a b ≡ true
     → stands release f b c ≡ true → stands release f a c ≡ true
 stands_on release family.Ancestors whole a b c one other =
@@ -91,6 +94,7 @@ stands_on release family.Descendants whole a b c one other =
 stands_on release family.Parents whole a b c one other = absurd (false≢true whole)
 stands_on release family.Children whole a b c one other = absurd (false≢true whole)
 
+-- in a whole family, the list of a has all that the list of b has if it has b
 pub over_whole : (count : ℕ) (hierarchy : Hierarchy) → IsOver count hierarchy → (f : Family) → is_whole f ≡ true → (a b n : ℕ) → a < count → b < count
     → has (list_of (lists_of hierarchy f) a) b ≡ true → has (list_of (lists_of hierarchy f) b) n ≡ true
     → has (list_of (lists_of hierarchy f) a) n ≡ true
@@ -99,7 +103,7 @@ over_whole count hierarchy over f whole a b n a_below b_below one other =
     let second = listed_stands count hierarchy over f b n b_below other in
     stands_listed count hierarchy over f a n a_below second.0 (stands_on over.release f whole a b n first.1 second.1)
 
--- what is one is-a row away is reached
+-- a concept stands to what it stands to by one is-a row
 pub near_stands : (release : Release) (f : Family) (a b : ℕ) → stands release (near_of f) a b ≡ true → stands release f a b ≡ true
 near_stands release family.Ancestors a b near =
     test_from_chain release.isa (one_row (row_there release.isa (get_or release.concepts a 0) (get_or release.concepts b 0) near))
@@ -108,6 +112,7 @@ near_stands release family.Descendants a b near =
 near_stands release family.Parents a b near = near
 near_stands release family.Children a b near = near
 
+-- if the near list of `concept` has a member of `set`, so has its list in the family
 pub over_near : (count : ℕ) (hierarchy : Hierarchy) → IsOver count hierarchy → (f : Family) (concept : ℕ) → concept < count → (set : ℕ → Bool)
     → list_any set (list_of (lists_of hierarchy (near_of f)) concept) ≡ true → list_any set (list_of (lists_of hierarchy f) concept) ≡ true
 over_near count hierarchy over f concept below set told =
@@ -120,7 +125,7 @@ over_near count hierarchy over f concept below set told =
     found.2
 
 -- ---- joining
--- one list more
+-- a number is in the lists of `before` and `concept` exactly if it is in a list of `before` or in the list of `concept`
 any_more : (lists : List (List ℕ)) (before : List ℕ) (concept n : ℕ)
     → list_any (λ c. has (list_of lists c) n) (before ++ concept ∷ [])
     ≡ (list_any (λ c. has (list_of lists c) n) before || has (list_of lists concept) n)
@@ -128,7 +133,7 @@ any_more lists before concept n =
     list_any-append (λ c. has (list_of lists c) n) before (concept ∷ [])
     ∙ ap (λ (b : Bool). list_any (λ c. has (list_of lists c) n) before || b) (or-false (has (list_of lists concept) n))
 
--- what has a list added to it has what it had and what the list has
+-- the union of two rising lists has n exactly if one of them has n
 pub has_all : (count : ℕ) (numbers list next : List ℕ) → IsRisingBelow count numbers → IsRisingBelow count list → next ≡ all_items count numbers list
     → (n : ℕ) → has next n ≡ (has numbers n || has list n)
 has_all count numbers list next rises list_rises next_is n =
@@ -142,12 +147,14 @@ has_all count numbers list next rises list_rises next_is n =
     (λ i. le-ltb n count past i && (has numbers n || has list n)) ∙ (λ i. sym one i || sym other i))
     (cases_lt n count)
 
+-- if `numbers` joins the lists of `before`, its union with the list of `concept` joins the lists of `before` and
+-- `concept`
 pub join_list : (lists : List (List ℕ)) (before numbers list next : List ℕ) (count concept : ℕ) → IsRisingBelow count numbers → IsRisingBelow count list
     → list ≡ list_of lists concept → next ≡ all_items count numbers list → AreJoined lists before numbers → AreJoined lists (before ++ concept ∷ []) next
 join_list lists before numbers list next count concept rises list_rises is next_is joined n =
     has_all count numbers list next rises list_rises next_is n ∙ (λ i. joined n i || has (is i) n) ∙ sym (any_more lists before concept n)
 
--- the list of a concept that is there already brings nothing
+-- in a whole family, numbers that join the lists of `before` and have `concept` join its list as well
 pub join_skipped : (count : ℕ) (hierarchy : Hierarchy) → IsOver count hierarchy → (f : Family) → is_whole f ≡ true
     → (before numbers : List ℕ) (concept : ℕ) → concept < count
     → has numbers concept ≡ true → AreJoined (lists_of hierarchy f) before numbers → AreJoined (lists_of hierarchy f) (before ++ concept ∷ []) numbers
@@ -174,7 +181,7 @@ join_skipped count hierarchy over f whole before numbers concept below there joi
         absurd (false≢true (ap (λ (xs : List ℕ). has xs concept) (sym nothing) ∙ found.2)))
         (cases_lt found.0 count))
 
--- one concept more of those with long lists, or with short ones
+-- a concept k with a list of the chosen length is added to those chosen from the first k concepts
 pub with_length_more : (lists : List (List ℕ)) (long : Bool) (concepts before : List ℕ) (k : ℕ) → k < length concepts
     → beq (is_long (list_of lists (get_or concepts k 0))) long ≡ true
     → before ++ with_length lists long (take (k + 1) concepts) ≡ (before ++ with_length lists long (take k concepts)) ++ get_or concepts k 0 ∷ []
@@ -184,6 +191,7 @@ with_length_more lists long concepts before k within chosen =
     (filter test (take k concepts) ++ get_or concepts k 0 ∷ []) k true within refl (sym chosen) refl))
     ∙ sym (append_assoc before (filter test (take k concepts)) (get_or concepts k 0 ∷ []))
 
+-- a concept k with a list of the other length adds nothing to those chosen from the first k concepts
 pub with_length_same : (lists : List (List ℕ)) (long : Bool) (concepts : List ℕ) (k : ℕ) → k < length concepts
     → beq (is_long (list_of lists (get_or concepts k 0))) long ≡ false
     → with_length lists long (take (k + 1) concepts) ≡ with_length lists long (take k concepts)
@@ -192,7 +200,7 @@ with_length_same lists long concepts k within passed =
     sym (filter_step test concepts (filter test (take k concepts))
     (filter test (take k concepts)) k false within refl (sym passed) (sym (append-nil (filter test (take k concepts)))))
 
--- the long ones and then the short ones are all
+-- an item passes exactly if a long one or a short one passes
 any_split : {X : Type 0} (test : X → Bool) (long : X → Bool) (xs : List X)
     → list_any test (filter (λ x. beq (long x) true) xs ++ filter (λ x. beq (long x) false) xs) ≡ list_any test xs
 any_split test long [] = refl
@@ -221,41 +229,48 @@ any_split {X = X} test long (x ∷ xs) =
         right true false c = refl
         right false b c = refl
 
+-- numbers that join the long lists and the short lists of `concepts` join all their lists
 pub both_joined : (lists : List (List ℕ)) (concepts numbers : List ℕ)
     → AreJoined lists (with_length lists true concepts ++ with_length lists false concepts) numbers → AreJoined lists concepts numbers
 both_joined lists concepts numbers joined n = joined n
     ∙ any_split (λ concept. has (list_of lists concept) n) (λ concept. is_long (list_of lists concept)) concepts
 
+-- rising numbers that join the lists of `concepts` are their joined lists
 pub all_joined : (count : ℕ) (lists : List (List ℕ)) (concepts numbers : List ℕ) → IsRisingBelow count numbers → AreJoined lists concepts numbers
     → numbers ≡ joined count lists concepts
 all_joined count lists concepts numbers rises joined =
     rising_is_where count numbers (λ n. list_any (λ concept. has (list_of lists concept) n) concepts) rises (λ n within. joined n)
 
 -- ---- one list alone
+-- the numbers below `count` in the list of a single concept are its joined list
 one_joined : (count : ℕ) (lists : List (List ℕ)) (concept : ℕ) → numbers_where count (has (list_of lists concept)) ≡ joined count lists (concept ∷ [])
 one_joined count lists concept =
     numbers_where-agree count (has (list_of lists concept)) (λ n. list_any (λ c. has (list_of lists c) n) (concept ∷ []))
     (λ n within. sym (or-false (has (list_of lists concept) n)))
 
+-- the rising list of a single concept is its joined list
 pub list_joined : (count : ℕ) (lists : List (List ℕ)) (concept : ℕ) (list : List ℕ) → IsRisingBelow count list
     → list ≡ list_of lists concept → list ≡ joined count lists (concept ∷ [])
 list_joined count lists concept list rises is =
     rising_is_numbers_where count list rises ∙ ap (λ (xs : List ℕ). numbers_where count (has xs)) is ∙ one_joined count lists concept
 
+-- words of bits that mark a list have the numbers below `count` that the list has
 pub words_are : (count : ℕ) (words list : List ℕ) → ((n : ℕ) → is_set words n ≡ has list n)
     → numbers_where count (is_set words) ≡ numbers_where count (has list)
 words_are count words list marked = numbers_where-agree count (is_set words) (has list) (λ n within. marked n)
 
+-- words of bits that mark a rising list have exactly its items
 pub words_list : (count bound : ℕ) (words list : List ℕ) → bound ≡ count → IsRisingBelow count list
     → ((n : ℕ) → is_set words n ≡ has list n) → numbers_where bound (is_set words) ≡ list
 words_list count bound words list is rises marked =
     ap (λ (n : ℕ). numbers_where n (is_set words)) is ∙ words_are count words list marked ∙ sym (rising_is_numbers_where count list rises)
 
+-- words of bits that mark the list of a single concept have its joined list
 pub words_joined : (count : ℕ) (lists : List (List ℕ)) (concept : ℕ) (words : List ℕ)
     → ((n : ℕ) → is_set words n ≡ has (list_of lists concept) n)
     → numbers_where count (is_set words) ≡ joined count lists (concept ∷ [])
 words_joined count lists concept words marked = words_are count words (list_of lists concept) marked ∙ one_joined count lists concept
 
--- of no concepts no list is joined
+-- no concepts have no joined lists
 pub joined_none : (count : ℕ) (lists : List (List ℕ)) → joined count lists [] ≡ []
 joined_none count lists = numbers_where-none count

@@ -1,4 +1,4 @@
--- Where an operator leads, asked of one concept by its own lists.
+-- Whether an operator leads to a concept, tested by the concept's own lists.
 use Rattle.std.proofs.Common.{ℕ, Bool, ◌≡◌, ◌<◌, ◌∙◌, true, false, not, [], ◌∷◌, ◌&&◌, ◌||◌, List}
 use Rattle.std.proofs.Common.{arith, refl, sym, ap, subst}
 use Rattle.std.specs.Prelude.{◌==◌, filter, if◌then◌else◌}
@@ -25,42 +25,45 @@ use Rattle.walks.specs.declared.family.Reach.TheVariants.{Listed, ListedOrSelf, 
 use Rattle.candidates.proofs.WithinLemmas.{has_kept, restricted_to}
 use Rattle.walks.proofs.JoinedLemmas.{listed_stands, over_near, stands, stands_listed}
 
+-- an equation may be read from either side
 same_either_way : (one other : ℕ) → ((one == other) || false) ≡ (other == one)
 same_either_way one other = grind (arith, nat_tests)
 
--- a list has the only one of some concepts where that is in it
+-- a list has an item of the set of a single concept exactly if it has the concept
 any_of_one : (concept : ℕ) (list : List ℕ) → list_any (has (concept ∷ [])) list ≡ has list concept
 any_of_one concept [] = refl
 any_of_one concept (first ∷ rest) =
     (λ i. same_either_way concept first i || any_of_one concept rest i)
 
--- one concept is left where it is not in its own list
+-- a single concept that is not in its own list is kept apart
 pub one_left : (lists : List (List ℕ)) (concept : ℕ) → has (list_of lists concept) concept ≡ false
     → apart lists (concept ∷ []) ≡ concept ∷ []
 one_left lists concept absent =
     ap (λ (there : Bool). if not there then concept ∷ [] else [])
     (any_of_one concept (list_of lists concept) ∙ absent)
 
+-- of a single concept that is in its own list nothing is kept apart
 pub none_left : (lists : List (List ℕ)) (concept : ℕ) → has (list_of lists concept) concept ≡ true
     → apart lists (concept ∷ []) ≡ []
 none_left lists concept there =
     ap (λ (listed : Bool). if not listed then concept ∷ [] else [])
     (any_of_one concept (list_of lists concept) ∙ there)
 
--- one concept stands to another as the other stands back to it
+-- a concept stands to another in a family exactly if the other stands to it in the family that leads back
 stands_back : (release : Release) (f : Family) (a b : ℕ) → stands release f a b ≡ stands release (back_of f) b a
 stands_back release family.Ancestors a b = refl
 stands_back release family.Descendants a b = refl
 stands_back release family.Parents a b = refl
 stands_back release family.Children a b = refl
 
+-- to lead back twice is to follow the first family
 back_and_forth : (f : Family) → back_of (back_of f) ≡ f
 back_and_forth family.Ancestors = refl
 back_and_forth family.Descendants = refl
 back_and_forth family.Parents = refl
 back_and_forth family.Children = refl
 
--- the lists that lead back from whole lists are whole
+-- the family that leads back from a whole family is whole
 pub back_is_whole : (f : Family) → is_whole f ≡ true → is_whole (back_of f) ≡ true
 back_is_whole family.Ancestors whole = refl
 back_is_whole family.Descendants whole = refl
@@ -75,6 +78,7 @@ module _ (count : ℕ) (hierarchy : Hierarchy) (over : IsOver count hierarchy) (
     abbrev own : List ℕ
     own = list_of (lists_of hierarchy (back_of f)) concept
 
+    -- if the list of an item has `concept`, the list that leads back from `concept` has an item
     there : list_any (λ other. has (list_of lists other) concept) items ≡ true → list_any (has items) own ≡ true
     there told =
         let from = passing_item (λ other. has (list_of lists other) concept) items told in
@@ -85,6 +89,7 @@ module _ (count : ℕ) (hierarchy : Hierarchy) (over : IsOver count hierarchy) (
         (sym (stands_back over.release f from.0 concept) ∙ stood.1)))
         (had_contained items from.0 from.1)
 
+    -- if the list that leads back from `concept` has an item, the list of an item has `concept`
     again : list_any (has items) own ≡ true → list_any (λ other. has (list_of lists other) concept) items ≡ true
     again told =
         let from = passing_item (has items) own told in
@@ -92,28 +97,31 @@ module _ (count : ℕ) (hierarchy : Hierarchy) (over : IsOver count hierarchy) (
         some_item_passes (λ other. has (list_of lists other) concept) items from.0 (contains_had items from.0 from.2)
         (stands_listed count hierarchy over f from.0 concept stood.0 inside (stands_back over.release f from.0 concept ∙ stood.1))
 
-    -- it is in the list of one of them where one of them is in the list that leads back
+    -- the list that leads back from `concept` has an item exactly if the list of an item has `concept`
     pub asked_any : list_any (has items) own ≡ list_any (λ other. has (list_of lists other) concept) items
     asked_any = both_ways (list_any (has items) own) (list_any (λ other. has (list_of lists other) concept) items) again there
 
+    -- the list that leads back from `concept` has an item exactly if the joined lists of the items have `concept`
     pub asked_back : list_any (has items) own ≡ has (joined count lists items) concept
     asked_back = asked_any ∙ sym (has-numbers_where count (λ n. list_any (λ other. has (list_of lists other) n) items) concept inside)
 
+    -- `concept` is an item or in the joined lists exactly if the union of both has it
     pub asked_or_self : (has items concept || has (joined count lists items) concept)
         ≡ has (all_items count items (joined count lists items)) concept
     asked_or_self = sym (has-numbers_where count (λ n. has items n || has (joined count lists items) n) concept inside)
 
+    -- `concept` is an item without an item in its list exactly if it is among those kept apart
     pub asked_apart : (has items concept && not (list_any (has items) (list_of lists concept))) ≡ has (apart lists items) concept
     asked_apart = sym (has_kept (λ other. not (list_any (has items) (list_of lists other))) items concept)
 
-  -- none of them is in its list where it is none of those that they lead back to
+  -- `concept` is outside what the items lead to in the family that leads back exactly if its list has no item
   pub asked_outside : (f : Family) (concept : ℕ) → concept < count → (found : List ℕ) → AreJoined (lists_of hierarchy (back_of f)) items found
       → not (has found concept) ≡ not (list_any (has items) (list_of (lists_of hierarchy f) concept))
   asked_outside f concept inside found joined =
       ap not (joined concept ∙ sym (asked_any (back_of f) concept inside)
       ∙ (λ i. list_any (has items) (list_of (lists_of hierarchy (back_and_forth f i)) concept)))
 
-  -- where none of them is in the list, none is one is-a row away
+  -- to find no item in the near list and none in the whole list is to find none in the whole list
   pub apart_near : (f : Family) (concept : ℕ) → concept < count
       → (not (list_any (has items) (list_of (lists_of hierarchy (near_of f)) concept))
       && not (list_any (has items) (list_of (lists_of hierarchy f) concept)))
@@ -128,13 +136,13 @@ module _ (count : ℕ) (hierarchy : Hierarchy) (over : IsOver count hierarchy) (
       by_near true far = sym (ap not (far refl))
       by_near false far = refl
 
-  -- what a step leads to rises
+  -- the numbers that a step leads to rise below `count`
   pub led_rises : (lists : List (List ℕ)) (reach : Reach) → IsRisingBelow count (stepped lists count reach items)
   led_rises lists Listed = numbers_where-rising count (λ n. list_any (λ other. has (list_of lists other) n) items)
   led_rises lists ListedOrSelf = numbers_where-rising count (λ n. has items n || has (joined count lists items) n)
   led_rises lists Apart = rises_within-filter 0 count (λ concept. not (list_any (has items) (list_of lists concept))) items rises
 
-  -- those of a rising list that it leads to are those that it leads to of the list
+  -- to keep of `wanted` what a step leads to is to keep of what it leads to what is in `wanted`
   pub led_asked : (lists : List (List ℕ)) (reach : Reach) (wanted : List ℕ) → IsRisingBelow count wanted
       → filter (has (stepped lists count reach items)) wanted ≡ filter (has wanted) (stepped lists count reach items)
   led_asked lists reach wanted wanted_rises =

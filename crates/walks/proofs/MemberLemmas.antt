@@ -25,14 +25,15 @@ use Rattle.candidates.specs.Numbers.{is_one_of, numbers_in}
 use Rattle.std.proofs.lemmas.List.Folds.{list_any-append}
 use Rattle.candidates.proofs.Normal.{in_force_kept, numbers_in-agree}
 
--- the numbers of a set, as a list, are below its bound
+-- the items of a set are below its bound
 pub numbers_below : {count bound : ℕ} {items numbers : List ℕ} → IsRisingBelow bound items → bound ≡ count → numbers ≡ items
     → All (λ number. number < count) numbers
 numbers_below {count} {bound} {items} rises bound_is numbers_are =
     subst (λ (some : List ℕ). All (λ number. number < count) some) (sym numbers_are)
     (subst (λ (most : ℕ). All (λ number. number < most) items) bound_is (all_below bound items rises))
 
--- ---- the components of some reference sets, and those of the member rows
+-- ---- the components in the lists of reference sets are those of the member rows
+-- an item passes one of two tests exactly if an item passes the first or an item passes the second
 any_or : {X : Type 0} (f g : X → Bool) (xs : List X) → list_any (λ x. f x || g x) xs ≡ (list_any f xs || list_any g xs)
 any_or f g [] = refl
 any_or f g (x ∷ xs) = ap (λ (b : Bool). (f x || g x) || b) (any_or f g xs) ∙ shuffled (f x) (g x) (list_any f xs) (list_any g xs)
@@ -46,11 +47,12 @@ any_or f g (x ∷ xs) = ap (λ (b : Bool). (f x || g x) || b) (any_or f g xs) �
     shuffled true b c d = refl
     shuffled false b c d = behind b c d
 
+-- no item passes a test that is always false
 any_none : {X : Type 0} (xs : List X) → list_any (λ x. false) xs ≡ false
 any_none [] = refl
 any_none (x ∷ xs) = any_none xs
 
--- some row leads from some reference set exactly where some reference set has such a row
+-- one of `refsets` has a row to x exactly if one of the rows leads from one of `refsets` to x
 any_exchanged : (id : ℕ → ℕ) (refsets : List ℕ) (rows : List (ℕ × ℕ)) (x : ℕ)
     → list_any (λ refset. is_child rows (id refset) x) refsets ≡ list_any (λ row. list_any (λ refset. id refset == row.0) refsets && (row.1 == x)) rows
 any_exchanged id [] rows x = sym (any_none rows)
@@ -73,6 +75,7 @@ any_exchanged id (refset ∷ refsets) rows x =
     both : (from to : ℕ) (some here : Bool) → (((from == to) && here) || (some && here)) ≡ (((to == from) || some) && here)
     both from to some here = shared (from == to) some here ∙ ap (λ (b : Bool). (b || some) && here) (swapped from to)
 
+-- the lists of `concepts`, one after the other, have n exactly if the list of one of `concepts` has it
 item_joined : (lists : List (List ℕ)) (concepts : List ℕ) (n : ℕ)
     → has (flat_map (list_of lists) concepts) n ≡ list_any (λ concept. has (list_of lists concept) n) concepts
 item_joined lists [] n = refl
@@ -80,17 +83,18 @@ item_joined lists (concept ∷ concepts) n =
     list_any-append (λ item. item == n) (list_of lists concept) (flat_map (list_of lists) concepts)
     ∙ ap (λ (b : Bool). has (list_of lists concept) n || b) (item_joined lists concepts n)
 
--- whether a concept has a member row to another, by their numbers
+-- whether a member row leads from a reference set to a component, by their numbers
 abbrev is_member : Release → ℕ → ℕ → Bool
 is_member release refset component = is_child release.members (get_or release.concepts refset 0) (get_or release.concepts component 0)
 
+-- the list of a reference set has n exactly if concept n is its component
 member_told : (release : Release) (refset n : ℕ) → refset < length release.concepts → n < length release.concepts
     → has (list_of (members_of release) refset) n ≡ is_member release refset n
 member_told release refset n below inside =
     ap (λ (xs : List ℕ). has xs n) (list_of-where (length release.concepts) (is_member release) refset below)
     ∙ has-numbers_where (length release.concepts) (is_member release refset) n inside
 
--- a concept is in the list of one of some reference sets where it is a component of one of them
+-- the list of one of the reference sets has n exactly if a member row leads from one of them to concept n
 component_told : (release : Release) (items : List ℕ) → All (λ item. item < length release.concepts) items
     → (n : ℕ) → n < length release.concepts
     → is_in_one_of (members_of release) items n
@@ -99,13 +103,15 @@ component_told release items below n inside =
     any_agree items _ _ 0 (λ k there. member_told release (get_or items k 0) n (below k 0 there) inside)
     ∙ any_exchanged (λ refset. get_or release.concepts refset 0) items release.members (get_or release.concepts n 0)
 
+-- the numbers in the lists of reference sets are the numbers of their components
 pub members_listed : (release : Release) (items : List ℕ) → All (λ item. item < length release.concepts) items
     → listed_numbers (length release.concepts) (flat_map (list_of (members_of release)) items) ≡ components_of release items
 members_listed release items below =
     numbers_where-agree (length release.concepts) _ _
     (λ n inside. item_joined (members_of release) items n ∙ component_told release items below n inside)
 
--- those of a rising list that are in the list of one of some reference sets are the components of these that are in it
+-- the numbers in `wanted` that are in the list of one of the reference sets are the components of these that are in
+-- `wanted`
 pub members_asked : (release : Release) (items : List ℕ) → All (λ item. item < length release.concepts) items
     → (wanted : List ℕ) → IsRisingBelow (length release.concepts) wanted
     → filter (is_in_one_of (members_of release) items) wanted ≡ filter (has wanted) (components_of release items)
@@ -121,7 +127,7 @@ members_asked release items below wanted rises =
     asked : ℕ → Bool
     asked = is_in_one_of (members_of release) items
 
--- and they are numbers of concepts
+-- the lists of reference sets have numbers of concepts alone
 pub members_below : (release : Release) (items : List ℕ) → All (λ item. item < length release.concepts) items
     → All (λ number. number < length release.concepts) (flat_map (list_of (members_of release)) items)
 members_below release [] below = All-nil (λ number. number < length release.concepts)
@@ -133,7 +139,7 @@ members_below release (item ∷ items) below =
     (there_where (length release.concepts) (is_member release item) (get_or list k d) (k, within, get_or_default list k (get_or list k d) d within)).0))
     (members_below release items (All-tail (λ item. item < length release.concepts) item items below))
 
--- a concept is one of those in a set where it is in it
+-- the numbers of a set stand for a concept exactly if it is in the set
 pub one_of_set : (release : Release) (set : ℕ → Bool) (items : List ℕ) → items ≡ numbers_in release set
     → ((concept : ℕ) → set concept ≡ true → has_concept release concept ≡ true)
     → (id : ℕ) → is_one_of release.concepts items id ≡ set id
@@ -156,7 +162,7 @@ one_of_set release set items is forced id = both_ways (is_one_of release.concept
         (where_there (length release.concepts) (λ m. set (get_or release.concepts m 0)) k there.1 (ap set at ∙ holds)))
         (eq-eqb (get_or release.concepts k 0) id at)
 
--- and these are the components of the reference sets in the set
+-- the components of the reference sets with the numbers of a set are the components of the reference sets in the set
 pub components_in : (release : Release) (set : ℕ → Bool) (items : List ℕ) → items ≡ numbers_in release set
     → ((concept : ℕ) → set concept ≡ true → has_concept release concept ≡ true)
     → components_of release items ≡ numbers_in release (is_component release set)

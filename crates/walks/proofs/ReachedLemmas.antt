@@ -1,4 +1,4 @@
--- What one pass over the is-a rows finds, in which each concept has its turn before those that are one row away.
+-- What one pass over the is-a rows finds, in which each concept has its turn before those that are one is-a row away.
 use Rattle.std.proofs.Common.{ℕ, zero, suc, ◌≡◌, ◌==◌, ◌<◌, [], ◌∷◌, ◌≤◌, ◌+◌, ◌-◌, ◌∙◌, true, false, not, Bool, ◌&&◌}
 use Rattle.std.proofs.Common.{◌||◌, List, length, get_or, map, take, inl, inr, refl, sym, ap, subst, arith}
 use Rattle.std.specs.Prelude.{Contains, nat_eq}
@@ -38,7 +38,7 @@ use Rattle.number_lists.proofs.RisingLemmas.{all_below}
 use Rattle.walks.proofs.JoinedLemmas.{has_all, listed_stands, near_stands, over_length, over_rising, over_whole, stands}
 use Rattle.walks.proofs.JoinedLemmas.{stands_listed}
 
--- where all of some numbers are among others, each is
+-- if all numbers in `found` are items, each of them is
 all_have : (items found : List ℕ) → list_all (has items) found ≡ true → (n : ℕ) → has found n ≡ true
     → has items n ≡ true
 all_have items [] all n there = absurd (false≢true there)
@@ -49,12 +49,14 @@ all_have items (x ∷ xs) all n there =
       | inr later ↦ all_have items xs both.1 n later
     ]
 
--- what has been found before a turn: nothing but what items lead to; all that is one row away from an item; and of each
--- concept that had its turn, if it is an item or was found, all that is one row away
+-- what a pass that starts from `items` has found before turn `turn`
 pub record IsPassed (lists near : List (List ℕ)) (at : ℕ → ℕ) (turn : ℕ) (items found : List ℕ) : Type 0 where
+  -- each number that is found is in the list of an item
   pub sound : (n : ℕ) → has found n ≡ true → list_any (λ concept. has (list_of lists concept) n) items ≡ true
+  -- if the concept of an earlier turn is an item or was found, all in its near list is found
   pub full : (j : ℕ) → j < turn → (has items (at j) || has found (at j)) ≡ true
       → (n : ℕ) → has (list_of near (at j)) n ≡ true → has found n ≡ true
+  -- all in the near list of an item is found
   pub own : (concept : ℕ) → has items concept ≡ true → (n : ℕ) → has (list_of near concept) n ≡ true
       → has found n ≡ true
 
@@ -65,7 +67,7 @@ turn_within turns family.Descendants turn inside = inside
 turn_within turns family.Parents turn inside = omega arith
 turn_within turns family.Children turn inside = inside
 
--- an order has no more than the concepts
+-- an order has no more items than there are concepts
 order_few : (count : ℕ) (rows : List (ℕ × ℕ)) (order : List ℕ) → IsParentsFirst count rows order → length order ≤ count
 order_few count rows order first = length-le_from_distinct_below order count first.once
     (λ concept there. (first.members concept).0 (contains_had order concept (swapped concept order there)))
@@ -79,7 +81,7 @@ order_few count rows order first = length-le_from_distinct_below order count fir
           | inr later ↦ or_right (number == concept) (has numbers concept) (swapped concept numbers later)
         ]
 
--- a pass counts each is-a link, and the concepts in their order
+-- a pass that reads all is-a links and the order counts at most `pass_items`
 pub pass_counted : (release : Release) (hierarchy : Hierarchy) (bound : ℕ)
     (order : List ℕ) {early between late : Counter}
     → bound ≡ length release.concepts → IsOrderOf release order
@@ -114,6 +116,7 @@ module _ (release : Release) (order : List ℕ) (rising : IsStrictlyIncreasing r
   abbrev pub at : Family → ℕ → ℕ
   at f turn = get_or order (turn_of f turns turn) 0
 
+  -- the concept of a turn is the number of a concept
   pub at_below : (f : Family) (turn : ℕ) → turn < turns → at f turn < count
   at_below f turn inside =
       (first.members (at f turn)).0 (Contains-get_or order (turn_of f turns turn) 0 (turn_within turns f turn inside))
@@ -139,7 +142,7 @@ module _ (release : Release) (order : List ℕ) (rising : IsStrictlyIncreasing r
       by_family family.Parents whole there = absurd (false≢true whole)
       by_family family.Children whole there = absurd (false≢true whole)
 
-  -- none of those up to a place stands behind it
+  -- the item at place q is not among the first p items if p is at most q
   not_ahead : (p q : ℕ) → p ≤ q → q < turns → Contains (take p order) (get_or order q 0) → ⊥
   not_ahead p q before inside there =
       let i = there.0 in
@@ -149,7 +152,7 @@ module _ (release : Release) (order : List ℕ) (rising : IsStrictlyIncreasing r
       eqb-false (get_or order i 0) (get_or order q 0)
       (apart_from_distinct nat_eq order i q 0 first.once (omega (arith, less, before)) inside) same
 
-  -- what is one row away from the concept of a turn had no turn before
+  -- a concept that is one is-a row away from the concept of turn k had no earlier turn j
   no_turn_before : (f : Family) → is_whole f ≡ true → (j k : ℕ) → j < k → k < turns
       → stands release (near_of f) (at f k) (at f j) ≡ true → ⊥
   no_turn_before family.Ancestors whole j k before inside near =
@@ -182,26 +185,29 @@ module _ (release : Release) (order : List ℕ) (rising : IsStrictlyIncreasing r
     abbrev near : List (List ℕ)
     near = lists_of hierarchy (near_of f)
 
+    -- what the pass in family `f` has found before a turn
     abbrev pub Passed : ℕ → List ℕ → Type 0
     Passed turn found = IsPassed lists near (at f) turn items found
 
     below : (turn : ℕ) → turn < turns → at f turn < bound
     below turn inside = omega (arith, at_below f turn inside, counted)
 
+    -- what the near list of `concept` has, its list has
     near_listed : (concept n : ℕ) → concept < bound → has (list_of near concept) n ≡ true
         → has (list_of lists concept) n ≡ true
     near_listed concept n inside told =
         let stood = listed_stands bound hierarchy over (near_of f) concept n inside told in
         stands_listed bound hierarchy over f concept n inside stood.0 (near_stands release f concept n stood.1)
 
-    -- the list of what is one row away from the concept of a turn is there, and rises
+    -- the concept of a turn has a near list
     pub near_there : (turn : ℕ) → turn < turns → at f turn < length near
     near_there turn inside = omega (arith, below turn inside, over_length bound hierarchy over (near_of f))
 
+    -- the near list of the concept of a turn rises
     pub near_rises : (turn : ℕ) → turn < turns → IsRisingBelow bound (list_of near (at f turn))
     near_rises turn inside = over_rising bound hierarchy over (near_of f) (at f turn) (below turn inside)
 
-    -- what is one row away from a concept that is led to is led to
+    -- if a concept is an item, or is found, what its near list has is in the list of an item
     led_on : (found : List ℕ) → ((n : ℕ) → has found n ≡ true
         → list_any (λ concept. has (list_of lists concept) n) items ≡ true)
         → (concept n : ℕ) → concept < bound → (has items concept || has found concept) ≡ true
@@ -224,7 +230,7 @@ module _ (release : Release) (order : List ℕ) (rising : IsStrictlyIncreasing r
     first_true true other both = refl
     first_true false other both = both
 
-    -- the turn of a concept that was found
+    -- the turn of a concept that is found and no item adds its near list to what is found
     pub passed_on : (turn : ℕ) (found list next : List ℕ) → turn < turns → IsRisingBelow bound found
         → list ≡ list_of near (at f turn)
         → next ≡ all_items bound found list → (has found (at f turn) && not (has items (at f turn))) ≡ true
@@ -255,7 +261,7 @@ module _ (release : Release) (order : List ℕ) (rising : IsStrictlyIncreasing r
             (subst (λ (xs : List ℕ). IsRisingBelow bound xs) (sym list_is) (near_rises turn inside)) next_is n
             ∙ ap (λ (xs : List ℕ). has found n || has xs n) list_is
 
-        -- what had its turn before is not found now
+        -- a concept that had an earlier turn is not found now
         still : (j : ℕ) → j < turn → (has items (at f j) || has next (at f j)) ≡ true
             → (has items (at f j) || has found (at f j)) ≡ true
         still j before told = elim (or_cases (has items (at f j)) (has next (at f j)) told) [
@@ -268,7 +274,7 @@ module _ (release : Release) (order : List ℕ) (rising : IsStrictlyIncreasing r
               ]
         ]
 
-    -- the turn of a concept that was not found, or is an item
+    -- the turn of a concept that is not found, or is an item, adds nothing to what is found
     pub passed_over : (turn : ℕ) (found : List ℕ) → (has found (at f turn) && not (has items (at f turn))) ≡ false
         → Passed turn found → Passed (turn + 1) found
     passed_over turn found not_chosen passed = record {
@@ -288,7 +294,7 @@ module _ (release : Release) (order : List ℕ) (rising : IsStrictlyIncreasing r
         an_item false true told not_chosen = sym not_chosen
         an_item false false told not_chosen = told
 
-    -- before the first turn what is one row away from the items is found
+    -- before the first turn, the joined near lists of the items are found
     pub passed_first : (found : List ℕ) → AreJoined near items found → Passed 0 found
     passed_first found joined = record {
       sound = λ n told.
@@ -302,12 +308,12 @@ module _ (release : Release) (order : List ℕ) (rising : IsStrictlyIncreasing r
           away;
     }
 
-    -- behind the last one all is found that items lead to
+    -- after the last turn, the joined lists of the items are found
     pub passed_all : (turn : ℕ) (found : List ℕ) → turns ≤ turn → Passed turn found → AreJoined lists items found
     passed_all turn found end passed n =
         both_ways (has found n) (list_any (λ concept. has (list_of lists concept) n) items) (passed.sound n) back
       where
-        -- one row on
+        -- what is one is-a row away from a concept that is an item or found is found
         one_on : (concept m : ℕ) → concept < count → m < count → (has items concept || has found concept) ≡ true
             → stands release (near_of f) concept m ≡ true → has found m ≡ true
         one_on concept m inside m_inside told away =
@@ -371,7 +377,7 @@ module _ (release : Release) (order : List ℕ) (rising : IsStrictlyIncreasing r
             led f refl from.0 (omega (arith, from_below, counted)) (omega (arith, stood.0, counted))
             (had_contained items from.0 from.1) stood.1
 
-    -- where all that is one row away from items is among them, no more is led to
+    -- if the joined near lists of the items have items alone, they are the joined lists of the items
     pub all_among : (found : List ℕ) → AreJoined near items found → list_all (has items) found ≡ true
         → AreJoined lists items found
     all_among found joined among = passed_all turns found (omega arith) (passed_by turns)

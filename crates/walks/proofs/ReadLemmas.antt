@@ -38,6 +38,7 @@ use Rattle.walks.specs.inside.Joined.{is_long, with_length}
 use Rattle.candidates.proofs.SumLemmas.{no_sum, sum_of_some, two_sums}
 
 -- ---- all lists, one by one
+-- all lists together have as many items as the lists of all keys, added up
 all_one_by_one : (lists : List (List ℕ)) → length (concat lists) ≡ items_in lists (range_with_len 0 (length lists))
 all_one_by_one lists =
     let all = range_with_len 0 (length lists) in
@@ -57,7 +58,8 @@ items_of_some lists keys rising =
       all_one_by_one lists,
     )
 
--- ---- lists turned round have as many items
+-- ---- transposed lists have as many items
+-- a double sum may be taken in either order
 turned_sums : (f : ℕ → ℕ → ℕ) (xs ys : List ℕ)
     → sum_by (λ x. sum_by (f x) ys) xs ≡ sum_by (λ y. sum_by (λ x. f x y) xs) ys
 turned_sums f [] ys = sym (no_sum ys)
@@ -67,6 +69,7 @@ turned_sums f (x ∷ xs) ys =
     ∙ sym (two_sums (f x) (λ y. sum_by (λ x. f x y) xs) ys)
     ∙ (λ i. sum_by (λ y. sym (sum_by-cons (λ x. f x y) x xs) i) ys)
 
+-- the lists of a relation have as many items as the lists of all numbers below `count`, added up
 length-all_where : (count : ℕ) (test : ℕ → ℕ → Bool)
     → length (concat (lists_where count test))
     ≡ sum_by (λ a. length (numbers_where count (test a))) (range_with_len 0 count)
@@ -76,6 +79,7 @@ length-all_where count test =
     ap (λ (xs : List ℕ). length xs) (concat_is (map list all) ∙ flat_map-map (λ xs. xs) list all)
     ∙ length-flat_map list all
 
+-- transposed lists have as many items as the lists
 turned_items : (count : ℕ) (test : ℕ → ℕ → Bool)
     → length (concat (lists_where count (λ a b. test b a))) ≡ length (concat (lists_where count test))
 turned_items count test =
@@ -87,7 +91,7 @@ turned_items count test =
     ∙ sym (length-all_where count test)
 
 -- ---- the families of a hierarchy
--- a family has as many items as the table of a plan's bounds says: those of the ancestors, or of the parents
+-- all lists of a family have as many items as `all_items_of` says
 pub family_items : (count : ℕ) (hierarchy : Hierarchy) → IsOver count hierarchy → (f : Family)
     → length (concat (lists_of hierarchy f)) ≡ all_items_of hierarchy f
 family_items count hierarchy over family.Ancestors = refl
@@ -101,7 +105,7 @@ family_items count hierarchy over family.Children =
     ∙ turned_items count (stands over.release family.Parents)
     ∙ ap (λ (xs : List (List ℕ)). length (concat xs)) (sym (over_lists count hierarchy over family.Parents))
 
--- so the lists of concepts of a set have no more
+-- the lists of rising `concepts` have no more items than all lists of the family
 pub set_items : (count : ℕ) (hierarchy : Hierarchy) → IsOver count hierarchy → (f : Family) (concepts : List ℕ)
     → IsRisingBelow count concepts
     → items_in (lists_of hierarchy f) concepts ≤ all_items_of hierarchy f
@@ -113,7 +117,7 @@ set_items count hierarchy over f concepts rising =
       family_items count hierarchy over f,
     )
 
--- of one concept its list, of more no more than all lists
+-- the lists of rising `concepts` have no more items than a walk from them may read
 pub items_of_set : (count : ℕ) (hierarchy : Hierarchy) → IsOver count hierarchy → (f : Family) (concepts : List ℕ)
     → IsRisingBelow count concepts
     → items_in (lists_of hierarchy f) concepts ≤ items_at_most hierarchy f concepts
@@ -124,7 +128,7 @@ items_of_set count hierarchy over f concepts rising = at (nat_lt 1 (length conce
     at true = set_items count hierarchy over f concepts rising
     at false = omega arith
 
--- which is no more than all lists either way
+-- what a walk from rising `concepts` may read is no more than the items of all lists of the family
 pub at_most_all : (count : ℕ) (hierarchy : Hierarchy) → IsOver count hierarchy → (f : Family) (concepts : List ℕ)
     → IsRisingBelow count concepts
     → items_at_most hierarchy f concepts ≤ all_items_of hierarchy f
@@ -135,7 +139,7 @@ at_most_all count hierarchy over f concepts rising = at (nat_lt 1 (length concep
     at true = omega arith
     at false = set_items count hierarchy over f concepts rising
 
--- the lists of some concepts have no more items than is told of them
+-- the lists of `concepts` in a family have no more items than an extent of their lists says
 told_items : (hierarchy : Hierarchy) (concepts : List ℕ) (lists : ListExtent) → AreListed hierarchy concepts lists
     → (f : Family)
     → full (items_in (lists_of hierarchy f) concepts) ≤ told_of f lists
@@ -144,7 +148,8 @@ told_items hierarchy concepts lists listed family.Descendants = listed.descendan
 told_items hierarchy concepts lists listed family.Parents = listed.parents
 told_items hierarchy concepts lists listed family.Children = listed.children
 
--- to ask concepts takes no more items than there are of them and of their lists
+-- to test `concepts` takes no more items than their extent says of the concepts and of the lists of `f`, by which they
+-- are tested
 pub asked_within : (indexed : Indexed) (operator : Operator) (f : Family) (concepts : List ℕ) (extent : Extent)
     → IsExtentOf indexed concepts extent
     → lists_of indexed.hierarchy f ≡ asked_lists indexed.hierarchy operator
@@ -157,7 +162,7 @@ asked_within indexed operator f concepts extent is asked =
       ap (λ (lists : List (List ℕ)). items_in lists concepts) asked,
     )
 
--- the lists by which concepts are asked have no more items than all lists of the operator, which are turned round
+-- the lists by which rising `concepts` are tested have no more items than all lists that the operator follows
 pub asked_of_all : (count : ℕ) (hierarchy : Hierarchy) → IsOver count hierarchy
     → (operator : Operator) (concepts : List ℕ)
     → IsRisingBelow count concepts
@@ -182,7 +187,7 @@ asked_of_all count hierarchy over Top concepts rising = set_items count hierarch
 asked_of_all count hierarchy over Bottom concepts rising =
     set_items count hierarchy over family.Descendants concepts rising
 
--- to ask several concepts takes no more items than to go through them and to read what the operator leads to from them
+-- to test several concepts takes no more items than to go through them and to walk from them
 pub asked_from_many : (count : ℕ) (hierarchy : Hierarchy) → IsOver count hierarchy
     → (operator : Operator) (concepts : List ℕ)
     → IsRisingBelow count concepts → 1 < length concepts
@@ -196,7 +201,7 @@ asked_from_many count hierarchy over operator concepts rising many =
           (lt-ltb 1 (length concepts) many),
     )
 
--- the long lists and the others are all lists of some concepts
+-- the long lists and the short lists of `concepts` have as many items as all lists of `concepts`
 pub long_and_others : (lists : List (List ℕ)) (concepts : List ℕ)
     → items_in lists (with_length lists true concepts) + items_in lists (with_length lists false concepts)
     ≡ items_in lists concepts
@@ -209,7 +214,7 @@ long_and_others lists concepts =
     either true = refl
     either false = refl
 
--- which have no more than all lists of the family
+-- the long lists and the short lists of rising `concepts` have no more items than all lists of the family
 pub parts_within : (count : ℕ) (hierarchy : Hierarchy) → IsOver count hierarchy → (f : Family) (concepts : List ℕ)
     → IsRisingBelow count concepts
     → items_in (lists_of hierarchy f) (with_length (lists_of hierarchy f) true concepts)
@@ -217,12 +222,12 @@ pub parts_within : (count : ℕ) (hierarchy : Hierarchy) → IsOver count hierar
 parts_within count hierarchy over f concepts rising =
     omega (arith, long_and_others (lists_of hierarchy f) concepts, set_items count hierarchy over f concepts rising)
 
--- some of the concepts have no more items than all
+-- the lists of the concepts that pass `test` have no more items than the lists of all `concepts`
 pub items_of_kept : (lists : List (List ℕ)) (test : ℕ → Bool) (concepts : List ℕ)
     → items_in lists (filter test concepts) ≤ items_in lists concepts
 items_of_kept lists test concepts = sum_of_some (λ concept. length (list_of lists concept)) test concepts
 
--- concepts that are asked, and the lists by which they are
+-- handing out `concepts` and then reading the lists by which they are tested counts at most `asked_items`
 pub asked_counted : (hierarchy : Hierarchy) (operator : Operator) (f : Family) {concepts own : List ℕ}
     {early between late : Counter}
     → lists_of hierarchy f ≡ asked_lists hierarchy operator → own ≡ concepts
@@ -236,7 +241,7 @@ asked_counted hierarchy operator f {concepts} asked same out lists =
       ap (λ (some : List (List ℕ)). items_in some concepts) asked,
     ))
 
--- concepts, each with its list behind it
+-- concepts, each followed by its list, are as many numbers as there are concepts and items in their lists
 pub with_lists_length : (lists : List (List ℕ)) (concepts : List ℕ)
     → length (flat_map (λ concept. concept ∷ list_of lists concept) concepts) ≡ length concepts
     + items_in lists concepts

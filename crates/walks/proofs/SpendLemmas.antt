@@ -1,4 +1,4 @@
--- What is read of lists before these are left for a pass over the is-a rows.
+-- How many items of lists are read before a pass over the is-a rows takes their place.
 use Rattle.std.proofs.Common.{ℕ, ◌+◌, ◌-◌, [], ◌≡◌, ◌<◌, ◌≤◌, ◌∙◌, Bool, true, List, length, drop, get_or, take}
 use Rattle.std.proofs.Common.{refl, sym, ap, subst, arith}
 use Rattle.std.specs.Bool.{beq}
@@ -19,12 +19,13 @@ use Rattle.walks.specs.inside.Counts.{LeavesPass, Spends, pass_items}
 use Rattle.walks.specs.inside.Joined.{is_long, is_whole, with_length}
 use Rattle.walks.proofs.JoinedLemmas.{with_length_more}
 
--- nothing is taken where nothing is read
+-- nothing is taken from the limit if nothing is read
 pub spends_none : (left : Option ℕ) (visits : Counter) → Spends left left visits visits
 spends_none None visits = tt
 spends_none (Some left) visits = omega arith
 
--- what a list has is taken, and no more of it is read
+-- if the limit is lowered by `items`, and the next reading counts at most `items`, all visits so far are taken from the
+-- limit
 pub spends_more : (first left next : Option ℕ) (items : ℕ) (early between late : Counter) → Spends first left early between
     → MatchOption left (next ≡ None) (λ before. (items ≤ before) × (next ≡ Some (before - items)))
     → CountsWithin items between late → Spends first next early late
@@ -35,7 +36,7 @@ spends_more (Some first) None next items early between late spent taken counts =
 spends_more (Some first) (Some left) next items early between late spent taken counts =
     subst (λ (after : Option ℕ). Spends (Some first) after early late) (sym taken.1) (omega (arith, spent, taken.0, counts.within))
 
--- what is left after one reading is left to the next
+-- two readings in a row take from the limit the visits of both
 pub spends_both : (first left next : Option ℕ) (early between late : Counter) → Spends first left early between
     → Spends left next between late → Spends first next early late
 spends_both None None None early between late one other = tt
@@ -45,7 +46,7 @@ spends_both (Some first) None next early between late one other = absurd one
 spends_both (Some first) (Some left) None early between late one other = absurd other
 spends_both (Some first) (Some left) (Some next) early between late one other = omega (arith, one, other)
 
--- so that all lists have room for a pass behind it
+-- a pass after a reading within the limit stays within the number of items that all lists have
 pub pass_within : (hierarchy : Hierarchy) (f : Family) (count : ℕ) (first left : Option ℕ) (early between late : Counter)
     → IfSome first (LeavesPass hierarchy f count) → IsSome first → early.count ≤ between.count → Spends first left early between
     → CountsWithin (pass_items hierarchy count) between late → CountsWithin (all_items_of hierarchy f) early late
@@ -63,7 +64,7 @@ whole_items hierarchy family.Descendants whole = refl
 whole_items hierarchy family.Parents whole = absurd (false≢true whole)
 whole_items hierarchy family.Children whole = absurd (false≢true whole)
 
--- the next list, where it is joined now
+-- a concept whose list is joined adds the items of its list to those of the first k concepts
 pub items_more : (lists : List (List ℕ)) (long : Bool) (concepts : List ℕ) (k : ℕ) → k < length concepts
     → beq (is_long (list_of lists (get_or concepts k 0))) long ≡ true
     → items_in lists (with_length lists long (take (k + 1) concepts))
@@ -72,7 +73,7 @@ items_more lists long concepts k inside tested =
     ap (items_in lists) (with_length_more lists long concepts [] k inside tested)
     ∙ sum_by_push (λ concept. length (list_of lists concept)) (with_length lists long (take k concepts)) (get_or concepts k 0)
 
--- those of the concepts so far have no more items than those of all
+-- the lists that are joined of the first k concepts have no more items than those that are joined of all
 pub items_so_far : (lists : List (List ℕ)) (long : Bool) (concepts : List ℕ) (k : ℕ)
     → items_in lists (with_length lists long (take k concepts)) ≤ items_in lists (with_length lists long concepts)
 items_so_far lists long concepts k =

@@ -1,4 +1,4 @@
--- Where the operators lead by the lists of an index is where they lead by the is-a rows.
+-- The operators lead to the same concepts by the lists of an index as by the is-a rows.
 use Rattle.std.proofs.Common.{ℕ, ◌≡◌, ◌<◌, ◌∙◌, Bool, true, not, ◌&&◌, ◌||◌, List, length, get_or, refl, sym, ap, subst}
 use Rattle.std.specs.Prelude.{Contains, filter}
 use Rattle.std.specs.List.{list_any}
@@ -29,21 +29,22 @@ module _ (release : Release) (set : ℕ → Bool) (items : List ℕ) (is : items
   abbrev id : ℕ → ℕ
   id n = get_or release.concepts n 0
 
-  -- a number among the items is that of a concept in the set
+  -- an item is the number of a concept in the set
   member : (n : ℕ) → Contains items n → (n < count) × (set (id n) ≡ true)
   member n there = there_where count (λ m. set (id m)) n (subst (λ (xs : List ℕ). Contains xs n) is there)
 
+  -- the number of a concept in the set is an item
   member_there : (n : ℕ) → n < count → set (id n) ≡ true → Contains items n
   member_there n within holds = subst (λ (xs : List ℕ). Contains xs n) (sym is) (where_there count (λ m. set (id m)) n within holds)
 
-  -- a number is in the list of an item where the concepts stand to each other as the lists say
+  -- the list of `concept` has n exactly if `test` relates the two concepts
   in_list : (test : ℕ → ℕ → Bool) (concept n : ℕ) → concept < count → n < count
       → has (list_of (lists_where count (λ a b. test (id a) (id b))) concept) n ≡ test (id concept) (id n)
   in_list test concept n below within =
       ap (λ (xs : List ℕ). has xs n) (list_of-where count (λ a b. test (id a) (id b)) concept below)
       ∙ has-numbers_where count (λ b. test (id concept) (id b)) n within
 
-  -- the joined lists of the items
+  -- the joined lists of the items are the numbers of the concepts that `test` relates to a concept in the set
   pub joined_is : (test : ℕ → ℕ → Bool)
       → joined count (lists_where count (λ a b. test (id a) (id b))) items
       ≡ numbers_in release (λ concept. some_member release set (λ other. test other concept))
@@ -73,7 +74,8 @@ module _ (release : Release) (set : ℕ → Bool) (items : List ℕ) (is : items
           some_item_passes (λ concept. has (list_of lists concept) n) items k (member_there k below (ap set at ∙ both.0))
           (in_list test k n below within ∙ ap (λ (other : ℕ). test other (id n)) at ∙ both.1)
 
-  -- the items none of which is in their list
+  -- the items whose list has no item are the numbers of the concepts in the set that `test` relates to no concept in
+  -- the set
   pub apart_is : (test : ℕ → ℕ → Bool)
       → apart (lists_where count (λ a b. test (id a) (id b))) items
       ≡ numbers_in release (λ concept. set concept && not (some_member release set (λ other. test concept other)))
@@ -104,11 +106,12 @@ module _ (release : Release) (set : ℕ → Bool) (items : List ℕ) (is : items
           (contains_had (list_of lists n) k (in_list test n k within below ∙ ap (test (id n)) at ∙ both.1))
           (had_contained items k (member_there k below (ap set at ∙ both.0)))
 
+  -- the union of the items and their joined lists are the numbers of the concepts in `set` or in `test`
   or_self : (lists : List (List ℕ)) (test : ℕ → Bool) → joined count lists items ≡ numbers_in release test
       → all_items count items (joined count lists items) ≡ numbers_in release (λ concept. set concept || test concept)
   or_self lists test found = either_in release items (joined count lists items) set test is found count refl
 
-  -- each operator
+  -- an operator leads by the lists to the concepts that it denotes by the is-a rows
   pub led_is : (operator : Operator) → led_to (hierarchy_of release) count operator items ≡ numbers_in release (walks release operator set)
   led_is Descendants = joined_is (λ a b. reaches release.isa b a)
   led_is DescendantsOrSelf = or_self _ (is_below release set) (joined_is (λ a b. reaches release.isa b a))

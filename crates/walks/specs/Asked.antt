@@ -1,4 +1,4 @@
--- What of a set must be known, where it is asked whether an operator leads to some concepts from it, each by a list of its own.
+-- What must be known of a set to test whether an operator leads from it to some concepts, each by a list of its own.
 use Rattle.std.specs.Prelude.{ℕ, ◌≡◌, Bool, true, List}
 use Rattle.number_lists.specs.Members.{has}
 use Rattle.number_lists.specs.KeyedLists.{list_of}
@@ -6,7 +6,8 @@ use Rattle.ancestor_index.specs.HierarchyLists.{Hierarchy}
 use Rattle.constraint_tree.specs.declared.operator.Operator.{Operator}
 use Rattle.constraint_tree.specs.declared.operator.Operator.TheVariants.{Descendants, DescendantsOrSelf, Children, ChildrenOrSelf, Ancestors, AncestorsOrSelf, Parents, ParentsOrSelf, Top, Bottom}
 
--- the lists by which it is asked: those that lead back, and for a concept of the set that has none of it, its own
+-- the lists by which an operator tests a concept: the lists that lead back, or for `Top` and `Bottom` the lists that it
+-- follows
 abbrev pub asked_lists : Hierarchy → Operator → List (List ℕ)
 asked_lists hierarchy Descendants = hierarchy.ancestors
 asked_lists hierarchy DescendantsOrSelf = hierarchy.ancestors
@@ -19,7 +20,7 @@ asked_lists hierarchy ParentsOrSelf = hierarchy.children
 asked_lists hierarchy Top = hierarchy.ancestors
 asked_lists hierarchy Bottom = hierarchy.descendants
 
--- some numbers are enough for some concepts: these, and what is in their lists
+-- `enough` has each concept in `wanted`, and all that is in the list of that concept
 abbrev pub AreEnough : List (List ℕ) → (ℕ → Bool) → (ℕ → Bool) → Type 0
 AreEnough lists wanted enough =
     (concept : ℕ) → wanted concept ≡ true

@@ -5,7 +5,7 @@ use Rattle.std.specs.List.{list_any}
 use Rattle.rf2_rows.specs.Release.{Release}
 use Rattle.number_lists.specs.Rising.{numbers_where}
 
--- the numbers of the components of the member rows whose reference set is one of some concepts
+-- the numbers of the components of the member rows whose reference set is one of `refsets`
 abbrev pub components_of : Release → List ℕ → List ℕ
 components_of release refsets =
     let id : ℕ → ℕ = slice_index release.concepts in

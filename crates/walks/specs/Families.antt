@@ -8,14 +8,14 @@ use Rattle.ancestor_index.specs.HierarchyLists.{Hierarchy}
 use Rattle.walks.specs.declared.family.Family.{Family}
 use Rattle.walks.specs.declared.family.Family.TheVariants as family
 
--- a family of lists of a hierarchy
+-- the lists of a family in `hierarchy`, one for each concept
 abbrev pub lists_of : Hierarchy → Family → List (List ℕ)
 lists_of hierarchy family.Ancestors = hierarchy.ancestors
 lists_of hierarchy family.Descendants = hierarchy.descendants
 lists_of hierarchy family.Parents = hierarchy.parents
 lists_of hierarchy family.Children = hierarchy.children
 
--- the family that an operator goes along
+-- the family of lists that an operator follows
 abbrev pub family_of : Operator → Family
 family_of Descendants = family.Descendants
 family_of DescendantsOrSelf = family.Descendants
@@ -28,11 +28,11 @@ family_of ParentsOrSelf = family.Parents
 family_of Top = family.Ancestors
 family_of Bottom = family.Descendants
 
--- how many items the lists of some concepts have, one beside the other
+-- how many items the lists of `concepts` have, added up
 abbrev pub items_in : List (List ℕ) → List ℕ → ℕ
 items_in lists concepts = sum_by (λ concept. length (list_of lists concept)) concepts
 
--- how many items all lists of a family have: as many as there are pairs of a concept and one that it reaches, or is-a links
+-- how many items all lists of a family have: the pairs of a concept and an ancestor of it, or the is-a links
 abbrev pub all_items_of : Hierarchy → Family → ℕ
 all_items_of hierarchy family.Ancestors = length (concat hierarchy.ancestors)
 all_items_of hierarchy family.Descendants = length (concat hierarchy.ancestors)

@@ -1,5 +1,5 @@
--- Where an operator leads from some concepts (Expression Constraint Language, "Simple Expression Constraints"), by their
--- numbers and the lists of an index.
+-- What an operator leads to from some concepts (Expression Constraint Language, "Simple Expression Constraints"), by
+-- their numbers and the lists of an index.
 use Rattle.std.specs.Prelude.{ℕ, ◌≡◌, not, List, filter, length}
 use Rattle.std.specs.List.{list_any}
 use Rattle.rf2_rows.specs.Release.{Release}
@@ -11,16 +11,16 @@ use Rattle.number_lists.specs.Rising.{numbers_where}
 use Rattle.number_lists.specs.KeyedLists.{list_of}
 use Rattle.ancestor_index.specs.HierarchyLists.{Hierarchy, hierarchy_of}
 
--- the numbers below a count that are in the list of one of some concepts
+-- the numbers below `count` that are in the list of one of `concepts`
 abbrev pub joined : ℕ → List (List ℕ) → List ℕ → List ℕ
 joined count lists concepts =
     numbers_where count (λ number. list_any (λ concept. has (list_of lists concept) number) concepts)
 
--- those of some concepts none of which is in their list
+-- the concepts among `concepts` whose own list has none of `concepts`
 abbrev pub apart : List (List ℕ) → List ℕ → List ℕ
 apart lists concepts = filter (λ concept. not (list_any (has concepts) (list_of lists concept))) concepts
 
--- where an operator leads from some concepts, all of them below a count
+-- the numbers that an operator leads to from `concepts`, which are below `count`
 abbrev pub led_to : Hierarchy → ℕ → Operator → List ℕ → List ℕ
 led_to hierarchy count Descendants concepts = joined count hierarchy.descendants concepts
 led_to hierarchy count DescendantsOrSelf concepts = all_items count concepts (joined count hierarchy.descendants concepts)
@@ -33,13 +33,18 @@ led_to hierarchy count ParentsOrSelf concepts = all_items count concepts (joined
 led_to hierarchy count Top concepts = apart hierarchy.ancestors concepts
 led_to hierarchy count Bottom concepts = apart hierarchy.descendants concepts
 
--- a hierarchy is that of a release, which has so many concepts
+-- `hierarchy` is that of `release`, which has `count` concepts
 pub record IsOf (release : Release) (count : ℕ) (hierarchy : Hierarchy) : Type 0 where
+  -- the lists are those that the release denotes
   pub hierarchy_is : hierarchy ≡ hierarchy_of release
+  -- `count` is the number of concepts in the release
   pub count_is : count ≡ length release.concepts
 
--- a hierarchy is that of a release with so many concepts
+-- `hierarchy` is that of a release with `count` concepts
 pub record IsOver (count : ℕ) (hierarchy : Hierarchy) : Type 0 where
+  -- the release of the hierarchy
   pub release : Release
+  -- the lists are those that this release denotes
   pub hierarchy_is : hierarchy ≡ hierarchy_of release
+  -- `count` is the number of concepts in this release
   pub count_is : count ≡ length release.concepts

@@ -1,4 +1,4 @@
--- How many items of lists are read at most where an operator leads from some concepts, and to ask concepts whether it leads to them.
+-- How many items are read at most to walk from some concepts, and to test whether an operator leads to some concepts.
 use Rattle.std.specs.Prelude.{ℕ, ◌≤◌, ◌+◌, if◌then◌else◌, List, length, nat_lt}
 use Rattle.constraint_tree.specs.declared.operator.Operator.{Operator}
 use Rattle.ancestor_index.specs.HierarchyLists.{Hierarchy}
@@ -9,20 +9,21 @@ use Rattle.walks.specs.Asked.{asked_lists}
 use Rattle.walks.specs.Families.{all_items_of, family_of, items_in, lists_of}
 use Rattle.walks.specs.declared.family.Family.{Family}
 
--- of one concept its list, of more no more than all lists of the family
+-- how many list items a walk along a family reads at most: of one concept its list, of more concepts no more than all
+-- lists have
 abbrev pub items_at_most : Hierarchy → Family → List ℕ → ℕ
 items_at_most hierarchy family concepts =
     if nat_lt 1 (length concepts) then all_items_of hierarchy family else items_in (lists_of hierarchy family) concepts
 
--- where an operator leads from some concepts
+-- how many list items a walk of an operator reads at most
 abbrev pub walk_items : Hierarchy → Operator → List ℕ → ℕ
 walk_items hierarchy operator = items_at_most hierarchy (family_of operator)
 
--- some concepts, and their lists by which they are asked
+-- how many items are read to test `concepts`: the concepts, and the lists by which the operator tests them
 abbrev pub asked_items : Hierarchy → Operator → List ℕ → ℕ
 asked_items hierarchy operator concepts = length concepts + items_in (asked_lists hierarchy operator) concepts
 
--- so many items are enough to ask the candidates, where not all are
+-- `items` is enough to test the candidates, unless all are candidates
 abbrev pub AreAsked : {S : Type 0} → (S → List ℕ) → Hierarchy → Operator → Candidates S → ℕ → Type 0
 AreAsked items_of hierarchy operator candidates.All items = Unit {0}
 AreAsked items_of hierarchy operator (candidates.Within set extent) items = full (asked_items hierarchy operator (items_of set.now)) ≤ items

@@ -29,7 +29,7 @@ pub enum Family {
 }
 
 impl Family {
-    /// Whether the list of a concept has in it the lists of all concepts that it has.
+    /// Whether the list of a concept contains the lists of all concepts in it.
     pub fn is_whole(self) -> bool
         ensures { result ≡ is_whole_of self }
     {
@@ -39,7 +39,8 @@ impl Family {
         }
     }
 
-    /// The family that is one is-a row away: a list of it has nothing that the list of this one has not.
+    /// Returns the family of the lists that go one is-a row. Each of its lists is contained in the list of this
+    /// family.
     pub fn near(self) -> Family
         ensures { result ≡ near_of self }
     {
@@ -49,7 +50,7 @@ impl Family {
         }
     }
 
-    /// The lists of all concepts in the family that is one is-a row away. Each is-a link is counted.
+    /// Returns the lists of all concepts in the family `near`. Each is-a link is a counted visit.
     pub fn near_lists<'a>(self, reader: Reader<'a>, visits: &mut Counter) -> &'a KeyedLists
         ensures lists { result.now ≡ lists_of reader.entry.indexes.now.hierarchy (near_of self) }
         ensures counted { HandsOut (length (concat reader.entry.indexes.now.hierarchy.parents)) visits.old visits.new }
@@ -60,7 +61,7 @@ impl Family {
         }
     }
 
-    /// The family whose lists lead back.
+    /// Returns the family of the transposed lists, which lead back.
     pub fn back(self) -> Family
         ensures { result ≡ back_of self }
     {
@@ -72,8 +73,8 @@ impl Family {
         }
     }
 
-    /// The place in an order, parents before their children, of the concept of a turn. There are so many turns, and
-    /// each concept has its own before those of the near family's list of it.
+    /// Returns the place, in an order with parents before children, of the concept of `turn`. There are `turns`
+    /// turns. Each concept has its turn before the concepts in its near list.
     pub fn place_of_turn(self, turn: usize, turns: usize) -> usize
         requires { turn < turns }
         ensures { result ≡ turn_of self turns turn }
@@ -84,7 +85,7 @@ impl Family {
         }
     }
 
-    /// The list of a concept. Its items are counted.
+    /// Returns the list of a concept. Its items are counted.
     pub fn list<'a>(self, reader: Reader<'a>, concept: u32, visits: &mut Counter) -> &'a [u32]
         requires { concept < length (lists_of reader.indexes.now.hierarchy self) }
         ensures items { result.now ≡ list_of (lists_of reader.entry.indexes.now.hierarchy self) concept }
@@ -99,7 +100,7 @@ impl Family {
         }
     }
 
-    /// Whether the whole list of a concept has the concept itself. This is tested, and nothing is counted.
+    /// Whether the list of a concept in a whole family has the concept itself. This test counts nothing.
     pub fn has_itself(self, reader: Reader<'_>, concept: u32) -> bool
         requires below { concept < length (lists_of reader.indexes.now.hierarchy self) }
         requires whole { is_whole_of self ≡ true }
@@ -112,7 +113,7 @@ impl Family {
         }
     }
 
-    /// How many items the list of a concept has. None is read.
+    /// Returns how many items the list of a concept has. It reads none.
     pub fn length(self, reader: Reader<'_>, concept: u32) -> u64
         requires { concept < length (lists_of reader.indexes.now.hierarchy self) }
         ensures { result ≡ length (list_of (lists_of reader.entry.indexes.now.hierarchy self) concept) }
@@ -125,7 +126,7 @@ impl Family {
         }
     }
 
-    /// The list of a concept as words of bits, if the index has them. Its items are counted then.
+    /// Returns the list of a concept as words of bits, if the index has them. Its items are counted then.
     pub fn words<'a>(
         self,
         reader: Reader<'a>,
@@ -146,7 +147,7 @@ impl Family {
         }
     }
 
-    /// How many items the lists of this family have, of concepts of which that is known.
+    /// Returns how many items the lists of this family have, as `lists` says.
     pub fn items_of(self, lists: ListExtent) -> u64
         ensures { result ≡ told_of self lists }
     {
@@ -159,28 +160,28 @@ impl Family {
     }
 }
 
-/// Which concepts a step from some concepts leads to, by a list of each.
+/// Which concepts a step leads to, by the lists of the concepts from which it starts.
 #[derive(Clone, Copy)]
 pub enum Reach {
-    /// Those in one of the lists.
+    /// The concepts in one of the lists.
     Listed,
-    /// Those in one of the lists, and the concepts themselves.
+    /// The concepts in one of the lists, and the concepts themselves.
     ListedOrSelf,
-    /// Those of the concepts whose own list has none of them.
+    /// The concepts whose own list has none of them (`!!>`, `!!<`).
     Apart,
 }
 
-/// A step from some concepts: along which lists, and which concepts it leads to.
+/// A step: along which lists, and which concepts it leads to.
 #[derive(Clone, Copy)]
 pub struct Step {
-    /// The family of the lists.
+    /// The family of the lists along which it goes.
     pub family: Family,
     /// Which concepts it leads to.
     pub reach: Reach,
 }
 
 impl Step {
-    /// The step of an operator (Expression Constraint Language, "Simple Expression Constraints").
+    /// Returns the step of an operator (Expression Constraint Language, "Simple Expression Constraints").
     pub fn of(operator: Operator) -> Step
         ensures { IsStepFor operator result }
     {
@@ -199,7 +200,7 @@ impl Step {
         Step { family, reach }
     }
 
-    /// The family of the lists by which a concept is asked whether it leads there.
+    /// Returns the family of the lists by which this step tests whether it leads to a concept.
     pub fn asked(self) -> Family
         ensures { result ≡ asked_of self }
     {
@@ -209,7 +210,7 @@ impl Step {
         }
     }
 
-    /// Whether it leads to the concepts themselves, and others.
+    /// Whether this step leads to the concepts themselves as well as to others.
     pub fn is_or_self(self) -> bool
         ensures { result ≡ true → self.reach ≡ Reach.ListedOrSelf }
     {
@@ -219,7 +220,7 @@ impl Step {
         }
     }
 
-    /// Whether it leads to some of the concepts alone.
+    /// Whether this step leads only to concepts from which it starts.
     pub fn is_apart(self) -> bool {
         matches!(self.reach, Reach::Apart)
     }

@@ -1,4 +1,4 @@
-//! The concepts that an operator leads to from a set, of some candidates. What is read is counted.
+//! Finds the candidates that an operator leads to from a set. Each read is a counted visit.
 ghost use Rattle.std.specs.Prelude.{◌≡◌, ◌≤◌, ◌<◌, ◌+◌, ◌∷◌, All, IfOk, filter, length};
 ghost use Rattle.std.specs.List.{flat_map, range_with_len};
 ghost use Rattle.number_lists.specs.KeyedLists.{list_of};
@@ -24,10 +24,12 @@ use idset::ConceptSet;
 use reading::{Answer, Counter, Reader};
 use std::alloc::AllocError;
 
-/// The candidates among the concepts that an operator leads to from those of a set (Expression Constraint Language,
-/// "Simple Expression Constraints"). They are found in the way that reads the fewest items, and these are counted: the
-/// set, where it is gone through, and of one concept no more than its list, of more no more than all lists of the
-/// operator. The rows are added of what is found from one concept, if the tally asks for them.
+/// Finds the candidates that an operator leads to from the concepts in `from` (Expression Constraint Language,
+/// "Simple Expression Constraints"), in the way that reads the fewest items.
+///
+/// Visits are counted: the items of `from`, if it is gone through, and the items of lists. From one concept these are
+/// at most the items of its list, and from several at most those of all lists that the operator follows. If the tally
+/// asks for rows, it adds those of what is found from one concept.
 pub fn walk_within<S: ConceptSet>(
     reader: Reader<'_>,
     operator: Operator,
@@ -60,8 +62,8 @@ pub fn walk_within<S: ConceptSet>(
     walk_listed(reader, operator, from, candidates, visits, tally)
 }
 
-// From all concepts: where the operator leads to these too, to all; else each is asked by its own lists, which together
-// have no more items than all lists of the operator.
+// Walks from all concepts. An operator that leads to the concepts themselves as well leads to all. For any other
+// operator each concept is tested by its own list; together these have no more items than all lists of the operator.
 fn walk_from_all<S: ConceptSet>(
     reader: Reader<'_>,
     operator: Operator,
@@ -88,7 +90,7 @@ fn walk_from_all<S: ConceptSet>(
     Ok(left)
 }
 
-// The candidates among all numbers below a bound.
+// Finds the candidates among all numbers below `bound`.
 fn all_below<S: ConceptSet>(
     reader: Reader<'_>,
     bound: u32,
@@ -103,7 +105,7 @@ fn all_below<S: ConceptSet>(
     restricted(reader, all, candidates)
 }
 
-// From the concepts of a set, which are gone through.
+// Walks from the concepts in `from`, which it goes through.
 fn walk_listed<S: ConceptSet>(
     reader: Reader<'_>,
     operator: Operator,
@@ -136,7 +138,8 @@ fn walk_listed<S: ConceptSet>(
     Ok(found)
 }
 
-// In the way that reads the fewest items. The set is given as a list too, since it is gone through once.
+// Walks in the way that reads the fewest items. `concepts` are the items of `from`, since it is gone through only
+// once.
 fn walk_by<S: ConceptSet>(
     reader: Reader<'_>,
     operator: Operator,
@@ -172,8 +175,8 @@ fn walk_by<S: ConceptSet>(
     Ok(found)
 }
 
-/// The concepts of a set that an operator leads to from another, each asked by its own lists. The concepts of the set
-/// and these lists are counted.
+/// Finds the concepts in `wanted` that an operator leads to from `operand`, each tested by its own list. The concepts
+/// in `wanted` and these lists are counted.
 pub fn led_among<S: ConceptSet>(
     reader: Reader<'_>,
     operator: Operator,
@@ -195,8 +198,8 @@ pub fn led_among<S: ConceptSet>(
     Answer::from_items(reader.alloc, kept.as_slice(), operand.bound())
 }
 
-/// The concepts of a set, and those in the lists by which it is asked whether an operator leads to them. The concepts
-/// and these lists are counted.
+/// Finds what must be known of a set to test whether an operator leads from it to the concepts in `wanted`: these
+/// concepts, and those in the lists by which they are tested. The concepts in `wanted` and these lists are counted.
 pub fn enough_for<S: ConceptSet>(
     reader: Reader<'_>,
     operator: Operator,
@@ -218,7 +221,7 @@ pub fn enough_for<S: ConceptSet>(
     Answer::from_numbers(reader.alloc, numbers.as_slice(), wanted.bound())
 }
 
-// Some concepts, each with its list behind it.
+// Lists `concepts`, each followed by its list. The proof alone needs `_count`.
 fn with_lists(
     reader: Reader<'_>,
     family: Family,
@@ -242,7 +245,7 @@ fn with_lists(
     Ok(numbers)
 }
 
-// Those of some concepts that a step leads to from a set. The lists by which they are asked are counted.
+// Keeps the concepts that a step leads to from `operand`. The lists by which they are tested are counted.
 fn those_led_to<S: ConceptSet>(
     reader: Reader<'_>,
     step: Step,
@@ -267,7 +270,7 @@ fn those_led_to<S: ConceptSet>(
     Ok(kept)
 }
 
-// Whether a step leads to a concept from a set.
+// Whether a step leads to `concept` from `operand`.
 fn is_led_to<S: ConceptSet>(
     reader: Reader<'_>,
     step: Step,
@@ -290,7 +293,8 @@ fn is_led_to<S: ConceptSet>(
     }
 }
 
-// Whether a concept is in the list of one of a set: one of the set is in the list that leads back.
+// Whether a concept is in the list of a concept of `operand`. It is if the list that leads back from it has one of
+// `operand`.
 fn is_listed<S: ConceptSet>(
     reader: Reader<'_>,
     family: Family,
@@ -308,7 +312,7 @@ fn is_listed<S: ConceptSet>(
     meets(family.back().list(reader, concept, visits), operand)
 }
 
-// Whether a concept is in a set, or in the list of one of it.
+// Whether a concept is in `operand`, or in the list of a concept of `operand`.
 fn is_listed_or_self<S: ConceptSet>(
     reader: Reader<'_>,
     family: Family,
@@ -327,7 +331,7 @@ fn is_listed_or_self<S: ConceptSet>(
     operand.has(concept) || is_listed(reader, family, operand, concept, visits)
 }
 
-// Whether a concept is one of a set that has none of its list.
+// Whether a concept is in `operand`, and its own list has none of `operand`.
 fn is_kept_apart<S: ConceptSet>(
     reader: Reader<'_>,
     family: Family,

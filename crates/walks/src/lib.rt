@@ -1,7 +1,8 @@
-//! The concepts that an operator leads to, and the components of reference sets.
+//! Finds the concepts that an operator leads to, and the components of reference sets.
 //!
-//! Both are found as sets of numbers, of some candidates alone, in the way that reads the fewest items, and what is
-//! read is counted. Where an operator leads is read from the lists of each concept, or by one pass over the is-a rows.
+//! Both are found as sets of numbers, restricted to candidates, in the way that reads the fewest items, and each read
+//! is a counted visit. Where an operator leads is read from the lists of each concept, or by one pass over the is-a
+//! rows.
 #![tactic(auto)]
 
 mod family;

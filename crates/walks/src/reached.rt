@@ -1,4 +1,4 @@
-//! What the concepts of a set reach, by one pass over the is-a rows.
+//! Finds what the concepts of a set reach, by one pass over the is-a rows.
 ghost use Rattle.std.specs.Prelude.{◌≡◌, ◌<◌, ◌&&◌, not, true, All, IfOk};
 ghost use Rattle.std.specs.List.{list_all};
 ghost use Rattle.number_lists.specs.Members.{has};
@@ -14,13 +14,12 @@ use number_lists::KeyedLists;
 use reading::{Answer, Counter, Reader};
 use std::alloc::{AllocError, Global};
 
-/// The concepts that are in the list of one of a set, in a family whose lists hold those of their own concepts. The set
-/// is given as a list too.
+/// Finds the concepts in the list of a concept of `set`, in a whole family. `concepts` are the items of `set`.
 ///
-/// What is one is-a row away from a concept of the set is found first. Then each concept has its turn before those that
-/// are one row away: where it was found, and is not in the set, they are found. So all that lead to it have had their
-/// turn, and what is one row away from it is read once. Where all that was found first is in the set, no more is. The
-/// order of the concepts and all is-a links are counted.
+/// The pass first finds what is one is-a row away from a concept of the set. Then each concept has its turn before
+/// those that are one row away: if it was found and is not in the set, they are found. Since all that lead to a
+/// concept have had their turn before it, what is one row away from it is read once. If all that was found first is
+/// in the set, the pass ends there. The order of the concepts and all is-a links are counted.
 pub fn reached<S: ConceptSet>(
     reader: Reader<'_>,
     family: Family,
@@ -37,7 +36,7 @@ pub fn reached<S: ConceptSet>(
     ensures counted { CountsWithin (pass_items reader.entry.indexes.now.hierarchy (S.bound_of set.now)) visits.old
         visits.new }
 {
-    // the concepts rise
+    // This call tells the prover that the concepts rise.
     reader.concept_count();
     let near = family.near_lists(reader, visits);
     let order = reader.parents_first(visits);
@@ -55,7 +54,7 @@ pub fn reached<S: ConceptSet>(
     Ok(found)
 }
 
-// Whether all items of a set are in another.
+// Whether all items of `found` are in `set`.
 fn contains_all<S: ConceptSet>(
     alloc: Global,
     set: &Answer<S>,
@@ -68,8 +67,8 @@ fn contains_all<S: ConceptSet>(
     Ok(items.iter().all(|item| set.has(*item)))
 }
 
-// The concepts that are one is-a row away from one of some. These are gone through by their numbers, so that lists
-// follow one another in memory.
+// Finds the concepts that are one is-a row away from one of `concepts`. It goes through these by their numbers, so
+// that lists follow one another in memory. The proof alone needs `_family`.
 fn near_of_all(
     reader: Reader<'_>,
     _family: Family,
@@ -91,7 +90,7 @@ fn near_of_all(
     Ok(found)
 }
 
-// Whether a number is in the first of two sets and not in the second.
+// Whether a number is in the first set and not in the second.
 fn is_in_first_alone<S: ConceptSet, T: ConceptSet>(one: &S, other: &Answer<T>, number: u32) -> bool
     ensures { result ≡ (has (S.items_of one.now) number && not (has (T.items_of other.now) number)) }
 {

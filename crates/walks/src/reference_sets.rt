@@ -1,4 +1,4 @@
-//! The components of reference sets.
+//! Finds the components of reference sets.
 ghost use Rattle.std.specs.Prelude.{◌≡◌, ◌≤◌, ◌<◌, ◌+◌, All, IfOk, filter, length};
 ghost use Rattle.std.specs.List.{flat_map};
 ghost use Rattle.number_lists.specs.KeyedLists.{list_of};
@@ -14,13 +14,13 @@ use idset::ConceptSet;
 use reading::{Answer, Counter, Reader};
 use std::alloc::AllocError;
 
-// To look up a candidate in a list takes about as long as to copy so many components.
+// To look up a candidate in a list takes about as long as to copy this many components.
 const LOOK_UP: u64 = 32;
 
-/// The candidates among the components of the reference sets in a set: among the concepts that a member row with one of
-/// them leads to (Expression Constraint Language, "Simple Expression Constraints", memberOf). Few candidates are looked
-/// up, where the lists of these are long. What is read is counted: the reference sets, and no more items than they have
-/// components.
+/// Finds the candidates among the components of the reference sets in `from`: the concepts that a member row with one
+/// of these sets leads to (Expression Constraint Language, "Simple Expression Constraints", memberOf). If the
+/// candidates are few and the lists of components are long, the candidates are looked up in the lists. Visits are
+/// counted: the reference sets, and at most as many items as they have components.
 pub fn members_within<S: ConceptSet>(
     reader: Reader<'_>,
     from: &Answer<S>,
@@ -49,7 +49,8 @@ pub fn members_within<S: ConceptSet>(
     Ok(found)
 }
 
-// About how many components are copied while so many candidates are looked up in the lists of some reference sets.
+// Returns about how many components can be copied in the time that it takes to look up `candidates` candidates in the
+// lists of `refsets`.
 fn look_ups(candidates: u64, refsets: &[u32]) -> u64
     ensures { 0 < length refsets.now → candidates ≤ result }
 {
@@ -58,7 +59,7 @@ fn look_ups(candidates: u64, refsets: &[u32]) -> u64
         .saturating_mul(LOOK_UP)
 }
 
-// The concepts of a set among the components of some reference sets, each looked up in the lists of these.
+// Finds the concepts in `wanted` that are components of one of `refsets`. Each is looked up in the lists of these.
 fn members_among<S: ConceptSet>(
     reader: Reader<'_>,
     refsets: &[u32],
@@ -77,7 +78,7 @@ fn members_among<S: ConceptSet>(
     Answer::from_items(reader.alloc, kept.as_slice(), reader.concept_count())
 }
 
-// Those of some concepts that are components of one of some reference sets.
+// Keeps the concepts that are components of one of `refsets`.
 fn components_among(
     reader: Reader<'_>,
     refsets: &[u32],
@@ -96,7 +97,7 @@ fn components_among(
     Ok(kept)
 }
 
-// Whether a concept is a component of one of some reference sets.
+// Whether a concept is a component of one of `refsets`.
 fn is_component(reader: Reader<'_>, refsets: &[u32], concept: u32) -> bool
     requires below { All (λ refset. refset < length reader.indexes.now.concepts) refsets.now }
     ensures { result ≡ is_in_one_of reader.entry.indexes.now.members refsets.now concept }
@@ -108,7 +109,7 @@ fn is_component(reader: Reader<'_>, refsets: &[u32], concept: u32) -> bool
     found
 }
 
-// The concepts that a member row with a reference set among some leads to.
+// Finds the concepts that a member row with one of `refsets` leads to.
 fn members<S: ConceptSet>(
     reader: Reader<'_>,
     refsets: &[u32],
@@ -124,7 +125,7 @@ fn members<S: ConceptSet>(
     Answer::from_numbers(reader.alloc, found.as_slice(), reader.concept_count())
 }
 
-// How many components some reference sets have, one set beside the other.
+// Returns how many components `refsets` have, added up.
 fn component_count(reader: Reader<'_>, refsets: &[u32]) -> u64
     requires { All (λ refset. refset < length reader.indexes.now.concepts) refsets.now }
     ensures { result ≡ full (items_in reader.entry.indexes.now.members refsets.now) }
@@ -136,7 +137,7 @@ fn component_count(reader: Reader<'_>, refsets: &[u32]) -> u64
     components
 }
 
-// The components of some reference sets, one set behind the other.
+// Lists the components of `refsets`, one set after the other.
 fn components(
     reader: Reader<'_>,
     refsets: &[u32],

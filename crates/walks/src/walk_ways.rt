@@ -1,4 +1,4 @@
-//! In which way the concepts are found that an operator leads to.
+//! Chooses the way in which to find the concepts that an operator leads to.
 ghost use Rattle.std.specs.Prelude.{◌≡◌, ◌≤◌, ◌<◌, ◌/◌, false, IfSome, length};
 ghost use Rattle.std.specs.Bool.{OnTrue};
 ghost use Rattle.number_lists.specs.Rising.{IsRisingBelow};
@@ -17,28 +17,29 @@ use constraint_tree::Operator;
 use idset::ConceptSet;
 use reading::Reader;
 
-// The lists of more concepts than these are not added up one by one: all lists stand for them.
+// The lengths of the lists of more concepts than this are not added up one by one: the total of all lists stands for
+// them.
 const MANY: usize = 4096;
 
-// To find from which concepts an operator leads, for a concept of which that is asked, takes about as long as to read
-// so many rows.
+// For a concept that a node tests, to find the concepts from which an operator leads to it takes about as long as to
+// read this many rows.
 const ROWS: u64 = 16;
 
-/// A way to find them. No answer depends on it.
+/// A way to find the concepts that an operator leads to. No answer depends on it.
 #[derive(Clone, Copy, Debug)]
 pub struct WalkWay {
-    /// Whether the candidates are asked one by one, each by the list that leads back from it.
+    /// Whether the candidates are tested one by one, each by the list that leads back from it.
     pub asks_candidates: bool,
-    /// Whether, where concepts of a set are looked for in the lists of its own, those one is-a row away are looked at
-    /// first; and how many items the whole lists may have that are looked at then, before a pass over the is-a rows
-    /// stands for them.
+    /// If concepts of a set are looked for in the lists of the set's own concepts (`!!>`, `!!<`): `Some` tests the
+    /// near lists first, and says how many items the whole lists that are read after them may have before a pass over
+    /// the is-a rows takes their place.
     pub near_first: Option<u64>,
-    /// About how many items are read, by the lengths of lists: it says which way is the shorter.
+    /// About how many items are read, by the lengths of lists. It says which way is shorter.
     items: u64,
 }
 
-/// Whether few candidates are asked one by one, and the concepts, which are not few, are not even listed: the
-/// candidates and the lists by which they are asked have no more items than all lists.
+/// Whether the candidates are few and are tested one by one, while the concepts are many and are not even listed. The
+/// candidates and the lists by which they are tested then have no more items than all lists.
 pub fn are_unlisted<S: ConceptSet>(
     reader: Reader<'_>,
     operator: Operator,
@@ -58,9 +59,9 @@ pub fn are_unlisted<S: ConceptSet>(
     }
 }
 
-/// Whether few candidates are asked, and before that it is found of all concepts from which of them an operator leads
-/// to these: where the candidates and the lists by which they are asked are few beside so many rows, which are read
-/// otherwise. They may be read thrice.
+/// Whether the candidates are few, so that it pays to find first, of all concepts, those from which an operator leads
+/// to them. It does if the candidates and the lists by which they are tested are few compared with the `rows` rows
+/// that are read otherwise. They may be read three times.
 pub fn are_enough<S: ConceptSet>(
     reader: Reader<'_>,
     operator: Operator,
@@ -81,8 +82,8 @@ pub fn are_enough<S: ConceptSet>(
     }
 }
 
-/// The way from some concepts. The candidates are asked where they are few and their lists have no more items than
-/// those of the concepts. Of all lists only the lengths are looked up.
+/// Returns the way to walk from `concepts`. The candidates are tested if they are few and their lists have no more
+/// items than those of the concepts. Only the lengths of lists are looked up.
 pub fn walk_way<S: ConceptSet>(
     reader: Reader<'_>,
     operator: Operator,
@@ -110,7 +111,7 @@ pub fn walk_way<S: ConceptSet>(
     }
 }
 
-// How many items are read where few candidates are asked one by one.
+// Returns how many items are read to test the candidates one by one; `None` if they are not few.
 fn items_asked<S: ConceptSet>(
     operator: Operator,
     count: u32,
@@ -128,7 +129,7 @@ fn items_asked<S: ConceptSet>(
     }
 }
 
-// The way without the candidates.
+// Returns the way that does not use the candidates.
 fn whole_way(reader: Reader<'_>, step: Step, concepts: &[u32], count: u32) -> WalkWay
     requires over { IsOver count reader.indexes.now.hierarchy }
     requires rising { IsRisingBelow count concepts.now }
@@ -148,9 +149,9 @@ fn whole_way(reader: Reader<'_>, step: Step, concepts: &[u32], count: u32) -> Wa
     without_candidates(None, with_pass(reader, family, concepts.len(), own, count))
 }
 
-// The way to those of some concepts that have none of them in their list. The near lists are looked at first where all
-// lists have room for them and for what is read then: the whole lists of those that are left, or a pass over the is-a
-// rows.
+// Returns the way to the concepts whose own list has none of them. It tests the near lists first if all lists have
+// room for them and for what is read after them: the whole lists of the concepts that are left, or a pass over the
+// is-a rows.
 fn apart_way(reader: Reader<'_>, family: Family, concepts: &[u32], count: u32) -> WalkWay
     requires over { IsOver count reader.indexes.now.hierarchy }
     requires rising { IsRisingBelow count concepts.now }
@@ -170,7 +171,7 @@ fn apart_way(reader: Reader<'_>, family: Family, concepts: &[u32], count: u32) -
     }
 }
 
-// How many items the lists of some concepts have; of many concepts all lists stand for them.
+// Returns how many items the lists of `concepts` have. If there are many concepts, it returns the total of all lists.
 fn items_or_all(reader: Reader<'_>, family: Family, concepts: &[u32], count: u32) -> u64
     requires over { IsOver count reader.indexes.now.hierarchy }
     requires rising { IsRisingBelow count concepts.now }
@@ -185,8 +186,8 @@ fn items_or_all(reader: Reader<'_>, family: Family, concepts: &[u32], count: u32
     items_of_lists(reader, family, concepts, count, u64::MAX)
 }
 
-// How many items are read where the lists of so many concepts have so many: where the lists are left for a pass over
-// the is-a rows, those of the pass too.
+// Returns how many items are read if the lists of `concepts` concepts have `own` items. If a pass over the is-a rows
+// takes the place of the lists, its items are added to those read before.
 fn with_pass(reader: Reader<'_>, family: Family, concepts: usize, own: u64, count: u32) -> u64
     ensures few { concepts ≤ 1 → result ≡ own }
     ensures within { own ≤ all_items_of reader.entry.indexes.now.hierarchy family
@@ -213,7 +214,7 @@ fn without_candidates(near_first: Option<u64>, items: u64) -> WalkWay
     }
 }
 
-/// How many items all lists have.
+/// Returns how many items all lists of a family have.
 pub fn items_of_all_lists(reader: Reader<'_>, family: Family) -> u64
     ensures { result ≡ all_items_of reader.entry.indexes.now.hierarchy family }
 {

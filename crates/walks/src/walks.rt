@@ -1,4 +1,4 @@
-//! Where an operator leads from a set.
+//! Finds where an operator leads from a set, without candidates.
 ghost use Rattle.std.specs.Prelude.{ℕ, ◌≡◌, ◌≤◌, ◌<◌, ◌+◌, ◌-◌, ◌&&◌, ◌++◌, ◌∷◌, [], false, not, true, List, All, IfOk};
 ghost use Rattle.std.specs.Prelude.{IfSome, IsSome, MatchOption, None, OnOk, Some, filter, length, nat_le};
 ghost use Rattle.std.specs.Bool.{OnTrue};
@@ -22,16 +22,15 @@ use idset::{ConceptSet, WordSet};
 use reading::{Answer, Counter, Reader};
 use std::alloc::{AllocError, Global};
 
-// A list of so many items is joined before the shorter ones: what it has need not be looked at again.
+// A list with at least this many items is joined before the shorter ones: what it has need not be looked up again.
 const LONG: u64 = 64;
 
-// To go to one is-a row after the other in the order of the hierarchy takes about as long as to read so many items of
-// lists.
+// To go along one is-a row, in the order of the hierarchy, takes about as long as to read this many items of lists.
 const PASS: u64 = 8;
 
-/// The concepts that a step leads to from those of a set. The set is given as a list too, since it is read once. The
-/// rows are counted of what is found from one concept, if that is asked for; of what is found otherwise it is not known
-/// how many there are. Which lists are looked at first, where the set is looked for in them, is as `WalkWay` says.
+/// Finds the concepts that a step leads to from those of `operand`. `concepts` are the items of `operand`, since it
+/// is read only once. If the tally asks for rows, it adds those of what is found from one concept. From several
+/// concepts, the tally no longer knows how many rows there are. `WalkWay` explains `near_first`.
 pub fn walk<S: ConceptSet>(
     reader: Reader<'_>,
     step: Step,
@@ -65,7 +64,7 @@ pub fn walk<S: ConceptSet>(
     }
 }
 
-// The concepts in the list of one of a set.
+// Finds the concepts in the list of a concept of `operand`.
 fn listed<S: ConceptSet>(
     reader: Reader<'_>,
     family: Family,
@@ -96,7 +95,7 @@ fn listed<S: ConceptSet>(
     }
 }
 
-// The concepts of a set, and those in the list of one of it.
+// Finds the concepts of `operand` and those in their lists.
 fn listed_or_self<S: ConceptSet>(
     reader: Reader<'_>,
     family: Family,
@@ -121,7 +120,8 @@ fn listed_or_self<S: ConceptSet>(
     Ok(found)
 }
 
-// The concepts in the list of one concept.
+// Finds the concepts in the list of one concept. If the tally asks for rows, the list is copied and its rows are
+// added. If not, its words of bits are taken, if the index has them.
 fn list_of_one<S: ConceptSet>(
     reader: Reader<'_>,
     family: Family,
@@ -154,7 +154,7 @@ fn list_of_one<S: ConceptSet>(
     }
 }
 
-// The concepts in the lists of those of a set.
+// Finds the concepts in the lists of several concepts.
 fn union<S: ConceptSet>(
     reader: Reader<'_>,
     family: Family,
@@ -173,8 +173,8 @@ fn union<S: ConceptSet>(
     Answer::from_words(reader.alloc, found.words(), operand.bound())
 }
 
-// The concepts in the lists of those of a set, as words of bits. Where the lists have too many items, one pass over the
-// is-a rows is the shorter way.
+// Finds the concepts in the lists of several concepts, as words of bits. If the lists have too many items, one pass
+// over the is-a rows takes their place, because it is shorter.
 fn all_listed<S: ConceptSet>(
     reader: Reader<'_>,
     family: Family,
@@ -210,15 +210,16 @@ fn all_listed<S: ConceptSet>(
     Ok(found)
 }
 
-/// How many items one pass over the is-a rows reads: the concepts in their order, and each row once.
+/// Returns how many items one pass over the is-a rows reads: the concepts in their order, and each row once.
 pub fn items_of_pass(reader: Reader<'_>, count: u32) -> u64
     ensures { result ≡ full (pass_items reader.entry.indexes.now.hierarchy count) }
 {
     (reader.link_count() as u64).saturating_add(u64::from(count))
 }
 
-/// How many items of lists are read at the most before the lists are left for a pass over the is-a rows. With those of
-/// the pass they are no more than all lists have; `None` where all lists have no room for a pass.
+/// Returns how many items of lists are read at most before a pass over the is-a rows takes their place. Together with
+/// those of the pass, they are no more than all lists have. `None` if a pass reads as many items as all lists have,
+/// or more.
 pub fn most_items(reader: Reader<'_>, count: u32) -> Option<u64>
     ensures { IfSome result (λ most. most + pass_items reader.entry.indexes.now.hierarchy count
         ≤ length (concat reader.entry.indexes.now.hierarchy.ancestors)) }
@@ -233,8 +234,8 @@ pub fn most_items(reader: Reader<'_>, count: u32) -> Option<u64>
     }
 }
 
-// How many items of lists may be read before these are left for a pass over the is-a rows: where lists hold those of
-// their own concepts, and all lists have room for a pass. All may be read else.
+// Returns how many items of lists may be read before a pass over the is-a rows takes their place. There is no limit
+// if the family is not whole, or if a pass reads as many items as all lists have, or more.
 fn limit_of_lists(reader: Reader<'_>, family: Family, count: u32) -> Option<u64>
     ensures { IfSome result (LeavesPass reader.entry.indexes.now.hierarchy family count) }
 {
@@ -244,8 +245,8 @@ fn limit_of_lists(reader: Reader<'_>, family: Family, count: u32) -> Option<u64>
     most_items(reader, count)
 }
 
-// Whether the lists of some concepts have more items than may be read. Of descendants this shows as they are read: most
-// often one list has the others in it.
+// Whether the lists of `concepts` have more items than `left` allows. Lists of descendants are not measured: most
+// often one of them contains the others, so the limit is tested as they are read.
 fn has_more_items(
     reader: Reader<'_>,
     family: Family,
@@ -265,7 +266,8 @@ fn has_more_items(
     }
 }
 
-/// How many items the lists of some concepts have, if these are no more than so many; else a number above that.
+/// Returns how many items the lists of `concepts` have, if that is at most `most`. If it is more, it returns a number
+/// above `most`.
 pub fn items_of_lists(
     reader: Reader<'_>,
     family: Family,
@@ -289,8 +291,8 @@ pub fn items_of_lists(
     items
 }
 
-// Adds to a set the lists of those concepts whose lists are long, or are not. Tells whether it has added all: no more
-// items are read than are left of some. A list that the set has already is not read.
+// Adds the long lists of `concepts` to `found`, or the short ones if `long` is false. Returns false if `left` does
+// not allow a list to be read; it then stops. A list that `found` contains already is not read.
 fn add_lists<S: ConceptSet>(
     reader: Reader<'_>,
     family: Family,
@@ -327,14 +329,14 @@ fn add_lists<S: ConceptSet>(
     Ok(true)
 }
 
-// Whether a set has a concept, and with it its list.
+// Whether a set has a concept and with it the list of the concept, as in a whole family.
 fn has_list<S: ConceptSet>(family: Family, concept: u32, found: &S) -> bool
     ensures { result ≡ (is_whole_of family && has (S.items_of found.now) concept) }
 {
     family.is_whole() && found.has(concept)
 }
 
-// Whether a list of so many items may still be read, which are taken from what is left.
+// Whether `left` allows a list of `items` items to be read. If it does, they are taken from `left`.
 fn may_be_read(items: u64, left: &mut Option<u64>) -> bool
     ensures limited { result ≡ false → IsSome left.old }
     ensures taken { result ≡ true → MatchOption left.old (left.new ≡ None)
@@ -351,7 +353,7 @@ fn may_be_read(items: u64, left: &mut Option<u64>) -> bool
     true
 }
 
-// Adds the list of a concept to a set.
+// Adds the list of a concept to `found`, as words of bits if the index has them.
 fn add_list<S: ConceptSet>(
     reader: Reader<'_>,
     family: Family,
@@ -379,14 +381,14 @@ fn add_list<S: ConceptSet>(
     }
 }
 
-// Whether a list of so many items is joined before the short ones.
+// Whether a list of `items` items is joined before the short ones.
 fn is_long(items: u64) -> bool
     ensures { result ≡ nat_le 64 items }
 {
     items >= LONG
 }
 
-// The concepts of a set none of which is in their list.
+// Finds the concepts of `operand` whose own list has none of its concepts.
 fn apart<S: ConceptSet>(
     reader: Reader<'_>,
     family: Family,
@@ -413,7 +415,7 @@ fn apart<S: ConceptSet>(
     Answer::from_items(reader.alloc, kept.as_slice(), operand.bound())
 }
 
-// One concept, unless it is in its own list. No item is read.
+// Finds a single concept, unless it is in its own list. It reads no item.
 fn one_apart<S: ConceptSet>(
     reader: Reader<'_>,
     family: Family,
@@ -434,8 +436,8 @@ fn one_apart<S: ConceptSet>(
     }
 }
 
-// Those of the concepts of a set whose list has none of it. Where that is asked for, the concepts one is-a row away are
-// looked at first: most often one of them is in the set, and the whole list lies far off in memory.
+// Keeps the concepts of `set` whose list has none of `set`. If `near_first` says so, it tests the near lists first:
+// most often a parent or child is in the set, and the whole list lies far off in memory.
 fn kept_apart<S: ConceptSet>(
     reader: Reader<'_>,
     family: Family,
@@ -461,8 +463,8 @@ fn kept_apart<S: ConceptSet>(
     kept_in_room(reader, family, left.as_slice(), set, concepts, room, visits)
 }
 
-// Those of some concepts whose list has none of a set, which is given as a list too. Where the lists have more items
-// than there is room for, one pass over the is-a rows takes their place.
+// Keeps the concepts whose list has none of `set`. If the lists have more than `room` items, one pass over the is-a
+// rows takes their place. `own` are the items of `set`, from which the pass starts.
 fn kept_in_room<S: ConceptSet>(
     reader: Reader<'_>,
     family: Family,
@@ -489,7 +491,7 @@ fn kept_in_room<S: ConceptSet>(
     kept_by_lists(reader, family, concepts, set, visits)
 }
 
-// Those of some concepts whose list has none of a set. Each list is counted.
+// Keeps the concepts whose list has none of `set`. The items of each list are counted.
 fn kept_by_lists<S: ConceptSet>(
     reader: Reader<'_>,
     family: Family,
@@ -513,7 +515,7 @@ fn kept_by_lists<S: ConceptSet>(
     Ok(kept)
 }
 
-// Those of some concepts that are not in a set.
+// Keeps the concepts that are not in `set`.
 fn kept_outside<S: ConceptSet>(
     alloc: Global,
     concepts: &[u32],
@@ -531,7 +533,7 @@ fn kept_outside<S: ConceptSet>(
     Ok(kept)
 }
 
-/// Whether a set has one of the concepts of a list.
+/// Whether `set` has one of the concepts in `list`.
 pub fn meets<S: ConceptSet>(list: &[u32], set: &Answer<S>) -> bool
     ensures { result ≡ list_any (has (S.items_of set.now)) list.now }
 {

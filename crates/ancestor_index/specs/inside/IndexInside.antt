@@ -1,9 +1,10 @@
--- What the fields of the index say, and what they keep.
+-- The hierarchy that the fields of the index hold, and the invariant of the fields.
 use Rattle.std.specs.Prelude.{◌<◌, ◌^◌, length}
 use Rattle.ancestor_index.specs.HierarchyLists.{Hierarchy}
 use Rattle.ancestor_index.specs.Wide.{AreWide}
 use Rattle.ancestor_index.specs.declared.index.AncestorIndex.TheInside.{Inside}
 
+-- the hierarchy that the fields of the index hold
 abbrev pub hierarchy_in : Inside → Hierarchy
 hierarchy_in inside = record {
   ancestors = inside.ancestors;
@@ -12,7 +13,7 @@ hierarchy_in inside = record {
   children = inside.children;
 }
 
--- the long lists of descendants are kept as words too
+-- the long lists of descendants are kept as words besides the lists
 abbrev pub HasWide : Inside → Type 0
 HasWide inside =
     (length inside.descendants < 2 ^ 32)

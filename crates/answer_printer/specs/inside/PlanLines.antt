@@ -1,4 +1,4 @@
--- The lines of a plan, where the bounds of its nodes stand in a list, a node before its children.
+-- The lines of a plan whose bounds stand in a list, a node before its children.
 use Rattle.std.specs.Prelude.{ℕ, ◌++◌, List, [], ◌∷◌, drop}
 use Rattle.set_algebra.specs.Physical.{Physical, physical_empty, physical_all, physical_one, physical_walk}
 use Rattle.set_algebra.specs.Physical.{physical_members, physical_and, physical_or, physical_minus, physical_values}
@@ -8,24 +8,24 @@ use Rattle.set_algebra.specs.Physical.{physical_units_pairs}
 use Rattle.answer_printer.specs.PlanText.{NodeText, bound_line, group_outline, group_words, groups_outline}
 use Rattle.answer_printer.specs.PlanText.{node_words, outline, plans_outline, test_outline}
 
--- what stands before the bound of a node
+-- for each node, the text before its bound: its spaces and its words
 abbrev pub before_bound : NodeText
 before_bound = record {
   of_plan = λ spaces plan. spaces ++ node_words plan;
   of_group = λ spaces plan. spaces ++ group_words plan;
 }
 
--- the first of some bounds, or 0 where there is none
+-- the first of `bounds`, or 0 if there is none
 abbrev pub first_bound : List ℕ → ℕ
 first_bound [] = 0
 first_bound (most ∷ bounds) = most
 
--- lines, by what stands before their bounds, and the bounds
+-- lines, each of a text and the next of `bounds`
 abbrev pub with_bounds : List (List ℕ) → List ℕ → List ℕ
 with_bounds [] bounds = []
 with_bounds (before ∷ others) bounds = bound_line before (first_bound bounds) ++ with_bounds others (drop 1 bounds)
 
--- the outline of what stands below a node, behind some spaces
+-- the outline of what stands below a node of a concept plan
 abbrev pub below : NodeText → List ℕ → Physical → List (List ℕ)
 below node spaces physical_empty = []
 below node spaces physical_all = []
@@ -41,6 +41,7 @@ below node spaces (physical_pairs back count types test choice) =
     outline node spaces types ++ test_outline node spaces test
 below node spaces (physical_units count units) = group_outline node spaces units
 
+-- the outline of what stands below a node of a group plan
 abbrev pub below_group : NodeText → List ℕ → PhysicalUnits → List (List ℕ)
 below_group node spaces physical_nothing = []
 below_group node spaces physical_every = []

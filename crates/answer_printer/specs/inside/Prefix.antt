@@ -1,6 +1,6 @@
--- Bytes that others begin with.
+-- Prefixes of bytes.
 use Rattle.std.specs.Prelude.{ℕ, ◌≡◌, List, length, take}
 
--- bytes are the beginning of others
+-- `bytes` begin with `front`
 abbrev pub IsPrefixOf : List ℕ → List ℕ → Type 0
 IsPrefixOf front bytes = take (length front) bytes ≡ front

@@ -6,6 +6,7 @@ use Rattle.constraint_tree.proofs.TreeLemmas.{tree_of-Dotted}
 use Rattle.constraint_tree.proofs.DepthLemmas.{deepest_more}
 use Rattle.constraint_tree.proofs.+depth.Goals as goal
 
+-- after one turn of the loop `deepest` is the depth of the deepest constraint read, at most 2^64 - 1
 pub depth::deepest_constraint-loop-part-preserved :
     goal.depth::deepest_constraint-loop-part-preserved
 depth::deepest_constraint-loop-part-preserved t c =
@@ -14,6 +15,7 @@ depth::deepest_constraint-loop-part-preserved t c =
     c.args.parts.now c.loop-part.part-index c.part-item.result _ _ _
     c.loop-part-test.true c.part-item.is c.loop-part.invariant c.depth.ensures
 
+-- after one turn of the loop `deepest` is the depth of the deepest refinement read, at most 2^64 - 1
 pub depth::deepest_refinement-loop-part-preserved :
     goal.depth::deepest_refinement-loop-part-preserved
 depth::deepest_refinement-loop-part-preserved t c =
@@ -22,6 +24,7 @@ depth::deepest_refinement-loop-part-preserved t c =
     c.args.parts.now c.loop-part.part-index c.part-item.result _ _ _
     c.loop-part-test.true c.part-item.is c.loop-part.invariant c.depth.ensures
 
+-- after one turn of the loop `deepest` is the depth of the deepest attribute set read, at most 2^64 - 1
 pub depth::deepest_set-loop-part-preserved : goal.depth::deepest_set-loop-part-preserved
 depth::deepest_set-loop-part-preserved t c =
     c.max-deepest.ensures
@@ -29,6 +32,7 @@ depth::deepest_set-loop-part-preserved t c =
     c.args.parts.now c.loop-part.part-index c.part-item.result _ _ _
     c.loop-part-test.true c.part-item.is c.loop-part.invariant c.depth.ensures
 
+-- `depth` of a dotted constraint returns one more than the greater depth of its start and its names
 pub tree::Constraint::depth-returns-in-Dotted : goal.tree::Constraint::depth-returns-in-Dotted
 tree::Constraint::depth-returns-in-Dotted t c =
     let tree_is = ap tree_of c.in-Dotted.is ∙ tree_of-Dotted c.in-Dotted.start c.in-Dotted.names in

@@ -7,7 +7,8 @@ use Rattle.constraint_tree.specs.Grammar.{IsTreeOf}
 use Rattle.constraint_tree.specs.Refusal.{is_deep}
 use Rattle.constraint_tree.specs.Tree.{Tree}
 
--- their brackets are too deep; or they are not, and there is no tree of them; or memory ran out
+-- the tokens are refused for this reason: more than `most_open` of their brackets are open at once; they are not too
+-- deep, but have no tree; or memory ran out
 abbrev pub AreFaulty : List Spelled → QueryFault → Type 0
 AreFaulty tokens Depth = is_deep 0 tokens ≡ true
 AreFaulty tokens Syntax = (is_deep 0 tokens ≡ false) × ((tree : Tree) → ¬ IsTreeOf tokens tree)

@@ -7,28 +7,31 @@ use Rattle.ecl_parser.specs.declared.brackets.OpenBracket.{OpenBracket}
 use Rattle.ecl_parser.specs.declared.tokens.Mark.TheVariants as marks
 use Rattle.ecl_parser.specs.inside.Reading.{behind_close, stands}
 
--- the brackets that are open, the innermost first; for the place of each bracket the place behind the one that closed
--- it; and whether each closing bracket closed one of its kind
+-- the brackets of the tokens read so far
 pub record Matching : Type 0 where
+  -- the open brackets, the innermost first
   pub unclosed : List OpenBracket
+  -- for the place of each bracket, the place after the bracket that closed it
   pub ends : List ℕ
+  -- whether each closing bracket closed one of its kind
   pub are_matched : Bool
 
--- before the first of so many tokens
+-- the brackets in front of the first of `count` tokens: none is open or closed
 abbrev pub nothing_matched : ℕ → Matching
 nothing_matched count = record { unclosed = []; ends = replicate count 0; are_matched = true }
 
--- whether two brackets are both round, or both braces
+-- whether two brackets are both round or both braces
 abbrev pub agree : Bool → Bool → Bool
 agree true other = other
 agree false true = false
 agree false false = true
 
+-- a bracket opens at `place`
 abbrev pub bracket_opened : ℕ → Bool → Matching → Matching
 bracket_opened place is_round old =
     record old { unclosed = record { place = place; is_round = is_round } ∷ old.unclosed }
 
--- a bracket closes the innermost one that is open, of whatever kind
+-- a bracket at `place` closes the innermost bracket of the list, whatever its kind
 abbrev pub closed_by : List OpenBracket → ℕ → Bool → Matching → Matching
 closed_by [] place is_round old = record { unclosed = []; ends = old.ends; are_matched = false }
 closed_by (opened ∷ outer) place is_round old = record {
@@ -37,9 +40,11 @@ closed_by (opened ∷ outer) place is_round old = record {
   are_matched = agree opened.is_round is_round && old.are_matched;
 }
 
+-- a bracket at `place` closes the innermost open bracket, whatever its kind
 abbrev pub bracket_closed : ℕ → Bool → Matching → Matching
 bracket_closed place is_round old = closed_by old.unclosed place is_round old
 
+-- a token of `kind` at `place` opens or closes a bracket, or changes nothing
 abbrev pub token_matched : ℕ → TokenKind → Matching → Matching
 token_matched place RoundOpen old = bracket_opened place true old
 token_matched place BraceOpen old = bracket_opened place false old
@@ -47,8 +52,10 @@ token_matched place RoundClose old = bracket_closed place true old
 token_matched place BraceClose old = bracket_closed place false old
 token_matched place other old = old
 
--- each `(` among some tokens has its end: behind it stand the tokens behind the `)` that closes it
+-- each `(` among the tokens has its end: at that place begin the tokens after the `)` that closes it
 pub record AreEnds (tokens : List Symbol) (ends : List ℕ) : Type 0 where
+  -- there are as many ends as tokens
   pub long : length ends ≡ length tokens
+  -- for the place of each `(`, the tokens from its end on are the tokens after the `)` that closes it
   pub closes : (place : ℕ) → stands marks.RoundOpen (drop place tokens) ≡ true
       → drop (slice_index ends place) tokens ≡ behind_close 0 (drop (place + 1) tokens)

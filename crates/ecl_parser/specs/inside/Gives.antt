@@ -1,4 +1,4 @@
--- What a function that reads answers, by what reading on lists gives.
+-- When the answer of a function of the code agrees with reading on lists.
 use Rattle.std.specs.Prelude.{◌≡◌, ℕ, List, drop, map, Option, None, Some, Result, Ok, Err}
 use Rattle.ecl_lexer.specs.Tokens.{spelled}
 use Rattle.ecl_lexer.specs.declared.fault.QueryFault.{QueryFault}
@@ -6,21 +6,23 @@ use Rattle.ecl_lexer.specs.declared.fault.QueryFault.TheVariants.{Memory, Syntax
 use Rattle.ecl_lexer.specs.declared.token.Token.{Token}
 use Rattle.constraint_tree.specs.Grammar.{Symbol, symbol_of}
 
--- tokens of the code as the grammar sees them
+-- the symbols of tokens of the code
 abbrev pub symbols : List Token → List Symbol
 symbols tokens = map (λ token. symbol_of (spelled token)) tokens
 
--- the tokens from a place on
+-- the symbols of the tokens from the place `at` on
 abbrev pub symbols_from : List Token → ℕ → List Symbol
 symbols_from tokens at = drop at (symbols tokens)
 
--- memory may run out; else there is a fault of syntax where nothing is read, and no other fault
+-- `fault` is a right answer if reading on lists gives `read`: `Memory` always, `Syntax` if nothing is read, any other
+-- fault never
 abbrev pub Fails : {Y : Type 0} → QueryFault → Option Y → Type 0
 Fails Memory read = Unit {0}
 Fails Syntax read = read ≡ None
 Fails other read = ⊥
 
--- what was answered, seen by a view, is what is read
+-- the answer of a function is right if reading on lists gives `read`: a value, seen by `view`, is what is read, and a
+-- fault is right
 abbrev pub Gives : {X Y : Type 0} → (X → Y) → Result X QueryFault → Option Y → Type 0
 Gives view (Ok found) read = read ≡ Some (view found)
 Gives view (Err fault) read = Fails fault read

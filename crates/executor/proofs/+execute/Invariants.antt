@@ -30,7 +30,7 @@ use Rattle.set_algebra.specs.declared.plan.UnitPlan.TheVariants.{the_data as uni
 use denote.Param.Weighed.{most}
 use Rattle.executor.proofs.+execute.Given as goal
 
--- what is left of the part executed first, and of those so far
+-- what was found is what the driving part and the parts of concepts before `place` mean among the candidates
 abbrev pub invariant-joined_plans::in_all-loop-place : goal.invariant-joined_plans::in_all-loop-place
 invariant-joined_plans::in_all-loop-place g l = record {
   items : g.S.ConceptSet.items_of l.found
@@ -46,7 +46,7 @@ invariant-joined_plans::in_all-loop-place g l = record {
   extent : IsExtentOf l.reader.indexes.now (g.S.ConceptSet.items_of l.found) l.extent;
 }
 
--- what is in one of those so far
+-- what was found is what at least one of the parts of concepts before `part-index` means among the candidates
 abbrev pub invariant-joined_plans::in_some-loop-part : goal.invariant-joined_plans::in_some-loop-part
 invariant-joined_plans::in_some-loop-part g l = record {
   items : g.S.ConceptSet.items_of l.found
@@ -61,7 +61,7 @@ invariant-joined_plans::in_some-loop-part g l = record {
       l.fn.visits.count l.visits.count;
 }
 
--- the same of groups
+-- the groups found are what the driving part and the parts of groups before `place` mean among the candidates
 abbrev pub invariant-unit_plans::groups_in_all-loop-place : goal.invariant-unit_plans::groups_in_all-loop-place
 invariant-unit_plans::groups_in_all-loop-place g l = record {
   items : g.S.ConceptSet.items_of l.groups
@@ -79,6 +79,7 @@ invariant-unit_plans::groups_in_all-loop-place g l = record {
   extent : IsGroupExtentOf l.reader.indexes.now (g.S.ConceptSet.items_of l.groups) l.extent;
 }
 
+-- the groups found are what at least one of the parts of groups before `part-index` means among the candidates
 abbrev pub invariant-unit_plans::groups_in_some-loop-part : goal.invariant-unit_plans::groups_in_some-loop-part
 invariant-unit_plans::groups_in_some-loop-part g l = record {
   items : g.S.ConceptSet.items_of l.groups
@@ -93,7 +94,7 @@ invariant-unit_plans::groups_in_some-loop-part g l = record {
       l.fn.visits.count l.visits.count;
 }
 
--- where the names so far lead
+-- what was found is what the first `name-index` names lead to from the start
 abbrev pub invariant-dotted_plans::led_along-loop-name : goal.invariant-dotted_plans::led_along-loop-name
 invariant-dotted_plans::led_along-loop-name g l = record {
   items : (plan : Plan) → g.S.ConceptSet.items_of l.initial.found
@@ -115,11 +116,12 @@ invariant-dotted_plans::led_along-loop-name g l = record {
       (g.S.ConceptSet.items_of known.1) (g.S.ConceptSet.bound_of known.1));
 }
 
--- ---- what gets less from call to call: the depth of what a function goes down, of two parts that of the deeper, and
--- of two functions for one plan the first is ranked above the second
+-- ---- termination: each call goes down to less depth, or to a lower rank at one depth
+-- the depth of the deepest of several plans of concepts
 abbrev deepest : List ConceptPlan → ℕ
 deepest parts = most {X = concept_data} (λ x. concept_plan.the_size x) parts
 
+-- the depth of the deepest of several plans of groups
 abbrev deepest_units : List UnitPlan → ℕ
 deepest_units parts = most {X = unit_data} (λ x. unit_plan.the_size x) parts
 

@@ -1,4 +1,4 @@
--- What executing a plan, or a part of it, promises: how much it counts, whether there is an answer or not, and what an
+-- What executing a plan, or a part of it, promises: how much it counts, whether it succeeds or not, and what its
 -- answer is.
 use Rattle.std.specs.Prelude.{ℕ, ◌≡◌, ◌≤◌, ◌+◌, ◌-◌, Bool, List, [], length, min}
 use Rattle.rf2_rows.specs.Release.{Release, Value}
@@ -22,10 +22,12 @@ use Rattle.plan_bounds.specs.Floors.{floor_number}
 use Rattle.plan_bounds.specs.Nodes.{group_sum, node_sum, test_sum}
 use Rattle.plan_bounds.specs.Sizes.{test_size}
 
--- ---- of a plan of concepts: no more is counted than its bound, and its floor for the candidates that it means
+-- ---- a plan of concepts counts at least its floor and at most its bound
+-- executing a plan of concepts counts at most the bound of the plan
 abbrev pub CountsPlan : Indexed → Physical → Counter → Counter → Type 0
 CountsPlan indexed plan = CountsWithin (node_sum (own_number indexed) plan)
 
+-- an answer has the candidates that a plan of concepts means, and at least the floor of the plan is counted
 abbrev pub AnswersPlan : {S : Type 0} → Ghosts S → Release → Indexed → Candidates S → Physical → Counter → Counter → S →
     Type 0
 AnswersPlan sets release indexed candidates plan =
@@ -33,18 +35,20 @@ AnswersPlan sets release indexed candidates plan =
     (means release (logical plan)))
     (node_sum (floor_number indexed) plan)
 
--- what is counted leaves room in the bound of a node for so many items, and for as many of these as a second part finds at most
+-- what is counted leaves room in `bound` for `items` items, and for as many of them as a second part finds at most
 abbrev pub CountsBeside : ℕ → ℕ → ℕ → Counter → Counter → Type 0
 CountsBeside items second bound = CountsWithin (bound - (items + min second items))
 
--- each concept being a candidate
+-- an answer has all concepts that a plan of concepts means, and at least the floor of the plan is counted
 abbrev pub AnswersAll : {S : Type 0} → Ghosts S → Release → Indexed → Physical → Counter → Counter → S → Type 0
 AnswersAll sets release indexed plan = AnswersPlan sets release indexed candidates.All plan
 
--- ---- of a plan of groups
+-- ---- a plan of groups counts at least its floor and at most its bound
+-- executing a plan of groups counts at most the bound of the plan
 abbrev pub CountsUnits : Indexed → PhysicalUnits → Counter → Counter → Type 0
 CountsUnits indexed plan = CountsWithin (group_sum (own_number indexed) plan)
 
+-- an answer has the candidates that a plan of groups means, and at least the floor of the plan is counted
 abbrev pub AnswersUnits : {S : Type 0} → Ghosts S → Release → Indexed → Candidates S → PhysicalUnits → Counter → Counter
     → S → Type 0
 AnswersUnits sets release indexed candidates plan =
@@ -52,23 +56,31 @@ AnswersUnits sets release indexed candidates plan =
     (groups_within release (may_be sets.items_of candidates) (unit_means release (logical_units plan)))
     (group_sum (floor_number indexed) plan)
 
--- ---- the concepts that a test asks for, where it asks for those of a set
+-- ---- the concepts of a test
+-- the concepts of the set that a test is within; none for any other test
 abbrev pub set_items : {S : Type 0} → (S → List ℕ) → Tested S → List ℕ
 set_items items_of (tests.Within set) = items_of set
 set_items items_of (tests.Outside set) = []
 set_items items_of (tests.Number compare number) = []
 
--- ---- of a test: what passes it, and how much there is of that
+-- ---- a test of values: what passes it, and how many concepts and rows it has
+-- executing the plan of a test counts at most the bound of that plan
 abbrev pub CountsTest : Indexed → PhysicalTest → Counter → Counter → Type 0
 CountsTest indexed test = CountsWithin (test_sum (own_number indexed) test)
 
+-- a test of values passes what the plan's test passes, and its numbers are within those of the plan
 pub record AnswersTest {S : Type 0} (sets : Ghosts S) (release : Release) (indexed : Indexed) (test : PhysicalTest)
     (early late : Counter)
     (tested : Tested S) : Type 0 where
+  -- a value passes the test that was made exactly if it passes the test of the plan
   pub passes : (value : Value) → passes_of sets.items_of indexed.concepts tested value
       ≡ value_passes release (logical_test test) value
+  -- the set of the test is bounded by the number of concepts
   pub bound : IsTestBelow sets.bound_of (length indexed.concepts) tested
+  -- at least the floor of the plan of the test is counted, unless the counter stops at the largest number of 64 bits
   pub floor : full (early.count + test_sum (floor_number indexed) test) ≤ late.count
+  -- the test has found at most as many concepts as the plan of the test finds at most
   pub size : found_for sets.items_of tested ≤ test_size indexed test
+  -- the found concepts and their rows are at most the found concepts and the rows of the plan's values
   pub read : (back : Bool) → value_items sets.items_of indexed back tested
       ≤ found_for sets.items_of tested + value_rows indexed back test

@@ -1,4 +1,4 @@
--- The part of a plan that is executed first, where there is one: what it means, and what is counted of it.
+-- The driving part of a plan, which is executed first, if there is one: what it means, and what is counted of it.
 use Rattle.std.specs.Prelude.{ℕ, Bool, true, List, Option, None, Some}
 use Rattle.rf2_rows.specs.Pairs.{Pair}
 use Rattle.rf2_rows.specs.Release.{Release}
@@ -7,16 +7,17 @@ use Rattle.set_algebra.specs.declared.plan.ConceptPlan.{ConceptPlan}
 use Rattle.set_algebra.specs.declared.plan.UnitPlan.{UnitPlan}
 use Rattle.executor.specs.inside.Logical.{logical_of, logical_units_of}
 
--- what the part means that is executed first, where there is one
+-- whether the driving part of concepts means a concept; true if there is no such part
 abbrev pub leads_off : Release → Option ConceptPlan → ℕ → Bool
 leads_off release None concept = true
 leads_off release (Some part) concept = means release (logical_of part) concept
 
+-- whether the driving part of groups means a group with the pairs `pairs`; true if there is no such part
 abbrev pub leads_off_groups : Release → Option UnitPlan → List Pair → Bool
 leads_off_groups release None pairs = true
 leads_off_groups release (Some part) pairs = unit_means release (logical_units_of part) pairs
 
--- what is counted of the part that is executed first, where there is one
+-- the number of the driving part; 0 if there is no such part
 abbrev pub of_lead : {Part : Type 0} → (Part → ℕ) → Option Part → ℕ
 of_lead number None = 0
 of_lead number (Some part) = number part

@@ -1,4 +1,4 @@
--- What is known of a plan that names a concept, or is the name of an attribute.
+-- What is known of a plan that names a concept, and of a plan that is the name of an attribute.
 use Rattle.std.specs.Prelude.{ℕ, ◌≡◌, ◌==◌, ◌&&◌, List, None, length}
 use Rattle.rf2_rows.specs.Release.{Release}
 use Rattle.set_algebra.specs.Meaning.{means}
@@ -8,14 +8,16 @@ use Rattle.set_algebra.specs.Plan.{minus_plan, values_plan, pairs_plan, units_pl
 use Rattle.candidates.specs.Tallies.{Adds, Tally}
 use Rattle.candidates.specs.Numbers.{numbers_in}
 
--- the items of a set, and its bound, are those of what a plan means
+-- a set has the numbers of the concepts that a plan means, and its bound is the number of concepts
 pub record HasNamed (release : Release) (plan : Plan) (items : List ℕ) (bound : ℕ) : Type 0 where
+  -- the items are the numbers of the concepts that the plan means
   pub items_are : items ≡ numbers_in release (means release plan)
+  -- the bound is the number of concepts
   pub bound_is : bound ≡ length release.concepts
 
--- what is known of the rows of values before a plan is executed that finds them. The rows of the one concept that a
--- plan names are added. Nothing is changed before a walk or an OR, which adds rows as it finds values. Before any other
--- plan it is no longer known how many there are
+-- how the tally of rows changes before a plan is executed that finds values. If the plan names one concept, the rows
+-- of that concept are added. Before a walk or an OR nothing changes, because it adds rows as it finds values. Before
+-- any other plan the number of rows is no longer known
 abbrev pub AddsNamed : Release → Plan → Tally → Tally → Type 0
 AddsNamed release (one_plan id) early late = Adds
     (numbers_in release (λ concept. has_concept release concept && (concept == id))) early late

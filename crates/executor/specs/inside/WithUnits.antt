@@ -1,4 +1,4 @@
--- Concepts by how many of their groups are among some (Expression Constraint Language, "Cardinality").
+-- Concepts by how many of their groups are in a set of groups (Expression Constraint Language, "Cardinality").
 use Rattle.std.specs.Prelude.{ℕ, List, length}
 use Rattle.rf2_rows.specs.Release.{Release}
 use Rattle.number_lists.specs.Rising.{numbers_where}
@@ -6,7 +6,7 @@ use Rattle.constraint_tree.specs.Passing.{lies_in}
 use Rattle.constraint_tree.specs.declared.operator.Cardinality.{Cardinality}
 use Rattle.pair_sets.specs.Owned.{groups_owned}
 
--- the concepts so many of whose groups are among some
+-- the concepts whose number of groups in `groups` lies in the cardinality
 abbrev pub with_units : Release → Cardinality → List ℕ → List ℕ
 with_units release count groups = numbers_where (length release.concepts)
     (λ number. lies_in count (groups_owned release groups number))

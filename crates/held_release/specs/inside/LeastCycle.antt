@@ -4,8 +4,8 @@ use Rattle.hierarchy.specs.Hierarchy.{Reaches}
 use Rattle.row_lists.specs.declared.fault.LoadFault.{LoadFault}
 use Rattle.row_lists.specs.declared.fault.LoadFault.TheVariants.{Cycle, Memory}
 
--- a fault that names, of concepts by their identifiers, the least that reaches itself by rows of their numbers, or the
--- want of memory
+-- a fault that names the identifier of the least concept that reaches itself by rows of numbers, or is the want of
+-- memory
 abbrev pub IsLeastCycle : LoadFault → List ℕ → List (ℕ × ℕ) → Type 0
 IsLeastCycle (Cycle id) concepts rows =
     (concept : ℕ) × (concept < length concepts) × (slice_index concepts concept ≡ id) × Reaches rows concept concept

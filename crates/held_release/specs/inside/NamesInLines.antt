@@ -6,11 +6,11 @@ use Rattle.held_release.specs.declared.kept_names.KeptName.{KeptName}
 use Rattle.row_lists.specs.Spans.{IsSpanOf, StandsAt, no_span, text_at}
 use Rattle.row_lists.specs.declared.spans.Span.{Span}
 
--- where the term of a kept row stands
+-- the span at which the term of a kept row stands
 abbrev pub term_span : KeptName → Span
 term_span kept = record { start = kept.start; end = kept.start + kept.bytes }
 
--- the name row that a kept row stands for, where language codes stand at some spans
+-- the name row that a kept row stands for, if its language code stands at one of `languages`
 abbrev pub name_kept : List ℕ → List Span → KeptName → Name
 name_kept texts languages kept = record {
   id = kept.id;
@@ -19,12 +19,16 @@ name_kept texts languages kept = record {
   term = text_at texts (term_span kept);
 }
 
--- its language code is at one of the spans, and its term stands in the buffer
+-- the language code of a kept row is at one of the spans, and its term stands in the buffer
 pub record IsKept (texts : List ℕ) (languages : List Span) (kept : KeptName) : Type 0 where
+  -- the language code of the row has a span
   pub language : kept.language < length languages
+  -- the term of the row stands in the buffer
   pub term : IsSpanOf texts (term_span kept)
 
--- for each name row a span where its term stands is known, or none is
+-- for each name row a span at which its term stands, or none
 pub record AreNoted (names : List Name) (texts : List ℕ) (spans : List (Option Span)) : Type 0 where
+  -- there is an entry for each name row
   pub each : length spans ≡ length names
+  -- the term of each row stands at the span that is noted for it
   pub stand : (place : ℕ) (name : Name) → slice_get names place ≡ Some name → IfSome (slice_index_or spans place None) (StandsAt texts name.term)

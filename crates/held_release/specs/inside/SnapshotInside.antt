@@ -1,4 +1,4 @@
--- What the fields of a snapshot say, and what they keep.
+-- What the fields of a snapshot stand for, and what they keep.
 use Rattle.std.specs.Prelude.{◌≡◌, ◌<◌, ◌^◌, true, All, map, length, string_bytes}
 use Rattle.std.specs.List.Sorted.{IsStrictlyIncreasing}
 use Rattle.rf2_rows.specs.Release.{Attribute}
@@ -12,7 +12,7 @@ use Rattle.hierarchy.specs.ParentsFirst.{IsParentsFirst}
 use Rattle.held_release.specs.inside.Sorted.{IsSortedBySource, in_file_order}
 use Rattle.held_release.specs.declared.held_release.Snapshot.TheInside.{Inside}
 
--- the contents that the fields stand for
+-- the contents that the fields of a snapshot stand for
 abbrev pub contents_in : Inside → Contents
 contents_in inside = record {
   release = record {

@@ -5,15 +5,16 @@ use Rattle.std.proofs.lemmas.Bool.{cases_lt, le-ltb, lt-ltb}
 use Rattle.held_release.specs.declared.value_number.ValueNumber.{ValueNumber}
 use Rattle.held_release.specs.declared.value_number.ValueNumber.TheVariants.{Concept, Concrete}
 
--- a number below 2^31 is that of a concept, and the others are those of the values that are none
+-- the value with a packed number: below 2^31 it is a concept, and the others are the places of values that are none
 abbrev pub number_in : ℕ → ValueNumber
 number_in packed = if nat_lt packed (2 ^ 31) then Concept packed else Concrete (packed - 2 ^ 31)
 
+-- the packed number of a value
 abbrev pub packed_of : ValueNumber → ℕ
 packed_of (Concept number) = number
 packed_of (Concrete place) = 2 ^ 31 + place
 
--- what is read of 32 bits and put into them again is the same
+-- packing a number that was read of 32 bits gives these bits again
 pub packed_again : (packed : ℕ) → packed_of (number_in packed) ≡ packed
 packed_again packed =
     elim (cases_lt packed (2 ^ 31)) [

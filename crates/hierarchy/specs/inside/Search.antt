@@ -1,9 +1,9 @@
--- What the search for cycles keeps: which concepts a concept was found to reach, and ranks that no row
--- lowers. Both are of this search alone; what a cycle is stands in the definition of `Reaches`.
+-- The state of the search for cycles: which concepts a concept was found to reach, and ranks that no row lowers. Both
+-- belong to this search alone; `Reaches` defines cycles.
 use Rattle.std.specs.Prelude.{ℕ, ◌≡◌, ◌≤◌, Bool, true, false, not, List, All, slice_index_or, count_by, ◌⊎◌}
 use Rattle.hierarchy.specs.Hierarchy.{Reaches}
 
--- a concept is marked
+-- whether a concept is marked
 abbrev pub IsMarked : List Bool → ℕ → Type 0
 IsMarked marks concept = slice_index_or marks concept false ≡ true
 
@@ -11,18 +11,18 @@ IsMarked marks concept = slice_index_or marks concept false ≡ true
 abbrev pub unmarked_count : List Bool → ℕ
 unmarked_count marks = count_by not marks
 
--- only concepts that the start reaches are marked
+-- each marked concept is one that the start reaches
 abbrev pub MarksReached : List (ℕ × ℕ) → ℕ → List Bool → Type 0
 MarksReached rows start marks = (concept : ℕ) → IsMarked marks concept → Reaches rows start concept
 
--- a row from the start or from a marked concept has a marked parent
+-- if the child of a row is the start or marked, the parent of the row is marked
 abbrev pub IsFollowed : ℕ → List Bool → ℕ × ℕ → Type 0
 IsFollowed start marks row = (row.0 ≡ start) ⊎ IsMarked marks row.0 → IsMarked marks row.1
 
--- the rank of a concept
+-- the rank of a concept, or 0 if it has none
 abbrev pub rank_in : List ℕ → ℕ → ℕ
 rank_in ranks concept = slice_index_or ranks concept 0
 
--- no row leads to a lower rank
+-- no row leads from a higher rank to a lower one
 abbrev pub NoneFalls : List ℕ → List (ℕ × ℕ) → Type 0
 NoneFalls ranks rows = All (λ (row : ℕ × ℕ). rank_in ranks row.0 ≤ rank_in ranks row.1) rows

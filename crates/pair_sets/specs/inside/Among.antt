@@ -6,28 +6,29 @@ use Rattle.postings.specs.Groups.{ConceptGroup, rows_of_group}
 use Rattle.postings.specs.Indexed.{Indexed, rows_by_source}
 use Rattle.pair_sets.specs.inside.Hits.{has_pair_in, has_source_in}
 
--- whether there is an entry, and it passes
+-- whether there is an entry and it passes `test`
 abbrev pub at_entry : (Entry → Bool) → Option Entry → Bool
 at_entry test None = false
 at_entry test (Some entry) = test entry
 
--- whether a row counts, as one of a concept, or of a group
+-- whether a row counts as a pair of its group, or of its source if the first argument is false
 abbrev pub pair_counts : Bool → (ℕ → Bool) → (Value → Bool) → Entry → Bool
 pair_counts true one passes entry = entry.is_first_in_group && has_pair_in one passes entry.row
 pair_counts false one passes entry = entry.is_first && has_pair_in one passes entry.row
 
--- how many of some rows count
+-- how many of `rows` count as pairs, in their groups if `grouped`
 abbrev pub pairs_among : Indexed → Bool → (ℕ → Bool) → (Value → Bool) → List ℕ → ℕ
 pairs_among indexed grouped one passes rows =
     count_by (λ n. at_entry (pair_counts grouped one passes) (slice_get (entries_of indexed.rows) n)) rows
 
--- how many rows count of a concept by its number: of its own, or, read backwards, of those whose value it is
+-- how many rows count as pairs of the concept with `number`: its own rows, or read backwards the rows that have it as
+-- value
 abbrev pub pairs_of_concept : Indexed → Bool → (ℕ → Bool) → (Value → Bool) → ℕ → ℕ
 pairs_of_concept indexed true one passes number =
     count_by (λ entry. entry.is_first && has_source_in one passes entry.row) (entries_with_value indexed.rows (slice_index indexed.concepts number))
 pairs_of_concept indexed false one passes number = pairs_among indexed false one passes (rows_by_source indexed number)
 
--- the rows of a group that is there
+-- the numbers of the rows of a group; none if there is no group
 abbrev pub rows_of_unit : Indexed → Option ConceptGroup → List ℕ
 rows_of_unit indexed None = []
 rows_of_unit indexed (Some group) = rows_of_group indexed group

@@ -1,5 +1,5 @@
--- A physical plan whose leaves take the choices that are asked for, each the first of the list that comes to it, where it offers that
--- choice; and of the list what is left behind the plan.
+-- A physical plan whose leaves take requested choices, each the first of the list that reaches it if the leaf offers
+-- that choice; and what of the list is left after the plan.
 use Rattle.std.specs.Prelude.{List, drop}
 use Rattle.set_algebra.specs.declared.choice.Choice.{Choice}
 use Rattle.set_algebra.specs.Physical.{Physical, physical_empty, physical_all, physical_one, physical_walk, physical_members, physical_and}
@@ -11,12 +11,15 @@ use Rattle.set_algebra.specs.Physical.{PhysicalTest, physical_within, physical_o
 use Rattle.plan_bounds.specs.Counts.{is_within}
 use Rattle.planner.specs.Asked.{asked_or, first_of}
 
--- what has its choices, and the rest of the list
+-- a plan with its choices, and the rest of the list
 pub record PlanAndRest (Sort : Type 0) : Type 0 where
+  -- the plan with its choices
   pub plan : Sort
+  -- the choices of the list that are left
   pub rest : List Choice
 
 abbrev mutual
+  -- a plan of concepts whose leaves take the choices of a list, and the rest of the list
   pub with_asked : List Choice → Physical → PlanAndRest Physical
   with_asked asked physical_empty = record { plan = physical_empty; rest = asked }
   with_asked asked physical_all = record { plan = physical_all; rest = asked }
@@ -52,6 +55,7 @@ abbrev mutual
       let own = group_with_asked asked units in
       record { plan = physical_units count own.plan; rest = own.rest }
 
+  -- several plans of concepts whose leaves take the choices of a list, and the rest of the list
   pub all_with_asked : List Choice → Physicals → PlanAndRest Physicals
   all_with_asked asked no_physicals = record { plan = no_physicals; rest = asked }
   all_with_asked asked (physical_then first rest) =
@@ -59,6 +63,7 @@ abbrev mutual
       let more = all_with_asked one.rest rest in
       record { plan = physical_then one.plan more.plan; rest = more.rest }
 
+  -- a plan of groups whose leaves take the choices of a list, and the rest of the list
   pub group_with_asked : List Choice → PhysicalUnits → PlanAndRest PhysicalUnits
   group_with_asked asked physical_nothing = record { plan = physical_nothing; rest = asked }
   group_with_asked asked physical_every = record { plan = physical_every; rest = asked }
@@ -80,6 +85,7 @@ abbrev mutual
         rest = last.rest;
       }
 
+  -- several plans of groups whose leaves take the choices of a list, and the rest of the list
   pub groups_with_asked : List Choice → PhysicalUnitsList → PlanAndRest PhysicalUnitsList
   groups_with_asked asked no_physical_units = record { plan = no_physical_units; rest = asked }
   groups_with_asked asked (physical_units_then first rest) =
@@ -87,6 +93,7 @@ abbrev mutual
       let more = groups_with_asked one.rest rest in
       record { plan = physical_units_then one.plan more.plan; rest = more.rest }
 
+  -- a test whose plan's leaves take the choices of a list, and the rest of the list
   pub test_with_asked : List Choice → PhysicalTest → PlanAndRest PhysicalTest
   test_with_asked asked (physical_within operand) =
       let own = with_asked asked operand in

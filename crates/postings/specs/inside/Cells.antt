@@ -5,30 +5,41 @@ use Rattle.postings.specs.Places.{places_by}
 use Rattle.postings.specs.declared.columns.RowsByKey.{RowsByKey}
 use Rattle.postings.specs.declared.groups.RowMarks.{RowMarks}
 
--- the part of a column that belongs to a key
+-- the cells of a column that belong to the list of `key`
 abbrev pub cells_of : {X : Type 0} → List (List ℕ) → List X → ℕ → List X
 cells_of lists cells key = slice_range cells (length (concat (take key lists))) (length (concat (take (key + 1) lists)))
 
--- each column has a cell for each row
+-- each column has a cell for each listed row
 pub record AreColumns (lists : RowsByKey) : Type 0 where
+  -- the column of sources has a cell for each listed row
   pub sources : length lists.sources.items ≡ length (concat lists.rows)
+  -- the column of other cells has a cell for each listed row
   pub others : length lists.others.items ≡ length (concat lists.rows)
+  -- the column of groups has a cell for each listed row
   pub groups : length lists.groups.items ≡ length (concat lists.rows)
 
--- a column has the cells at some places
+-- `column` has the cells that `cells` has at `places`
 abbrev pub IsColumn : {X : Type 0} → List X → List ℕ → List X → Type 0
 IsColumn {X} cells places column = (default : X) → column ≡ map (λ place. slice_index_or cells place default) places
 
 -- each row has a key, another cell and its marks
 pub record AreOfOneLength (keys cells : List ℕ) (marks : RowMarks) : Type 0 where
+  -- there are less than 2^32 rows
   pub few : length keys < 2 ^ 32
+  -- there is another cell for each row
   pub others : length cells ≡ length keys
+  -- there is a mark with the source for each row
   pub sources : vec_len marks.sources ≡ length keys
+  -- there is a mark with the group for each row
   pub groups : vec_len marks.groups ≡ length keys
 
--- the lists are the rows of each of so many keys, with the columns of their other cells and their marks
+-- `lists` has the rows of each of `count` keys, with the columns of their other cells and their marks
 pub record AreRowLists (count : ℕ) (keys cells : List ℕ) (marks : RowMarks) (lists : RowsByKey) : Type 0 where
+  -- the list of a key has the places at which the key stands
   pub rows : lists.rows ≡ places_by count keys
+  -- the column of sources has the marks of the listed rows with their sources
   pub sources : IsColumn marks.sources.items (concat (places_by count keys)) lists.sources.items
+  -- the column of other cells has those of the listed rows
   pub others : IsColumn cells (concat (places_by count keys)) lists.others.items
+  -- the column of groups has the marks of the listed rows with their groups
   pub groups : IsColumn marks.groups.items (concat (places_by count keys)) lists.groups.items

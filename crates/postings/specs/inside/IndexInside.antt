@@ -8,6 +8,7 @@ use Rattle.postings.specs.inside.KeptRows.{rows_kept}
 use Rattle.postings.specs.inside.RowIndexes.{AreRowIndexes}
 use Rattle.postings.specs.declared.index.Indexes.TheInside.{Inside}
 
+-- what the fields of the indexes stand for
 abbrev pub indexed_in : Inside → Indexed
 indexed_in inside = record {
   concepts = inside.concepts.items;
@@ -18,14 +19,21 @@ indexed_in inside = record {
   texts = inside.rows.values.texts;
 }
 
--- the concepts rise and have numbers of less than 31 bits; the rows and their lists are those that they stand for; each
--- concept has its lists in the hierarchy, and a list of members; the reference sets are the concepts whose list of
--- members is not empty; and each type has the number of its concept
+-- what the fields keep: the concepts rise and are less than 2^31; the lists are those of the rows that the fields
+-- stand for; each concept has its lists; the reference sets are the concepts with members; and each type has the
+-- number of its concept
 pub record AreIndexed (inside : Inside) : Type 0 where
+  -- the identifiers of the concepts rise
   pub rising : IsStrictlyIncreasing inside.concepts.items
+  -- there are less than 2^31 concepts
   pub few : length inside.concepts.items < 2 ^ 31
+  -- the lists of rows are those of the rows that the fields stand for
   pub rows : AreRowIndexes inside.concepts.items (indexed_in inside).rows inside.rows
+  -- each concept has its lists in the hierarchy
   pub hierarchy : HasListsFor (length inside.concepts.items) inside.hierarchy
+  -- each concept has a list of members
   pub members : length inside.members ≡ length inside.concepts.items
+  -- the reference sets are the concepts that have members
   pub reference_sets : inside.reference_sets.items ≡ with_members inside.members
+  -- each type has the number of the concept that it is, if it is one in force
   pub types : inside.type_concepts.items ≡ map (concept_number inside.concepts.items) inside.rows.types.ids.items

@@ -1,6 +1,6 @@
--- How the indexes keep the attribute rows. Of a row they keep the place of its type, and its place among the rows of all types, at
--- which the columns by type have its source, its value and its group. Of the rows of a source they keep none but the numbers of
--- all rows, of which they are a part.
+-- How the indexes keep the attribute rows. For a row they keep the place of its type, and its place among the rows of
+-- all types. At that place the columns by type have its source, its value and its group. For a source they keep no
+-- list of rows: its rows are a part of the numbers of all rows.
 use Rattle.std.specs.Prelude.{ℕ, ◌+◌, ◌≡◌, ◌<◌, true, List, length, map, slice_index, slice_index_or, slice_range, take}
 use Rattle.std.specs.List.{concat, range_with_len}
 use Rattle.postings.specs.Columns.{Flagged}
@@ -11,11 +11,11 @@ use Rattle.postings.specs.declared.rows.CodedRow.{CodedRow}
 abbrev pub mark_at : List Flagged → ℕ → Flagged
 mark_at marks place = slice_index_or marks place (record { number = 0; is_first = true })
 
--- the number of a row's group
+-- the number of the group of row `n`
 abbrev pub unit_kept : RowIndexes → ℕ → ℕ
 unit_kept indexes n = (mark_at indexes.by_type.groups.items (slice_index indexes.places.items n)).number
 
--- the row with a number; its group has the number that its group has
+-- the row with the number `n`; its group number is that of its group
 abbrev pub row_kept : RowIndexes → ℕ → CodedRow
 row_kept indexes n = record {
   source = (mark_at indexes.by_type.sources.items (slice_index indexes.places.items n)).number;
@@ -24,6 +24,7 @@ row_kept indexes n = record {
   value = slice_index indexes.by_type.others.items (slice_index indexes.places.items n);
 }
 
+-- all kept rows, in the order of their numbers
 abbrev pub rows_kept : RowIndexes → List CodedRow
 rows_kept indexes = map (row_kept indexes) (range_with_len 0 (length indexes.type_places.items))
 
@@ -35,33 +36,41 @@ groups_kept indexes = map (mark_at indexes.by_type.groups.items) indexes.places.
 abbrev pub sources_kept : RowIndexes → List Flagged
 sources_kept indexes = map (mark_at indexes.by_type.sources.items) indexes.places.items
 
--- how many rows the groups before that with a number have, and the rows between those of the groups before a concept and before
--- the next
+-- how many rows the groups before the group with the number `unit` have
 abbrev pub rows_ahead : RowIndexes → ℕ → ℕ
 rows_ahead indexes unit = length (concat (take unit indexes.groups.rows))
 
+-- the part of the row numbers that begins after the rows of the groups before `concept`, and ends with the rows of
+-- its own groups
 abbrev pub rows_between : RowIndexes → ℕ → List ℕ
 rows_between indexes concept =
     let starts = indexes.groups.starts.items in
     slice_range indexes.row_numbers.items (rows_ahead indexes (slice_index starts concept))
     (rows_ahead indexes (slice_index starts (concept + 1)))
 
--- there is a row with a number
+-- the indexes keep the row with the number `n`
 pub record IsKept (indexes : RowIndexes) (n : ℕ) : Type 0 where
+  -- there is a place of its type
   pub type_place : n < length indexes.type_places.items
+  -- there is a place of the row among the rows of all types
   pub place : n < length indexes.places.items
+  -- the column of sources has a cell at the row's place
   pub source : slice_index indexes.places.items n < length indexes.by_type.sources.items
+  -- the column of values has a cell at the row's place
   pub value : slice_index indexes.places.items n < length indexes.by_type.others.items
+  -- the column of groups has a cell at the row's place
   pub unit : slice_index indexes.places.items n < length indexes.by_type.groups.items
+  -- the row's group has a group number, or 0
   pub group : unit_kept indexes n < length indexes.groups.numbers.items
 
--- of rows and the marks of their groups: rows of one group have one number, and some numbers are those of the groups
+-- rows whose marks have one number, and so one group, have one group number
 abbrev pub HaveOneNumber : List Flagged → List CodedRow → Type 0
 HaveOneNumber marks rows =
     (m n : ℕ) (mark : Flagged) (row : CodedRow) → m < length rows → n < length rows
     → (slice_index_or marks m mark).number ≡ (slice_index_or marks n mark).number
     → (slice_index_or rows m row).group ≡ (slice_index_or rows n row).group
 
+-- `numbers` has for the group of each row the group number of the row
 abbrev pub AreNumbersOf : List Flagged → List CodedRow → List ℕ → Type 0
 AreNumbersOf marks rows numbers =
     (n : ℕ) (mark : Flagged) (row : CodedRow) → n < length rows

@@ -1,7 +1,7 @@
 -- Places by their keys, one by one.
 use Rattle.std.specs.Prelude.{ℕ, ◌+◌, if◌then◌else◌, nat_lt, List, [], ◌∷◌}
 
--- each key below a count with its place, where the first key has a place
+-- each key below `count` with its place, if the first key has the place `place`
 abbrev pub keyed_places : ℕ → ℕ → List ℕ → List (ℕ × ℕ)
 keyed_places count place [] = []
 keyed_places count place (key ∷ keys) =

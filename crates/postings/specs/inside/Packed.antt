@@ -4,11 +4,11 @@ use Rattle.std.proofs.Common.{◌∙◌, cond, inl, inr, arith}
 use Rattle.std.proofs.lemmas.Bool.{cases_eq, eq-eqb, ne_eqb}
 use Rattle.postings.specs.Columns.{Flagged}
 
--- twice the number, and one more where the flag is set
+-- twice the number, and one more if the flag is set
 abbrev pub packed_of : Flagged → ℕ
 packed_of mark = mark.number * 2 + (if mark.is_first then 1 else 0)
 
--- a number taken apart and put together again is the number
+-- a packed number that is taken apart and packed again is itself
 pub packed_again : (packed : ℕ) → packed_of (record { number = packed / 2; is_first = (packed % 2) == 1 }) ≡ packed
 packed_again packed =
     elim (cases_eq (packed % 2) 1) [

@@ -4,27 +4,33 @@ use Rattle.number_lists.specs.Distinct.{distinct}
 use Rattle.postings.specs.inside.Coded.{pair_code}
 use Rattle.postings.specs.declared.rows.CodedRow.{CodedRow}
 
--- the pair of numbers of a row as one number, and the number of its group besides
+-- a pair of numbers of 32 bits as one number
 abbrev pub key_of_code : ℕ × ℕ → ℕ
 key_of_code code = code.0 * 2 ^ 32 + code.1
 
+-- the pair of a row as one number
 abbrev pub pair_key : CodedRow → ℕ
 pair_key row = key_of_code (pair_code row)
 
+-- the group number and the pair of a row as one number
 abbrev pub grouped_key : CodedRow → ℕ
 grouped_key row = row.group * 2 ^ 64 + pair_key row
 
--- a pair of numbers of 32 bits, which its number tells
+-- both numbers of a pair have 32 bits, so that the pair follows from its number `key_of_code`
 pub record IsShort (code : ℕ × ℕ) : Type 0 where
+  -- the first number has 32 bits
   pub first : code.0 < 2 ^ 32
+  -- the second number has 32 bits
   pub second : code.1 < 2 ^ 32
 
--- of rows the distinct pairs, and those of the rows without a group
+-- the distinct keys of the rows by group number and pair
 abbrev pub grouped_keys : List CodedRow → List ℕ
 grouped_keys rows = distinct nat_eq (map grouped_key rows)
 
+-- the distinct keys of the rows by pair
 abbrev pub pair_keys : List CodedRow → List ℕ
 pair_keys rows = distinct nat_eq (map pair_key rows)
 
+-- the distinct keys by pair of the rows without a group number
 abbrev pub ungrouped_keys : List CodedRow → List ℕ
 ungrouped_keys rows = pair_keys (filter (λ (row : CodedRow). row.group == 0) rows)

@@ -1,4 +1,4 @@
--- The plan that is asked for by steps of rewriting and by choices, and how much it reads.
+-- The plan that is asked for by rewriting steps and choices, and its visits.
 use Rattle.std.specs.Prelude.{◌≡◌, ◌≤◌, ◌+◌, ◌-◌, ◌^◌, List, min}
 use Rattle.constraint_tree.specs.Tree.{Tree}
 use Rattle.set_algebra.specs.Lowering.{lowered}
@@ -14,14 +14,20 @@ use Rattle.plan_bounds.specs.Floors.{floor}
 use Rattle.plan_bounds.specs.Leaves.{choices_in}
 use Rattle.planner.specs.Asked.{choices_with}
 
--- the plan of a constraint after some steps: those that do not apply are passed over
+-- the plan of a constraint after rewriting steps; steps that do not apply are skipped
 abbrev pub plan_after : List Step → Tree → Plan
 plan_after steps tree = (all_applied steps (lowered tree) 0).0
 
--- what is read by that plan with the choices that are asked for where a leaf offers them: no more than its bound, and its floor
+-- the visits of the plan that is asked for, with the choices that its leaves offer: at least its floor, at most its
+-- bound
 pub record ReadsAsked (indexed : Indexed) (steps : List Step) (choices : List Choice) (tree : Tree) (early late : Visits) : Type 0 where
+  -- the plan with its choices
   pub physical : Physical
+  -- without choices it is the constraint's plan after the steps
   pub plan : logical physical ≡ plan_after steps tree
+  -- its choices are the asked ones that its leaves offer
   pub choices_are : choices_in physical ≡ choices_with indexed choices (plan_after steps tree)
+  -- the visits are at most the bound of the plan
   pub within : late.count ≤ early.count + bound indexed physical
+  -- the visits are at least the floor of the plan
   pub floor_is_read : min (early.count + floor indexed physical) (2 ^ 64 - 1) ≤ late.count

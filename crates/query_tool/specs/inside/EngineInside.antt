@@ -1,9 +1,10 @@
--- What the fields of an engine say, and what they keep.
+-- The contents that the fields of an engine hold, and the invariant of the fields.
 use Rattle.std.specs.List.Sorted.{IsStrictlyIncreasing}
 use Rattle.held_release.specs.Contents.{Contents}
 use Rattle.postings.specs.Indexed.{IsIndexOf}
 use Rattle.query_tool.specs.declared.engine.Engine.TheInside.{Inside}
 
+-- the contents of the release in an engine
 abbrev pub contents_in : Inside → Contents
 contents_in inside = inside.snapshot
 

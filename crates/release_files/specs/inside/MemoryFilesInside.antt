@@ -1,9 +1,10 @@
--- What the fields of files in memory say, and what they keep.
+-- How contracts see files in memory, and the invariant of their fields.
 use Rattle.std.specs.Prelude.{◌≤◌, map, option_map}
 use Rattle.release_files.specs.MemorySource.{MemorySource}
 use Rattle.release_files.specs.Source.{file_text}
 use Rattle.release_files.specs.declared.memory_files.MemoryFiles.TheInside.{Inside}
 
+-- the source that the fields of files in memory stand for
 abbrev pub source_in : Inside → MemorySource
 source_in inside = record {
   files = map file_text inside.files.now;
@@ -21,6 +22,6 @@ source_in inside = record {
   };
 }
 
--- a read gives some bytes
+-- a read may give at least one byte
 abbrev pub HasPieces : Inside → Type 0
 HasPieces inside = 1 ≤ inside.piece

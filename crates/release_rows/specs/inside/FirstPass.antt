@@ -1,4 +1,4 @@
--- The rows that a load has seen, and what it knows of their first fault.
+-- The rows that a load has read in its first pass, and what it knows of their first fault.
 use Rattle.std.specs.Prelude.{◌≡◌, ◌≤◌, ◌+◌, ⊤, ℕ, Bool, List, [], ◌∷◌, ◌++◌, length, Option, None, Some}
 use Rattle.rf2_rows.specs.Rows.{row_fault}
 use Rattle.release_rows.specs.Chosen.{choices}
@@ -13,16 +13,17 @@ use Rattle.release_rows.specs.Traversal.{OfFiles}
 use Rattle.row_lists.specs.declared.fault.LoadFault.{LoadFault}
 use Rattle.release_rows.specs.declared.limits.Limits.{Limits}
 
--- the UUIDs that were met behind rows, and the keys of the rows
+-- the UUIDs met after the given rows, if `uuids` were met before them
 abbrev pub uuids_after : List ℕ → List RowAt → List ℕ
 uuids_after uuids [] = uuids
 uuids_after uuids (row ∷ rows) = uuids_after (uuids_behind uuids (text_of_row row)) rows
 
+-- the keys of the given rows, if `uuids` were met before them
 abbrev pub keys_behind : List ℕ → List RowAt → List ℕ
 keys_behind uuids [] = []
 keys_behind uuids (row ∷ rows) = key_in uuids (text_of_row row) ∷ keys_behind (uuids_behind uuids (text_of_row row)) rows
 
--- what is kept behind rows
+-- the kept data after the given rows
 abbrev pub kept_rows : RowStore → List RowAt → RowStore
 kept_rows kept [] = kept
 kept_rows kept (row ∷ rows) = kept_rows (kept_behind kept row) rows
@@ -32,58 +33,73 @@ abbrev pub AreShort : List RowAt → Type 0
 AreShort [] = ⊤
 AreShort (row ∷ rows) = (IsShort (text_of_row row) × (row_fault row.kind row.text ≡ None)) × AreShort rows
 
--- the first of some rows that conflicts with an earlier one
+-- the first conflict of a row of the last list with an earlier row, if the rows `earlier` come before that list
 abbrev pub first_conflict : List RowAt → List RowAt → Option LoadFault
 first_conflict earlier [] = None
 first_conflict earlier (row ∷ rows) = first_of (conflict_behind earlier row) (first_conflict (earlier ++ row ∷ []) rows)
 
--- what the first pass over places says of their first fault: it is the first conflict of the rows that were seen, or
--- else the fault at which the pass ended, if it did
+-- the first pass read the rows `seen` and kept `kept`; the first fault of the places is the first conflict of these
+-- rows, or else `fault`, at which the pass ended
 pub record IsSeen (limits : Limits) (places : List Place) (kept : RowStore) (fault : Option LoadFault) : Type 0 where
+  -- the rows that the first pass read
   pub seen : List RowAt
+  -- the kept data is that of the rows
   pub kept_is : kept ≡ kept_rows (nothing_kept limits) seen
+  -- the rows have short identifiers and no fault by themselves
   pub short : AreShort seen
+  -- the first fault is the first conflict, or else the one at which the pass ended
   pub first : first_fault limits [] places ≡ first_of (first_conflict [] seen) fault
+  -- the rows that the first pass did not reach
   pub beyond : List RowAt
+  -- the places have the rows that were read, and then the others
   pub front : rows_of places ≡ seen ++ beyond
+  -- if the pass did not end at a fault, it read all rows
   pub whole : fault ≡ None → seen ≡ rows_of places
+  -- the pass read at most one row more than the limits allow
   pub few : length seen ≤ row_total limits + 1
+  -- if the pass did not end at a fault, it read no more rows than the limits allow
   pub room : fault ≡ None → length seen ≤ row_total limits
 
--- the rows at the front of places were seen and have these keys
+-- the first pass read the rows `seen` at the front of the places, and `keyed` holds their keys
 pub record AreSeen (keyed : Keyed) (places : List Place) (seen beyond : List RowAt) : Type 0 where
+  -- the places have the rows that were read, and then the others
   pub front : rows_of places ≡ seen ++ beyond
+  -- the UUIDs are those of the rows that were read
   pub uuids : keyed.uuids ≡ uuids_after [] seen
+  -- the keys are those of the rows that were read
   pub keys : keyed.keys ≡ keys_behind [] seen
+  -- the rows have short identifiers and no fault by themselves
   pub short : AreShort seen
 
--- the first fault of places of which the first pass has kept these keys, and then ended at a fault
+-- `fault` is the first fault of the places if the first pass kept `keyed` and ended at the fault `ended`
 abbrev pub IsFirstBehind : Keyed → LoadFault → List Place → LoadFault → Type 0
 IsFirstBehind keyed ended places fault =
     (limits : Limits) (kept : RowStore) → row_total limits ≤ 68000000 → kept.keyed ≡ keyed
     → OfFiles ended (IsSeen limits places kept (Some ended)) → HasFirstFault limits places fault
 
--- the first fault of places of which the first pass has kept all rows
+-- `fault` is the first fault of the places if the first pass kept all their rows
 abbrev pub IsFirstOfKept : RowStore → List Place → LoadFault → Type 0
 IsFirstOfKept kept places fault =
     (limits : Limits) → row_total limits ≤ 68000000 → IsSeen limits places kept None → HasFirstFault limits places fault
 
--- so many rows are those of places of which the first pass has kept all, and this is what the chosen ones are made of
+-- `count` is the number of rows and `listed` is made of the chosen ones, if the first pass kept all rows of the
+-- places
 abbrev pub AreChosenOfKept : RowStore → List Place → ℕ → ReleaseLists → Type 0
 AreChosenOfKept kept places count listed =
     (limits : Limits) → IsSeen limits places kept None → IsReadFrom limits places count listed
 
--- the first conflict among the rows that were seen, with these keys
+-- `fault` is the first conflict among the rows that the first pass read, which have the keys of `keyed`
 abbrev pub IsFirstConflict : Keyed → List Place → LoadFault → Type 0
 IsFirstConflict keyed places fault =
     (seen beyond : List RowAt) → AreSeen keyed places seen beyond → first_conflict [] seen ≡ Some fault
 
--- no row that was seen, of those with these keys, conflicts with an earlier one
+-- no row that the first pass read conflicts with an earlier one; the rows have the keys of `keyed`
 abbrev pub HaveNoConflict : Keyed → List Place → Type 0
 HaveNoConflict keyed places =
     (seen beyond : List RowAt) → AreSeen keyed places seen beyond → first_conflict [] seen ≡ None
 
--- no row that was seen, of those with these keys, conflicts with an earlier one, and of each it is told whether it is chosen
+-- no row that the first pass read conflicts with an earlier one, and `chosen` says for each whether it is chosen; the
+-- rows have the keys of `keyed`
 abbrev pub AreChoicesAmong : Keyed → List Place → List Bool → Type 0
 AreChoicesAmong keyed places chosen =
     (seen beyond : List RowAt) → AreSeen keyed places seen beyond

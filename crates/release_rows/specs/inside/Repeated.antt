@@ -1,7 +1,7 @@
--- The numbers of a sorted list that stand there more than once.
+-- The numbers that occur in a sorted list more than once.
 use Rattle.std.specs.Prelude.{ℕ, ◌==◌, List, [], ◌∷◌, if◌then◌else◌}
 
--- each number that the one before it equals
+-- the numbers that equal the one before them
 abbrev pub equal_neighbours : List ℕ → List ℕ
 equal_neighbours [] = []
 equal_neighbours (one ∷ []) = []

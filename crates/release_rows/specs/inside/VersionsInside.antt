@@ -1,4 +1,4 @@
--- What the fields of versions say, and what they keep.
+-- How contracts see the fields of versions, and the invariants of these fields.
 use Rattle.std.specs.Prelude.{◌≡◌, ◌≤◌, ◌<◌, ℕ, ◌/◌, ◌^◌, List, All, length, map, None}
 use Rattle.std.specs.List.Sorted.{IsStrictlyIncreasing}
 use Rattle.rf2_rows.specs.Rows.{row_fault}
@@ -10,11 +10,11 @@ use Rattle.release_rows.specs.declared.versions.VersionRow.{VersionRow}
 use Rattle.release_rows.specs.declared.versions.VersionRows.TheInside.{Inside as RowsInside}
 use Rattle.release_rows.specs.declared.versions.Versions.TheInside.{Inside}
 
--- the row whose line is lent
+-- the keyed row that a noted row stands for; its line is lent
 abbrev pub noted : NotedRow → KeyedRow
 noted row = record { key = row.key; time = row.time; kind = row.kind; text = row.text.now }
 
--- the version whose first row has its line in the buffer
+-- the version of a row in the program's memory; its line stands in the buffer `lines`
 abbrev pub version_in : List ℕ → VersionRow → Version
 version_in lines row = record {
   code = row.code;
@@ -23,17 +23,22 @@ version_in lines row = record {
   text = text_at lines row.line;
 }
 
+-- the versions that `inside` holds
 abbrev pub versions_in : RowsInside → List Version
 versions_in inside = map (version_in inside.lines.items) inside.rows.items
 
--- its line stands in the buffer, and is a row of its kind
+-- the line of a version stands in the buffer and is a row of its kind
 pub record IsLineOf (lines : List ℕ) (row : VersionRow) : Type 0 where
+  -- the line stands in the buffer
   pub placed : IsSpanOf lines row.line
+  -- the line is a row of its kind without a fault
   pub accepted : row_fault row.kind (text_at lines row.line) ≡ None
 
+-- the line of each version stands in the buffer and is a row of its kind
 abbrev pub AreLines : RowsInside → Type 0
 AreLines inside = All (IsLineOf inside.lines.items) inside.rows.items
 
+-- the table of versions that `inside` holds
 abbrev pub taken_in : Inside → VersionTable
 taken_in inside = record {
   repeated = inside.repeated;
@@ -42,17 +47,24 @@ taken_in inside = record {
   chosen = inside.chosen.items;
 }
 
--- a version is of one of some keys, and its first row among the rows
+-- the key of a version is one of the first `keys` keys, and its first row is one of the first `rows` rows
 pub record IsPlacedAmong (keys rows : ℕ) (version : Version) : Type 0 where
+  -- the index of the version's key is below `keys`
   pub key : version.code / 2 ^ 32 < keys
+  -- the index of the version's first row is below `rows`
   pub row : version.place < rows
 
--- each code has its version
+-- the invariant of the table of versions: its lists fit together
 pub record AreKept (taken : VersionTable) : Type 0 where
+  -- the repeated keys rise, and each stands once
   pub rising : IsStrictlyIncreasing taken.repeated
+  -- there are fewer than 2^32 repeated keys
   pub few : length taken.repeated < 2 ^ 32
+  -- there are at least as many versions as codes
   pub each : length taken.codes ≤ length taken.versions
+  -- each version has a repeated key and a first row that was taken
   pub placed : All (IsPlacedAmong (length taken.repeated) (length taken.chosen)) taken.versions
 
+-- the table that `inside` holds keeps to `AreKept`
 abbrev pub AreKeptIn : Inside → Type 0
 AreKeptIn inside = AreKept (taken_in inside)

@@ -1,36 +1,42 @@
--- And and Or alike: the plan of a list of parts, by which of the two connects them.
+-- The plan of a list of parts that And or Or connects.
 use Rattle.std.specs.Prelude.{Bool, true, false, Option}
 use Rattle.set_algebra.specs.Plan.{Plan, Plans, and_plan, or_plan, PlanOfUnits, PlansOfUnits, and_units, or_units}
 use Rattle.set_algebra.specs.inside.Views.{and_parts, or_parts, group_and_parts, group_or_parts}
 use Rattle.rewrites.specs.declared.connective.Connective.{Connective}
 use Rattle.rewrites.specs.declared.connective.Connective.TheVariants.{And, Or}
 
--- of plans of concepts: the plan of the parts, whether a plan is one, and the parts of a plan of that connective
+-- plans of concepts
 
+-- the plan of concepts that a connective makes of its parts
 abbrev pub connected : Connective → Plans → Plan
 connected And parts = and_plan parts
 connected Or parts = or_plan parts
 
+-- whether a plan of concepts is an And or an Or
 abbrev pub is_connected : Plan → Bool
 is_connected (and_plan parts) = true
 is_connected (or_plan parts) = true
 is_connected plan = false
 
+-- the parts of a plan of concepts with that connective, or `None` for any other plan
 abbrev pub parts_under : Connective → Plan → Option Plans
 parts_under And plan = and_parts plan
 parts_under Or plan = or_parts plan
 
--- of plans of groups
+-- plans of groups
 
+-- the plan of groups that a connective makes of its parts
 abbrev pub connected_groups : Connective → PlansOfUnits → PlanOfUnits
 connected_groups And parts = and_units parts
 connected_groups Or parts = or_units parts
 
+-- whether a plan of groups is an And or an Or
 abbrev pub is_connected_group : PlanOfUnits → Bool
 is_connected_group (and_units parts) = true
 is_connected_group (or_units parts) = true
 is_connected_group plan = false
 
+-- the parts of a plan of groups with that connective, or `None` for any other plan
 abbrev pub group_parts_under : Connective → PlanOfUnits → Option PlansOfUnits
 group_parts_under And plan = group_and_parts plan
 group_parts_under Or plan = group_or_parts plan

@@ -1,4 +1,4 @@
--- What the attributes that the program holds say, and what they keep.
+-- How contracts see the attributes that the program holds, and the invariant of their fields.
 use Rattle.std.specs.Prelude.{◌<◌, ⊤, List, map, All, length, slice_index_or}
 use Rattle.rf2_rows.specs.Release.{Attribute, Value, concept_value}
 use Rattle.row_lists.specs.ConcreteValues.{Concrete, concrete_value, no_text}
@@ -7,11 +7,12 @@ use Rattle.row_lists.specs.declared.attributes.KeptValue.{KeptValue}
 use Rattle.row_lists.specs.declared.attributes.KeptValue.TheVariants.{Concept, Concrete as ConcreteAt}
 use Rattle.row_lists.specs.declared.attributes.Attributes.TheInside.{Inside}
 
--- the value that is kept: one that is no concept stands at its place among those values
+-- the value that a kept value stands for: a concept, or the value at an index of `values`
 abbrev pub value_in : List Concrete → KeptValue → Value
 value_in values (Concept concept) = concept_value concept
 value_in values (ConcreteAt place) = concrete_value (slice_index_or values place no_text)
 
+-- the attribute that a kept row stands for
 abbrev pub attribute_in : List Concrete → KeptRow → Attribute
 attribute_in values row = record {
   source = row.source;
@@ -20,16 +21,19 @@ attribute_in values row = record {
   value = value_in values row.value;
 }
 
+-- the attributes that `inside` holds
 abbrev pub attributes_in : Inside → List Attribute
 attributes_in inside = map (attribute_in inside.concrete) inside.rows.items
 
--- a value that is no concept stands among those values
+-- a kept value that is not a concept has its index within `values`
 abbrev pub IsWithinValues : List Concrete → KeptValue → Type 0
 IsWithinValues values (Concept concept) = ⊤
 IsWithinValues values (ConcreteAt place) = place < length values
 
+-- the value of a kept row, if it is not a concept, has its index within `values`
 abbrev pub IsPlacedIn : List Concrete → KeptRow → Type 0
 IsPlacedIn values row = IsWithinValues values row.value
 
+-- the value of each row, if it is not a concept, has its index within the concrete values
 abbrev pub AreAttributesPlaced : Inside → Type 0
 AreAttributesPlaced inside = All (IsPlacedIn inside.concrete) inside.rows.items

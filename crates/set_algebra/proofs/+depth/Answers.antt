@@ -6,6 +6,7 @@ use Rattle.set_algebra.proofs.PlanLemmas.{plan_of-Values}
 use Rattle.set_algebra.proofs.ListLemmas.{deepest_more, deepest_unit_more, plans_so_far, groups_so_far}
 use Rattle.set_algebra.proofs.+depth.Goals as goal
 
+-- the loop of `deepest` keeps its invariant: `deepest` is the depth of the parts read so far, cut off at 2^64 - 1
 pub depth::deepest-loop-part-preserved : goal.depth::deepest-loop-part-preserved
 depth::deepest-loop-part-preserved t c =
     c.max-deepest.ensures
@@ -13,6 +14,8 @@ depth::deepest-loop-part-preserved t c =
     (plans_so_far c.args.parts.now c.loop-part.part-index c.part-item.result c.loop-part-test.true c.part-item.is)
     c.loop-part.invariant c.depth.ensures
 
+-- the loop of `deepest_unit` keeps its invariant: `deepest` is the depth of the plans of groups read so far, cut off
+-- at 2^64 - 1
 pub depth::deepest_unit-loop-part-preserved : goal.depth::deepest_unit-loop-part-preserved
 depth::deepest_unit-loop-part-preserved t c =
     c.max-deepest.ensures
@@ -20,6 +23,7 @@ depth::deepest_unit-loop-part-preserved t c =
     (groups_so_far c.args.parts.now c.loop-part.part-index c.part-item.result c.loop-part-test.true c.part-item.is)
     c.loop-part.invariant c.depth.ensures
 
+-- `depth` returns the depth of a `Values` plan, cut off at 2^64 - 1
 pub plan::ConceptPlan::depth-returns-in-Values : goal.plan::ConceptPlan::depth-returns-in-Values
 plan::ConceptPlan::depth-returns-in-Values t c =
     let plan_is = ap plan_of c.in-Values.is ∙ plan_of-Values c.in-Values.start c.in-Values.names in

@@ -5,6 +5,7 @@ use Rattle.ancestor_index.specs.inside.Gathered.{has_joined}
 use Rattle.ancestor_index.proofs.GatherLemmas.{joined_list}
 use Rattle.ancestor_index.proofs.closure.add_joined.Goals as goal
 
+-- the list with the items of the set has the numbers of the list or of the set
 pub returns-in_ok-list : goal.returns-in_ok-list
 returns-in_ok-list g c = λ count test bound is.
     let items_of = g.S.ConceptSet.items_of in

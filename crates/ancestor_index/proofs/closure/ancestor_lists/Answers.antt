@@ -7,12 +7,15 @@ use Rattle.number_lists.specs.KeyedLists.{list_of}
 use Rattle.ancestor_index.proofs.ClosureLemmas.{lists_reordered, order_below, place_at}
 use Rattle.ancestor_index.proofs.closure.ancestor_lists.Goals as goal
 
+-- the order has each concept once
 pub places_in-requires-clause-once : goal.places_in-requires-clause-once
 places_in-requires-clause-once c = c.requires.parents.1.first.once
 
+-- each concept of the order is below its length
 pub places_in-requires-clause-below : goal.places_in-requires-clause-below
 places_in-requires-clause-below c = order_below c.requires.parents.0 c.args.parents.now c.args.order.now c.requires.parents.1
 
+-- each concept's place in the order has a list
 pub reordered-requires : goal.reordered-requires
 reordered-requires c = λ concept d within.
     let order = c.args.order.now in
@@ -26,6 +29,7 @@ reordered-requires c = λ concept d within.
     ∙ length-map order (λ concept. numbers_where (length order) (reaches c.requires.parents.0 concept)) in
     omega (arith, read, count, at.within)
 
+-- the lists by place, taken by the places of the concepts, are the lists of ancestors
 pub returns : goal.returns
 returns c = IfOk-weaker c.reordered.result _ _
     (λ (lists : List (List ℕ)) found rows given.

@@ -14,6 +14,7 @@ use Rattle.ancestor_index.proofs.GatherLemmas.{items_more, rising_more, where_be
 use Rattle.ancestor_index.proofs.ListLemmas.{map_more}
 use Rattle.ancestor_index.proofs.closure.ancestors_in_order.Goals as goal
 
+-- the concept of the order has a list of parents
 pub of-requires : goal.of-requires
 of-requires c =
     let order = c.args.order.now in
@@ -25,6 +26,7 @@ of-requires c =
       length-where (length order) (is_child c.requires.parents.0),
     )
 
+-- each parent of the concept is below `count` and has a place whose list is known
 pub join-requires-clause-concepts : goal.join-requires-clause-concepts
 join-requires-clause-concepts c = λ i d inside.
     let order = c.args.order.now in
@@ -43,6 +45,7 @@ join-requires-clause-concepts c = λ i d inside.
     (subst (λ (xs : List ℕ). Contains xs (get_or c.of.result.now i d)) own (Contains-get_or c.of.result.now i d inside)) in
     (omega (arith, placed.near, c.requires.len), placed.near, placed.early)
 
+-- the parents of the concept rise
 pub join-requires-clause-sorted : goal.join-requires-clause-sorted
 join-requires-clause-sorted c =
     let order = c.args.order.now in
@@ -59,20 +62,24 @@ join-requires-clause-sorted c =
     let own : c.of.result.now ≡ numbers_where (length order) (is_child rows (get_or order c.loop-concept.concept-index 0)) = c.of.ensures ∙ own_parents turn in
     subst (IsRisingBelow (length order)) (sym own) (numbers_where-rising (length order) (is_child rows (get_or order c.loop-concept.concept-index 0)))
 
+-- the lists so far rise
 pub join-requires-clause-rising : goal.join-requires-clause-rising
 join-requires-clause-rising c = c.loop-concept.invariant.rising
 
+-- the items of the lists so far are below `count`
 pub join-requires-clause-items : goal.join-requires-clause-items
 join-requires-clause-items c = c.loop-concept.invariant.items
 
+-- the long ones of the lists so far are kept as words
 pub join-requires-clause-wide : goal.join-requires-clause-wide
 join-requires-clause-wide c = c.loop-concept.invariant.wide
 
--- what was joined are the ancestors of the concept
+-- the joined numbers are below `count`
 pub push-requires : goal.push-requires
 push-requires c =
     where_below (length c.args.order.now) _ c.as_slice.result.now (c.as_slice.ensures.value ∙ c.in_ok-join.ensures)
 
+-- the joined numbers are the ancestors of the concept, so one concept more has its list
 pub loop-concept-preserved : goal.loop-concept-preserved
 loop-concept-preserved c =
     let order = c.args.order.now in
@@ -110,6 +117,7 @@ loop-concept-preserved c =
           (c.in_ok-push.ensures c.loop-concept.lists c.loop-concept.invariant.wide));
     }
 
+-- before the first concept there is no list
 pub loop-concept-init : goal.loop-concept-init
 loop-concept-init c = record {
   known = λ rows given. c.in_ok-lists.ensures;
@@ -122,6 +130,7 @@ loop-concept-init c = record {
       (c.in_ok-wide.ensures (length c.args.order.now));
 }
 
+-- after the last concept each concept of the order has its list
 pub returns : goal.returns
 returns c = λ rows given.
     c.loop-concept.invariant.known rows given

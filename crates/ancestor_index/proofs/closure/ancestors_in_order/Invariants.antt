@@ -7,6 +7,7 @@ use Rattle.ancestor_index.specs.inside.Parents.{AreParentsBy}
 use Rattle.ancestor_index.specs.Wide.{AreWide}
 use Rattle.ancestor_index.proofs.closure.ancestors_in_order.Given as goal
 
+-- the concepts of the order before the one at hand have their lists, which rise, and whose long ones are kept as words
 abbrev pub invariant-loop-concept : goal.invariant-loop-concept
 invariant-loop-concept l = record {
   known : (rows : List (ℕ × ℕ)) → AreParentsBy rows l.parents l.order

@@ -6,6 +6,7 @@ use Rattle.ancestor_index.specs.inside.Gathered.{AreGathered, gathered_by, has_j
 use Rattle.ancestor_index.proofs.GatherLemmas.{gathered_item, gathered_more}
 use Rattle.ancestor_index.proofs.closure.gather.Goals as goal
 
+-- the numbers in the list are below `count` after the concept is added
 pub add_list-requires-clause-list : goal.add_list-requires-clause-list
 add_list-requires-clause-list g c =
     let concept = get_or c.args.concepts.now c.loop-concept.concept-index 0 in
@@ -13,6 +14,7 @@ add_list-requires-clause-list g c =
     (All-push (λ item. item < c.args.count) c.loop-concept.list.items concept c.loop-concept.invariant.below
     (c.requires.concepts c.loop-concept.concept-index 0 c.loop-concept-test.true).0)
 
+-- one concept more is gathered, with its list
 pub loop-concept-preserved : goal.loop-concept-preserved
 loop-concept-preserved g c =
     let items_of = g.S.ConceptSet.items_of in

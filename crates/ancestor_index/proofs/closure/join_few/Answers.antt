@@ -5,12 +5,14 @@ use Rattle.ancestor_index.specs.inside.Gathered.{joined_by}
 use Rattle.ancestor_index.proofs.GatherLemmas.{joined_listed, joined_more, joined_with, listed_more, none_joined, own_rises}
 use Rattle.ancestor_index.proofs.closure.join_few.Goals as goal
 
+-- before the first list the room holds the concepts themselves, which rise
 pub loop-concept-init : goal.loop-concept-init
 loop-concept-init c =
     c.in_ok-extend_from_slice.ensures.items
     ∙ (λ k. c.clear.ensures.items k ++ c.args.concepts.now)
     ∙ none_joined (c.args.count) c.args.concepts.now c.requires.sorted
 
+-- joining one list more adds its numbers to those in the room, in rising order
 pub loop-concept-preserved : goal.loop-concept-preserved
 loop-concept-preserved c =
     let count = c.args.count in
@@ -30,6 +32,7 @@ loop-concept-preserved c =
     ∙ (λ k. listed_numbers count (concepts ++ (joined ++ c.of-own.ensures k)))
     ∙ sym (ap (λ (all : List ℕ). listed_numbers count (concepts ++ all)) (joined_more c.args.places.now c.args.lists.now concepts i c.loop-concept-test.true))
 
+-- after the last list the room holds what is gathered for the concepts, in rising order
 pub returns : goal.returns
 returns c =
     let concepts = c.args.concepts.now in

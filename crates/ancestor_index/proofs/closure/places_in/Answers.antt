@@ -2,6 +2,7 @@ use Rattle.std.proofs.Common.{get_or, arith}
 use Rattle.ancestor_index.proofs.ListLemmas.{places_step}
 use Rattle.ancestor_index.proofs.closure.places_in.Goals as goal
 
+-- storing the place of one concept more keeps the places of those before it
 pub loop-place-preserved : goal.loop-place-preserved
 loop-place-preserved c =
     let concept = get_or c.args.order.now c.loop-place.place 0 in

@@ -4,6 +4,7 @@ use Rattle.number_lists.specs.Rising.{listed_numbers}
 use Rattle.ancestor_index.proofs.ListLemmas.{map_more}
 use Rattle.ancestor_index.proofs.rising.rising_lists.Goals as goal
 
+-- one list more is sorted, without repeats
 pub loop-key-preserved : goal.loop-key-preserved
 loop-key-preserved c =
     let key = c.loop-key.key in

@@ -3,6 +3,7 @@ use Rattle.ancestor_index.specs.Wide.{IsKept, IsWide}
 use Rattle.ancestor_index.proofs.WideLemmas.{kept_new}
 use Rattle.ancestor_index.proofs.wide.put_words.Goals as goal
 
+-- the words of a long list stand at the end of all words
 pub returns-clause-kept : goal.returns-clause-kept
 returns-clause-kept c =
     let old = c.args.words.now.items in

@@ -8,17 +8,19 @@ use Rattle.answer_printer.specs.AnswerText.{answer_head, shown_names}
 use Rattle.answer_printer.proofs.AnswerLemmas.{lines_answer, shown_are_concepts}
 use Rattle.answer_printer.proofs.answer.append_answer.Goals as goal
 
+-- the shown concepts are below the count of concepts, so their room can be computed
 pub room_of-requires : goal.room_of-requires
 room_of-requires g c =
     shown_are_concepts _ _ c.args.form.offset c.args.form.first _ c.args.shown.now c.requires.shown
     (g.met.S.ConceptSet.rising c.args.set.now) c.requires.set
 
+-- the shown concepts are below the count of concepts, so their lines can be appended
 pub append_lines-requires : goal.append_lines-requires
 append_lines-requires g c =
     shown_are_concepts _ _ c.args.form.offset c.args.form.first _ c.args.shown.now c.requires.shown
     (g.met.S.ConceptSet.rising c.args.set.now) c.requires.set
 
--- the lines stand behind the head
+-- the head and the lines of the shown concepts are the answer
 pub returns-clause-ok : goal.returns-clause-ok
 returns-clause-ok g c =
     let release = c.args.snapshot.now.release in

@@ -8,6 +8,7 @@ use Rattle.answer_printer.specs.inside.Prefix.{IsPrefixOf}
 use Rattle.answer_printer.proofs.AnswerLemmas.{prefix_joined, prefix_more, text_end, text_turn}
 use Rattle.answer_printer.proofs.answer.append_lines.Goals as goal
 
+-- the line of one concept more is appended
 pub loop-concept-preserved : goal.loop-concept-preserved
 loop-concept-preserved c =
     let release = c.args.snapshot.now.release in
@@ -24,11 +25,12 @@ loop-concept-preserved c =
           (prefix_more c.args.output.now.items so_far line kept.begun);
     }
 
--- memory was refused in a line
+-- if memory for a line is refused, the output begins with the bytes that it had
 pub returns-in_err-append_line-clause-begun : goal.returns-in_err-append_line-clause-begun
 returns-in_err-append_line-clause-begun c =
     prefix_joined _ _ _ c.loop-concept.invariant.begun c.append_line.ensures.begun
 
+-- after the last concept all lines are appended
 pub returns-clause-ok : goal.returns-clause-ok
 returns-clause-ok c =
     let release = c.args.snapshot.now.release in

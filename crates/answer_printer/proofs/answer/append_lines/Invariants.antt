@@ -7,7 +7,7 @@ use Rattle.answer_printer.specs.AnswerText.{shown_names}
 use Rattle.answer_printer.specs.inside.Prefix.{IsPrefixOf}
 use Rattle.answer_printer.proofs.answer.append_lines.Given as goal
 
--- the lines so far and those that are left are all lines
+-- the lines so far and the remaining lines are all lines, and the output begins with the bytes that it had
 abbrev pub invariant-loop-concept : goal.invariant-loop-concept
 invariant-loop-concept l =
     let name = shown_names l.names (name_of l.snapshot.release l.snapshot.language) in

@@ -10,10 +10,11 @@ use Rattle.answer_printer.specs.AnswerText.{shown_names}
 use Rattle.answer_printer.proofs.AnswerLemmas.{text_end}
 use Rattle.answer_printer.proofs.answer.put_lines.Goals as goal
 
--- the lines so far, the line at hand and those that are left are all lines
+-- the lines so far, the line at hand and the remaining lines are all lines
 joined : (done line rest left all : List ℕ) → left ≡ line ++ rest → done ++ left ≡ all → (done ++ line) ++ rest ≡ all
 joined done line rest left all next whole = append_assoc done line rest ∙ ap (λ (text : List ℕ). done ++ text) (sym next) ∙ whole
 
+-- the line of one concept more is put
 pub loop-concept-preserved : goal.loop-concept-preserved
 loop-concept-preserved g c =
     let (done, put, whole) = c.loop-concept.invariant.put in
@@ -34,7 +35,7 @@ loop-concept-preserved g c =
       );
     }
 
--- the output failed at the line at hand
+-- if the output fails at the line at hand, a front of all lines was written
 pub returns-in-Err-clause-err : goal.returns-in-Err-clause-err
 returns-in-Err-clause-err g c =
     let (done, put, whole) = c.loop-concept.invariant.put in
@@ -51,7 +52,7 @@ returns-in-Err-clause-err g c =
     (joined done line rest left (lines c.args.concepts.now) next whole)
     (Puts-cut-more _ _ _ c.args.piece.now done c.loop-concept.piece put line rest c.in-Err.ensures.err)
 
--- the lines so far are all lines
+-- after the last concept all lines are put
 pub returns-clause-ok : goal.returns-clause-ok
 returns-clause-ok g c =
     let (done, put, whole) = c.loop-concept.invariant.put in

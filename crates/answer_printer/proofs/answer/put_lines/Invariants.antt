@@ -7,7 +7,7 @@ use Rattle.held_release.specs.Line.{concept_line}
 use Rattle.answer_printer.specs.AnswerText.{shown_names}
 use Rattle.answer_printer.proofs.answer.put_lines.Given as goal
 
--- the lines so far were put, and with those that are left they are all lines
+-- the lines so far are put, and with the remaining lines they are all lines
 abbrev pub invariant-loop-concept : goal.invariant-loop-concept
 invariant-loop-concept g l =
     let name = shown_names l.names (name_of l.snapshot.release l.snapshot.language) in

@@ -5,15 +5,17 @@ use Rattle.answer_printer.specs.LoadRefusal.{cause_word}
 use Rattle.answer_printer.specs.ToldName.{told_name}
 use Rattle.answer_printer.proofs.load_refusal.row_line.Goals as goal
 
+-- a word with a space before it
 abbrev spaced : List ℕ → List ℕ
 spaced word = 32 ∷ word
 
--- a word more, behind a space
+-- a word added after a space is one word more of the line
 word_more : (words : List (List ℕ)) (word line next : List ℕ) → line ≡ codes "REFUSED" ++ flat_map spaced words
     → next ≡ line ++ spaced word → next ≡ codes "REFUSED" ++ flat_map spaced (words ++ word ∷ [])
 word_more words word line next before is =
     is ∙ ap (λ (text : List ℕ). text ++ spaced word) before ∙ flat_map_more spaced (codes "REFUSED") words word
 
+-- the line has the words of name, line number, column and cause
 pub returns : goal.returns
 returns c =
     let kind = codes "row" in

@@ -14,26 +14,31 @@ use Rattle.answer_printer.proofs.LineLemmas.{behind_written, both_written, group
 use Rattle.answer_printer.proofs.LineLemmas.{outline_is}
 use Rattle.answer_printer.proofs.plan.+write.Goals as goal
 
+-- the lines of one concept plan more are written
 pub write_parts-loop-place-preserved : goal.write_parts-loop-place-preserved
 write_parts-loop-place-preserved t c =
     let part = c.in_ok-left.ensures in
     lines_turn c.loop-place.invariant c.loop-place-test.true c.index-parts-place.is part.text part.bounds
 
+-- after the last concept plan the lines of all are written
 pub write_parts-returns : goal.write_parts-returns
 write_parts-returns t c =
     let written = lines_end c.loop-place.invariant c.loop-place-test.false in
     record { text = written.lines; bounds = written.behind }
 
+-- the lines of one group plan more are written
 pub write_unit_parts-loop-place-preserved : goal.write_unit_parts-loop-place-preserved
 write_unit_parts-loop-place-preserved t c =
     let part = c.in_ok-left.ensures in
     lines_turn c.loop-place.invariant c.loop-place-test.true c.index-parts-place.is part.text part.bounds
 
+-- after the last group plan the lines of all are written
 pub write_unit_parts-returns : goal.write_unit_parts-returns
 write_unit_parts-returns t c =
     let written = lines_end c.loop-place.invariant c.loop-place-test.false in
     record { text = written.lines; bounds = written.behind }
 
+-- a concept plan's own line and the lines below it are the lines of the plan
 pub write_plan-returns : goal.write_plan-returns
 write_plan-returns t c =
     let spaces = c.args.spaces.now in
@@ -44,6 +49,7 @@ write_plan-returns t c =
     (c.as_slice.ensures.value ∙ c.in_ok-deeper.ensures) left.text left.bounds in
     record { text = written.lines; bounds = written.behind }
 
+-- a group plan's own line and the lines below it are the lines of the plan
 pub write_units-returns : goal.write_units-returns
 write_units-returns t c =
     let spaces = c.args.spaces.now in
@@ -54,7 +60,7 @@ write_units-returns t c =
     (c.as_slice.ensures.value ∙ c.in_ok-deeper.ensures) left.text left.bounds in
     record { text = written.lines; bounds = written.behind }
 
--- An arm of one call writes what it writes.
+-- below a plan with one operand (`Walk`, `Members`) stand the lines of the operand
 pub write_below-returns-in-Walk : goal.write_below-returns-in-Walk
 write_below-returns-in-Walk t c =
     let operand = physical_of c.deref-in-Walk.result.now in
@@ -64,6 +70,7 @@ write_below-returns-in-Walk t c =
       | inr is ↦ rw (ap physical_of is ∙ ap physical_members same) c.write_plan-in-Walk.ensures
     ]
 
+-- below `And` and `Or` stand the lines of their parts
 pub write_below-returns-in-And : goal.write_below-returns-in-And
 write_below-returns-in-And t c =
     let are = ap physicals_of (sym c.deref-in-And.ensures.value) in
@@ -72,12 +79,14 @@ write_below-returns-in-And t c =
       | inr is ↦ rw (ap physical_of is ∙ physical_of-Or c.in-And.parts ∙ ap physical_or are) c.write_parts-in-And.ensures
     ]
 
+-- below `Units` stand the lines of its group plan
 pub write_below-returns-in-Units : goal.write_below-returns-in-Units
 write_below-returns-in-Units t c =
     rw (ap physical_of c.in-Units.is
     ∙ ap (λ (units : UnitPlan). physical_units c.in-Units.count (physical_units_of units)) (sym c.deref-in-Units.ensures))
     c.write_units.ensures
 
+-- below `And` and `Or` of groups stand the lines of their parts
 pub write_below_unit-returns-in-And : goal.write_below_unit-returns-in-And
 write_below_unit-returns-in-And t c =
     let are = ap physical_units_list_of (sym c.deref-in-And.ensures.value) in
@@ -86,7 +95,7 @@ write_below_unit-returns-in-And t c =
       | inr is ↦ rw (ap physical_units_of is ∙ physical_units_of-Or c.in-And.parts ∙ ap physical_units_or are) c.write_unit_parts.ensures
     ]
 
--- An arm of two calls: the second goes on by the bounds that the first left.
+-- below `Minus` stand the lines of its first and then its second plan
 pub write_below-returns-in_ok-left-in-Minus : goal.write_below-returns-in_ok-left-in-Minus
 write_below-returns-in_ok-left-in-Minus t c =
     let left = c.in_ok-left-in-Minus.ensures in
@@ -99,6 +108,7 @@ write_below-returns-in_ok-left-in-Minus t c =
       bounds = IfOk-weaker last.result _ _ (λ _. both.bounds_left) last.ensures.bounds;
     })
 
+-- below `Values` stand the lines of its start and then of its attribute names
 pub write_below-returns-in_ok-left-in-Values : goal.write_below-returns-in_ok-left-in-Values
 write_below-returns-in_ok-left-in-Values t c =
     let left = c.in_ok-left-in-Values.ensures in
@@ -111,6 +121,7 @@ write_below-returns-in_ok-left-in-Values t c =
       bounds = IfOk-weaker last.result _ _ (λ _. both.bounds_left) last.ensures.bounds;
     })
 
+-- below `Pairs` stand the lines of its types and then of its test
 pub write_below-returns-in_ok-left-in-Pairs : goal.write_below-returns-in_ok-left-in-Pairs
 write_below-returns-in_ok-left-in-Pairs t c =
     let left = c.in_ok-left-in-Pairs.ensures in
@@ -123,6 +134,7 @@ write_below-returns-in_ok-left-in-Pairs t c =
       bounds = IfOk-weaker last.result _ _ (λ _. both.bounds_left) last.ensures.bounds;
     })
 
+-- below `Minus` of groups stand the lines of its first and then its second plan
 pub write_below_unit-returns-in_ok-left-in-Minus : goal.write_below_unit-returns-in_ok-left-in-Minus
 write_below_unit-returns-in_ok-left-in-Minus t c =
     let left = c.in_ok-left-in-Minus.ensures in
@@ -135,6 +147,7 @@ write_below_unit-returns-in_ok-left-in-Minus t c =
       bounds = IfOk-weaker last.result _ _ (λ _. both.bounds_left) last.ensures.bounds;
     })
 
+-- below `Pairs` of groups stand the lines of its types and then of its test
 pub write_below_unit-returns-in_ok-left-in-Pairs : goal.write_below_unit-returns-in_ok-left-in-Pairs
 write_below_unit-returns-in_ok-left-in-Pairs t c =
     let left = c.in_ok-left-in-Pairs.ensures in

@@ -7,6 +7,7 @@ use Rattle.answer_printer.specs.PlanText.{outline}
 use Rattle.answer_printer.proofs.LinedLemmas.{lines_are}
 use Rattle.answer_printer.proofs.plan.plan_bytes.Goals as goal
 
+-- the head and the lines with the plan's own bounds are the text of the plan
 pub returns : goal.returns
 returns c =
     let indexed = c.args.indexes.now in

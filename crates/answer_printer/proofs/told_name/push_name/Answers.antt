@@ -3,6 +3,7 @@ use Rattle.answer_printer.specs.ToldName.{told_byte, told_name}
 use Rattle.answer_printer.proofs.AnswerLemmas.{text_end, text_turn}
 use Rattle.answer_printer.proofs.told_name.push_name.Goals as goal
 
+-- one byte more of the name is told
 pub loop-byte-preserved : goal.loop-byte-preserved
 loop-byte-preserved c =
     let same = c.as_bytes-byte-items.ensures.value in
@@ -13,6 +14,7 @@ loop-byte-preserved c =
     (c.in_ok-push_byte.ensures
     ∙ ap (λ (bytes : List ℕ). so_far ++ told_byte (get_or bytes c.loop-byte.byte-index 0)) same)
 
+-- after the last byte the whole name is told
 pub returns : goal.returns
 returns c =
     text_end told_name c.args.name.now c.loop-byte.byte-index c.loop-byte.line.items _ c.loop-byte.invariant

@@ -4,7 +4,7 @@ use Rattle.candidates.specs.Extents.{group_count_of}
 use Rattle.candidates.specs.RowCounts.{row_count_of}
 use Rattle.candidates.proofs.candidates.extent_among.Given as goal
 
--- the rows and groups of the concepts so far
+-- `rows`, `back_rows` and `groups` are at least what the concepts so far have
 abbrev pub invariant-loop-concept : goal.invariant-loop-concept
 invariant-loop-concept l = record {
   rows : full_sum (row_count_of l.reader.indexes.now true) (take l.concept-index l.concepts) ≤ l.rows;

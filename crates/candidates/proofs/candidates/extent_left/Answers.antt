@@ -2,14 +2,17 @@ use Rattle.std.proofs.Common.{arith, sym}
 use Rattle.candidates.proofs.ExtentLemmas.{extent_among, group_extent_among}
 use Rattle.candidates.proofs.candidates.extent_left.Goals as goal
 
+-- if all are candidates, an extent that counts nothing but the items holds for the concepts that are left
 pub returns-in-All-clause-concepts : goal.returns-in-All-clause-concepts
 returns-in-All-clause-concepts g c =
     λ indexed told. c.uncounted.ensures.concepts indexed (g.S.ConceptSet.items_of c.args.left.now) (sym c.count.ensures)
 
+-- if all are candidates, an extent that counts nothing but the items holds for the groups that are left
 pub returns-in-All-clause-groups : goal.returns-in-All-clause-groups
 returns-in-All-clause-groups g c =
     λ indexed told. c.uncounted.ensures.groups indexed (g.S.ConceptSet.items_of c.args.left.now) (sym c.count.ensures)
 
+-- the concepts that are left are among the candidates, so the limits of the candidates hold for them
 pub returns-in-Within-clause-concepts : goal.returns-in-Within-clause-concepts
 returns-in-Within-clause-concepts g c =
     λ indexed told.
@@ -17,6 +20,7 @@ returns-in-Within-clause-concepts g c =
     (g.met.S.ConceptSet.rising c.args.left.now) (g.met.S.ConceptSet.rising c.in-Within.field-0.now)
     (rw c.in-Within.is at c.requires) indexed c.in-Within.extent _ (omega arith) (rw c.in-Within.is at told)
 
+-- the groups that are left are among the candidates, so the limits of the candidates hold for them
 pub returns-in-Within-clause-groups : goal.returns-in-Within-clause-groups
 returns-in-Within-clause-groups g c =
     λ indexed told.

@@ -2,6 +2,7 @@ use Rattle.std.proofs.Common.{ℕ, List, ◌<◌, ◌∙◌, All, length, sym, a
 use Rattle.number_lists.proofs.RisingLemmas.{all_below}
 use Rattle.candidates.proofs.candidates.extent_of.Goals as goal
 
+-- the items of the set are numbers of concepts
 pub extent_among-requires : goal.extent_among-requires
 extent_among-requires g c =
     let items = g.S.ConceptSet.items_of c.args.concepts.now in
@@ -11,6 +12,7 @@ extent_among-requires g c =
     (c.requires.bound ∙ ap (λ (ids : List ℕ). length ids) (sym c.args.reader.index.concepts))
     (all_below (g.S.ConceptSet.bound_of c.args.concepts.now) items (g.met.S.ConceptSet.rising c.args.concepts.now)))
 
+-- an extent that counts nothing but the items of the set holds for its concepts
 pub returns-then-are_many_beside-clause-extent : goal.returns-then-are_many_beside-clause-extent
 returns-then-are_many_beside-clause-extent g c =
     c.uncounted.ensures.concepts c.args.reader.indexes.now (g.S.ConceptSet.items_of c.args.concepts.now)

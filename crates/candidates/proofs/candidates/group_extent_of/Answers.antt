@@ -4,6 +4,7 @@ use Rattle.number_lists.proofs.RisingLemmas.{all_below}
 use Rattle.candidates.proofs.GroupLemmas.{groups_are}
 use Rattle.candidates.proofs.candidates.group_extent_of.Goals as goal
 
+-- the items of the set are numbers of groups
 pub group_extent_among-requires : goal.group_extent_among-requires
 group_extent_among-requires g c =
     let items = g.S.ConceptSet.items_of c.args.groups.now in
@@ -15,6 +16,7 @@ group_extent_among-requires g c =
     (sym (groups_are c.args.reader.indexes.now c.args.reader.snapshot.now.release c.args.reader.index c.concept_count.ensures.rising)))
     (all_below (g.S.ConceptSet.bound_of c.args.groups.now) items (g.met.S.ConceptSet.rising c.args.groups.now)))
 
+-- an extent that counts nothing but the items of the set holds for its groups
 pub returns-then-are_many_beside-clause-extent : goal.returns-then-are_many_beside-clause-extent
 returns-then-are_many_beside-clause-extent g c =
     c.uncounted.ensures.groups c.args.reader.indexes.now (g.S.ConceptSet.items_of c.args.groups.now)

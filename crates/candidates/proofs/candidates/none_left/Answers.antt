@@ -5,6 +5,7 @@ use Rattle.number_lists.specs.Members.{has}
 use Rattle.candidates.specs.Within.{may_be}
 use Rattle.candidates.proofs.candidates.none_left.Goals as goal
 
+-- a set whose count is 0 has no candidate
 pub returns-in-Within : goal.returns-in-Within
 returns-in-Within g c = λ none number.
     let items : List ℕ = g.S.ConceptSet.items_of c.in-Within.set.now in

@@ -4,7 +4,7 @@ use Rattle.reading.specs.Counted.{full}
 use Rattle.candidates.specs.RowCounts.{row_count_of}
 use Rattle.candidates.proofs.tally.rows_after.Given as goal
 
--- with those of the concepts so far
+-- `rows` is `before` plus the rows of the concepts so far, saturated
 abbrev pub invariant-loop-concept : goal.invariant-loop-concept
 invariant-loop-concept l =
     l.rows ≡ full (l.before + sum_by (row_count_of l.reader.indexes.now l.back) (take l.concept-index l.concepts))

@@ -8,13 +8,14 @@ use Rattle.command_line.specs.CommandLine.{HasOwnArguments, bare_program, check_
 use Rattle.command_line.specs.CommandLine.{language_command, query_command}
 use Rattle.command_line.proofs.words.command_line.Goals as goal
 
--- a program with one more of the commands that it takes
+-- the program with one more command has this command and those before
 one_more : (whole so_far own : App) (command : Result Command AllocError)
     → IsOkAnd command (λ own. HasOwnArguments own → whole ≡ with_subcommand so_far (app_of own).top)
     → IfOk command (λ command. app_of command ≡ own) → IfOk command HasOwnArguments → whole ≡ with_subcommand so_far own.top
 one_more whole so_far own (Ok command) adds shape owns = adds owns ∙ ap (λ (app : App). with_subcommand so_far app.top) shape
 one_more whole so_far own (Err refused) adds shape owns = absurd adds
 
+-- the program has its five commands
 pub returns : goal.returns
 returns c =
     let named = app_of c.in_ok-named.named in

@@ -8,6 +8,7 @@ use Rattle.command_line.proofs.WordLemmas.{is_no_request}
 use Rattle.command_line.proofs.WordLemmas.{names_folders, names_no_folder}
 use Rattle.command_line.proofs.words.command_request.Goals as goal
 
+-- the command `query` asks for the request of its rows
 pub returns-then-eq-clause-asked : goal.returns-then-eq-clause-asked
 returns-then-eq-clause-asked c =
     let rows : List Row = rows_of (found_of c.in-Some.arguments.now) in
@@ -18,6 +19,7 @@ returns-then-eq-clause-asked c =
     IfOk-weaker c.query_request.result _ _ (λ request asked. asks_query command rows request named asked)
     c.query_request.ensures.asked
 
+-- the command `describe` asks for its folders and its language
 pub returns-then-eq-2-clause-asked : goal.returns-then-eq-2-clause-asked
 returns-then-eq-2-clause-asked c =
     let rows : List Row = rows_of (found_of c.in-Some.arguments.now) in
@@ -30,6 +32,7 @@ returns-then-eq-2-clause-asked c =
     (asks_in_language command (codes "describe") rows request named asked.1 asked.2))
     c.language_request.ensures.asked
 
+-- the command `session` asks for its folders and its language
 pub returns-then-eq-3-clause-asked : goal.returns-then-eq-3-clause-asked
 returns-then-eq-3-clause-asked c =
     let rows : List Row = rows_of (found_of c.in-Some.arguments.now) in
@@ -42,6 +45,7 @@ returns-then-eq-3-clause-asked c =
     (asks_in_language command (codes "session") rows request named asked.1 asked.2))
     c.language_request-then-eq-3.ensures.asked
 
+-- the command `explain` asks for the plans of queries over its folders' release
 pub returns-then-eq-4-clause-asked : goal.returns-then-eq-4-clause-asked
 returns-then-eq-4-clause-asked c =
     let rows : List Row = rows_of (found_of c.in-Some.arguments.now) in
@@ -54,6 +58,7 @@ returns-then-eq-4-clause-asked c =
     (asks_folders command (codes "explain") rows _ request named c.folders_of-folders.ensures asked.1 asked.2 asked.3))
     c.of_folders.ensures.asked
 
+-- the command `check` asks for the report of its folders' release
 pub returns-then-eq-5-clause-asked : goal.returns-then-eq-5-clause-asked
 returns-then-eq-5-clause-asked c =
     let rows : List Row = rows_of (found_of c.in-Some.arguments.now) in
@@ -66,6 +71,7 @@ returns-then-eq-5-clause-asked c =
     (asks_folders command (codes "check") rows _ request named c.folders_of-folders.ensures asked.1 asked.2 asked.3))
     c.of_folders-then-eq-5.ensures.asked
 
+-- if the rows of `query` are no request, the command is refused
 pub returns-then-eq-clause-refused : goal.returns-then-eq-clause-refused
 returns-then-eq-clause-refused c =
     let rows : List Row = rows_of (found_of c.in-Some.arguments.now) in
@@ -76,6 +82,7 @@ returns-then-eq-clause-refused c =
     IfErr-weaker c.query_request.result _ _ (λ fault none. is_no_query command rows fault named none)
     c.query_request.ensures.refused
 
+-- if `describe` has no folders or too many, the command is refused
 pub returns-then-eq-2-clause-refused : goal.returns-then-eq-2-clause-refused
 returns-then-eq-2-clause-refused c =
     let rows : List Row = rows_of (found_of c.in-Some.arguments.now) in
@@ -88,6 +95,7 @@ returns-then-eq-2-clause-refused c =
     (sym (names_folders command (codes "describe") rows named refl)) none))
     c.language_request.ensures.refused
 
+-- if `session` has no folders or too many, the command is refused
 pub returns-then-eq-3-clause-refused : goal.returns-then-eq-3-clause-refused
 returns-then-eq-3-clause-refused c =
     let rows : List Row = rows_of (found_of c.in-Some.arguments.now) in
@@ -100,6 +108,7 @@ returns-then-eq-3-clause-refused c =
     (sym (names_folders command (codes "session") rows named refl)) none))
     c.language_request-then-eq-3.ensures.refused
 
+-- if `explain` has no folders or too many, the command is refused
 pub returns-then-eq-4-clause-refused : goal.returns-then-eq-4-clause-refused
 returns-then-eq-4-clause-refused c =
     let rows : List Row = rows_of (found_of c.in-Some.arguments.now) in
@@ -112,6 +121,7 @@ returns-then-eq-4-clause-refused c =
     (c.folders_of-folders.ensures ∙ sym (names_folders command (codes "explain") rows named refl)) none))
     c.of_folders.ensures.refused
 
+-- if `check` has no folders or too many, the command is refused
 pub returns-then-eq-5-clause-refused : goal.returns-then-eq-5-clause-refused
 returns-then-eq-5-clause-refused c =
     let rows : List Row = rows_of (found_of c.in-Some.arguments.now) in
@@ -124,6 +134,7 @@ returns-then-eq-5-clause-refused c =
     (c.folders_of-folders.ensures ∙ sym (names_folders command (codes "check") rows named refl)) none))
     c.of_folders-then-eq-5.ensures.refused
 
+-- a command of another name is no request
 pub returns-clause-refused : goal.returns-clause-refused
 returns-clause-refused c =
     let name = c.in-Some.name.now in

@@ -8,6 +8,7 @@ use Rattle.command_line.specs.CommandLine.{AreOneToNine, default_language}
 use Rattle.command_line.proofs.WordLemmas.{lent_or}
 use Rattle.command_line.proofs.words.language_request.Goals as goal
 
+-- the request has the folders and the language of the rows, or the default language
 pub returns-clause-asked : goal.returns-clause-asked
 returns-clause-asked c =
     let found = found_of c.args.arguments.now in

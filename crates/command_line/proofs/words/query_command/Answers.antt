@@ -5,6 +5,7 @@ use Rattle.command_line.specs.CommandLine.{HasOwnArguments, lang_rule, no_names_
 use Rattle.command_line.proofs.WordLemmas.{own_added, rule_added}
 use Rattle.command_line.proofs.words.query_command.Goals as goal
 
+-- the command `query` has the folders and its four options
 pub returns-clause-shape : goal.returns-clause-shape
 returns-clause-shape c =
     let lang = rule_added _ _ c.in_ok-with_lang.with_lang c.in_ok-with_lang.ensures c.lang_argument.ensures.own
@@ -17,6 +18,7 @@ returns-clause-shape c =
     (λ command adds. rule_added _ _ command adds c.no_names_argument.ensures.own
     _ no_names_rule c.no_names_argument.ensures.rule first) c.arg-4.ensures
 
+-- no argument of `query` is shared with its commands
 pub returns-clause-own : goal.returns-clause-own
 returns-clause-own c =
     let lang = own_added _ _ c.in_ok-with_lang.with_lang c.in_ok-with_lang.ensures c.lang_argument.ensures.own

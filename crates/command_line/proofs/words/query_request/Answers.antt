@@ -10,6 +10,7 @@ use Rattle.command_line.specs.declared.words.Mode.{Mode}
 use Rattle.command_line.proofs.WordLemmas.{lent_or}
 use Rattle.command_line.proofs.words.query_request.Goals as goal
 
+-- the request has the folders, the language and the mode of the rows
 pub returns-clause-asked : goal.returns-clause-asked
 returns-clause-asked c =
     let found = found_of c.args.arguments.now in
@@ -23,6 +24,7 @@ returns-clause-asked c =
       subst (λ (mode : Mode). IsQueryMode rows mode) (sym asked.0) c.in-Ok.ensures.asked,
     )) c.of_folders.ensures.asked
 
+-- if `query` has no folders or too many, its rows are no request
 pub returns-clause-refused : goal.returns-clause-refused
 returns-clause-refused c =
     let rows : List Row = rows_of (found_of c.args.arguments.now) in

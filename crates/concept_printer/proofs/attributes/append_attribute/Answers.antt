@@ -6,6 +6,7 @@ use Rattle.concept_printer.proofs.GroupLemmas.{row_read}
 use Rattle.concept_printer.proofs.LineLemmas.{three_words}
 use Rattle.concept_printer.proofs.attributes.append_attribute.Goals as goal
 
+-- group, type and value of the row, put piece by piece, are its line
 pub returns : goal.returns
 returns c =
     let row : Attribute =

@@ -4,6 +4,7 @@ use Rattle.concept_printer.specs.ConceptText.{attribute_line, name_in_force}
 use Rattle.concept_printer.specs.inside.GroupKeys.{row_with_key}
 use Rattle.concept_printer.proofs.attributes.append_rows.Given as goal
 
+-- the lines of the rows with the keys so far are appended
 abbrev pub invariant-loop-key : goal.invariant-loop-key
 invariant-loop-key l =
     l.text.items

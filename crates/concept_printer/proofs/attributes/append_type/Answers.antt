@@ -4,6 +4,7 @@ use Rattle.concept_printer.specs.ConceptText.{concept_words, name_in_force}
 use Rattle.concept_printer.proofs.ConceptLemmas.{number_told, words_without}
 use Rattle.concept_printer.proofs.attributes.append_type.Goals as goal
 
+-- a type that is a concept in force is told with its name
 pub returns-in-Some : goal.returns-in-Some
 returns-in-Some c =
     let told = number_told c.args.snapshot.now.release.concepts c.number.result c.in-Some.concept
@@ -13,6 +14,7 @@ returns-in-Some c =
     (c.append_words.new.text.items ≡ c.args.text.now.items ++ concept_words (name_in_force c.args.snapshot.now) id))
     (told.1 ∙ c.number.ensures.number) c.append_words.ensures
 
+-- a type that is no concept in force is told by its identifier alone
 pub returns-in-None : goal.returns-in-None
 returns-in-None c =
     let none = subst (λ (id : ℕ). concept_number c.args.snapshot.now.release.concepts id ≡ None) c.number.ensures.number

@@ -3,6 +3,7 @@ use Rattle.std.proofs.lemmas.List.Filters.{dedup_is}
 use Rattle.number_lists.proofs.RisingOrderLemmas.{deduped_is_rising}
 use Rattle.concept_printer.proofs.attributes.rising.Goals as goal
 
+-- sorting and then dropping repeats gives the keys in rising order, each once
 pub returns : goal.returns
 returns c =
     grind (

@@ -6,11 +6,13 @@ use Rattle.concept_printer.specs.ConceptText.{headed, name_in_force}
 use Rattle.concept_printer.proofs.ListLemmas.{children_are, children_below, children_fit}
 use Rattle.concept_printer.proofs.concept.append_children.Goals as goal
 
+-- the concept has a list of children
 pub children-requires : goal.children-requires
 children-requires c =
     subst (λ (hierarchy : Hierarchy). c.args.concept < length hierarchy.children) (sym c.hierarchy-hierarchy.ensures)
     (children_fit c.args.indexes.now c.args.snapshot.now.release c.requires.indexes c.args.concept c.requires.concept)
 
+-- the children are below the count of concepts
 pub append_concepts-requires : goal.append_concepts-requires
 append_concepts-requires c =
     let list_is = c.children.ensures
@@ -18,6 +20,7 @@ append_concepts-requires c =
     subst (All (λ other. other < length c.args.snapshot.now.release.concepts)) (sym list_is)
     (children_below c.args.indexes.now c.args.snapshot.now.release c.requires.indexes c.args.concept c.requires.concept)
 
+-- the appended lines are those of the children of the concept
 pub returns : goal.returns
 returns c =
     let list_is = c.children.ensures

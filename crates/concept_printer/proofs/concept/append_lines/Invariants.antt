@@ -5,6 +5,7 @@ use Rattle.held_release.specs.Line.{concept_line}
 use Rattle.concept_printer.specs.ConceptText.{name_in_force}
 use Rattle.concept_printer.proofs.concept.append_lines.Given as goal
 
+-- the lines of the concepts so far are appended
 abbrev pub invariant-loop-concept : goal.invariant-loop-concept
 invariant-loop-concept l =
     l.text.items

@@ -4,15 +4,18 @@ use Rattle.concept_printer.specs.ConceptText.{headed, name_in_force}
 use Rattle.concept_printer.proofs.ListLemmas.{sets_are, sets_below}
 use Rattle.concept_printer.proofs.concept.append_reference_sets.Goals as goal
 
+-- the indexes are those of the release
 pub reference_sets_with-requires : goal.reference_sets_with-requires
 reference_sets_with-requires c = (c.args.snapshot.now.release, c.requires.indexes)
 
+-- the reference sets are below the count of concepts
 pub append_concepts-requires : goal.append_concepts-requires
 append_concepts-requires c =
     subst (All (λ other. other < length c.args.snapshot.now.release.concepts))
     (sym (c.as_slice.ensures.value ∙ c.in_ok-sets.ensures))
     (sets_below c.args.indexes.now c.args.snapshot.now.release c.requires.indexes c.args.concept c.requires.concept)
 
+-- the appended lines are those of the reference sets that the concept is in
 pub returns : goal.returns
 returns c =
     subst

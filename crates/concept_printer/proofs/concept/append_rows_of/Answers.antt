@@ -6,12 +6,14 @@ use Rattle.concept_printer.specs.inside.GroupKeys.{row_numbered}
 use Rattle.concept_printer.proofs.ListLemmas.{rows_are, rows_rise}
 use Rattle.concept_printer.proofs.concept.append_rows_of.Goals as goal
 
+-- the numbers of the rows of the concept rise
 pub append_attributes-requires : goal.append_attributes-requires
 append_attributes-requires c =
     subst (IsRisingBelow (length c.args.snapshot.now.release.attributes)) (sym c.rows_of.ensures)
     (rows_rise c.args.indexes.now c.args.snapshot.now.release c.requires.indexes c.args.concept c.requires.concept
     c.attribute_count.ensures.by_source)
 
+-- the appended lines are those of the attribute rows of the concept
 pub returns : goal.returns
 returns c =
     subst

@@ -2,6 +2,7 @@ use Rattle.std.proofs.Common.{◌≡◌, ◌∙◌, ◌++◌, ℕ, List, OnOk, s
 use Rattle.concept_printer.proofs.ConceptLemmas.{told_in_force, told_otherwise}
 use Rattle.concept_printer.proofs.describing.append_told.Goals as goal
 
+-- the text of a concept in force is appended
 pub returns-in-Some : goal.returns-in-Some
 returns-in-Some c =
     subst
@@ -9,6 +10,7 @@ returns-in-Some c =
     (told_in_force c.args.snapshot.now c.args.id c.in-Some.concept (sym c.index_of.ensures ∙ c.in-Some.is))
     c.append_concept.ensures
 
+-- the line of an inactive concept is appended
 pub returns-in-None : goal.returns-in-None
 returns-in-None c =
     subst
@@ -18,6 +20,7 @@ returns-in-None c =
     (sym c.if-is_inactive.ensures))
     c.append_identifier.ensures
 
+-- the line of an unknown concept is appended
 pub returns-in-None-2 : goal.returns-in-None-2
 returns-in-None-2 c =
     subst

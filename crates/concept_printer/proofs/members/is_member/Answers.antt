@@ -4,7 +4,7 @@ use Rattle.number_lists.specs.Rising.{IsRising}
 use Rattle.postings.proofs.MemberLists.{members_rise}
 use Rattle.concept_printer.proofs.members.is_member.Goals as goal
 
--- the components of a reference set rise
+-- the components of a reference set rise, so binary search finds the component
 pub has_number-requires : goal.has_number-requires
 has_number-requires c =
     let (release, is) = c.requires.indexes in

@@ -8,6 +8,7 @@ use Rattle.postings.specs.Indexed.{has_members, reference_sets_of}
 use Rattle.concept_printer.proofs.ListLemmas.{members_kept}
 use Rattle.concept_printer.proofs.members.reference_sets_with.Goals as goal
 
+-- each reference set has a list of members
 pub is_member-requires-clause-set : goal.is_member-requires-clause-set
 is_member-requires-clause-set c =
     let members = c.args.indexes.now.members in
@@ -16,6 +17,7 @@ is_member-requires-clause-set c =
     (numbers_where-rising (length members) (has_members members)))
     c.loop-set.set-index 0 (omega (arith, c.loop-set-test.true, c.loop-set.auto.set-index-end))
 
+-- the reference sets that were kept are all lists that have the component
 pub returns : goal.returns
 returns c =
     let members = c.args.indexes.now.members in

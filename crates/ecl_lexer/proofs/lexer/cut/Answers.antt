@@ -13,12 +13,14 @@ use Rattle.ecl_lexer.proofs.FaultLemmas.{IsFaultOf-at}
 use Rattle.ecl_lexer.proofs.lexer.cut.Goals as goal
 use Rattle.ecl_lexer.proofs.lexer.cut.Goals.{then-run_end-at, else-run_end-at}
 
+-- a refusal that `read` returns is a fault of the text
 pub returns-in_err-piece-clause-fault : goal.returns-in_err-piece-clause-fault
 returns-in_err-piece-clause-fault c =
     let p = err_from_is_err_and c.from_residual.result c.from_residual.ensures.1 in
     let refused = refused_at c.args.text.now c.loop-at.at _ _ _ c.loop-at-test.true c.loop-at.invariant.so_far c.in_err-piece.ensures in
     rw (p.1, p.2) (inr (rw refused.2 (IsFaultOf-at c.args.text.now c.loop-at.at refused.0 c.requires refused.1)))
 
+-- `read` never returns `Memory`
 pub returns-in_err-piece-clause-memory : goal.returns-in_err-piece-clause-memory
 returns-in_err-piece-clause-memory c = λ was.
     let p = err_from_is_err_and c.from_residual.result c.from_residual.ensures.1 in
@@ -26,12 +28,14 @@ returns-in_err-piece-clause-memory c = λ was.
     let is : fault_at c.loop-at.at refused.0 ≡ Memory = cc (p.1, p.2, refused.2, was) in
     absurd (subst (IsFaultOf c.args.text.now) is (IsFaultOf-at c.args.text.now c.loop-at.at refused.0 c.requires refused.1))
 
+-- the end of a piece that is read does not overflow: it is within the text
 pub overflow_add-end : goal.overflow_add-end
 overflow_add-end c =
     let step = steps_on c.args.text.now c.loop-at.at _ _ _ c.loop-at.invariant.within c.loop-at.invariant.so_far c.in_ok-piece.ensures in
     let size = size_of _ _ step.1 in
     omega (arith, step.2.within, size, c.requires.0)
 
+-- the bytes of a token are within the text
 pub slice_bounds-push-end : goal.slice_bounds-push-end
 slice_bounds-push-end c =
     let step = steps_on c.args.text.now c.loop-at.at _ _ _ c.loop-at.invariant.within c.loop-at.invariant.so_far c.in_ok-piece.ensures in
@@ -40,6 +44,7 @@ slice_bounds-push-end c =
     rw (take_rest c.args.text.now c.loop-at.at)
     (sym (length-take-le c.in_ok-piece.piece.length (drop c.loop-at.at c.args.text.now) (omega (arith, step.2.within, size, left))))
 
+-- memory can run out only at a token, so the text is cut into pieces with at least one token
 pub returns-in_err-push-clause-memory : goal.returns-in_err-push-clause-memory
 returns-in_err-push-clause-memory c = λ was.
     let step = steps_on c.args.text.now c.loop-at.at _ _ _ c.loop-at.invariant.within c.loop-at.invariant.so_far c.in_ok-piece.ensures in
@@ -48,12 +53,14 @@ returns-in_err-push-clause-memory c = λ was.
     let so_far = step.2.so_far in
     (so_far.pieces, _, so_far.cut, subst (λ (tokens : List Spelled). 0 < length tokens) so_far.spelling some)
 
+-- a turn of the loop that adds a token goes on by at least one byte
 pub loop-at-smaller-in_ok-push : goal.loop-at-smaller-in_ok-push
 loop-at-smaller-in_ok-push c =
     let step = steps_on c.args.text.now c.loop-at.at _ _ _ c.loop-at.invariant.within c.loop-at.invariant.so_far c.in_ok-piece.ensures in
     let size = size_of _ _ step.1 in
     omega (arith, step.2.within, step.2.some, size)
 
+-- a turn of the loop that adds a token keeps the invariant
 pub loop-at-preserved-in_ok-push : goal.loop-at-preserved-in_ok-push
 loop-at-preserved-in_ok-push c =
     let text = c.args.text.now in
@@ -81,12 +88,14 @@ loop-at-preserved-in_ok-push c =
       run = λ inside. run_on text c.loop-at.at c.in_ok-piece.piece.length c.if-run_end-at.run_end run_end inside;
     }
 
+-- a turn of the loop over a blank goes on by at least one byte
 pub loop-at-smaller : goal.loop-at-smaller
 loop-at-smaller c =
     let step = steps_on c.args.text.now c.loop-at.at _ _ _ c.loop-at.invariant.within c.loop-at.invariant.so_far c.in_ok-piece.ensures in
     let size = size_of _ _ step.1 in
     omega (arith, step.2.within, step.2.some, size)
 
+-- a turn of the loop over a blank keeps the invariant
 pub loop-at-preserved : goal.loop-at-preserved
 loop-at-preserved c =
     let text = c.args.text.now in
@@ -104,6 +113,7 @@ loop-at-preserved c =
       run = λ inside. run_on text c.loop-at.at c.in_ok-piece.piece.length c.if-run_end-at.run_end run_end inside;
     }
 
+-- the empty text has no tokens
 pub returns-clause-empty : goal.returns-clause-empty
 returns-clause-empty c = λ empty. nothing c.loop-at.tokens.items (CutSoFar-empty c.args.text.now c.loop-at.at _ _ empty c.loop-at.invariant.so_far)
   where

@@ -6,6 +6,7 @@ use Rattle.ecl_lexer.proofs.NumberLemmas.{number_is}
 use Rattle.ecl_lexer.proofs.pieces.number.Goals as goal
 use Rattle.ecl_lexer.proofs.pieces.number.Goals.{then-fraction-gt0, else-fraction-gt0}
 
+-- `number` returns the number that `number_at` finds, if it has at most 18 digits before its point
 pub returns-then-whole-le-MOST_DIGITS : goal.returns-then-whole-le-MOST_DIGITS
 returns-then-whole-le-MOST_DIGITS c =
     let fraction = c.fraction_count-fraction.result in
@@ -19,6 +20,7 @@ returns-then-whole-le-MOST_DIGITS c =
     number_is c.args.text.now c.sign_length-sign.result c.in-Some.whole point fraction _
     c.sign_length-sign.ensures.sign (rw take_rest at c.in-Some.ensures.digits) (simp take_rest at c.fraction_count-fraction.ensures.count) cases (rw few refl)
 
+-- `number` returns the number that `number_at` finds, if it has more than 18 digits before its point
 pub returns-else-whole-le-MOST_DIGITS : goal.returns-else-whole-le-MOST_DIGITS
 returns-else-whole-le-MOST_DIGITS c =
     let fraction = c.fraction_count-fraction.result in

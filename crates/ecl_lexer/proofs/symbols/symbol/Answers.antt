@@ -5,6 +5,7 @@ use Rattle.ecl_lexer.proofs.SymbolLemmas.{front_two, front_three, handed_here, h
 use Rattle.ecl_lexer.proofs.symbols.symbol.Goals as goal
 use Rattle.ecl_lexer.proofs.symbols.symbol.Goals.{else-text-ge3-via-else-text-ge3, else-text-ge3-via-then-text-ge3+in-None-1}
 
+-- `symbol` returns the symbol of three bytes that `symbol_at` finds
 pub returns : goal.returns
 returns c =
     let text = c.args.text.now in
@@ -13,6 +14,7 @@ returns c =
     ap (λ (f : Found). Some f) c.token.ensures
     ∙ sym (handed_here 3 text c.in-Some.kind _ c.if-text-ge3.true kind)
 
+-- `symbol` returns the symbol of two bytes that `symbol_at` finds
 pub returns-2 : goal.returns-2
 returns-2 c =
     let text = c.args.text.now in

@@ -7,12 +7,13 @@ use Rattle.ecl_lexer.specs.Bytes.{begins_with, is_code_byte}
 use Rattle.ecl_lexer.specs.Refusals.{braces_form, unsupported as unsupported_form}
 use Rattle.ecl_lexer.proofs.unsupported.unsupported.Goals as goal
 
--- the form behind `{{`
+-- a text that begins with `{{` begins with the form that `braces_form` gives for the text after it
 two_braces : (first : ℕ) (behind : List ℕ) → first ≡ 123 → begins_with 123 behind ≡ true
     → unsupported_form (first ∷ behind) ≡ Some (braces_form (drop 1 behind))
 two_braces first [] is second = absurd (false≢true second)
 two_braces first (byte ∷ behind) is second = rw (is, eqb-true byte 123 second) refl
 
+-- `unsupported` returns the form after `{{`
 pub returns-then-begins_with : goal.returns-then-begins_with
 returns-then-begins_with c =
     let first = c.in-Some.first.now in
@@ -21,5 +22,6 @@ returns-then-begins_with c =
     ∙ sym (ap unsupported_form c.in-Some.ensures.cases.0
     ∙ two_braces first behind c.if-first-eq123.true (sym c.begins_with.ensures ∙ c.if-begins_with.true))
 
+-- the letters, digits and `-` at the front of a text are within it
 pub split_at-requires : goal.split_at-requires
 split_at-requires c = omega (arith, prefix_len-le-length is_code_byte c.args.text.now)

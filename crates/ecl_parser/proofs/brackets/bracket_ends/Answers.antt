@@ -7,6 +7,7 @@ use Rattle.ecl_parser.specs.inside.Gives.{symbols}
 use Rattle.ecl_parser.proofs.MatchLemmas.{all_ended, all_shallow, deep_fault, deep_next, long_next, matched_next, no_tree, read_ahead}
 use Rattle.ecl_parser.proofs.brackets.bracket_ends.Goals as goal
 
+-- the fault of a token that opens a bracket too many refuses the tokens for their depth
 pub returns-in-Err-clause-fault : goal.returns-in-Err-clause-fault
 returns-in-Err-clause-fault c =
     let tokens = c.args.tokens.now in
@@ -17,6 +18,7 @@ returns-in-Err-clause-fault c =
     (deep_fault tokens place _ c.loop-place.brackets (read_ahead tokens place _ c.loop-place-test.true) deep.1 deep.2
     c.loop-place.invariant.deep)
 
+-- one turn of the loop keeps the brackets of the tokens up to the place, their depth and their ends
 pub loop-place-preserved : goal.loop-place-preserved
 loop-place-preserved c =
     let tokens = c.args.tokens.now in
@@ -32,11 +34,13 @@ loop-place-preserved c =
           known.matched;
     }
 
+-- tokens that are read to their end are not too deep
 pub returns-in-Some-clause-shallow : goal.returns-in-Some-clause-shallow
 returns-in-Some-clause-shallow c =
     all_shallow c.args.tokens.now c.loop-place.place c.loop-place.brackets c.loop-place-test.false
     c.loop-place.invariant.deep
 
+-- the ends are those of all brackets, if all brackets match
 pub returns-in-Some-clause-ends : goal.returns-in-Some-clause-ends
 returns-in-Some-clause-ends c =
     let Ends : List ℕ → Type 0 = AreEnds (symbols c.args.tokens.now) in
@@ -45,6 +49,7 @@ returns-in-Some-clause-ends c =
     (all_ended c.args.tokens.now c.loop-place.place c.loop-place.brackets c.loop-place-test.false
     c.loop-place.invariant.matched matched.0 matched.1)
 
+-- brackets that do not all match refuse the tokens for their syntax
 pub returns-in-None-clause-fault : goal.returns-in-None-clause-fault
 returns-in-None-clause-fault c = (
   all_shallow c.args.tokens.now c.loop-place.place c.loop-place.brackets c.loop-place-test.false

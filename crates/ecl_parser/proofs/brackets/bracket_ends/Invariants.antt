@@ -1,4 +1,4 @@
--- How deep the tokens are that are left, and what all of them match.
+-- The remaining tokens, read after the brackets found so far, give the depth and the brackets of all tokens.
 use Rattle.std.proofs.Common.{◌≡◌, length}
 use Rattle.constraint_tree.proofs.LevelLemmas.{symbols_deep}
 use Rattle.ecl_parser.specs.inside.Brackets.{nothing_matched}

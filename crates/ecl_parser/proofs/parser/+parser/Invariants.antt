@@ -1,4 +1,5 @@
--- Each bracket lets the depth fall; within one depth the forms stand in this order.
+-- The descent ends: each bracket lowers the depth, and at one depth each function calls only functions with a smaller
+-- measure.
 use Rattle.std.proofs.Common.{◌≡◌, ◌+◌, ◌-◌, ◌*◌, map}
 use Rattle.constraint_tree.specs.Tree.{refinement_tree_of, set_tree_of, tree_of}
 use Rattle.ecl_parser.specs.inside.Gives.{symbols_from}
@@ -62,19 +63,19 @@ decreases-member l = 24 * l.depth + 3
 abbrev pub decreases-focus : goal.decreases-focus
 decreases-focus l = 24 * l.depth + 2
 
--- what is read so far, and what the turns that are left read
+-- the operands read so far, with what the remaining turns read after them, are what the whole loop reads
 abbrev pub invariant-subs-loop-turn : goal.invariant-subs-loop-turn
 invariant-subs-loop-turn l =
     with_front (map tree_of l.parts.items) (many (sub_in (readers l.depth)) l.joint (l._turn-end - l._turn) (symbols_from l.tokens l.at))
     ≡ with_front (map tree_of l.fn.parts.items) (all_behind (sub_in (readers l.depth)) l.joint (symbols_from l.tokens l.fn.at))
 
--- what is read so far, and what the turns that are left read
+-- the items read so far, with what the remaining turns read after them, are what the whole loop reads
 abbrev pub invariant-items-loop-turn : goal.invariant-items-loop-turn
 invariant-items-loop-turn l =
     with_front (map refinement_tree_of l.parts.items) (many (item_in (readers l.depth)) l.joint (l._turn-end - l._turn) (symbols_from l.tokens l.at))
     ≡ with_front (map refinement_tree_of l.fn.parts.items) (all_behind (item_in (readers l.depth)) l.joint (symbols_from l.tokens l.fn.at))
 
--- what is read so far, and what the turns that are left read
+-- the parts read so far, with what the remaining turns read after them, are what the whole loop reads
 abbrev pub invariant-parts-loop-turn : goal.invariant-parts-loop-turn
 invariant-parts-loop-turn l =
     with_front (map set_tree_of l.list.items) (many (part_in (readers l.depth)) l.joint (l._turn-end - l._turn) (symbols_from l.tokens l.at))

@@ -5,6 +5,7 @@ use Rattle.constraint_tree.specs.Tree.{tree_of}
 use Rattle.constraint_tree.proofs.LawLemmas.{printed_is_read}
 use Rattle.ecl_parser.proofs.text.read_again.Goals as goal
 
+-- the text that a constraint prints is read as that constraint
 pub returns-clause-same : goal.returns-clause-same
 returns-clause-same c = λ text is short.
     let tree = tree_of c.args.constraint.now in

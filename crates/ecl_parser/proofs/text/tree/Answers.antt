@@ -8,6 +8,7 @@ use Rattle.ecl_parser.specs.inside.Reading.{constraint_in, readers}
 use Rattle.ecl_parser.proofs.ParseLemmas.{left_over, none_of_none, none_shallow, none_read, nothing_read, tree_found}
 use Rattle.ecl_parser.proofs.text.tree.Goals as goal
 
+-- an empty list of tokens is refused for its syntax
 pub returns-then-is_empty-clause-fault : goal.returns-then-is_empty-clause-fault
 returns-then-is_empty-clause-fault c =
     let zero_long : length c.args.tokens.now ≡ 0 = grind (arith, nat_tests) in
@@ -15,6 +16,7 @@ returns-then-is_empty-clause-fault c =
     none_read Syntax c.args.tokens.now (none_shallow c.args.tokens.now none)
     (ap (λ tokens. constraint_in (readers 64) (symbols_from tokens 0)) none ∙ nothing_read (readers 64))
 
+-- a constraint that cannot be read refuses the tokens with its fault
 pub returns-in-Err-constraint-clause-fault : goal.returns-in-Err-constraint-clause-fault
 returns-in-Err-constraint-clause-fault c =
     let Failed : List Token → Type 0 = λ tokens.
@@ -22,6 +24,7 @@ returns-in-Err-constraint-clause-fault c =
     none_read c.in-Err-constraint.fault c.args.tokens.now c.in-Ok.ensures.shallow
     (subst Failed c.new-tokens.ensures c.in-Err-constraint.ensures)
 
+-- tokens that are left after a constraint refuse the tokens for their syntax
 pub returns-then-at-len-clause-fault : goal.returns-then-at-len-clause-fault
 returns-then-at-len-clause-fault c =
     let at = c.constraint.new.at in
@@ -33,6 +36,7 @@ returns-then-at-len-clause-fault c =
     left_over c.args.tokens.now at found c.in-Ok.ensures.shallow (subst Fewer c.new-tokens.ensures fewer)
     (subst Read c.new-tokens.ensures c.in-Ok-constraint.ensures)
 
+-- the constraint that is read is the tree of the tokens
 pub returns-clause-found : goal.returns-clause-found
 returns-clause-found c =
     let at = c.constraint.new.at in

@@ -6,6 +6,7 @@ use Rattle.ecl_parser.specs.inside.Gives.{symbols_from}
 use Rattle.ecl_parser.proofs.TokenLemmas.{at_token}
 use Rattle.ecl_parser.proofs.tokens.token_at.Goals as goal
 
+-- the token at the place is the first symbol of the symbols from the place on
 pub returns-in-Some-clause-front : goal.returns-in-Some-clause-front
 returns-in-Some-clause-front c =
     let found = c.in-Some.ensures.lookup in

@@ -36,6 +36,7 @@ use Rattle.executor.proofs.+execute.Goals.{unit_plans::groups_in_all-then-place-
 use Rattle.executor.proofs.+execute.Goals.{unit_plans::groups_in_all-else-place-lead}
 use Rattle.executor.proofs.+execute.Goals as goal
 
+-- without parts, all candidates are what the conjunction means among them
 pub in_all-returns-then-is_empty-clause-found :
     goal.joined_plans::in_all-returns-then-is_empty-clause-found
 in_all-returns-then-is_empty-clause-found g t c =
@@ -57,6 +58,7 @@ in_all-returns-then-is_empty-clause-found g t c =
       );
     }
 
+-- after the driving part has been executed, the invariant of the conjunction holds at the first place
 pub in_all-loop-place-init : goal.joined_plans::in_all-loop-place-init
 in_all-loop-place-init g t c =
     let release = c.args.reader.snapshot.now.release in
@@ -83,6 +85,8 @@ in_all-loop-place-init g t c =
       extent = c.in_ok-extent.ensures.extent;
     }
 
+-- a turn that executes a part for what is left, or passes over the driving part, keeps the invariant of the
+-- conjunction
 pub in_all-loop-place-preserved : goal.joined_plans::in_all-loop-place-preserved
 in_all-loop-place-preserved g t c =
     let release = c.args.reader.snapshot.now.release in
@@ -138,6 +142,7 @@ in_all-loop-place-preserved g t c =
           }
     ]
 
+-- at the end what is left is what all parts mean among the candidates, and their floors are counted
 pub in_all-returns-clause-found : goal.joined_plans::in_all-returns-clause-found
 in_all-returns-clause-found g t c =
     let release = c.args.reader.snapshot.now.release in
@@ -156,6 +161,7 @@ in_all-returns-clause-found g t c =
       floor = omega (arith, (all_end c.loop-place.invariant.work (omega arith) inside).floor);
     }
 
+-- at the end the visits are within the bound of the conjunction
 pub in_all-returns-clause-counted : goal.joined_plans::in_all-returns-clause-counted
 in_all-returns-clause-counted g t c =
     let inside = lead_inside c.lead_of.result c.is_empty.ensures c.if-is_empty.false c.min-lead.ensures in
@@ -164,6 +170,7 @@ in_all-returns-clause-counted g t c =
       within = (all_end c.loop-place.invariant.work (omega arith) inside).within;
     }
 
+-- if memory is refused while the driving part is executed, the visits are within the bound of the conjunction
 pub in_all-returns-in_err-found-clause-counted :
     goal.joined_plans::in_all-returns-in_err-found-clause-counted
 in_all-returns-in_err-found-clause-counted g t c =
@@ -176,6 +183,8 @@ in_all-returns-in_err-found-clause-counted g t c =
           c.index-parts-lead.result inside c.index-parts-lead.is,
     ))
 
+-- if memory is refused while what the driving part has found is measured, the visits are within the bound of the
+-- conjunction
 pub in_all-returns-in_err-extent-clause-counted :
     goal.joined_plans::in_all-returns-in_err-extent-clause-counted
 in_all-returns-in_err-extent-clause-counted g t c =
@@ -189,6 +198,8 @@ in_all-returns-in_err-extent-clause-counted g t c =
           c.index-parts-lead.result inside c.index-parts-lead.is,
     ))
 
+-- if memory is refused while what a later part has found is measured, the visits are within the bound of the
+-- conjunction
 pub in_all-returns-in_err-extent-2-clause-counted :
     goal.joined_plans::in_all-returns-in_err-extent-2-clause-counted
 in_all-returns-in_err-extent-2-clause-counted g t c =
@@ -207,6 +218,7 @@ in_all-returns-in_err-extent-2-clause-counted g t c =
           ));
     }
 
+-- if memory is refused while a later part is executed, the visits are within the bound of the conjunction
 pub in_all-returns-in_err-next-clause-counted :
     goal.joined_plans::in_all-returns-in_err-next-clause-counted
 in_all-returns-in_err-next-clause-counted g t c =
@@ -219,6 +231,7 @@ in_all-returns-in_err-next-clause-counted g t c =
           (counted_beside _ _ _ c.execute_within-then-place-lead.ensures.counted.within);
     }
 
+-- without parts, all candidate groups are what the conjunction means among them
 pub groups_in_all-returns-then-is_empty-clause-found :
     goal.unit_plans::groups_in_all-returns-then-is_empty-clause-found
 groups_in_all-returns-then-is_empty-clause-found g t c =
@@ -240,6 +253,7 @@ groups_in_all-returns-then-is_empty-clause-found g t c =
       );
     }
 
+-- after the driving part of groups has been executed, the invariant of the conjunction holds at the first place
 pub groups_in_all-loop-place-init : goal.unit_plans::groups_in_all-loop-place-init
 groups_in_all-loop-place-init g t c =
     let release = c.args.reader.snapshot.now.release in
@@ -267,6 +281,8 @@ groups_in_all-loop-place-init g t c =
       extent = c.in_ok-extent.ensures.extent;
     }
 
+-- a turn that executes a part of groups for what is left, or passes over the driving part, keeps the invariant of the
+-- conjunction
 pub groups_in_all-loop-place-preserved : goal.unit_plans::groups_in_all-loop-place-preserved
 groups_in_all-loop-place-preserved g t c =
     let release = c.args.reader.snapshot.now.release in
@@ -324,6 +340,7 @@ groups_in_all-loop-place-preserved g t c =
           }
     ]
 
+-- at the end what is left is what all parts of groups mean among the candidates, and their floors are counted
 pub groups_in_all-returns-clause-found : goal.unit_plans::groups_in_all-returns-clause-found
 groups_in_all-returns-clause-found g t c =
     let release = c.args.reader.snapshot.now.release in
@@ -345,6 +362,7 @@ groups_in_all-returns-clause-found g t c =
       floor = omega (arith, (all_end c.loop-place.invariant.work (omega arith) inside).floor);
     }
 
+-- at the end the visits are within the bound of the conjunction of groups
 pub groups_in_all-returns-clause-counted : goal.unit_plans::groups_in_all-returns-clause-counted
 groups_in_all-returns-clause-counted g t c =
     let inside = lead_inside c.group_lead_of.result c.is_empty.ensures c.if-is_empty.false c.min-lead.ensures in
@@ -353,6 +371,8 @@ groups_in_all-returns-clause-counted g t c =
       within = (all_end c.loop-place.invariant.work (omega arith) inside).within;
     }
 
+-- if memory is refused while the driving part of groups is executed, the visits are within the bound of the
+-- conjunction
 pub groups_in_all-returns-in_err-groups-clause-counted :
     goal.unit_plans::groups_in_all-returns-in_err-groups-clause-counted
 groups_in_all-returns-in_err-groups-clause-counted g t c =
@@ -365,6 +385,8 @@ groups_in_all-returns-in_err-groups-clause-counted g t c =
           c.index-parts-lead.result inside c.index-parts-lead.is,
     ))
 
+-- if memory is refused while the groups that the driving part has found are measured, the visits are within the bound
+-- of the conjunction
 pub groups_in_all-returns-in_err-extent-clause-counted :
     goal.unit_plans::groups_in_all-returns-in_err-extent-clause-counted
 groups_in_all-returns-in_err-extent-clause-counted g t c =
@@ -378,6 +400,8 @@ groups_in_all-returns-in_err-extent-clause-counted g t c =
           c.index-parts-lead.result inside c.index-parts-lead.is,
     ))
 
+-- if memory is refused while the groups that a later part has found are measured, the visits are within the bound of
+-- the conjunction
 pub groups_in_all-returns-in_err-extent-2-clause-counted :
     goal.unit_plans::groups_in_all-returns-in_err-extent-2-clause-counted
 groups_in_all-returns-in_err-extent-2-clause-counted g t c =
@@ -396,6 +420,7 @@ groups_in_all-returns-in_err-extent-2-clause-counted g t c =
           ));
     }
 
+-- if memory is refused while a later part of groups is executed, the visits are within the bound of the conjunction
 pub groups_in_all-returns-in_err-next-clause-counted :
     goal.unit_plans::groups_in_all-returns-in_err-next-clause-counted
 groups_in_all-returns-in_err-next-clause-counted g t c =

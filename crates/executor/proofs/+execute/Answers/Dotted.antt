@@ -25,6 +25,7 @@ use Rattle.executor.proofs.WorkLemmas.{along_more}
 use Rattle.executor.proofs.WorkLemmas.{some_end, some_next, some_start, some_turn}
 use Rattle.executor.proofs.+execute.Goals as goal
 
+-- before the first name, the set that the attributes start from meets the invariant
 pub led_along-loop-name-init : goal.dotted_plans::led_along-loop-name-init
 led_along-loop-name-init g t c = record {
   items = λ plan from. from;
@@ -35,6 +36,7 @@ led_along-loop-name-init g t c = record {
   known = tt;
 }
 
+-- a turn that goes along one attribute name keeps the invariant of the names
 pub led_along-loop-name-preserved : goal.dotted_plans::led_along-loop-name-preserved
 led_along-loop-name-preserved g t c =
     let release = c.args.reader.snapshot.now.release in
@@ -65,6 +67,7 @@ led_along-loop-name-preserved g t c =
       known = record { items_are = c.in_ok-named.ensures.found.items; bound_is = c.in_ok-named.ensures.found.bound };
     }
 
+-- if memory is refused while a name is executed, the visits are within the bound of the values along all names
 pub led_along-returns-in_err-named-clause-counted :
     goal.dotted_plans::led_along-returns-in_err-named-clause-counted
 led_along-returns-in_err-named-clause-counted g t c =
@@ -86,6 +89,8 @@ led_along-returns-in_err-named-clause-counted g t c =
       );
     }
 
+-- if memory is refused while the values along a name are found, the visits are within the bound of the values along
+-- all names
 pub led_along-returns-in_err-found-clause-counted :
     goal.dotted_plans::led_along-returns-in_err-found-clause-counted
 led_along-returns-in_err-found-clause-counted g t c =
@@ -117,6 +122,7 @@ led_along-returns-in_err-found-clause-counted g t c =
       );
     }
 
+-- at the end the visits are within the bound of the values along all names
 pub led_along-returns-clause-counted : goal.dotted_plans::led_along-returns-clause-counted
 led_along-returns-clause-counted g t c =
     let indexed = c.args.reader.indexes.now in
@@ -130,6 +136,7 @@ led_along-returns-clause-counted g t c =
       );
     }
 
+-- at the end what was found is what all names lead to from the start, and the floors of the names are counted
 pub led_along-returns-clause-found : goal.dotted_plans::led_along-returns-clause-found
 led_along-returns-clause-found g t c =
     let release = c.args.reader.snapshot.now.release in
@@ -143,6 +150,7 @@ led_along-returns-clause-found g t c =
       floor = (some_end c.loop-name.invariant.work (omega arith)).floor;
     }
 
+-- if the name before is equal, its set is what the name means, and the floor of the name is counted
 pub named_by-returns-then-eq-clause-found : goal.dotted_plans::named_by-returns-then-eq-clause-found
 named_by-returns-then-eq-clause-found g t c =
     let release = c.args.reader.snapshot.now.release in
@@ -155,6 +163,7 @@ named_by-returns-then-eq-clause-found g t c =
       floor = omega (arith, (rw c.lengths.ensures at c.plan_floor.ensures), c.add.ensures.count);
     }
 
+-- if the name before is equal, the floor that is counted is within the bound of the name
 pub named_by-returns-then-eq-clause-counted : goal.dotted_plans::named_by-returns-then-eq-clause-counted
 named_by-returns-then-eq-clause-counted g t c = record {
   grows = c.add.ensures.grows;
@@ -166,6 +175,7 @@ named_by-returns-then-eq-clause-counted g t c = record {
   );
 }
 
+-- what the names lead to from the start, restricted to the candidates, is what the plan of values means among them
 pub led_from-returns-clause-found : goal.dotted_plans::led_from-returns-clause-found
 led_from-returns-clause-found g t c =
     let release = c.args.reader.snapshot.now.release in

@@ -9,6 +9,8 @@ use Rattle.executor.proofs.NodeLemmas.{members_node}
 use Rattle.executor.proofs.WithinNodes.{kept_node}
 use Rattle.executor.proofs.+execute.Goals as goal
 
+-- the components of the reference sets that the operand has found, restricted to the candidates, are what the node
+-- means among them
 pub members_of-returns-clause-found : goal.plans::members_of-returns-clause-found
 members_of-returns-clause-found g t c =
     let release = c.args.reader.snapshot.now.release in

@@ -1,4 +1,4 @@
--- Answers of the nodes that mean what their first part means and their second does not.
+-- Answers of the nodes that mean what their first part means and their second part does not.
 use Rattle.std.proofs.Common.{ℕ, Bool}
 use Rattle.std.proofs.Common.{length, get_or, refl, arith, rules}
 use Rattle.std.specs.Prelude.{slice_get}
@@ -13,6 +13,7 @@ use Rattle.executor.proofs.PartWork.{are_candidates, few_of_candidates}
 use Rattle.executor.proofs.WithinNodes.{minus_groups, minus_node}
 use Rattle.executor.proofs.+execute.Goals as goal
 
+-- what the first part has found and the second has not is what the difference means among the candidates
 pub in_first_alone-returns-clause-found : goal.plans::in_first_alone-returns-clause-found
 in_first_alone-returns-clause-found g t c =
     let release = c.args.reader.snapshot.now.release in
@@ -33,6 +34,7 @@ in_first_alone-returns-clause-found g t c =
       );
     }
 
+-- the groups that the first part has found and the second has not are what the difference means among the candidates
 pub groups_in_first_alone-returns-clause-found : goal.unit_plans::groups_in_first_alone-returns-clause-found
 groups_in_first_alone-returns-clause-found g t c =
     let release = c.args.reader.snapshot.now.release in
@@ -54,6 +56,7 @@ groups_in_first_alone-returns-clause-found g t c =
       );
     }
 
+-- what the first part has found are candidates, as `second_part` requires
 pub in_first_alone-second_part-requires-clause-among :
     goal.plans::in_first_alone-second_part-requires-clause-among
 in_first_alone-second_part-requires-clause-among g t c =
@@ -62,6 +65,7 @@ in_first_alone-second_part-requires-clause-among g t c =
     (λ n. means release (logical_of c.args.first.now) (get_or release.concepts n 0))
     (g.S.ConceptSet.items_of c.in_ok-left.left) c.in_ok-left.ensures.found.items
 
+-- the groups that the first part has found are candidates, as `second_unit_part` requires
 pub groups_in_first_alone-second_unit_part-requires-clause-among :
     goal.unit_plans::groups_in_first_alone-second_unit_part-requires-clause-among
 groups_in_first_alone-second_unit_part-requires-clause-among g t c =
@@ -71,6 +75,7 @@ groups_in_first_alone-second_unit_part-requires-clause-among g t c =
     (slice_get (all_groups release) n))
     (g.S.ConceptSet.items_of c.in_ok-left.left) c.in_ok-left.ensures.found.items
 
+-- the visits of both parts and of the difference itself are within the bound of the difference
 pub in_first_alone-returns-clause-counted : goal.plans::in_first_alone-returns-clause-counted
 in_first_alone-returns-clause-counted g t c =
     counted_minus c.execute_within.ensures.counted c.second_part.ensures.counted c.execute_within-2.ensures.counted c.minus.ensures.counted
@@ -78,6 +83,8 @@ in_first_alone-returns-clause-counted g t c =
     (g.S.ConceptSet.items_of c.in_ok-right.right) c.in_ok-right.ensures.found.items)
     c.in_ok-right.ensures.size (omega (arith, c.in_ok-left.ensures.size)) (omega arith)
 
+-- if memory is refused while what the second part has found is taken away, the visits are within the bound of the
+-- difference
 pub in_first_alone-returns-in_err-found-clause-counted : goal.plans::in_first_alone-returns-in_err-found-clause-counted
 in_first_alone-returns-in_err-found-clause-counted g t c =
     counted_minus c.execute_within.ensures.counted c.second_part.ensures.counted c.execute_within-2.ensures.counted c.minus.ensures.counted
@@ -85,6 +92,7 @@ in_first_alone-returns-in_err-found-clause-counted g t c =
     (g.S.ConceptSet.items_of c.in_ok-right.right) c.in_ok-right.ensures.found.items)
     c.in_ok-right.ensures.size (omega (arith, c.in_ok-left.ensures.size)) (omega arith)
 
+-- the visits of both parts of groups and of the difference itself are within the bound of the difference
 pub groups_in_first_alone-returns-clause-counted : goal.unit_plans::groups_in_first_alone-returns-clause-counted
 groups_in_first_alone-returns-clause-counted g t c =
     counted_minus c.execute_groups.ensures.counted c.second_unit_part.ensures.counted c.execute_groups-2.ensures.counted c.minus.ensures.counted
@@ -92,6 +100,8 @@ groups_in_first_alone-returns-clause-counted g t c =
     (g.S.ConceptSet.items_of c.in_ok-right.right) c.in_ok-right.ensures.found.items)
     c.in_ok-right.ensures.size (omega (arith, c.in_ok-left.ensures.size)) (omega arith)
 
+-- if memory is refused while the groups that the second part has found are taken away, the visits are within the
+-- bound of the difference
 pub groups_in_first_alone-returns-in_err-groups-clause-counted : goal.unit_plans::groups_in_first_alone-returns-in_err-groups-clause-counted
 groups_in_first_alone-returns-in_err-groups-clause-counted g t c =
     counted_minus c.execute_groups.ensures.counted c.second_unit_part.ensures.counted c.execute_groups-2.ensures.counted c.minus.ensures.counted

@@ -1,4 +1,4 @@
--- Answers of what any node does: it is left out where there is no candidate.
+-- Answers of the functions that execute any node; without a candidate they execute nothing.
 use Rattle.std.proofs.Common.{subst, ℕ, List, ◌∙◌, ◌&&◌, ◌==◌, Bool}
 use Rattle.std.proofs.Common.{length, get_or, sym, ap, refl, arith}
 use Rattle.std.specs.Prelude.{slice_get}
@@ -35,6 +35,7 @@ use Rattle.executor.proofs.WithinNodes.{empty_within}
 use Rattle.executor.proofs.WithinNodes.{kept_node, nothing_within}
 use Rattle.executor.proofs.+execute.Goals as goal
 
+-- without a candidate, the empty set is what the plan means among the candidates, and its floor is counted
 pub execute_tallied-returns-then-none_left-clause-found :
     goal.plans::execute_tallied-returns-then-none_left-clause-found
 execute_tallied-returns-then-none_left-clause-found g t c =
@@ -49,6 +50,7 @@ execute_tallied-returns-then-none_left-clause-found g t c =
       floor = omega (arith, (rw c.lengths.ensures at c.plan_floor.ensures), c.add.ensures.count);
     }
 
+-- without a candidate, the floor that is counted is within the bound of the plan
 pub execute_tallied-returns-then-none_left-clause-counted :
     goal.plans::execute_tallied-returns-then-none_left-clause-counted
 execute_tallied-returns-then-none_left-clause-counted g t c = record {
@@ -61,6 +63,7 @@ execute_tallied-returns-then-none_left-clause-counted g t c = record {
   );
 }
 
+-- if memory is refused for the empty set, the floor that is counted is within the bound of the plan
 pub execute_tallied-returns-in_err-found-clause-counted :
     goal.plans::execute_tallied-returns-in_err-found-clause-counted
 execute_tallied-returns-in_err-found-clause-counted g t c = record {
@@ -73,6 +76,7 @@ execute_tallied-returns-in_err-found-clause-counted g t c = record {
   );
 }
 
+-- a set that is prepared for the tally keeps its items, so it answers the plan
 pub execute_tallied-returns-clause-found : goal.plans::execute_tallied-returns-clause-found
 execute_tallied-returns-clause-found g t c = record {
   items = c.in_ok-found-2.ensures.items ∙ c.in_ok-made.ensures.found.items;
@@ -80,6 +84,7 @@ execute_tallied-returns-clause-found g t c = record {
   floor = c.in_ok-made.ensures.found.floor;
 }
 
+-- the answer to a plan of concepts has at most as many concepts as the size of the plan
 pub execute_tallied-returns-clause-size : goal.plans::execute_tallied-returns-clause-size
 execute_tallied-returns-clause-size g t c =
     few_found c.args.reader.snapshot.now.release c.args.reader.indexes.now c.args.reader.index
@@ -89,6 +94,7 @@ execute_tallied-returns-clause-size g t c =
     (physical_of c.args.plan.now) (may_be g.S.ConceptSet.items_of c.args.candidates.now)
     (g.S.ConceptSet.items_of c.in_ok-found-2.found) (c.in_ok-found-2.ensures.items ∙ c.in_ok-made.ensures.found.items)
 
+-- without a candidate, the empty set is what the plan of groups means among the candidates, and its floor is counted
 pub execute_groups-returns-then-none_left-clause-found :
     goal.unit_plans::execute_groups-returns-then-none_left-clause-found
 execute_groups-returns-then-none_left-clause-found g t c =
@@ -103,6 +109,7 @@ execute_groups-returns-then-none_left-clause-found g t c =
       floor = omega (arith, (rw c.lengths.ensures at c.unit_floor.ensures), c.add.ensures.count);
     }
 
+-- without a candidate, the floor that is counted is within the bound of the plan of groups
 pub execute_groups-returns-then-none_left-clause-counted :
     goal.unit_plans::execute_groups-returns-then-none_left-clause-counted
 execute_groups-returns-then-none_left-clause-counted g t c = record {
@@ -115,6 +122,7 @@ execute_groups-returns-then-none_left-clause-counted g t c = record {
   );
 }
 
+-- if memory is refused for the empty set of groups, the floor that is counted is within the bound of the plan
 pub execute_groups-returns-in_err-found-clause-counted :
     goal.unit_plans::execute_groups-returns-in_err-found-clause-counted
 execute_groups-returns-in_err-found-clause-counted g t c = record {
@@ -127,6 +135,7 @@ execute_groups-returns-in_err-found-clause-counted g t c = record {
   );
 }
 
+-- the answer to a plan of groups has at most as many groups as the size of the plan
 pub execute_groups-returns-clause-size : goal.unit_plans::execute_groups-returns-clause-size
 execute_groups-returns-clause-size g t c =
     few_groups c.args.reader.snapshot.now.release c.args.reader.indexes.now c.args.reader.index
@@ -136,6 +145,7 @@ execute_groups-returns-clause-size g t c =
     (physical_units_of c.args.plan.now) (may_be g.S.ConceptSet.items_of c.args.candidates.now)
     (g.S.ConceptSet.items_of c.in_ok-found-2.found) c.in_ok-found-2.ensures.found.items
 
+-- the empty set is what the empty plan means among the candidates
 pub execute_node-returns-in-Empty-clause-found : goal.plans::execute_node-returns-in-Empty-clause-found
 execute_node-returns-in-Empty-clause-found g t c =
     let release = c.args.reader.snapshot.now.release in
@@ -145,6 +155,7 @@ execute_node-returns-in-Empty-clause-found g t c =
     (λ found is. empty_within release may (logical_of c.args.plan.now) found (ap logical_of c.in-Empty.is) is)
     c.no_concept.ensures.items c.no_concept.ensures.bound
 
+-- all candidates are what a plan of all concepts means among them
 pub execute_node-returns-in-All-clause-found : goal.plans::execute_node-returns-in-All-clause-found
 execute_node-returns-in-All-clause-found g t c =
     let release = c.args.reader.snapshot.now.release in
@@ -156,6 +167,7 @@ execute_node-returns-in-All-clause-found g t c =
     (all_node release (logical_of c.args.plan.now) every (ap logical_of c.in-All.is) refl) is)
     c.every_candidate.ensures.items c.every_candidate.ensures.bound
 
+-- the concept with the identifier, if it is a candidate, is what a plan of one concept means among them
 pub execute_node-returns-in-One-clause-found : goal.plans::execute_node-returns-in-One-clause-found
 execute_node-returns-in-One-clause-found g t c =
     let release = c.args.reader.snapshot.now.release in
@@ -167,6 +179,7 @@ execute_node-returns-in-One-clause-found g t c =
     (one_node release (logical_of c.args.plan.now) one c.in-One.id (ap logical_of c.in-One.is) refl) is)
     c.one_candidate.ensures.items c.one_candidate.ensures.bound
 
+-- `in_first_alone` finds what a `Minus` node means among the candidates
 pub execute_node-returns-in-Minus-clause-found : goal.plans::execute_node-returns-in-Minus-clause-found
 execute_node-returns-in-Minus-clause-found g t c =
     plan_answers g.S.ConceptSet c.args.reader.snapshot.now.release c.args.reader.indexes.now c.args.candidates.now
@@ -174,6 +187,7 @@ execute_node-returns-in-Minus-clause-found g t c =
     (minus_are c.in-Minus.first c.in-Minus.second c.in-Minus.is c.deref-in-Minus.ensures c.deref-in-Minus-2.ensures)
     c.in_first_alone.ensures.found
 
+-- `led_from` finds what a `Values` node means among the candidates
 pub execute_node-returns-in-Values-clause-found : goal.plans::execute_node-returns-in-Values-clause-found
 execute_node-returns-in-Values-clause-found g t c =
     plan_answers g.S.ConceptSet c.args.reader.snapshot.now.release c.args.reader.indexes.now c.args.candidates.now
@@ -181,6 +195,7 @@ execute_node-returns-in-Values-clause-found g t c =
     (values_are c.in-Values.start c.in-Values.names c.in-Values.is c.deref-in-Values.ensures
     c.deref-in-Values-2.ensures.value) c.led_from.ensures.found
 
+-- the empty set is what the plan of no group means among the candidates
 pub execute_group_node-returns-in-Nothing-clause-found :
     goal.unit_plans::execute_group_node-returns-in-Nothing-clause-found
 execute_group_node-returns-in-Nothing-clause-found g t c =
@@ -193,6 +208,7 @@ execute_group_node-returns-in-Nothing-clause-found g t c =
     (ap logical_units_of c.in-Nothing.is) is)
     c.no_group.ensures.items c.no_group.ensures.bound
 
+-- all candidate groups are what the plan of every group means among them
 pub execute_group_node-returns-in-Every-clause-found :
     goal.unit_plans::execute_group_node-returns-in-Every-clause-found
 execute_group_node-returns-in-Every-clause-found g t c =
@@ -206,6 +222,7 @@ execute_group_node-returns-in-Every-clause-found g t c =
     (groups.every_node release (logical_units_of c.args.plan.now) every (ap logical_units_of c.in-Every.is) refl) is)
     c.every_candidate_group.ensures.items c.every_candidate_group.ensures.bound
 
+-- `groups_in_first_alone` finds what a `Minus` node of groups means among the candidates
 pub execute_group_node-returns-in-Minus-clause-found :
     goal.unit_plans::execute_group_node-returns-in-Minus-clause-found
 execute_group_node-returns-in-Minus-clause-found g t c =
@@ -214,6 +231,7 @@ execute_group_node-returns-in-Minus-clause-found g t c =
     (minus_units_are c.in-Minus.first c.in-Minus.second c.in-Minus.is c.deref-in-Minus.ensures
     c.deref-in-Minus-2.ensures) c.groups_in_first_alone.ensures.found
 
+-- the rows of the concept that the plan names are the rows of what the node finds
 pub execute_node-returns-in-One-clause-adds : goal.plans::execute_node-returns-in-One-clause-adds
 execute_node-returns-in-One-clause-adds g t c =
     let release = c.args.reader.snapshot.now.release in

@@ -22,6 +22,7 @@ use Rattle.executor.proofs.WithinNodes.{groups_same}
 use Rattle.executor.proofs.WithinNodes.{within_same}
 use Rattle.executor.proofs.+execute.Goals as goal
 
+-- the set that the plan has found makes the test that is within it
 pub tested_of-returns-in_ok-set-in-Within-clause-tested :
     goal.plans::tested_of-returns-in_ok-set-in-Within-clause-tested
 tested_of-returns-in_ok-set-in-Within-clause-tested g t c =
@@ -34,6 +35,7 @@ tested_of-returns-in_ok-set-in-Within-clause-tested g t c =
     (g.met.S.ConceptSet.rising found))
     c.in_ok-set-in-Within.ensures.size (test_within c.in-Within.operand c.in-Within.is c.deref.ensures)
 
+-- the set that the plan has found makes the test that is outside it
 pub tested_of-returns-in_ok-set-in-Outside-clause-tested :
     goal.plans::tested_of-returns-in_ok-set-in-Outside-clause-tested
 tested_of-returns-in_ok-set-in-Outside-clause-tested g t c =
@@ -46,6 +48,7 @@ tested_of-returns-in_ok-set-in-Outside-clause-tested g t c =
     (g.met.S.ConceptSet.rising found))
     c.in_ok-set-in-Outside.ensures.size (test_outside c.in-Outside.operand c.in-Outside.is c.deref-in-Outside.ensures)
 
+-- the candidates with a number of pairs in the cardinality are what the leaf of concepts means among them
 pub pairs_within-returns-clause-found : goal.plans::pairs_within-returns-clause-found
 pairs_within-returns-clause-found g t c =
     let release = c.args.reader.snapshot.now.release in
@@ -71,6 +74,7 @@ pairs_within-returns-clause-found g t c =
           (rw c.lengths-lengths.ensures at c.leaf_limits_within.ensures.floor) c.in_ok-found.ensures.found.floor;
     }
 
+-- the visits of the types, of the test and of the leaf itself are within the bound of the leaf of concepts
 pub pairs_within-returns-clause-counted : goal.plans::pairs_within-returns-clause-counted
 pairs_within-returns-clause-counted g t c =
     leaf_reads c.args.reader.indexes.now (physical_of c.args.leaf.types.now) (physical_test_of c.args.leaf.test.now)
@@ -82,6 +86,8 @@ pairs_within-returns-clause-counted g t c =
     (rw c.lengths-lengths.ensures at c.leaf_limits_within.ensures.within))
     c.with_pairs_within.ensures.counted
 
+-- if memory is refused while the concepts with passing pairs are found, the visits are within the bound of the leaf
+-- of concepts
 pub pairs_within-returns-in_err-found-clause-counted :
     goal.plans::pairs_within-returns-in_err-found-clause-counted
 pairs_within-returns-in_err-found-clause-counted g t c =
@@ -94,6 +100,7 @@ pairs_within-returns-in_err-found-clause-counted g t c =
     (rw c.lengths-lengths.ensures at c.leaf_limits_within.ensures.within))
     c.with_pairs_within.ensures.counted
 
+-- the candidate groups with a number of pairs in the cardinality are what the leaf of groups means among them
 pub groups_with_pairs-returns-clause-found : goal.unit_plans::groups_with_pairs-returns-clause-found
 groups_with_pairs-returns-clause-found g t c =
     let release = c.args.reader.snapshot.now.release in
@@ -119,6 +126,7 @@ groups_with_pairs-returns-clause-found g t c =
           (rw c.lengths-lengths.ensures at c.leaf_limits_within.ensures.floor) c.in_ok-found.ensures.found.floor;
     }
 
+-- the visits of the types, of the test and of the leaf itself are within the bound of the leaf of groups
 pub groups_with_pairs-returns-clause-counted : goal.unit_plans::groups_with_pairs-returns-clause-counted
 groups_with_pairs-returns-clause-counted g t c =
     leaf_reads c.args.reader.indexes.now (physical_of c.args.leaf.types.now) (physical_test_of c.args.leaf.test.now)
@@ -130,6 +138,8 @@ groups_with_pairs-returns-clause-counted g t c =
     (rw c.lengths-lengths.ensures at c.leaf_limits_within.ensures.within))
     c.groups_with_pairs_within.ensures.counted
 
+-- if memory is refused while the groups with passing pairs are found, the visits are within the bound of the leaf of
+-- groups
 pub groups_with_pairs-returns-in_err-found-clause-counted :
     goal.unit_plans::groups_with_pairs-returns-in_err-found-clause-counted
 groups_with_pairs-returns-in_err-found-clause-counted g t c =
@@ -142,6 +152,7 @@ groups_with_pairs-returns-in_err-found-clause-counted g t c =
     (rw c.lengths-lengths.ensures at c.leaf_limits_within.ensures.within))
     c.groups_with_pairs_within.ensures.counted
 
+-- the bound of the leaf of concepts has room for what its choice reads, as `with_pairs_within` requires
 pub pairs_within-with_pairs_within-requires-clause-room :
     goal.plans::pairs_within-with_pairs_within-requires-clause-room
 pairs_within-with_pairs_within-requires-clause-room g t c =
@@ -161,6 +172,7 @@ pairs_within-with_pairs_within-requires-clause-room g t c =
           c.args.leaf.choice,
     )
 
+-- the bound of the leaf of groups has room for what its choice reads, as `groups_with_pairs_within` requires
 pub groups_with_pairs-groups_with_pairs_within-requires-clause-room :
     goal.unit_plans::groups_with_pairs-groups_with_pairs_within-requires-clause-room
 groups_with_pairs-groups_with_pairs_within-requires-clause-room g t c =

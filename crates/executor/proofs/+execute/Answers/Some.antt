@@ -1,4 +1,4 @@
--- Answers of the nodes that mean what one of their parts means.
+-- Answers of the nodes that mean what at least one of their parts means.
 use Rattle.std.proofs.Common.{subst, le_trans, ℕ, List, ◌+◌, ◌*◌, ◌≤◌, ◌∙◌, ◌&&◌, Bool}
 use Rattle.std.proofs.Common.{length, get_or, sym, ap, arith, take}
 use Rattle.std.specs.Prelude.{slice_get}
@@ -32,6 +32,7 @@ use Rattle.executor.proofs.WorkLemmas.{some_end, some_next, some_start, some_tur
 use Rattle.executor.proofs.WorkLemmas.{times_less, times_more}
 use Rattle.executor.proofs.+execute.Goals as goal
 
+-- before the first part, the empty set meets the invariant of the disjunction
 pub in_some-loop-part-init : goal.joined_plans::in_some-loop-part-init
 in_some-loop-part-init g t c =
     let release = c.args.reader.snapshot.now.release in
@@ -45,6 +46,7 @@ in_some-loop-part-init g t c =
       work = some_start c.args.visits.now.count;
     }
 
+-- a turn that joins what a part has found to what was found so far keeps the invariant of the disjunction
 pub in_some-loop-part-preserved : goal.joined_plans::in_some-loop-part-preserved
 in_some-loop-part-preserved g t c =
     let release = c.args.reader.snapshot.now.release in
@@ -86,6 +88,7 @@ in_some-loop-part-preserved g t c =
           (omega (arith, c.in_ok-next.ensures.found.floor, c.or.ensures.counted.grows));
     }
 
+-- if memory is refused while a part is executed, the visits are within the bound of the disjunction
 pub in_some-returns-in_err-next-clause-counted :
     goal.joined_plans::in_some-returns-in_err-next-clause-counted
 in_some-returns-in_err-next-clause-counted g t c =
@@ -102,6 +105,8 @@ in_some-returns-in_err-next-clause-counted g t c =
           (times_less all c.loop-part-test.true) (counted_without _ _ c.execute_tallied.ensures.counted.within));
     }
 
+-- if memory is refused while what a part has found is joined to what was found so far, the visits are within the
+-- bound of the disjunction
 pub in_some-returns-in_err-found-2-clause-counted :
     goal.joined_plans::in_some-returns-in_err-found-2-clause-counted
 in_some-returns-in_err-found-2-clause-counted g t c =
@@ -135,6 +140,7 @@ in_some-returns-in_err-found-2-clause-counted g t c =
           (omega (arith, c.execute_tallied.ensures.counted.within, c.or.ensures.counted.count)));
     }
 
+-- at the end the visits are within the bound of the disjunction
 pub in_some-returns-clause-counted : goal.joined_plans::in_some-returns-clause-counted
 in_some-returns-clause-counted g t c =
     let indexed = c.args.reader.indexes.now in
@@ -148,6 +154,8 @@ in_some-returns-clause-counted g t c =
       );
     }
 
+-- at the end what was found is what at least one part means among the candidates, and the floors of all parts are
+-- counted
 pub in_some-returns-clause-found : goal.joined_plans::in_some-returns-clause-found
 in_some-returns-clause-found g t c =
     let release = c.args.reader.snapshot.now.release in
@@ -162,6 +170,7 @@ in_some-returns-clause-found g t c =
       floor = omega (arith, (some_end c.loop-part.invariant.work (omega arith)).floor);
     }
 
+-- before the first part of groups, the empty set meets the invariant of the disjunction
 pub groups_in_some-loop-part-init : goal.unit_plans::groups_in_some-loop-part-init
 groups_in_some-loop-part-init g t c =
     let release = c.args.reader.snapshot.now.release in
@@ -173,6 +182,7 @@ groups_in_some-loop-part-init g t c =
       work = some_start c.args.visits.now.count;
     }
 
+-- a turn that joins the groups that a part has found to those found so far keeps the invariant of the disjunction
 pub groups_in_some-loop-part-preserved : goal.unit_plans::groups_in_some-loop-part-preserved
 groups_in_some-loop-part-preserved g t c =
     let release = c.args.reader.snapshot.now.release in
@@ -207,6 +217,7 @@ groups_in_some-loop-part-preserved g t c =
           (omega (arith, c.in_ok-next.ensures.found.floor, c.or.ensures.counted.grows));
     }
 
+-- if memory is refused while a part of groups is executed, the visits are within the bound of the disjunction
 pub groups_in_some-returns-in_err-next-clause-counted :
     goal.unit_plans::groups_in_some-returns-in_err-next-clause-counted
 groups_in_some-returns-in_err-next-clause-counted g t c =
@@ -222,6 +233,8 @@ groups_in_some-returns-in_err-next-clause-counted g t c =
           (times_less all c.loop-part-test.true) (counted_without _ _ c.execute_groups.ensures.counted.within));
     }
 
+-- if memory is refused while the groups that a part has found are joined to those found so far, the visits are within
+-- the bound of the disjunction
 pub groups_in_some-returns-in_err-groups-2-clause-counted :
     goal.unit_plans::groups_in_some-returns-in_err-groups-2-clause-counted
 groups_in_some-returns-in_err-groups-2-clause-counted g t c =
@@ -256,6 +269,7 @@ groups_in_some-returns-in_err-groups-2-clause-counted g t c =
           (omega (arith, c.execute_groups.ensures.counted.within, c.or.ensures.counted.count)));
     }
 
+-- at the end the visits are within the bound of the disjunction of groups
 pub groups_in_some-returns-clause-counted : goal.unit_plans::groups_in_some-returns-clause-counted
 groups_in_some-returns-clause-counted g t c =
     let indexed = c.args.reader.indexes.now in
@@ -269,6 +283,8 @@ groups_in_some-returns-clause-counted g t c =
       );
     }
 
+-- at the end the groups found are what at least one part means among the candidates, and the floors of all parts are
+-- counted
 pub groups_in_some-returns-clause-found : goal.unit_plans::groups_in_some-returns-clause-found
 groups_in_some-returns-clause-found g t c =
     let release = c.args.reader.snapshot.now.release in

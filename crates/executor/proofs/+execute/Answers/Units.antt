@@ -16,6 +16,8 @@ use Rattle.candidates.proofs.WithinLemmas.{kept_set}
 use Rattle.executor.proofs.WithinNodes.{units_within as units_as_plan}
 use Rattle.executor.proofs.+execute.Goals as goal
 
+-- if the groups of the candidates are few, executing the plan for these groups finds the candidates that the node
+-- means
 pub units_within-returns-then-has_few_groups-clause-found :
     goal.plans::units_within-returns-then-has_few_groups-clause-found
 units_within-returns-then-has_few_groups-clause-found g t c =
@@ -39,6 +41,7 @@ units_within-returns-then-has_few_groups-clause-found g t c =
       floor = omega (arith, c.in_ok-groups.ensures.found.floor, c.in_ok-found.ensures.found.floor);
     }
 
+-- if the plan is executed for all groups, restricting the concepts found to the candidates gives what the node means
 pub units_within-returns-clause-found : goal.plans::units_within-returns-clause-found
 units_within-returns-clause-found g t c =
     let release = c.args.reader.snapshot.now.release in
@@ -58,6 +61,7 @@ units_within-returns-clause-found g t c =
       floor = omega (arith, c.in_ok-groups-2.ensures.found.floor, c.in_ok-found-2.ensures.found.floor);
     }
 
+-- if the groups of the candidates are few, the visits are within the bound of the node that counts groups
 pub units_within-returns-then-has_few_groups-clause-counted :
     goal.plans::units_within-returns-then-has_few_groups-clause-counted
 units_within-returns-then-has_few_groups-clause-counted g t c =
@@ -102,6 +106,8 @@ units_within-returns-then-has_few_groups-clause-counted g t c =
       );
     }
 
+-- if memory is refused while the groups found are counted by concept, the visits are within the bound of the node
+-- that counts groups
 pub units_within-returns-in_err-found-clause-counted :
     goal.plans::units_within-returns-in_err-found-clause-counted
 units_within-returns-in_err-found-clause-counted g t c =

@@ -22,6 +22,7 @@ use Rattle.executor.proofs.WithinNodes.{kept_node}
 use Rattle.executor.proofs.WithinNodes.{walk_of_part}
 use Rattle.executor.proofs.+execute.Goals as goal
 
+-- the few candidates that pass the test by their lists are those that the walk means
 pub walk_to_few-returns-clause-found : goal.walk_plans::walk_to_few-returns-clause-found
 walk_to_few-returns-clause-found g t c =
     let indexed = c.args.reader.indexes.now in
@@ -49,8 +50,8 @@ walk_to_few-returns-clause-found g t c =
       );
     }
 
--- the lists that are enough for the few, what is counted to see how much there is of these, and the lists by which the
--- few are asked are each at most a third of all lists
+-- the lists that are enough for the few candidates, measuring them, and the lists that test the candidates take each
+-- at most a third of all lists, so the visits are within the bound of the walk
 pub walk_to_few-returns-clause-counted :
     goal.walk_plans::walk_to_few-returns-clause-counted
 walk_to_few-returns-clause-counted g t c =
@@ -66,6 +67,7 @@ walk_to_few-returns-clause-counted g t c =
       several_bound indexed c.args.walk.operator (one_of plan) (size indexed plan) c.requires.several,
     ))
 
+-- if memory is refused while the few candidates are tested, the visits are within the bound of the walk
 pub walk_to_few-returns-in_err-found-clause-counted :
     goal.walk_plans::walk_to_few-returns-in_err-found-clause-counted
 walk_to_few-returns-in_err-found-clause-counted g t c =
@@ -81,6 +83,8 @@ walk_to_few-returns-in_err-found-clause-counted g t c =
       several_bound indexed c.args.walk.operator (one_of plan) (size indexed plan) c.requires.several,
     ))
 
+-- if memory is refused while the operand is executed for the few concepts, the visits are within the bound of the
+-- walk
 pub walk_to_few-returns-in_err-from-clause-counted :
     goal.walk_plans::walk_to_few-returns-in_err-from-clause-counted
 walk_to_few-returns-in_err-from-clause-counted g t c =
@@ -96,6 +100,7 @@ walk_to_few-returns-in_err-from-clause-counted g t c =
       several_bound indexed c.args.walk.operator (one_of plan) (size indexed plan) c.requires.several,
     ))
 
+-- if memory is refused while the concepts that are enough are measured, the visits are within the bound of the walk
 pub walk_to_few-returns-in_err-extent-clause-counted :
     goal.walk_plans::walk_to_few-returns-in_err-extent-clause-counted
 walk_to_few-returns-in_err-extent-clause-counted g t c =
@@ -110,6 +115,7 @@ walk_to_few-returns-in_err-extent-clause-counted g t c =
       several_bound indexed c.args.walk.operator (one_of plan) (size indexed plan) c.requires.several,
     ))
 
+-- if the candidates are few enough, the operand is not one concept and the lists have room, as `walk_to_few` requires
 pub walk_from-walk_to_few-requires : goal.walk_plans::walk_from-walk_to_few-requires
 walk_from-walk_to_few-requires g t c =
     let indexed = c.args.reader.indexes.now in
@@ -132,6 +138,7 @@ walk_from-walk_to_few-requires g t c =
     omega (arith, read, all_along indexed operator) in
     search rules
 
+-- what the walk leads to from its operand, restricted to the candidates, is what the walk means among them
 pub walk_from-returns-clause-found : goal.walk_plans::walk_from-returns-clause-found
 walk_from-returns-clause-found g t c =
     let release = c.args.reader.snapshot.now.release in

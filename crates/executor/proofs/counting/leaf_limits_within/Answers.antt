@@ -4,6 +4,7 @@ use Rattle.plan_bounds.specs.Sizes.{size, test_size}
 use Rattle.executor.proofs.CountingLemmas.{leaf_more}
 use Rattle.executor.proofs.counting.leaf_limits_within.Goals as goal
 
+-- the bound of a leaf by what its parts have found is at most its bound by what they find at most
 pub returns-clause-within : goal.returns-clause-within
 returns-clause-within c =
     let indexed = c.args.lengths.indexes.now in

@@ -7,7 +7,7 @@ use Rattle.executor.proofs.CountingLemmas.{walk_more}
 use Rattle.executor.proofs.WalkWork.{walk_read}
 use Rattle.executor.proofs.found.walk_found.Goals as goal
 
--- what is read is within the bound of the node, and so is its floor
+-- if memory is refused, what is read of the lists of the walk is within the bound of the node
 pub returns-in_err-found-clause-counted : goal.returns-in_err-found-clause-counted
 returns-in_err-found-clause-counted g c =
     let indexed = c.args.reader.indexes.now in
@@ -19,6 +19,7 @@ returns-in_err-found-clause-counted g c =
     c.args.walk.operator (size indexed plan) c.requires.size plan c.requires.from in
     record { grows = omega arith; within = omega (arith, read) }
 
+-- what is read of the lists of the walk, raised to the floor of the node, is within the bound of the node
 pub returns-clause-counted : goal.returns-clause-counted
 returns-clause-counted g c =
     let indexed = c.args.reader.indexes.now in

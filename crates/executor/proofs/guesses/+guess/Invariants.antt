@@ -2,7 +2,7 @@ use Rattle.std.proofs.Common.{◌+◌, ◌*◌}
 use Rattle.std.specs.Prelude.{⊤}
 use Rattle.executor.proofs.guesses.+guess.Given as goal
 
--- A call looks one step less deep, or at a part of what is asked at the same depth.
+-- Termination: each call looks one level less deep, or at a part of the node at an equal depth.
 abbrev pub decreases-guess : goal.decreases-guess
 decreases-guess l = 3 * l.depth + 0
 
@@ -33,7 +33,7 @@ decreases-guess_of_rows l = 3 * l.depth + 2
 abbrev pub decreases-guess_of_values : goal.decreases-guess_of_values
 decreases-guess_of_values l = 3 * l.depth + 2
 
--- A guess is any number.
+-- An estimate is any number, so no loop needs an invariant.
 abbrev pub invariant-guess_of_values-loop-name : goal.invariant-guess_of_values-loop-name
 invariant-guess_of_values-loop-name l = ⊤
 

@@ -3,6 +3,7 @@ use Rattle.postings.specs.Groups.{ConceptGroup}
 use Rattle.candidates.proofs.GroupLemmas.{groups_are}
 use Rattle.executor.proofs.nodes.group_count.Goals as goal
 
+-- the indexes have as many groups as all concepts of the release have
 pub returns : goal.returns
 returns c =
     c.group_count.ensures.count

@@ -3,7 +3,7 @@ use Rattle.std.specs.Bool.{OnTrue}
 use Rattle.std.proofs.lemmas.Option.{slice_get_read}
 use Rattle.held_release.proofs.attribute_types.is_at.Goals as goal
 
--- a type that is the one at a place stands there
+-- if the type that is read at a place equals `id`, `id` stands there
 at_place : (ids : List ℕ) (place found id : ℕ) → place < length ids → found ≡ get_or ids place found
     → OnTrue (eqb found id) (slice_get ids place ≡ Some id)
 at_place ids place found id within is = by (eqb found id) refl
@@ -12,6 +12,7 @@ at_place ids place found id within is = by (eqb found id) refl
     by true same = slice_get_read ids (length ids) place found refl within is ∙ ap Some (eqb-true found id same)
     by false same = tt
 
+-- if the answer is true, the type stands at the place
 pub returns-in-Some : goal.returns-in-Some
 returns-in-Some c =
     let lookup = c.in-Some.ensures.lookup in

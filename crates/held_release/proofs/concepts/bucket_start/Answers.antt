@@ -3,6 +3,7 @@ use Rattle.std.proofs.lemmas.Grind.{common_steps}
 use Rattle.held_release.proofs.BucketLemmas.{bucket_started}
 use Rattle.held_release.proofs.concepts.bucket_start.Goals as goal
 
+-- `start` is where the bucket starts: all identifiers before it are in earlier buckets, and none from it on is
 pub returns-else-bucket_of-bucket : goal.returns-else-bucket_of-bucket
 returns-else-bucket_of-bucket c =
     grind (

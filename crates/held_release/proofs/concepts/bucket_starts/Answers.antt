@@ -4,13 +4,15 @@ use Rattle.std.proofs.Math.Seq.{get_or-append_seam}
 use Rattle.held_release.specs.inside.Buckets.{IsBucketStart}
 use Rattle.held_release.proofs.concepts.bucket_starts.Goals as goal
 
--- with the start of one bucket more, each is where its bucket starts
+-- if each entry of `starts` is where its bucket starts and `start` is where the next one does, so is each of both
+-- together
 started_more : (ids starts : List ℕ) (start count : ℕ) → length starts ≡ count
     → ((bucket : ℕ) → bucket < count → IsBucketStart ids bucket (get_or starts bucket 0))
     → IsBucketStart ids count start → (bucket : ℕ) → bucket < count + 1 → IsBucketStart ids bucket (get_or (starts ++ start ∷ []) bucket 0)
 started_more ids starts start count each started next bucket below =
     grind (arith, get_or_append_left starts (start ∷ []) 0 bucket, get_or-append_seam starts start [] 0, started bucket)
 
+-- with the start of one bucket more, each entry is where its bucket starts
 pub loop-bucket-preserved : goal.loop-bucket-preserved
 loop-bucket-preserved c =
     let starts = c.loop-bucket.starts.items in
@@ -26,6 +28,7 @@ loop-bucket-preserved c =
           (started_more c.args.ids.now starts start c.loop-bucket.bucket kept.each kept.started found bucket below);
     }
 
+-- the entries are where all buckets start and where the last one ends
 pub returns : goal.returns
 returns c = record {
   each = omega (arith, c.loop-bucket.invariant.each, c.loop-bucket.auto.bucket-end, c.loop-bucket-test.false);

@@ -4,6 +4,7 @@ use Rattle.held_release.proofs.NumberingLemmas.{number_at, number_nowhere}
 use Rattle.number_lists.proofs.IncreasingLemmas.{not_falling}
 use Rattle.held_release.proofs.concepts.number_between.Goals as goal
 
+-- if the identifier in the middle is `id`, its number is the middle
 pub returns-then-found-id : goal.returns-then-found-id
 returns-then-found-id c =
     grind (
@@ -14,6 +15,7 @@ returns-then-found-id c =
       c.loop-low.invariant.within,
     )
 
+-- if the identifier in the middle is less than `id`, all up to it are
 pub loop-low-preserved-then-found-id-2 : goal.loop-low-preserved-then-found-id-2
 loop-low-preserved-then-found-id-2 c =
     let middle = c.loop-low.low + (c.loop-low.high - c.loop-low.low) / 2 in record {
@@ -22,6 +24,7 @@ loop-low-preserved-then-found-id-2 c =
       below = c.loop-low.invariant.below;
     }
 
+-- if the identifier in the middle is greater than `id`, all from it on are
 pub loop-low-preserved : goal.loop-low-preserved
 loop-low-preserved c =
     let middle = c.loop-low.low + (c.loop-low.high - c.loop-low.low) / 2 in record {
@@ -30,6 +33,7 @@ loop-low-preserved c =
       below = λ place behind below. grind (arith, common_steps, not_falling c.args.ids.now c.requires.rising middle place);
     }
 
+-- if no place is left between `low` and `high`, `id` has no number
 pub returns : goal.returns
 returns c = grind (
   arith,

@@ -14,12 +14,13 @@ use Rattle.held_release.proofs.NumberingLemmas.{IsWithin-numbered, length-number
 use Rattle.held_release.proofs.finishing.finish.Goals as goal
 use Rattle.held_release.proofs.finishing.finish.Goals.{After-len-in-Ok}
 
--- of the rows that were read few are kept
+-- if there are fewer than 2^31 rows, there are fewer than 2^31 numbered rows
 few_numbered : (concepts : List ℕ) (rows numbered : List (ℕ × ℕ)) → numbered ≡ filter_map (numbered_row concepts) rows
     → length rows < 2 ^ 31 → length numbered < 2 ^ 31
 few_numbered concepts rows numbered are few =
     omega (arith, ap (λ (rows : List (ℕ × ℕ)). length rows) are, length-numbered concepts rows, few)
 
+-- there are fewer than 2^31 is-a rows
 few_isa : (c : After-len-in-Ok) → length c.in-Ok.hierarchy.isa.items < 2 ^ 31
 few_isa c =
     few_numbered c.in_ok-concepts.concepts c.as_slice.result.now c.in-Ok.hierarchy.isa.items c.in-Ok.ensures.rows
@@ -30,6 +31,7 @@ few_isa c =
       c.requires.few_isa,
     ))
 
+-- there are fewer than 2^31 member rows
 few_members : (c : After-len-in-Ok) → length c.in_ok-lists-in-Ok.lists.members.items < 2 ^ 31
 few_members c =
     few_numbered c.in_ok-concepts.concepts c.as_slice-in-Ok.result.now c.in_ok-lists-in-Ok.lists.members.items
@@ -41,6 +43,7 @@ few_members c =
       c.requires.few_members,
     ))
 
+-- there are fewer than 2^31 attribute rows
 few_attributes : (c : After-len-in-Ok) → length c.in_ok-lists-in-Ok.lists.attributes.rows < 2 ^ 31
 few_attributes c =
     omega (
@@ -52,6 +55,7 @@ few_attributes c =
       c.requires.few_attributes,
     )
 
+-- there are fewer than 2^31 name rows
 few_names : (c : After-len-in-Ok) → length c.in_ok-lists-in-Ok.lists.lines.names < 2 ^ 31
 few_names c =
     omega (
@@ -62,15 +66,19 @@ few_names c =
       c.requires.few_names,
     )
 
+-- there are fewer than 2^31 concepts
 pub new-requires-clause-few : goal.new-requires-clause-few
 new-requires-clause-few c = grind (arith, common_steps, nat_tests, length-rising)
 
+-- there are fewer than 2^32 name rows
 pub lists_among-requires-clause-few : goal.lists_among-requires-clause-few
 lists_among-requires-clause-few c = omega (arith, c.requires.few, c.requires.few_names)
 
+-- there are fewer than 2^31 attribute rows before any is left out
 pub lists_among-requires-clause-few_attributes : goal.lists_among-requires-clause-few_attributes
 lists_among-requires-clause-few_attributes c = omega (arith, c.requires.few, c.requires.few_attributes)
 
+-- the concepts, is-a rows and attribute rows together fit into 64 bits
 pub overflow_add-listed-in-Ok : goal.overflow_add-listed-in-Ok
 overflow_add-listed-in-Ok c =
     let known = (goal.at.overflow_add-listed-in-Ok c).After-len-in-Ok in
@@ -85,6 +93,7 @@ overflow_add-listed-in-Ok c =
       c.len-in-Ok-2.ensures,
     )
 
+-- the concepts, is-a rows, attribute rows and member rows together fit into 64 bits
 pub overflow_add-listed-in-Ok-2 : goal.overflow_add-listed-in-Ok-2
 overflow_add-listed-in-Ok-2 c =
     let known = (goal.at.overflow_add-listed-in-Ok-2 c).After-len-in-Ok in
@@ -102,6 +111,7 @@ overflow_add-listed-in-Ok-2 c =
       c.in_ok-lists-in-Ok.lists.members.ok.0,
     )
 
+-- all listed rows together, with the name rows, fit into 64 bits
 pub overflow_add-listed-in-Ok-3 : goal.overflow_add-listed-in-Ok-3
 overflow_add-listed-in-Ok-3 c =
     let known = (goal.at.overflow_add-listed-in-Ok-3 c).After-len-in-Ok in
@@ -121,6 +131,8 @@ overflow_add-listed-in-Ok-3 c =
       c.name_count.ensures,
     )
 
+-- the fields of the snapshot agree: numbers are those of concepts, lines are the lines of concepts, and rows are
+-- sorted and few
 pub invariant_of-result : goal.invariant_of-result
 invariant_of-result c =
     let known = (goal.at.invariant_of-result c).After-len-in-Ok in
@@ -143,6 +155,7 @@ invariant_of-result c =
       c.rising-inactive.ensures.increasing,
     )
 
+-- the snapshot that is answered is the one that `finished` makes of the rows that were read
 pub returns-in_ok-lists-in-Ok-clause-ok : goal.returns-in_ok-lists-in-Ok-clause-ok
 returns-in_ok-lists-in-Ok-clause-ok c =
     let listed = read_in c.args.read.lists in
@@ -157,6 +170,7 @@ returns-in_ok-lists-in-Ok-clause-ok c =
     (grind (arith, c.in_ok-lists-in-Ok.ensures.members, c.as_slice-in-Ok.ensures.value)) c.in_ok-lists-in-Ok.ensures.names
     (grind (arith, c.in-Ok.ensures.acyclic, c.as_slice.ensures.value)) (omega (arith, c.in_ok-lists-in-Ok.ensures.sorted.count))
 
+-- the fault that is answered is the fault of `finished`
 pub returns-in-Err-clause-err : goal.returns-in-Err-clause-err
 returns-in-Err-clause-err c =
     finished-Err (string_bytes c.args.language) c.args.files c.args.read.count (read_in c.args.read.lists) c.in_ok-concepts.concepts

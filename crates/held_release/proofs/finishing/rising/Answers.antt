@@ -4,6 +4,7 @@ use Rattle.std.proofs.lemmas.Map.Keys.{IsStrictlyIncreasing-dedup}
 use Rattle.number_lists.proofs.RisingOrderLemmas.{deduped_is_rising}
 use Rattle.held_release.proofs.finishing.rising.Goals as goal
 
+-- the concepts after sorting and removing duplicates are `rising` of the concepts before
 pub returns-clause-rising : goal.returns-clause-rising
 returns-clause-rising c =
     grind (
@@ -14,6 +15,7 @@ returns-clause-rising c =
       c.sort_unstable.ensures.sorted,
     )
 
+-- the concepts after sorting and removing duplicates rise strictly
 pub returns-clause-increasing : goal.returns-clause-increasing
 returns-clause-increasing c =
     rw (dedup_is eqb c.sort_unstable.new.self.items c.dedup.new.self.items c.dedup.ensures.filtered)

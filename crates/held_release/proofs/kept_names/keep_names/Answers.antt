@@ -6,6 +6,7 @@ use Rattle.held_release.proofs.KeptNameLemmas.{kept-push, names-push, noted-exte
 use Rattle.row_lists.proofs.SpanLemmas.{extends-both}
 use Rattle.held_release.proofs.kept_names.keep_names.Goals as goal
 
+-- if a span is noted for the row at `place`, its term stands there in the grown texts
 pub keep_name-requires-clause-span : goal.keep_name-requires-clause-span
 keep_name-requires-clause-span c =
     let names = c.args.names.now in
@@ -16,6 +17,7 @@ keep_name-requires-clause-span c =
     (slice_get_read names (length names) c.loop-place.place name refl
     (omega (arith, c.loop-place-test.true, c.len-place-end.ensures)) (c.row.ensures name))
 
+-- with one row more, all rows are kept and stand for the names up to the next place
 pub loop-place-preserved : goal.loop-place-preserved
 loop-place-preserved c =
     let texts = string_bytes c.loop-place.texts in
@@ -35,6 +37,7 @@ loop-place-preserved c =
           (omega arith) (c.row.ensures (name_read c.row.result));
     }
 
+-- the kept rows stand for all names
 pub returns-clause-names : goal.returns-clause-names
 returns-clause-names c =
     c.loop-place.invariant.names

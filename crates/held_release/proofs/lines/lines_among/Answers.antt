@@ -4,6 +4,7 @@ use Rattle.held_release.proofs.FinishLemmas.{length-names_among}
 use Rattle.held_release.proofs.LineLemmas.{places_within}
 use Rattle.held_release.proofs.lines.lines_among.Goals as goal
 
+-- there are fewer than 2^32 names of the concepts, as the search for first places needs it
 pub first_places-requires : goal.first_places-requires
 first_places-requires c =
     omega (
@@ -13,6 +14,7 @@ first_places-requires c =
       c.requires,
     )
 
+-- there are fewer than 2^32 names of the concepts, as the writing of lines needs it
 pub lines_by_place-requires-clause-few : goal.lines_by_place-requires-clause-few
 lines_by_place-requires-clause-few c =
     omega (
@@ -22,6 +24,7 @@ lines_by_place-requires-clause-few c =
       c.requires,
     )
 
+-- each place is that of a name row
 pub lines_by_place-requires-clause-within : goal.lines_by_place-requires-clause-within
 lines_by_place-requires-clause-within c =
     grind (
@@ -31,6 +34,7 @@ lines_by_place-requires-clause-within c =
           c.in_ok-places.places.items c.in_ok-places.ensures),
     )
 
+-- the lines are those of the concepts with their names in the language
 pub returns-clause-lines : goal.returns-clause-lines
 returns-clause-lines c =
     grind (

@@ -5,12 +5,15 @@ use Rattle.std.proofs.lemmas.Str.{IsCharBoundary-after_ascii, IsCharBoundary-bef
 use Rattle.held_release.proofs.NameInLineLemmas.{named_line}
 use Rattle.held_release.proofs.lines.name_between.Goals as goal
 
+-- a character of the text starts where the name does, because a bar stands before it
 pub range-requires-clause-start_boundary : goal.range-requires-clause-start_boundary
 range-requires-clause-start_boundary c = grind (arith, common_steps, nat_tests, IsCharBoundary-after_ascii, named_line)
 
+-- a character of the text ends where the name does, because a bar stands after it
 pub range-requires-clause-end_boundary : goal.range-requires-clause-end_boundary
 range-requires-clause-end_boundary c = grind (arith, common_steps, nat_tests, IsCharBoundary-before_ascii, named_line)
 
+-- the name does not end before it starts
 pub range-requires-clause-start_le_end : goal.range-requires-clause-start_le_end
 range-requires-clause-start_le_end c =
     let named =
@@ -19,6 +22,7 @@ range-requires-clause-start_le_end c =
     c.if-to-from.false in
     omega (arith, named.2)
 
+-- the line of the concept with the text between the bars as name is the line
 pub returns : goal.returns
 returns c =
     let (name, line, long, before, behind, found) =

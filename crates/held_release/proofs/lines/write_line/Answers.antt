@@ -6,6 +6,7 @@ use Rattle.row_lists.specs.LentRows.{name_read}
 use Rattle.held_release.proofs.KeptNameLemmas.{noted-extends, noted-set}
 use Rattle.held_release.proofs.lines.write_line.Goals as goal
 
+-- the line has the term of the row at `place` as name
 pub returns-in_ok-span-in-Some-clause-line : goal.returns-in_ok-span-in-Some-clause-line
 returns-in_ok-span-in-Some-clause-line c =
     let names = c.args.names.now in
@@ -13,6 +14,7 @@ returns-in_ok-span-in-Some-clause-line c =
     let there = slice_get-get_or names c.in-Some.place name in
     grind (arith, c.in_ok-span-in-Some.ensures.line, c.in-Some.is, c.requires.within, there, (c.row.ensures name))
 
+-- the span of the name is noted for the row at `place`
 pub returns-in_ok-span-in-Some-clause-noted : goal.returns-in_ok-span-in-Some-clause-noted
 returns-in_ok-span-in-Some-clause-noted c =
     let names = c.args.names.now in
@@ -29,6 +31,7 @@ returns-in_ok-span-in-Some-clause-noted c =
       (c.row.ensures name),
     )) c.in_ok-span-in-Some.ensures.span
 
+-- the spans noted before stay valid when a line without a name follows
 pub returns-in-None-clause-noted : goal.returns-in-None-clause-noted
 returns-in-None-clause-noted c =
     grind (

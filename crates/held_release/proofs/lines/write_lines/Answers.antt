@@ -6,6 +6,7 @@ use Rattle.held_release.specs.Name.{name_among}
 use Rattle.held_release.proofs.LineLemmas.{line-pushed, lines-more, starts-pushed}
 use Rattle.held_release.proofs.lines.write_lines.Goals as goal
 
+-- with the line of one concept more, the starts, lines and noted spans are those of `number + 1` concepts
 pub loop-number-preserved : goal.loop-number-preserved
 loop-number-preserved c =
     let texts = string_bytes c.loop-number.texts in
@@ -30,6 +31,7 @@ loop-number-preserved c =
       noted = c.in_ok-write_line.ensures.noted;
     }
 
+-- the lines are those of all concepts
 pub returns-clause-lines : goal.returns-clause-lines
 returns-clause-lines c = λ language are.
     c.loop-number.invariant.lines language are

@@ -1,4 +1,4 @@
--- The lines of the concepts so far, and where in them the terms of rows stand.
+-- The lines of the concepts so far, and the spans in them at which the terms of rows stand.
 use Rattle.std.proofs.Common.{ℕ, ◌≡◌, List, map, take, string_bytes}
 use Rattle.held_release.specs.inside.FirstRows.{AreFirstPlaces}
 use Rattle.held_release.specs.inside.NamesInLines.{AreNoted}

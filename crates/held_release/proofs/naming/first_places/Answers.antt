@@ -1,4 +1,4 @@
--- The row at the place and those behind it.
+-- The row before `place`, and the rows from `place` on.
 use Rattle.std.proofs.Common.{ℕ, ◌≡◌, ◌<◌, ◌-◌, ◌==◌, List, length, Some, get_or, set, drop, sym, ◌∙◌, subst, arith}
 use Rattle.row_lists.specs.LentRows.{name_read}
 use Rattle.held_release.specs.inside.FirstRows.{AreFirstPlaces}
@@ -8,6 +8,7 @@ use Rattle.held_release.proofs.FirstRowLemmas.{first_places-other, first_places-
 use Rattle.std.proofs.lemmas.List.Quantifiers.{position-Some}
 use Rattle.held_release.proofs.naming.first_places.Goals as goal
 
+-- the place so far of the row's concept is below the number of rows
 pub first_of_two-first-requires-clause-later : goal.first_of_two-first-requires-clause-later
 first_of_two-first-requires-clause-later c =
     let names = c.args.names.now in
@@ -19,6 +20,7 @@ first_of_two-first-requires-clause-later c =
     (drop c.loop-place.place names) c.index-later.result.now
     (grind (arith, read.1, (c.loop-place.invariant.1 c.in-Some.number read.0)))
 
+-- with a row of a concept in force, the concept's place is that of the first of both
 pub loop-place-preserved-in-Some : goal.loop-place-preserved-in-Some
 loop-place-preserved-in-Some c =
     let names = c.args.names.now in
@@ -37,6 +39,7 @@ loop-place-preserved-in-Some c =
     (c.loop-place.place - 1) c.in-Some.number c.first_of_two-first.result c.loop-place.places.items c.len.ensures.rising own
     (name_at names (c.loop-place.place - 1) row (omega arith) is) (grind (arith, read.1, c.first_of_two-first.ensures)) c.loop-place.invariant)
 
+-- a row of no concept in force changes no place
 pub loop-place-preserved : goal.loop-place-preserved
 loop-place-preserved c =
     let names = c.args.names.now in
@@ -56,12 +59,14 @@ loop-place-preserved c =
 number_below : (concepts : List ℕ) (id number : ℕ) → concept_number concepts id ≡ Some number → number < length concepts
 number_below concepts id number found = (position-Some (λ other. id == other) concepts number 0 found).0
 
+-- the number of the row's concept is within the places that are read
 pub index-later-requires : goal.index-later-requires
 index-later-requires c =
     let found = sym c.index_of.ensures ∙ c.in-Some.is in
     let below = number_below c.args.concepts.now c.number.result c.in-Some.number found in
     omega (arith, below, c.loop-place.places.ok.0, c.loop-place.invariant.0)
 
+-- the number of the row's concept is within the places that are written
 pub index_mut-requires : goal.index_mut-requires
 index_mut-requires c =
     let found = sym c.index_of.ensures ∙ c.in-Some.is in

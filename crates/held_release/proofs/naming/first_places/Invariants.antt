@@ -1,4 +1,4 @@
--- Each concept's place is that of the row that comes first among the rows behind.
+-- Each concept's place is that of the row that comes first among the rows from `place` on.
 use Rattle.std.proofs.Common.{drop}
 use Rattle.held_release.specs.inside.FirstRows.{AreFirstPlaces}
 use Rattle.held_release.proofs.naming.first_places.Given as goal

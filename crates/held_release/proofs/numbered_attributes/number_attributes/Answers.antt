@@ -5,6 +5,7 @@ use Rattle.held_release.specs.Finished.{attributes_among}
 use Rattle.held_release.proofs.NumberedLemmas.{among_more}
 use Rattle.held_release.proofs.numbered_attributes.number_attributes.Goals as goal
 
+-- with one row more, the rows stand for the attributes kept of the first `place + 1`
 pub loop-place-preserved : goal.loop-place-preserved
 loop-place-preserved c =
     let keys = c.args.concepts.now in
@@ -19,6 +20,7 @@ loop-place-preserved c =
       count = omega (arith, kept.count, c.in_ok-add.ensures.count);
     }
 
+-- the rows stand for all attributes of the concepts
 pub returns-clause-rows : goal.returns-clause-rows
 returns-clause-rows c =
     c.loop-place.invariant.rows

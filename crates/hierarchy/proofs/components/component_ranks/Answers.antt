@@ -4,9 +4,11 @@ use Rattle.number_lists.proofs.KeyedLemmas.{length-lists_by}
 use Rattle.hierarchy.proofs.WayLemmas.{parents_below}
 use Rattle.hierarchy.proofs.components.component_ranks.Goals as goal
 
+-- the parents are below `count`
 pub turned-requires-clause-items : goal.turned-requires-clause-items
 turned-requires-clause-items c = parents_below c.args.count c.args.rows.now c.in_ok-up.up c.requires.within c.in_ok-up.ensures
 
+-- there are fewer than 2^32 lists of parents
 pub turned-requires-clause-few : goal.turned-requires-clause-few
 turned-requires-clause-few c =
     omega (
@@ -16,6 +18,7 @@ turned-requires-clause-few c =
       c.ranges.count.fits,
     )
 
+-- there are fewer than 2^32 lists for the search upwards
 pub finish_order-requires : goal.finish_order-requires
 finish_order-requires c =
     omega (
@@ -25,6 +28,7 @@ finish_order-requires c =
       c.ranges.count.fits,
     )
 
+-- there are fewer than 2^32 lists of children
 pub ranks_behind-requires : goal.ranks_behind-requires
 ranks_behind-requires c = omega (
   arith,

@@ -6,6 +6,7 @@ use Rattle.hierarchy.proofs.SearchLemmas.{pass_same}
 use Rattle.hierarchy.proofs.cycle.climb_all.Goals as goal
 use Rattle.hierarchy.proofs.cycle.climb_all.Goals.{then-climb, else-climb}
 
+-- a row that gives a new mark makes the unmarked concepts fewer; any other row is followed already
 pub loop-row-preserved : goal.loop-row-preserved
 loop-row-preserved c =
     let sound : MarksReached c.args.rows.now c.args.start c.args.reached.now → MarksReached c.args.rows.now c.args.start c.climb.new.reached =

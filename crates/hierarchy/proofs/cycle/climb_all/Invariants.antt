@@ -3,6 +3,7 @@ use Rattle.std.specs.Bool.{OnFalse, OnTrue}
 use Rattle.hierarchy.specs.inside.Search.{IsFollowed, MarksReached, unmarked_count}
 use Rattle.hierarchy.proofs.cycle.climb_all.Given as goal
 
+-- only reached concepts are marked; if nothing new was found, the rows so far are followed
 abbrev pub invariant-loop-row : goal.invariant-loop-row
 invariant-loop-row l =
     (MarksReached l.rows l.start l.initial.reached → MarksReached l.rows l.start l.reached)

@@ -4,6 +4,7 @@ use Rattle.hierarchy.proofs.SearchLemmas.{IsSuspect, pass_marked, pass_unmarked,
 use Rattle.hierarchy.proofs.cycle.suspects.Goals as goal
 use Rattle.hierarchy.proofs.cycle.suspects.Goals.{then-not-all_rise, else-not-all_rise+else-rank_of}
 
+-- the child of a suspect row is marked, and no other changes
 pub loop-row-preserved : goal.loop-row-preserved
 loop-row-preserved c =
     let rows = c.args.rows.now in
@@ -25,6 +26,7 @@ loop-row-preserved c =
       )
     ]
 
+-- a concept that is not marked does not reach itself
 pub returns-clause-others : goal.returns-clause-others
 returns-clause-others c concept below =
     unmarked_acyclic c.args.rows.now c.args.ranks.now c.loop-row.suspects.items

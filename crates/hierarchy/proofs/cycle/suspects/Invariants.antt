@@ -3,6 +3,7 @@ use Rattle.hierarchy.specs.inside.Search.{IsMarked}
 use Rattle.hierarchy.proofs.SearchLemmas.{IsSuspect}
 use Rattle.hierarchy.proofs.cycle.suspects.Given as goal
 
+-- the child of each suspect row so far is marked
 abbrev pub invariant-loop-row : goal.invariant-loop-row
 invariant-loop-row l =
     (vec_len l.suspects ≡ l.count)

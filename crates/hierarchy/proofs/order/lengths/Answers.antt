@@ -1,8 +1,9 @@
--- Behind each key there is one length more, that of its list.
+-- After each key there is one length more, that of its list.
 use Rattle.std.proofs.Common.{◌∙◌, ◌∷◌, [], ℕ, List, ap, arith, get_or, length, map, sym, take, take_all}
 use Rattle.std.proofs.lemmas.List.{map-append, take_more}
 use Rattle.hierarchy.proofs.order.lengths.Goals as goal
 
+-- the length of one list more is added
 pub loop-key-preserved : goal.loop-key-preserved
 loop-key-preserved c =
     let long = λ (xs : List ℕ). length xs in
@@ -12,6 +13,7 @@ loop-key-preserved c =
     (sym (ap (map long) (take_more lists key [] (omega arith))
     ∙ map-append long (take key lists) (get_or lists key [] ∷ [])))
 
+-- after the last key there is a length for each list
 pub returns : goal.returns
 returns c =
     c.loop-key.invariant

@@ -5,6 +5,7 @@ use Rattle.hierarchy.proofs.ReleaseLemmas.{release_next, still_waits}
 use Rattle.hierarchy.proofs.order.release.Goals as goal
 use Rattle.hierarchy.proofs.order.release.Goals.{then-left-eq0+in_ok-push, else-left-eq0}
 
+-- one child more is released
 pub loop-child-preserved : goal.loop-child-preserved
 loop-child-preserved c =
     let child = get_or c.args.children.now c.loop-child.child-index 0 in
@@ -23,6 +24,7 @@ loop-child-preserved c =
       | else-left-eq0 w ↦ rw w.order-is (added, c.loop-child.invariant.1, next.1 w.if-left-eq0.false)
     ]
 
+-- after the last child all children are released
 pub returns : goal.returns
 returns c =
     let waiting = c.loop-child.waiting.items in
@@ -34,6 +36,7 @@ returns c =
           all c.loop-child.invariant.2,
     )
 
+-- the next child waits for at least one parent, so the subtraction does not underflow
 pub overflow_sub-left : goal.overflow_sub-left
 overflow_sub-left c =
     let children = c.args.children.now in

@@ -2,6 +2,7 @@ use Rattle.std.proofs.Common.{arith}
 use Rattle.idset.proofs.Vectors.{zip2_vector_step}
 use Rattle.idset.proofs.kernels.combine_vectors.Goals as goal
 
+-- with one vector more, the words up to it are those of `zip2`
 pub loop-place-preserved : goal.loop-place-preserved
 loop-place-preserved g c = record {
   within = omega arith;

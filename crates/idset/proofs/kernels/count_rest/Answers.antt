@@ -3,6 +3,7 @@ use Rattle.std.proofs.lemmas.List.Sums.{sum_by-drop_more, sum_by-take-drop}
 use Rattle.idset.proofs.Counting.{count_le}
 use Rattle.idset.proofs.kernels.count_rest.Goals as goal
 
+-- the count with the next word fits into 64 bits
 pub overflow_add-count : goal.overflow_add-count
 overflow_add-count c =
     let words = c.args.words.now in

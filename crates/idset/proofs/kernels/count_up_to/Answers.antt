@@ -4,6 +4,7 @@ use Rattle.std.proofs.lemmas.List.Sums.{sum_by-drop_more}
 use Rattle.idset.proofs.Counting.{count_le}
 use Rattle.idset.proofs.kernels.count_up_to.Goals as goal
 
+-- the count with the next word fits into 64 bits
 pub overflow_add-count : goal.overflow_add-count
 overflow_add-count c =
     let words = c.args.words.now in
@@ -16,6 +17,7 @@ overflow_add-count c =
       );
     }
 
+-- the ones counted and those of the words left are all ones
 pub loop-word-preserved : goal.loop-word-preserved
 loop-word-preserved c =
     omega (
@@ -25,9 +27,11 @@ loop-word-preserved c =
       c.from-count.ensures,
     )
 
+-- if the count has reached `most`, the minimum of `most` and all ones is `most`
 pub returns-then-count-most : goal.returns-then-count-most
 returns-then-count-most c = omega (arith, c.loop-word.invariant)
 
+-- if all words are counted, the lesser of the count and `most` is the result
 pub returns : goal.returns
 returns c =
     let words = c.args.words.now in

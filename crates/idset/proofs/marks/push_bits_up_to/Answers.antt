@@ -5,6 +5,7 @@ use Rattle.idset.proofs.MarkLemmas.{lowest_told, none_in}
 use Rattle.idset.proofs.Pages.{front_whole}
 use Rattle.idset.proofs.marks.push_bits_up_to.Goals as goal
 
+-- pushing the number of the lowest bit and clearing the bit leaves all numbers unchanged, and the list within `most`
 pub loop-left-preserved : goal.loop-left-preserved
 loop-left-preserved c =
     let left = c.loop-left.left in
@@ -16,6 +17,7 @@ loop-left-preserved c =
       within = omega arith;
     }
 
+-- if no bit is left, the list is the first `most` of the list and the numbers of the word
 pub returns-after-loop-left : goal.returns-after-loop-left
 returns-after-loop-left c =
     let told = c.loop-left.numbers.items in

@@ -7,7 +7,7 @@ use Rattle.idset.proofs.MarkLemmas.{numbers_all, numbers_step}
 use Rattle.idset.proofs.Pages.{page_full, page_more}
 use Rattle.idset.proofs.marks.some_numbers.Goals as goal
 
--- the page is full before the words end
+-- if the page is full, the words that are not read do not change it
 pub returns-then-len-most : goal.returns-then-len-most
 returns-then-len-most c =
     let words = c.args.words.now in
@@ -22,6 +22,7 @@ returns-then-len-most c =
     c.loop-place.numbers.items c.loop-place.invariant.told (omega arith)
     ∙ ap (λ (numbers : List ℕ). take c.args.most (drop c.args.skipped numbers)) whole
 
+-- with one word more, the page is that of the numbers of the first `place + 1` words
 pub loop-place-preserved : goal.loop-place-preserved
 loop-place-preserved c =
     let words = c.args.words.now in
@@ -46,6 +47,7 @@ loop-place-preserved c =
       );
     }
 
+-- the page of the numbers of all words is the page of the numbers below `bound`
 pub returns : goal.returns
 returns c =
     let words = c.args.words.now in

@@ -7,6 +7,7 @@ use Rattle.idset.proofs.Rising.{common_items-swap}
 use Rattle.number_lists.proofs.RisingLemmas.{rising_fits}
 use Rattle.idset.proofs.mixed_set.and_many.Goals as goal
 
+-- the common items of a list and words are those of the words and the list
 pub returns-in_ok-set-in-Few-clause-items : goal.returns-in_ok-set-in-Few-clause-items
 returns-in_ok-set-in-Few-clause-items c =
     let own = c.args.own.now in

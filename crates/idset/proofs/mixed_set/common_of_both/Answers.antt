@@ -6,6 +6,7 @@ use Rattle.idset.proofs.Rising.{common_items-rising}
 use Rattle.idset.proofs.WordLemmas.{kept_common}
 use Rattle.idset.proofs.mixed_set.common_of_both.Goals as goal
 
+-- the items of the list that the words have rise
 pub from_list-requires : goal.from_list-requires
 from_list-requires c =
     let own = c.args.few.now in
@@ -16,6 +17,7 @@ from_list-requires c =
     (subst (λ (items : List ℕ). IsRisingBelow own.bound items) (sym kept)
     (common_items-rising own.bound own.items.items (numbers_where many.bound (is_set c.words.result.now)) own.rising))
 
+-- the items of the list that are marked are its common items with the words
 pub returns-clause-items : goal.returns-clause-items
 returns-clause-items c =
     let own = c.args.few.now in

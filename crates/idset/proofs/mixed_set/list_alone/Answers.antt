@@ -6,6 +6,7 @@ use Rattle.idset.proofs.Rising.{other_items-rising}
 use Rattle.idset.proofs.WordLemmas.{kept_other}
 use Rattle.idset.proofs.mixed_set.list_alone.Goals as goal
 
+-- the items of the list that the words have not rise
 pub from_list-requires : goal.from_list-requires
 from_list-requires c =
     let own = c.args.few.now in
@@ -16,6 +17,7 @@ from_list-requires c =
     (subst (λ (items : List ℕ). IsRisingBelow own.bound items) (sym kept)
     (other_items-rising own.bound own.items.items (numbers_where many.bound (is_set c.words.result.now)) own.rising))
 
+-- the items of the list that are not marked are its items that the words have not
 pub returns-clause-items : goal.returns-clause-items
 returns-clause-items c =
     let own = c.args.few.now in

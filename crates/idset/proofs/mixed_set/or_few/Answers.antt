@@ -4,6 +4,7 @@ use Rattle.idset.specs.Sets.{all_items}
 use Rattle.idset.proofs.Normal.{all_items-swap}
 use Rattle.idset.proofs.mixed_set.or_few.Goals as goal
 
+-- adding the list to a copy of the words gives the union of the list and the words
 pub returns-in_ok-add_all-in-Many-clause-items : goal.returns-in_ok-add_all-in-Many-clause-items
 returns-in_ok-add_all-in-Many-clause-items c =
     let own = c.args.own.now in

@@ -1,4 +1,4 @@
--- A number behind a minus is negative.
+-- A number after a minus is negative.
 use Rattle.std.proofs.Common.{◌≡◌, get_or, length, drop, arith, rules}
 use Rattle.std.proofs.lemmas.Slice.{between_to_end}
 use mir.Syntax.{w128}
@@ -7,6 +7,7 @@ use Rattle.numerals.specs.Decimals.{unsigned_of}
 use Rattle.numerals.proofs.DecimalLemmas.{negative_of, negation}
 use Rattle.numerals.proofs.reading.decimal.Goals as goal
 
+-- after a minus `decimal` returns the negative of the number that the rest writes
 pub returns-in_ok-number-in-45 : goal.returns-in_ok-number-in-45
 returns-in_ok-number-in-45 c =
     let text = c.args.text.now in

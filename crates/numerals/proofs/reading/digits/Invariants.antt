@@ -4,7 +4,7 @@ use Rattle.std.specs.List.{list_all}
 use Rattle.std.specs.Str.Parse.{digits_value}
 use Rattle.numerals.proofs.reading.digits.Given as goal
 
--- what was read are digits, and the number is what they write
+-- the bytes so far are digits, and `number` is what they write
 abbrev pub invariant-loop-byte : goal.invariant-loop-byte
 invariant-loop-byte l = record {
   digits : list_all is_ascii_digit (take l.byte-index l.text) ≡ true;

@@ -14,6 +14,8 @@ use Rattle.pair_sets.proofs.TypeLemmas.{type_tells}
 use Rattle.pair_sets.proofs.among.back_pairs_among.Goals as goal
 use Rattle.pair_sets.proofs.among.back_pairs_among.Goals.{then-counts_back, else-counts_back}
 
+-- the row at hand adds one to `pairs` exactly if it is the first with its pair, its type is in the set and its source
+-- passes
 pub loop-place-preserved : goal.loop-place-preserved
 loop-place-preserved g c =
     let indexed = c.args.reader.indexes.now in
@@ -51,6 +53,7 @@ loop-place-preserved g c =
       }
     ]
 
+-- after the last row, `pairs` is how many of all rows count
 pub returns : goal.returns
 returns g c = λ entries sources are.
     let indexed = c.args.reader.indexes.now in

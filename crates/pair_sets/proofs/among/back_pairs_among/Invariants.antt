@@ -8,7 +8,7 @@ use Rattle.candidates.specs.Numbers.{is_one_of}
 use Rattle.pair_sets.specs.Tested.{passes_of}
 use Rattle.pair_sets.proofs.among.back_pairs_among.Given as goal
 
--- those of the rows so far
+-- `pairs` is how many of the rows so far count
 abbrev pub invariant-loop-place : goal.invariant-loop-place
 invariant-loop-place g l = record {
   few : l.pairs ≤ l.place;

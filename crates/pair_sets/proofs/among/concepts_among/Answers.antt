@@ -14,6 +14,7 @@ use Rattle.pair_sets.specs.Tested.{passes_of}
 use Rattle.pair_sets.proofs.among.concepts_among.Goals as goal
 use Rattle.pair_sets.proofs.among.concepts_among.Goals.{then-lies_in+in_ok-push, else-lies_in}
 
+-- the concept at hand is kept if `count` has the number of its pairs, and its rows are counted
 pub loop-concept-preserved : goal.loop-concept-preserved
 loop-concept-preserved g c =
     let indexed = c.args.reader.indexes.now in
@@ -54,6 +55,7 @@ loop-concept-preserved g c =
       }
     ]
 
+-- after the last concept, those of all are kept whose number of pairs lies in `count`
 pub returns-clause-kept : goal.returns-clause-kept
 returns-clause-kept g c =
     let indexed = c.args.reader.indexes.now in
@@ -63,11 +65,13 @@ returns-clause-kept g c =
     ∙ ap (filter (λ number. lies_in c.args.count (pairs_of_concept c.args.reader.indexes.now c.args.back one passes number)))
     (take_all c.loop-concept.concept-index c.args.concepts.now (omega arith))
 
+-- if memory is refused at a concept, the rows up to its own are counted
 pub returns-in_err-push-clause-counted : goal.returns-in_err-push-clause-counted
 returns-in_err-push-clause-counted g c =
     counted_some (row_count_of c.args.reader.indexes.now (not c.args.back)) c.args.concepts.now c.loop-concept.concept-index
     c.loop-concept-test.true c.loop-concept.invariant.counted (counted_out c.pairs_of_concept-pairs.ensures.counted (omega arith))
 
+-- after the last concept, the rows of all are counted
 pub returns-clause-counted : goal.returns-clause-counted
 returns-clause-counted g c =
     counted_all (row_count_of c.args.reader.indexes.now (not c.args.back)) c.args.concepts.now c.loop-concept.concept-index

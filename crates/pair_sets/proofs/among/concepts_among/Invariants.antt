@@ -9,7 +9,7 @@ use Rattle.candidates.specs.Numbers.{is_one_of}
 use Rattle.pair_sets.specs.Tested.{passes_of}
 use Rattle.pair_sets.proofs.among.concepts_among.Given as goal
 
--- those of the concepts so far, whose rows are counted
+-- `kept` are the concepts so far whose number of pairs lies in `count`, and the rows of the concepts so far are counted
 abbrev pub invariant-loop-concept : goal.invariant-loop-concept
 invariant-loop-concept g l = record {
   within : All (λ number. number < length l.reader.indexes.now.concepts) l.kept.items;

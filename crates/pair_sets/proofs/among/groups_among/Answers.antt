@@ -17,6 +17,7 @@ use Rattle.pair_sets.specs.Tested.{passes_of}
 use Rattle.pair_sets.proofs.among.groups_among.Goals as goal
 use Rattle.pair_sets.proofs.among.groups_among.Goals.{then-lies_in+in_ok-push, else-lies_in}
 
+-- the rows of the group at hand are numbers of rows
 pub pairs_among-pairs-requires-clause-rows : goal.pairs_among-pairs-requires-clause-rows
 pairs_among-pairs-requires-clause-rows g c =
     let groups = groups_in c.args.reader.indexes.now in
@@ -25,6 +26,7 @@ pairs_among-pairs-requires-clause-rows g c =
     (unit_told c.args.reader.indexes.now group c.unit_rows-rows.result.now (c.requires.groups c.loop-group.group-index 0 c.loop-group-test.true) c.unit_rows-rows.ensures.items))
     (unit_below c.args.reader.indexes.now (slice_get groups group))
 
+-- the group at hand is kept if `count` has the number of its pairs, and its rows are counted
 pub loop-group-preserved : goal.loop-group-preserved
 loop-group-preserved g c =
     let indexed = c.args.reader.indexes.now in
@@ -69,6 +71,7 @@ loop-group-preserved g c =
       }
     ]
 
+-- after the last group, those of all are kept whose number of pairs lies in `count`
 pub returns-clause-kept : goal.returns-clause-kept
 returns-clause-kept g c =
     let indexed = c.args.reader.indexes.now in
@@ -79,6 +82,7 @@ returns-clause-kept g c =
     (rows_of_unit c.args.reader.indexes.now (slice_get (groups_in c.args.reader.indexes.now) number)))))
     (take_all c.loop-group.group-index c.args.groups.now (omega arith))
 
+-- if memory is refused at a group, the rows up to its own are counted
 pub returns-in_err-push-clause-counted : goal.returns-in_err-push-clause-counted
 returns-in_err-push-clause-counted g c =
     let indexed = c.args.reader.indexes.now in
@@ -91,6 +95,7 @@ returns-in_err-push-clause-counted g c =
     (omega (arith, ap (λ (rows : List ℕ). length rows) rows_are, unit_count indexed (slice_get (groups_in indexed) group))) in
     counted_some (group_row_count indexed) c.args.groups.now k c.loop-group-test.true c.loop-group.invariant.counted read
 
+-- after the last group, the rows of all are counted
 pub returns-clause-counted : goal.returns-clause-counted
 returns-clause-counted g c =
     counted_all (group_row_count c.args.reader.indexes.now) c.args.groups.now c.loop-group.group-index c.loop-group.invariant.counted

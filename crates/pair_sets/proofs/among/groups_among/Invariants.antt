@@ -10,7 +10,7 @@ use Rattle.candidates.specs.Numbers.{is_one_of}
 use Rattle.pair_sets.specs.Tested.{passes_of}
 use Rattle.pair_sets.proofs.among.groups_among.Given as goal
 
--- those of the groups so far, whose rows are counted
+-- `kept` are the groups so far whose number of pairs lies in `count`, and the rows of the groups so far are counted
 abbrev pub invariant-loop-group : goal.invariant-loop-group
 invariant-loop-group g l = record {
   within : All (λ number. number < length (groups_in l.reader.indexes.now)) l.kept.items;

@@ -13,6 +13,7 @@ use Rattle.pair_sets.proofs.TypeLemmas.{type_tells}
 use Rattle.pair_sets.proofs.among.pairs_among.Goals as goal
 use Rattle.pair_sets.proofs.among.pairs_among.Goals.{then-counts, else-counts}
 
+-- the row at hand adds one to `pairs` exactly if it counts as a pair
 pub loop-n-preserved : goal.loop-n-preserved
 loop-n-preserved g c =
     let indexed = c.args.reader.indexes.now in
@@ -38,6 +39,7 @@ loop-n-preserved g c =
       }
     ]
 
+-- after the last row, `pairs` is how many of all rows count
 pub returns : goal.returns
 returns g c =
     let indexed = c.args.reader.indexes.now in

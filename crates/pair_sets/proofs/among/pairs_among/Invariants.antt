@@ -4,7 +4,7 @@ use Rattle.candidates.specs.Numbers.{is_one_of}
 use Rattle.pair_sets.specs.Tested.{passes_of}
 use Rattle.pair_sets.proofs.among.pairs_among.Given as goal
 
--- those of the rows so far
+-- `pairs` is how many of the rows so far count
 abbrev pub invariant-loop-n : goal.invariant-loop-n
 invariant-loop-n g l = record {
   few : l.pairs ≤ l.n-index;

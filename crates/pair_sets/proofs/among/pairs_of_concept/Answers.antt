@@ -9,11 +9,13 @@ use Rattle.pair_sets.specs.Tested.{passes_of}
 use Rattle.pair_sets.proofs.HitLemmas.{sources_long, types_long}
 use Rattle.pair_sets.proofs.among.pairs_of_concept.Goals as goal
 
+-- the rows of the concept are numbers of rows
 pub pairs_among-requires-clause-rows : goal.pairs_among-requires-clause-rows
 pairs_among-requires-clause-rows g c =
     subst (All (λ n. n < length c.args.reader.indexes.now.rows)) (sym c.rows_of-rows.ensures.items)
     (places_where-within (λ (row : Attribute). row.source == get_or c.args.reader.indexes.now.concepts c.args.concept 0) c.args.reader.indexes.now.rows)
 
+-- there is a type for each source in the columns of the value
 pub back_pairs_among-requires-clause-long : goal.back_pairs_among-requires-clause-long
 back_pairs_among-requires-clause-long g c =
     let indexed = c.args.reader.indexes.now in
@@ -21,6 +23,7 @@ back_pairs_among-requires-clause-long g c =
     sources_long indexed.concepts _ columns.result.sources.now columns.ensures.columns.sources
     ∙ sym (types_long indexed _ columns.result.types.now columns.ensures.columns.types)
 
+-- read backwards, the rows that count are those that have the concept as their value
 pub returns-then-back-clause-pairs : goal.returns-then-back-clause-pairs
 returns-then-back-clause-pairs g c =
     let indexed = c.args.reader.indexes.now in
@@ -30,6 +33,7 @@ returns-then-back-clause-pairs g c =
     c.value_columns-columns.ensures.columns.sources c.value_columns-columns.ensures.columns.types
     ∙ ap (λ (back : Bool). pairs_of_concept indexed back one passes c.args.concept) (sym c.if-back.true)
 
+-- the rows of its own that count are those that have the concept as their source
 pub returns-else-back-clause-pairs : goal.returns-else-back-clause-pairs
 returns-else-back-clause-pairs g c =
     let indexed = c.args.reader.indexes.now in

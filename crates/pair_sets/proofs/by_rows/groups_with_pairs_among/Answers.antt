@@ -15,6 +15,7 @@ use Rattle.pair_sets.proofs.AmongLemmas.{groups_among_within}
 use Rattle.candidates.proofs.GroupLemmas.{groups_are}
 use Rattle.pair_sets.proofs.by_rows.groups_with_pairs_among.Goals as goal
 
+-- the candidates are below the count of groups
 pub numbers_asked-requires : goal.numbers_asked-requires
 numbers_asked-requires g c =
     subst (λ (count : ℕ). AreBelow g.S.ConceptSet.bound_of count c.args.candidates.now)
@@ -23,18 +24,21 @@ numbers_asked-requires g c =
     (groups_are c.args.reader.indexes.now c.args.reader.snapshot.now.release c.args.reader.index c.concept_count.ensures.rising)))
     c.requires.candidates
 
+-- the numbers that are tested are those of groups
 pub groups_among-requires-clause-groups : goal.groups_among-requires-clause-groups
 groups_among-requires-clause-groups g c =
     subst (All (λ number. number < length (groups_in c.args.reader.indexes.now))) (sym c.as_slice.ensures.value)
     (subst (λ (bound : ℕ). All (λ number. number < bound) c.in_ok-asked.asked.items)
     c.group_count-group_count.ensures.count c.in_ok-asked.ensures.within)
 
+-- the groups that are kept are below the count of groups
 pub from_numbers-requires : goal.from_numbers-requires
 from_numbers-requires g c =
     subst (All (λ number. number < c.group_count-group_count.result)) (sym c.as_slice-2.ensures.value)
     (subst (λ (count : ℕ). All (λ number. number < count) c.in_ok-kept.kept.items)
     (sym c.group_count-group_count.ensures.count) c.in_ok-kept.ensures.within)
 
+-- the groups that are kept by their own rows are the candidates whose number of matching pairs lies in `count`
 pub returns-clause-items : goal.returns-clause-items
 returns-clause-items g c =
     let release = c.args.reader.snapshot.now.release in
@@ -52,6 +56,7 @@ returns-clause-items g c =
     found_is)
     c.from_numbers.ensures.items
 
+-- the set that is found has the count of groups as its bound
 pub returns-clause-bound : goal.returns-clause-bound
 returns-clause-bound g c =
     IfOk-weaker c.from_numbers.result _ _
@@ -61,6 +66,7 @@ returns-clause-bound g c =
     (groups_are c.args.reader.indexes.now c.args.reader.snapshot.now.release c.args.reader.index c.concept_count.ensures.rising))
     c.from_numbers.ensures.bound
 
+-- if memory is refused in the test, no more is counted than the candidates and their rows, or all rows
 pub returns-in_err-kept-clause-counted : goal.returns-in_err-kept-clause-counted
 returns-in_err-kept-clause-counted g c =
     let indexed = c.args.reader.indexes.now in
@@ -74,6 +80,7 @@ returns-in_err-kept-clause-counted g c =
           (subst (λ (bound : ℕ). IsRisingBelow bound asked) c.group_count-group_count.ensures.count c.in_ok-asked.ensures.rising)),
     ))
 
+-- no more is counted than the candidates and their rows, or all rows
 pub returns-clause-counted : goal.returns-clause-counted
 returns-clause-counted g c =
     let indexed = c.args.reader.indexes.now in

@@ -8,6 +8,8 @@ use Rattle.candidates.proofs.GroupLemmas.{groups_are}
 use Rattle.pair_sets.proofs.LeafLemmas.{groups_found}
 use Rattle.pair_sets.proofs.by_rows.groups_with_pairs_by_type.Goals as goal
 
+-- the groups that have hits by type as often as `count` asks are the groups whose number of matching pairs lies in
+-- `count`
 pub returns-clause-items : goal.returns-clause-items
 returns-clause-items g c =
     let release = c.args.reader.snapshot.now.release in
@@ -24,6 +26,7 @@ returns-clause-items g c =
     found_is)
     c.as_often.ensures.items
 
+-- the set that is found by type has the count of groups as its bound
 pub returns-clause-bound : goal.returns-clause-bound
 returns-clause-bound g c =
     IfOk-weaker c.as_often.result _ _

@@ -15,6 +15,7 @@ use Rattle.pair_sets.proofs.AmongLemmas.{among_within}
 use Rattle.pair_sets.proofs.LeafLemmas.{sources_known}
 use Rattle.pair_sets.proofs.by_rows.with_pairs_among.Goals as goal
 
+-- the numbers that are tested are those of concepts
 pub concepts_among-requires-clause-concepts : goal.concepts_among-requires-clause-concepts
 concepts_among-requires-clause-concepts g c =
     subst (All (λ number. number < length c.args.reader.indexes.now.concepts)) (sym c.as_slice.ensures.value)
@@ -22,6 +23,7 @@ concepts_among-requires-clause-concepts g c =
     (c.concept_count-concept_count.ensures.count ∙ ap (λ (ids : List ℕ). length ids) (sym c.args.reader.index.concepts))
     c.in_ok-asked.ensures.within)
 
+-- the concepts that are kept are below the count of concepts
 pub from_numbers-requires : goal.from_numbers-requires
 from_numbers-requires g c =
     let count : length c.args.reader.indexes.now.concepts ≡ c.concept_count-concept_count.result =
@@ -30,6 +32,7 @@ from_numbers-requires g c =
     subst (All (λ number. number < c.concept_count-concept_count.result)) (sym c.as_slice-2.ensures.value)
     (subst (λ (count : ℕ). All (λ number. number < count) c.in_ok-kept.kept.items) count c.in_ok-kept.ensures.within)
 
+-- the concepts that are kept by their own rows are the candidates whose number of matching pairs lies in `count`
 pub returns-clause-items : goal.returns-clause-items
 returns-clause-items g c =
     let release = c.args.reader.snapshot.now.release in
@@ -49,6 +52,7 @@ returns-clause-items g c =
     found_is)
     c.from_numbers.ensures.items
 
+-- if memory is refused in the test, no more is counted than the candidates and their rows, or all rows
 pub returns-in_err-kept-clause-counted : goal.returns-in_err-kept-clause-counted
 returns-in_err-kept-clause-counted g c =
     let indexed = c.args.reader.indexes.now in
@@ -64,6 +68,7 @@ returns-in_err-kept-clause-counted g c =
           (not c.args.back)),
     ))
 
+-- no more is counted than the candidates and their rows, or all rows
 pub returns-clause-counted : goal.returns-clause-counted
 returns-clause-counted g c =
     let indexed = c.args.reader.indexes.now in

@@ -6,6 +6,8 @@ use Rattle.candidates.specs.Numbers.{is_one_of}
 use Rattle.pair_sets.proofs.LeafLemmas.{concepts_found, sources_known}
 use Rattle.pair_sets.proofs.by_rows.with_pairs_by_value.Goals as goal
 
+-- the concepts that have hits by value as often as `count` asks are the concepts whose number of matching pairs lies in
+-- `count`
 pub returns-clause-items : goal.returns-clause-items
 returns-clause-items g c =
     let release = c.args.reader.snapshot.now.release in

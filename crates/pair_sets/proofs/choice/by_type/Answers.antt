@@ -5,7 +5,7 @@ use Rattle.candidates.specs.Numbers.{is_one_of}
 use Rattle.pair_sets.proofs.RoomLemmas.{type_rows_few}
 use Rattle.pair_sets.proofs.choice.by_type.Goals as goal
 
--- what was read to find the types leaves room for their rows
+-- what is read to find the types leaves room for their rows
 pub few_values-requires-clause-room : goal.few_values-requires-clause-room
 few_values-requires-clause-room g c =
     let indexed = c.args.reader.indexes.now in

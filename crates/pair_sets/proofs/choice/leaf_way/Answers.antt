@@ -4,20 +4,21 @@ use Rattle.candidates.specs.Numbers.{is_one_of}
 use Rattle.pair_sets.proofs.RoomLemmas.{type_rows_few}
 use Rattle.pair_sets.proofs.choice.leaf_way.Goals as goal
 
--- no types are read in these ways, so they are for any
+-- a leaf that is read by value reads no types, so its way is right for any types
 pub returns-in-ByValue-2-clause-way : goal.returns-in-ByValue-2-clause-way
 returns-in-ByValue-2-clause-way g c =
     let types = g.S.ConceptSet.items_of c.args.types.now in
     IfOk-weaker c.by_value.result _ _ (λ way ways. ways (is_one_of c.args.reader.indexes.now.concepts types))
     c.by_value.ensures.way
 
+-- a leaf that is scanned reads no types, so its way is right for any types
 pub returns-in-Scan-clause-way : goal.returns-in-Scan-clause-way
 returns-in-Scan-clause-way g c =
     let types = g.S.ConceptSet.items_of c.args.types.now in
     IfOk-weaker c.by_scan.result _ _ (λ way ways. ways (is_one_of c.args.reader.indexes.now.concepts types))
     c.by_scan.ensures.way
 
--- where most values pass there is room for all rows, so for those of the types
+-- if most values pass, there is room for all rows, so there is room for the rows of the types
 pub by_type-requires-clause-room : goal.by_type-requires-clause-room
 by_type-requires-clause-room g c =
     let indexed = c.args.reader.indexes.now in

@@ -4,6 +4,7 @@ use Rattle.postings.specs.Stats.{type_row_count}
 use Rattle.pair_sets.proofs.ListLemmas.{cut_more}
 use Rattle.pair_sets.proofs.choice.rows_of_types.Goals as goal
 
+-- the rows of the type at hand are added to `rows`, saturated
 pub loop-id-preserved : goal.loop-id-preserved
 loop-id-preserved c =
     c.saturating_add-rows.ensures

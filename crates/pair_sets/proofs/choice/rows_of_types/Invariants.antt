@@ -3,6 +3,6 @@ use Rattle.std.specs.Prelude.{min, sum_by}
 use Rattle.postings.specs.Stats.{type_row_count}
 use Rattle.pair_sets.proofs.choice.rows_of_types.Given as goal
 
--- those of the types so far
+-- `rows` is how many rows the types so far have, saturated
 abbrev pub invariant-loop-id : goal.invariant-loop-id
 invariant-loop-id l = l.rows ≡ min (sum_by (type_row_count l.reader.indexes.now) (take l.id-index l.ids)) (2 ^ 64 - 1)

@@ -4,6 +4,7 @@ use Rattle.candidates.specs.RowCounts.{row_count_of}
 use Rattle.pair_sets.proofs.ListLemmas.{cut_more}
 use Rattle.pair_sets.proofs.choice.rows_of_values.Goals as goal
 
+-- the rows of the concept at hand are added to `rows`, saturated
 pub loop-concept-preserved : goal.loop-concept-preserved
 loop-concept-preserved c =
     c.saturating_add-rows.ensures

@@ -4,6 +4,7 @@ use Rattle.pair_sets.specs.Tested.{IsTestBelow}
 use Rattle.number_lists.proofs.RisingLemmas.{all_below}
 use Rattle.pair_sets.proofs.choice.values_that_pass.Goals as goal
 
+-- the items of the test's set are numbers of concepts
 pub rows_of_values-rows-requires : goal.rows_of_values-rows-requires
 rows_of_values-rows-requires g c =
     let count : ℕ = length c.args.reader.indexes.now.concepts in

@@ -5,7 +5,8 @@ use Rattle.candidates.specs.Numbers.{is_one_of}
 use Rattle.pair_sets.proofs.RoomLemmas.{type_rows_few}
 use Rattle.pair_sets.proofs.choice.values_way.Goals as goal
 
--- there are more sources than are read to find the types, and the rows of these are no more than all
+-- if there are more sources than items that are read to find the types, there is room for the rows of the types, since
+-- these are no more than all rows
 pub returns-then-count-rows-clause-rest : goal.returns-then-count-rows-clause-rest
 returns-then-count-rows-clause-rest g c =
     let indexed = c.args.reader.indexes.now in

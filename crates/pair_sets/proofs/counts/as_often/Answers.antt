@@ -11,6 +11,7 @@ use Rattle.pair_sets.proofs.TimesLemmas.{allowed, up_to}
 use Rattle.pair_sets.proofs.counts.as_often.Goals as goal
 use Rattle.pair_sets.proofs.counts.as_often.Goals.{in_default-via-in-Some+else-most-numbers, in_default-via-in_default}
 
+-- the numbers that stand in the list at least `min` times, but not more than `max` times, lie in the cardinality
 pub returns-in_ok-left-in-Some-clause-items : goal.returns-in_ok-left-in-Some-clause-items
 returns-in_ok-left-in-Some-clause-items g c =
     ap g.S.ConceptSet.items_of c.of.ensures ∙ c.in_ok-left-in-Some.ensures.items
@@ -20,6 +21,8 @@ returns-in_ok-left-in-Some-clause-items g c =
     ∙ numbers_where-agree c.args.bound _ (λ n. lies_in c.args.count (times n c.args.numbers.now))
     (λ n within. up_to c.args.count c.in-Some.most (times n c.args.numbers.now) c.in-Some.is)
 
+-- if no number can stand in the list more than `max` times, those that stand there at least `min` times lie in the
+-- cardinality
 pub returns-in_default-clause-items : goal.returns-in_default-clause-items
 returns-in_default-clause-items g c =
     let numbers = c.args.numbers.now in

@@ -7,6 +7,7 @@ use Rattle.pair_sets.proofs.TimesLemmas.{done_all, none_left}
 use Rattle.pair_sets.proofs.counts.repeated.Goals as goal
 use Rattle.pair_sets.proofs.counts.repeated.Goals.{then-loop-done-test+else-not-is_empty, else-loop-done-test}
 
+-- before the loop, one of each number is taken
 pub loop-done-init : goal.loop-done-init
 loop-done-init c = record {
   within = c.in_ok-left.ensures.within;
@@ -15,9 +16,11 @@ loop-done-init c = record {
   most = omega (arith, c.requires.some);
 }
 
+-- the numbers that are left are below `bound`
 pub repeats-requires-in-loop-done : goal.repeats-requires-in-loop-done
 repeats-requires-in-loop-done c = subst (All (λ n. n < c.args.bound)) (sym c.as_slice.ensures.value) c.loop-done.invariant.within
 
+-- a turn takes one more of each number
 pub loop-done-preserved : goal.loop-done-preserved
 loop-done-preserved c = record {
   within = c.in_ok-left-2.ensures.within;
@@ -28,9 +31,11 @@ loop-done-preserved c = record {
   most = omega arith;
 }
 
+-- after the last turn, the numbers that are left are below `bound`
 pub returns-clause-within : goal.returns-clause-within
 returns-clause-within c = c.loop-done.invariant.within
 
+-- after the last turn, `less` of each number are taken, or none is left
 pub returns-clause-times : goal.returns-clause-times
 returns-clause-times c = λ n.
     let seen = times n c.args.numbers.now in
@@ -45,5 +50,6 @@ returns-clause-times c = λ n.
           ∙ ap (λ done. seen - done) (done_all c.loop-done.done c.args.less w.loop-done-test.false c.loop-done.invariant.most)
     ]
 
+-- the count of turns is below `less`, so one more fits in 64 bits
 pub overflow_add-done : goal.overflow_add-done
 overflow_add-done c = omega (arith, c.loop-done-test.true, c.ranges.less.fits)

@@ -2,7 +2,7 @@ use Rattle.std.proofs.Common.{ℕ, All, ◌≡◌, ◌-◌, ◌<◌, ◌≤◌}
 use Rattle.number_lists.specs.Members.{times}
 use Rattle.pair_sets.proofs.counts.repeated.Given as goal
 
--- so many of each number are gone
+-- `done` of each number are taken
 abbrev pub invariant-loop-done : goal.invariant-loop-done
 invariant-loop-done l = record {
   within : All (λ n. n < l.bound) l.left.items;
@@ -11,5 +11,6 @@ invariant-loop-done l = record {
   most : l.done ≤ l.less;
 }
 
+-- how many turns are left at most
 abbrev pub decreases-loop-done : goal.decreases-loop-done
 decreases-loop-done l = l.less - l.done

@@ -8,6 +8,7 @@ use Rattle.pair_sets.proofs.TimesLemmas.{again_step, first_step, item_more, mark
 use Rattle.pair_sets.proofs.counts.repeats.Goals as goal
 use Rattle.pair_sets.proofs.counts.repeats.Goals.{then-is_marked+in_ok-push, else-is_marked}
 
+-- before the first number, nothing is marked and nothing is kept
 pub loop-number-init : goal.loop-number-init
 loop-number-init c = record {
   marked = c.in_ok-seen.ensures.marked;
@@ -16,6 +17,7 @@ loop-number-init c = record {
   often = λ n. ap (times n) c.new-left.ensures.items;
 }
 
+-- the number at hand is kept if it is marked, and marked if it is not
 pub loop-number-preserved : goal.loop-number-preserved
 loop-number-preserved c =
     let numbers = c.args.numbers.now in
@@ -58,9 +60,11 @@ loop-number-preserved c =
       }
     ]
 
+-- after the last number, those that are kept are below `bound`
 pub returns-clause-within : goal.returns-clause-within
 returns-clause-within c = c.loop-number.invariant.within
 
+-- after the last number, all but the first of each are kept
 pub returns-clause-times : goal.returns-clause-times
 returns-clause-times c = λ n.
     c.loop-number.invariant.often n

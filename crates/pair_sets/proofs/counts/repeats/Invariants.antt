@@ -3,7 +3,7 @@ use Rattle.number_lists.specs.Members.{has, times}
 use Rattle.idset.specs.Words.{is_set, words_for}
 use Rattle.pair_sets.proofs.counts.repeats.Given as goal
 
--- the numbers so far are marked, and kept but for the first place of each
+-- the numbers so far are marked, and all but the first of each are kept
 abbrev pub invariant-loop-number : goal.invariant-loop-number
 invariant-loop-number l = record {
   marked : (n : ℕ) → is_set l.seen.items n ≡ has (take l.number-index l.numbers) n;

@@ -9,6 +9,7 @@ use Rattle.pair_sets.specs.Tested.{passes_of}
 use Rattle.pair_sets.proofs.ChoiceLemmas.{of_types}
 use Rattle.pair_sets.proofs.hits.group_hits_by_type.Goals as goal
 
+-- the groups of the rows of the types are the hits of all rows that count for groups
 pub returns-clause-hits : goal.returns-clause-hits
 returns-clause-hits g c =
     let indexed = c.args.reader.indexes.now in

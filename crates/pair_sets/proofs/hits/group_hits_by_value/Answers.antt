@@ -9,9 +9,11 @@ use Rattle.pair_sets.proofs.ChoiceLemmas.{of_values}
 use Rattle.number_lists.proofs.RisingLemmas.{all_below}
 use Rattle.pair_sets.proofs.hits.group_hits_by_value.Goals as goal
 
+-- rising values are each a number of a concept
 pub owners_by_value-requires-clause-values : goal.owners_by_value-requires-clause-values
 owners_by_value-requires-clause-values g c = all_below (length c.args.reader.indexes.now.concepts) c.args.values.now c.requires.values
 
+-- the groups of the rows of the values are the hits of all rows that count for groups
 pub returns-clause-hits : goal.returns-clause-hits
 returns-clause-hits g c =
     let indexed = c.args.reader.indexes.now in

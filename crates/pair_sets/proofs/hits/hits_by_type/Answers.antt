@@ -8,6 +8,7 @@ use Rattle.pair_sets.specs.Tested.{passes_of}
 use Rattle.pair_sets.proofs.ChoiceLemmas.{of_types}
 use Rattle.pair_sets.proofs.hits.hits_by_type.Goals as goal
 
+-- read backwards, the values of the rows of the types are the hits of all rows that count for concepts
 pub returns-then-back-clause-hits : goal.returns-then-back-clause-hits
 returns-then-back-clause-hits g c =
     let indexed = c.args.reader.indexes.now in
@@ -21,6 +22,7 @@ returns-then-back-clause-hits g c =
     c.args.ids.now ids are))
     c.values_by_type.ensures.hits
 
+-- the sources of the rows of the types are the hits of all rows that count for concepts
 pub returns-else-back-clause-hits : goal.returns-else-back-clause-hits
 returns-else-back-clause-hits g c =
     let indexed = c.args.reader.indexes.now in

@@ -10,12 +10,15 @@ use Rattle.pair_sets.proofs.ChoiceLemmas.{of_sources, of_values}
 use Rattle.number_lists.proofs.RisingLemmas.{all_below}
 use Rattle.pair_sets.proofs.hits.hits_by_value.Goals as goal
 
+-- rising sources are each a number of a concept
 pub values_by_source-requires-clause-sources : goal.values_by_source-requires-clause-sources
 values_by_source-requires-clause-sources g c = all_below (length c.args.reader.indexes.now.concepts) c.args.values.now c.requires.values
 
+-- rising values are each a number of a concept
 pub owners_by_value-requires-clause-values : goal.owners_by_value-requires-clause-values
 owners_by_value-requires-clause-values g c = all_below (length c.args.reader.indexes.now.concepts) c.args.values.now c.requires.values
 
+-- read backwards, the values of the rows of the sources are the hits of all rows that count for concepts
 pub returns-then-back-clause-hits : goal.returns-then-back-clause-hits
 returns-then-back-clause-hits g c =
     let indexed = c.args.reader.indexes.now in
@@ -30,6 +33,7 @@ returns-then-back-clause-hits g c =
     are))
     c.values_by_source.ensures.hits
 
+-- the sources of the rows of the values are the hits of all rows that count for concepts
 pub returns-else-back-clause-hits : goal.returns-else-back-clause-hits
 returns-else-back-clause-hits g c =
     let indexed = c.args.reader.indexes.now in

@@ -11,6 +11,7 @@ use Rattle.pair_sets.proofs.HitLemmas.{values_long, values_told}
 use Rattle.pair_sets.proofs.VainLemmas.{none_kept}
 use Rattle.pair_sets.proofs.hits.owners_by_type.Goals as goal
 
+-- before the first type, the empty list has the hits of no rows
 pub loop-id-init : goal.loop-id-init
 loop-id-init g c = record {
   within = subst (All (λ number. number < owner_count c.args.owner c.args.reader.indexes.now)) (sym c.in_ok-hits.ensures.items)
@@ -24,7 +25,7 @@ loop-id-init g c = record {
   counted = counted_none;
 }
 
--- no row is read where none has a value that passes
+-- if no row has a value that passes, the empty list has the hits of all types
 pub returns-then-none_passes-clause-hits : goal.returns-then-none_passes-clause-hits
 returns-then-none_passes-clause-hits g c =
     let indexed = c.args.reader.indexes.now in
@@ -35,6 +36,7 @@ returns-then-none_passes-clause-hits g c =
     (none_kept c.args.owner indexed (λ row. passes row.value) c.args.ids.now (owner_count c.args.owner indexed)
     (c.none_passes.ensures c.if-none_passes.true))
 
+-- there is a value for each owner in the columns of a type
 pub push_passing-requires-clause-long : goal.push_passing-requires-clause-long
 push_passing-requires-clause-long g c =
     let indexed = c.args.reader.indexes.now in
@@ -43,6 +45,7 @@ push_passing-requires-clause-long g c =
     owners_long c.args.owner indexed _ owners.result.now (owners.ensures indexed _ columns.ensures.columns.sources columns.ensures.columns.groups)
     ∙ sym (values_long indexed _ columns.result.values.now columns.ensures.columns.values)
 
+-- the owners that are pushed for the type at hand are the hits of its rows, which are counted
 pub loop-id-preserved : goal.loop-id-preserved
 loop-id-preserved g c =
     let indexed = c.args.reader.indexes.now in
@@ -66,9 +69,11 @@ loop-id-preserved g c =
           c.loop-id.invariant.counted (counted_out c.type_columns-columns.ensures.counted (omega arith));
     }
 
+-- after the last type, the hits are numbers of owners
 pub returns-clause-within : goal.returns-clause-within
 returns-clause-within g c = c.loop-id.invariant.within
 
+-- after the last type, the list has the hits of the rows of all types
 pub returns-clause-hits : goal.returns-clause-hits
 returns-clause-hits g c =
     let indexed = c.args.reader.indexes.now in
@@ -77,11 +82,13 @@ returns-clause-hits g c =
     (entries_with_types indexed.rows ids) c.loop-id.hits.items)
     (take_all c.loop-id.id-index c.args.ids.now (omega arith)) c.loop-id.invariant.hits
 
+-- if memory is refused at a type, the rows up to its own are counted
 pub returns-in_err-push_passing-clause-counted : goal.returns-in_err-push_passing-clause-counted
 returns-in_err-push_passing-clause-counted g c =
     counted_some (type_row_count c.args.reader.indexes.now) c.args.ids.now c.loop-id.id-index c.loop-id-test.true
     c.loop-id.invariant.counted (counted_out c.type_columns-columns.ensures.counted (omega arith))
 
+-- after the last type, the rows of all are counted
 pub returns-clause-counted : goal.returns-clause-counted
 returns-clause-counted g c =
     counted_all (type_row_count c.args.reader.indexes.now) c.args.ids.now c.loop-id.id-index c.loop-id.invariant.counted

@@ -6,7 +6,7 @@ use Rattle.pair_sets.specs.inside.Hits.{AreHits, counts_for_owner, entries_with_
 use Rattle.pair_sets.specs.Tested.{passes_of}
 use Rattle.pair_sets.proofs.hits.owners_by_type.Given as goal
 
--- the numbers so far are those of the types so far
+-- `hits` has the hits of the rows of the types so far, which are counted
 abbrev pub invariant-loop-id : goal.invariant-loop-id
 invariant-loop-id g l = record {
   within : All (λ number. number < owner_count l.owner l.reader.indexes.now) l.hits.items;

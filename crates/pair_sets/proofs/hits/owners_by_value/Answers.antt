@@ -12,6 +12,7 @@ use Rattle.pair_sets.proofs.HitLemmas.{types_long, types_told}
 use Rattle.pair_sets.proofs.TypeLemmas.{type_tells}
 use Rattle.pair_sets.proofs.hits.owners_by_value.Goals as goal
 
+-- before the first value, the empty list has the hits of no rows
 pub loop-value-init : goal.loop-value-init
 loop-value-init g c = record {
   within = subst (All (λ number. number < owner_count c.args.owner c.args.reader.indexes.now)) (sym c.new-hits.ensures.items)
@@ -25,6 +26,7 @@ loop-value-init g c = record {
   counted = counted_none;
 }
 
+-- there is a type for each owner in the columns of a value
 pub push_typed-requires-clause-long : goal.push_typed-requires-clause-long
 push_typed-requires-clause-long g c =
     let indexed = c.args.reader.indexes.now in
@@ -33,6 +35,7 @@ push_typed-requires-clause-long g c =
     owners_long c.args.owner indexed _ owners.result.now (owners.ensures indexed _ columns.ensures.columns.sources columns.ensures.columns.groups)
     ∙ sym (types_long indexed _ columns.result.types.now columns.ensures.columns.types)
 
+-- the owners that are pushed for the value at hand are the hits of its rows, which are counted
 pub loop-value-preserved : goal.loop-value-preserved
 loop-value-preserved g c =
     let indexed = c.args.reader.indexes.now in
@@ -59,9 +62,11 @@ loop-value-preserved g c =
           c.loop-value.invariant.counted (counted_out c.value_columns-columns.ensures.counted (omega arith));
     }
 
+-- after the last value, the hits are numbers of owners
 pub returns-clause-within : goal.returns-clause-within
 returns-clause-within g c = c.loop-value.invariant.within
 
+-- after the last value, the list has the hits of the rows of all values
 pub returns-clause-hits : goal.returns-clause-hits
 returns-clause-hits g c =
     let indexed = c.args.reader.indexes.now in
@@ -70,11 +75,13 @@ returns-clause-hits g c =
     (entries_with_values indexed values) c.loop-value.hits.items)
     (take_all c.loop-value.value-index c.args.values.now (omega arith)) c.loop-value.invariant.hits
 
+-- if memory is refused at a value, the rows up to its own are counted
 pub returns-in_err-push_typed-clause-counted : goal.returns-in_err-push_typed-clause-counted
 returns-in_err-push_typed-clause-counted g c =
     counted_some (row_count_of c.args.reader.indexes.now false) c.args.values.now c.loop-value.value-index c.loop-value-test.true
     c.loop-value.invariant.counted (counted_out c.value_columns-columns.ensures.counted (omega arith))
 
+-- after the last value, the rows of all are counted
 pub returns-clause-counted : goal.returns-clause-counted
 returns-clause-counted g c =
     counted_all (row_count_of c.args.reader.indexes.now false) c.args.values.now c.loop-value.value-index c.loop-value.invariant.counted

@@ -7,7 +7,7 @@ use Rattle.pair_sets.specs.inside.Hits.{AreHits, counts_for_owner, entries_with_
 use Rattle.candidates.specs.Numbers.{is_one_of}
 use Rattle.pair_sets.proofs.hits.owners_by_value.Given as goal
 
--- the numbers so far are those of the values so far
+-- `hits` has the hits of the rows of the values so far, which are counted
 abbrev pub invariant-loop-value : goal.invariant-loop-value
 invariant-loop-value g l = record {
   within : All (λ number. number < owner_count l.owner l.reader.indexes.now) l.hits.items;

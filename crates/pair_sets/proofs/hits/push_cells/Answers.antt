@@ -7,9 +7,11 @@ use Rattle.pair_sets.proofs.HitLemmas.{picked_next}
 use Rattle.pair_sets.proofs.hits.push_cells.Goals as goal
 use Rattle.pair_sets.proofs.hits.push_cells.Goals.{then-has_passing_source+in_ok-push, else-has_passing_source}
 
+-- before the first place, nothing is pushed
 pub loop-place-init : goal.loop-place-init
 loop-place-init g c = sym (append-nil c.args.hits.now.items)
 
+-- the cell at hand is pushed if it is a concept and its mark is first and has a source that passes
 pub loop-place-preserved : goal.loop-place-preserved
 loop-place-preserved g c =
     let indexed = c.args.reader.indexes.now in
@@ -40,6 +42,7 @@ loop-place-preserved g c =
           ∙ next false w.if-has_passing_source.false c.loop-place.hits.items (sym (append-nil c.loop-place.hits.items))
     ]
 
+-- after the last place, the cells of all places that pass are pushed
 pub returns : goal.returns
 returns g c =
     c.loop-place.invariant

@@ -7,9 +7,11 @@ use Rattle.pair_sets.proofs.HitLemmas.{picked_next}
 use Rattle.pair_sets.proofs.hits.push_passing.Goals as goal
 use Rattle.pair_sets.proofs.hits.push_passing.Goals.{then-has_passing+in_ok-push, else-has_passing}
 
+-- before the first place, nothing is pushed
 pub loop-place-init : goal.loop-place-init
 loop-place-init g c = sym (append-nil c.args.hits.now.items)
 
+-- the number of the mark at hand is pushed if the mark is first and its cell has a value that passes
 pub loop-place-preserved : goal.loop-place-preserved
 loop-place-preserved g c =
     let indexed = c.args.reader.indexes.now in
@@ -40,6 +42,7 @@ loop-place-preserved g c =
           ∙ next false w.if-has_passing.false c.loop-place.hits.items (sym (append-nil c.loop-place.hits.items))
     ]
 
+-- after the last place, the numbers of all marks whose value passes are pushed
 pub returns : goal.returns
 returns g c =
     c.loop-place.invariant

@@ -3,7 +3,7 @@ use Rattle.pair_sets.specs.inside.Hits.{value_of, picked}
 use Rattle.pair_sets.specs.Tested.{passes_of}
 use Rattle.pair_sets.proofs.hits.push_passing.Given as goal
 
--- those of the places so far
+-- the numbers of the marks whose value passes, of the places so far, are pushed
 abbrev pub invariant-loop-place : goal.invariant-loop-place
 invariant-loop-place g l =
     l.hits.items

@@ -2,7 +2,7 @@ use Rattle.std.proofs.Common.{◌≡◌, ◌++◌, ◌&&◌, take}
 use Rattle.pair_sets.specs.inside.Hits.{is_type_in, picked}
 use Rattle.pair_sets.proofs.hits.push_typed.Given as goal
 
--- those of the places so far
+-- the numbers of the marks whose type is in the set, of the places so far, are pushed
 abbrev pub invariant-loop-place : goal.invariant-loop-place
 invariant-loop-place g l =
     l.hits.items

@@ -12,6 +12,7 @@ use Rattle.pair_sets.proofs.TypeLemmas.{type_tells}
 use Rattle.pair_sets.proofs.hits.push_values.Goals as goal
 use Rattle.pair_sets.proofs.hits.push_values.Goals.{then-counts+in_ok-push, else-counts}
 
+-- the value of the row at hand is pushed exactly if the row counts for it
 pub loop-n-preserved : goal.loop-n-preserved
 loop-n-preserved g c =
     let indexed = c.args.reader.indexes.now in
@@ -58,6 +59,7 @@ loop-n-preserved g c =
           }
     ]
 
+-- after the last row, each number is pushed as often as rows count for it
 pub returns-clause-times : goal.returns-clause-times
 returns-clause-times g c = λ number inside.
     let indexed = c.args.reader.indexes.now in

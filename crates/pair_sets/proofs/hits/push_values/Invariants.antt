@@ -7,7 +7,7 @@ use Rattle.pair_sets.specs.inside.Hits.{counts_for_value}
 use Rattle.candidates.specs.Numbers.{is_one_of}
 use Rattle.pair_sets.proofs.hits.push_values.Given as goal
 
--- the numbers pushed so far are those of the rows so far
+-- each number is pushed as often as rows so far count for it, and is that of a concept
 abbrev pub invariant-loop-n : goal.invariant-loop-n
 invariant-loop-n g l = record {
   within : All (λ number. number < length l.reader.indexes.now.concepts) l.fn.hits.items → All (λ number. number < length l.reader.indexes.now.concepts) l.hits.items;

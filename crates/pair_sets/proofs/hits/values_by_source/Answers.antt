@@ -15,6 +15,7 @@ use Rattle.candidates.specs.Numbers.{is_one_of}
 use Rattle.pair_sets.proofs.HitLemmas.{hits_counted, no_hits}
 use Rattle.pair_sets.proofs.hits.values_by_source.Goals as goal
 
+-- before the first source, the empty list has the hits of no rows
 pub loop-source-init : goal.loop-source-init
 loop-source-init g c = record {
   within = subst (All (λ number. number < length c.args.reader.indexes.now.concepts)) (sym c.new-hits.ensures.items) (λ k d within. absurd (omega (arith, within)));
@@ -26,12 +27,14 @@ loop-source-init g c = record {
   counted = counted_none;
 }
 
+-- the rows of the source at hand are numbers of rows
 pub push_values-requires-clause-rows : goal.push_values-requires-clause-rows
 push_values-requires-clause-rows g c =
     subst (All (λ n. n < length c.args.reader.indexes.now.rows)) (sym c.rows_of-rows.ensures.items)
     (places_where-within (λ (row : Attribute). row.source == get_or c.args.reader.indexes.now.concepts
     (get_or c.args.sources.now c.loop-source.source-index 0) 0) c.args.reader.indexes.now.rows)
 
+-- the values that are pushed for the source at hand are the hits of its rows, which are counted
 pub loop-source-preserved : goal.loop-source-preserved
 loop-source-preserved g c =
     let indexed = c.args.reader.indexes.now in
@@ -56,9 +59,11 @@ loop-source-preserved g c =
           c.loop-source.invariant.counted (counted_out c.rows_of-rows.ensures.counted (omega arith));
     }
 
+-- after the last source, the hits are numbers of concepts
 pub returns-clause-within : goal.returns-clause-within
 returns-clause-within g c = c.loop-source.invariant.within
 
+-- after the last source, the list has the hits of the rows of all sources
 pub returns-clause-hits : goal.returns-clause-hits
 returns-clause-hits g c =
     let one : ℕ → Bool = is_one_of c.args.reader.indexes.now.concepts (g.S.ConceptSet.items_of c.args.types.now) in
@@ -66,11 +71,13 @@ returns-clause-hits g c =
     (entries_with_sources c.args.reader.indexes.now sources) c.loop-source.hits.items)
     (take_all c.loop-source.source-index c.args.sources.now (omega arith)) c.loop-source.invariant.hits
 
+-- if memory is refused at a source, the rows up to its own are counted
 pub returns-in_err-push_values-clause-counted : goal.returns-in_err-push_values-clause-counted
 returns-in_err-push_values-clause-counted g c =
     counted_some (row_count_of c.args.reader.indexes.now true) c.args.sources.now c.loop-source.source-index c.loop-source-test.true
     c.loop-source.invariant.counted (counted_out c.rows_of-rows.ensures.counted (omega arith))
 
+-- after the last source, the rows of all are counted
 pub returns-clause-counted : goal.returns-clause-counted
 returns-clause-counted g c =
     counted_all (row_count_of c.args.reader.indexes.now true) c.args.sources.now c.loop-source.source-index c.loop-source.invariant.counted

@@ -7,7 +7,7 @@ use Rattle.pair_sets.specs.inside.Hits.{AreHits, counts_for_value, entries_with_
 use Rattle.candidates.specs.Numbers.{is_one_of}
 use Rattle.pair_sets.proofs.hits.values_by_source.Given as goal
 
--- the numbers so far are those of the sources so far
+-- `hits` has the hits of the rows of the sources so far, which are counted
 abbrev pub invariant-loop-source : goal.invariant-loop-source
 invariant-loop-source g l = record {
   within : All (λ number. number < length l.reader.indexes.now.concepts) l.hits.items;

@@ -7,7 +7,7 @@ use Rattle.pair_sets.specs.inside.Hits.{AreHits, counts_for_value, entries_with_
 use Rattle.pair_sets.specs.Tested.{passes_of}
 use Rattle.pair_sets.proofs.hits.values_by_type.Given as goal
 
--- the numbers so far are those of the types so far
+-- `hits` has the hits of the rows of the types so far, which are counted
 abbrev pub invariant-loop-id : goal.invariant-loop-id
 invariant-loop-id g l = record {
   within : All (λ number. number < length l.reader.indexes.now.concepts) l.hits.items;

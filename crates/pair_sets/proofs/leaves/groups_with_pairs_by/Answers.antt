@@ -12,6 +12,8 @@ use Rattle.pair_sets.specs.declared.ways.Way.{Way}
 use Rattle.candidates.proofs.WithinLemmas.{kept_groups}
 use Rattle.pair_sets.proofs.leaves.groups_with_pairs_by.Goals as goal
 
+-- the groups that are found by the rows of the candidates are the candidates whose number of matching pairs lies in
+-- `count`
 pub returns-in_ok-found-in-ByCandidates-clause-items : goal.returns-in_ok-found-in-ByCandidates-clause-items
 returns-in_ok-found-in-ByCandidates-clause-items g c =
     let release = c.args.reader.snapshot.now.release in
@@ -21,6 +23,8 @@ returns-in_ok-found-in-ByCandidates-clause-items g c =
     c.in_ok-found-in-ByCandidates.ensures.items
     ∙ ap (λ (way : Way _). groups_within release may (has_pairs c.args.count one (passes_by g.S.ConceptSet.items_of concepts way))) (sym c.in-ByCandidates.is)
 
+-- the candidates among the groups that are found by value are the candidates whose number of matching pairs lies in
+-- `count`
 pub returns-in_ok-found-in-ByValue-clause-items : goal.returns-in_ok-found-in-ByValue-clause-items
 returns-in_ok-found-in-ByValue-clause-items g c =
     let release = c.args.reader.snapshot.now.release in
@@ -34,6 +38,8 @@ returns-in_ok-found-in-ByValue-clause-items g c =
     c.in_ok-found-in-ByValue.ensures.items
     ∙ ap (λ (way : Way _). groups_within release may (has_pairs c.args.count one (passes_by g.S.ConceptSet.items_of concepts way))) (sym c.in-ByValue.is)
 
+-- the candidates among the groups that are found by type are the candidates whose number of matching pairs lies in
+-- `count`
 pub returns-in_ok-found-in-ByType-clause-items : goal.returns-in_ok-found-in-ByType-clause-items
 returns-in_ok-found-in-ByType-clause-items g c =
     let release = c.args.reader.snapshot.now.release in
@@ -49,7 +55,7 @@ returns-in_ok-found-in-ByType-clause-items g c =
     c.in_ok-found-in-ByType.ensures.items
     ∙ ap (λ (way : Way _). groups_within release may (has_pairs c.args.count one (passes_by g.S.ConceptSet.items_of concepts way))) (sym c.in-ByType.is)
 
--- all are candidates, so the scan finds each group
+-- a scan takes all groups for candidates, so it finds each group whose number of matching pairs lies in `count`
 pub returns-in_ok-found-in-Scan-clause-items : goal.returns-in_ok-found-in-Scan-clause-items
 returns-in_ok-found-in-Scan-clause-items g c =
     let release = c.args.reader.snapshot.now.release in

@@ -18,8 +18,10 @@ returns-clause-found g c =
       floor = omega arith;
     }
 
+-- the set or the numbers of the way are below the count of concepts
 pub groups_with_pairs_by-requires-clause-way : goal.groups_with_pairs_by-requires-clause-way
 groups_with_pairs_by-requires-clause-way g c = c.in_ok-way.ensures.way.below
 
+-- the types whose rows the way reads are those in the set
 pub groups_with_pairs_by-requires-clause-ids : goal.groups_with_pairs_by-requires-clause-ids
 groups_with_pairs_by-requires-clause-ids g c = c.in_ok-way.ensures.way.types

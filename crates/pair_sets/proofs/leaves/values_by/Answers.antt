@@ -7,7 +7,7 @@ use Rattle.candidates.specs.Numbers.{is_one_of, numbers_in}
 use Rattle.pair_sets.specs.inside.Ways.{IsValuesWay}
 use Rattle.pair_sets.proofs.leaves.values_by.Goals as goal
 
--- the sources that are read are all of the set
+-- the sources whose rows are read are all of the set
 pub returns-in_ok-found-in-BySource-clause-items : goal.returns-in_ok-found-in-BySource-clause-items
 returns-in_ok-found-in-BySource-clause-items g c =
     let release = c.args.reader.snapshot.now.release in
@@ -21,7 +21,7 @@ returns-in_ok-found-in-BySource-clause-items g c =
     ∙ ap (λ (own : List ℕ). numbers_in release (is_value release (is_one_of concepts own) one))
     (c.as_slice.ensures.value ∙ same)
 
--- and so are the types
+-- the types whose rows are read are all of the set
 pub returns-in_ok-found-in-ByType-clause-items : goal.returns-in_ok-found-in-ByType-clause-items
 returns-in_ok-found-in-ByType-clause-items g c =
     let one : ℕ → Bool = is_one_of c.args.reader.indexes.now.concepts (g.S.ConceptSet.items_of c.args.types.now) in

@@ -4,6 +4,7 @@ use Rattle.candidates.specs.Numbers.{is_one_of}
 use Rattle.pair_sets.proofs.ValueStepLemmas.{some_pair_is_value}
 use Rattle.pair_sets.proofs.leaves.values_by_source.Goals as goal
 
+-- the concepts with a pair that is read backwards to one of `sources` are the values of the sources
 pub returns-clause-items : goal.returns-clause-items
 returns-clause-items g c =
     let concepts = c.args.reader.indexes.now.concepts in

@@ -11,6 +11,8 @@ use Rattle.pair_sets.specs.declared.ways.Way.{Way}
 use Rattle.candidates.proofs.WithinLemmas.{kept_set}
 use Rattle.pair_sets.proofs.leaves.with_pairs_by.Goals as goal
 
+-- the concepts that are found by the rows of the candidates are the candidates whose number of matching pairs lies in
+-- `count`
 pub returns-in_ok-found-in-ByCandidates-clause-items : goal.returns-in_ok-found-in-ByCandidates-clause-items
 returns-in_ok-found-in-ByCandidates-clause-items g c =
     let release = c.args.reader.snapshot.now.release in
@@ -22,6 +24,8 @@ returns-in_ok-found-in-ByCandidates-clause-items g c =
     (λ concept. has_pairs c.args.count one (passes_by g.S.ConceptSet.items_of concepts way) (pairs_of release c.args.back concept)))
     (sym c.in-ByCandidates.is)
 
+-- the candidates among the concepts that are found by value are the candidates whose number of matching pairs lies in
+-- `count`
 pub returns-in_ok-found-in-ByValue-clause-items : goal.returns-in_ok-found-in-ByValue-clause-items
 returns-in_ok-found-in-ByValue-clause-items g c =
     let release = c.args.reader.snapshot.now.release in
@@ -40,6 +44,8 @@ returns-in_ok-found-in-ByValue-clause-items g c =
     (λ concept. has_pairs c.args.count one (passes_by g.S.ConceptSet.items_of concepts way) (pairs_of release c.args.back concept)))
     (sym c.in-ByValue.is)
 
+-- the candidates among the concepts that are found by type are the candidates whose number of matching pairs lies in
+-- `count`
 pub returns-in_ok-found-in-ByType-clause-items : goal.returns-in_ok-found-in-ByType-clause-items
 returns-in_ok-found-in-ByType-clause-items g c =
     let release = c.args.reader.snapshot.now.release in
@@ -57,7 +63,7 @@ returns-in_ok-found-in-ByType-clause-items g c =
     (λ concept. has_pairs c.args.count one (passes_by g.S.ConceptSet.items_of concepts way) (pairs_of release c.args.back concept)))
     (sym c.in-ByType.is)
 
--- all are candidates, so the scan finds each concept
+-- a scan takes all concepts for candidates, so it finds each concept whose number of matching pairs lies in `count`
 pub returns-in_ok-found-in-Scan-clause-items : goal.returns-in_ok-found-in-Scan-clause-items
 returns-in_ok-found-in-Scan-clause-items g c =
     let release = c.args.reader.snapshot.now.release in

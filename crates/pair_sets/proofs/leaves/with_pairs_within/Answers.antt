@@ -19,8 +19,10 @@ returns-clause-found g c =
       floor = omega arith;
     }
 
+-- the set or the numbers of the way are below the count of concepts
 pub with_pairs_by-requires-clause-way : goal.with_pairs_by-requires-clause-way
 with_pairs_by-requires-clause-way g c = c.in_ok-way.ensures.way.below
 
+-- the types whose rows the way reads are those in the set
 pub with_pairs_by-requires-clause-ids : goal.with_pairs_by-requires-clause-ids
 with_pairs_by-requires-clause-ids g c = c.in_ok-way.ensures.way.types

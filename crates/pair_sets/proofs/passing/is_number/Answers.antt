@@ -5,11 +5,13 @@ use Rattle.pair_sets.specs.Tested.{meets}
 use Rattle.pair_sets.proofs.PassingLemmas.{concept_fails, decimal_told, past_decimals}
 use Rattle.pair_sets.proofs.passing.is_number.Goals as goal
 
+-- a value that is a concept is no number
 pub returns-then-value-concepts : goal.returns-then-value-concepts
 returns-then-value-concepts c =
     concept_fails c.args.compare c.args.number.0 c.args.reader.indexes.now c.args.value
     (subst (λ (count : ℕ). c.args.value < count) c.concept_count-concepts.ensures.numbers c.if-value-concepts.true)
 
+-- a value after the decimals is no number
 pub returns-then-place-decimal_count : goal.returns-then-place-decimal_count
 returns-then-place-decimal_count c =
     let indexed = c.args.reader.indexes.now in
@@ -19,6 +21,7 @@ returns-then-place-decimal_count c =
     (omega (arith, c.if-place-decimal_count.true, c.decimal_count.ensures))
     ∙ ap (λ (n : ℕ). is_number_that c.args.compare c.args.number.0 (value_of indexed n)) whole
 
+-- a decimal is a number that compares as is asked exactly if its order to `number` meets the comparison
 pub returns : goal.returns
 returns c =
     let indexed = c.args.reader.indexes.now in

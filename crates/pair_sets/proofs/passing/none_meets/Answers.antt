@@ -5,9 +5,11 @@ use Rattle.std.proofs.lemmas.List.Elements.{All-from_get_or}
 use Rattle.pair_sets.specs.Tested.{meets}
 use Rattle.pair_sets.proofs.passing.none_meets.Goals as goal
 
+-- before the first decimal, none meets the comparison
 pub loop-place-init : goal.loop-place-init
 loop-place-init c k below = absurd (omega (arith, below))
 
+-- after the last decimal, none of all meets the comparison
 pub returns : goal.returns
 returns c _ =
     All-from_get_or (λ decimal. meets c.args.compare (int_cmp decimal c.args.number.0) ≡ false)

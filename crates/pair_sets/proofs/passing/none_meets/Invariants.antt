@@ -3,7 +3,7 @@ use Rattle.std.specs.Ordering.{int_cmp}
 use Rattle.pair_sets.specs.Tested.{meets}
 use Rattle.pair_sets.proofs.passing.none_meets.Given as goal
 
--- none of the places so far
+-- none of the decimals so far meets the comparison
 abbrev pub invariant-loop-place : goal.invariant-loop-place
 invariant-loop-place l =
     (k : ℕ) → k < l.place

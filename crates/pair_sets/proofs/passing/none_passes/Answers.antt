@@ -6,6 +6,7 @@ use Rattle.pair_sets.specs.declared.tested.Tested.{Tested}
 use Rattle.pair_sets.proofs.VainLemmas.{no_row_passes}
 use Rattle.pair_sets.proofs.passing.none_passes.Goals as goal
 
+-- if none of the decimals meets the comparison, the value of no row passes
 pub returns-then-from-rows : goal.returns-then-from-rows
 returns-then-from-rows g c none =
     let indexed = c.args.reader.indexes.now in

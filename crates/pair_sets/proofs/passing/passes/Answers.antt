@@ -9,6 +9,7 @@ use Rattle.number_lists.proofs.RisingLemmas.{all_below}
 use Rattle.pair_sets.proofs.PassingLemmas.{outside_told, within_told}
 use Rattle.pair_sets.proofs.passing.passes.Goals as goal
 
+-- a value is one of the concepts of a set exactly if the set has its number
 pub returns-in-Within : goal.returns-in-Within
 returns-in-Within g c =
     let indexed = c.args.reader.indexes.now in
@@ -22,6 +23,7 @@ returns-in-Within g c =
     ∙ within_told indexed c.concept_count-concepts.ensures.numbers_rise items below c.args.value
     ∙ ap (λ (tested : Tested _). passes_of g.S.ConceptSet.items_of indexed.concepts tested (value_of indexed c.args.value)) (sym c.in-Within.is)
 
+-- a concept is outside a set exactly if the set does not have its number
 pub returns-then-value-concepts : goal.returns-then-value-concepts
 returns-then-value-concepts g c =
     let indexed = c.args.reader.indexes.now in
@@ -37,6 +39,7 @@ returns-then-value-concepts g c =
     ∙ outside_told indexed c.concept_count-concepts.ensures.numbers_rise items below c.args.value
     ∙ ap (λ (tested : Tested _). passes_of g.S.ConceptSet.items_of indexed.concepts tested (value_of indexed c.args.value)) (sym c.in-Outside.is)
 
+-- a value that is no concept does not pass a test `Outside` a set
 pub returns-else-value-concepts : goal.returns-else-value-concepts
 returns-else-value-concepts g c =
     let indexed = c.args.reader.indexes.now in

@@ -6,6 +6,7 @@ use Rattle.candidates.proofs.Normal.{concept_number-Some}
 use Rattle.pair_sets.proofs.PassingLemmas.{none_by_number, one_by_number}
 use Rattle.pair_sets.proofs.types.is_in.Goals as goal
 
+-- a concept is in the set exactly if the set has its number
 pub returns-in-Some : goal.returns-in-Some
 returns-in-Some g c =
     let concepts = c.args.reader.indexes.now.concepts in
@@ -18,6 +19,7 @@ returns-in-Some g c =
     c.in-Some.concept found.0)
     ∙ ap (is_one_of concepts items) found.1
 
+-- an identifier without a number is not in the set
 pub returns-in-None : goal.returns-in-None
 returns-in-None g c =
     let concepts = c.args.reader.indexes.now.concepts in

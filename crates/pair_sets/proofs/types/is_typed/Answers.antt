@@ -5,6 +5,7 @@ use Rattle.number_lists.proofs.RisingLemmas.{all_below}
 use Rattle.pair_sets.proofs.TypeLemmas.{no_typed, typed}
 use Rattle.pair_sets.proofs.types.is_typed.Goals as goal
 
+-- a type that is a concept is in the set exactly if the set has its number
 pub returns-in-Some : goal.returns-in-Some
 returns-in-Some g c =
     let indexed = c.args.reader.indexes.now in
@@ -15,6 +16,7 @@ returns-in-Some g c =
     ∙ typed indexed c.concept_count.ensures.numbers_rise items below (slice_get (types_of indexed.rows) c.args.place) c.in-Some.concept
     (sym c.type_concept.ensures ∙ c.in-Some.is)
 
+-- a type that is no concept is not in the set
 pub returns-in-None : goal.returns-in-None
 returns-in-None g c =
     let indexed = c.args.reader.indexes.now in

@@ -6,6 +6,7 @@ use Rattle.pair_sets.proofs.ChoiceLemmas.{id_more}
 use Rattle.pair_sets.proofs.types.marked_ids.Goals as goal
 use Rattle.pair_sets.proofs.types.marked_ids.Goals.{then-is_marked+in_ok-push, else-is_marked}
 
+-- the type at hand is appended exactly if its place is marked
 pub loop-place-preserved : goal.loop-place-preserved
 loop-place-preserved c =
     let types = types_of c.args.reader.indexes.now.rows in
@@ -25,6 +26,7 @@ loop-place-preserved c =
           c.loop-place.ids.items (c.loop-place.invariant one told)
     ]
 
+-- after the last type, `ids` are those of all types that are marked
 pub returns : goal.returns
 returns c = λ one told.
     c.loop-place.invariant one told ∙ ap (filter one) (take_all c.loop-place.place (types_of c.args.reader.indexes.now.rows) (omega (arith, c.type_count-place-end.ensures.count)))

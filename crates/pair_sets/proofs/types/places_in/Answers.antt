@@ -5,6 +5,7 @@ use Rattle.pair_sets.specs.inside.Hits.{ArePlacesOf}
 use Rattle.number_lists.proofs.RisingLemmas.{all_below}
 use Rattle.pair_sets.proofs.types.places_in.Goals as goal
 
+-- the items of the set are numbers of concepts
 pub places_of_concepts-requires : goal.places_of_concepts-requires
 places_of_concepts-requires g c = record {
   below =
@@ -14,6 +15,7 @@ places_of_concepts-requires g c = record {
       (all_below (g.S.ConceptSet.bound_of c.args.set.now) items (g.met.S.ConceptSet.rising c.args.set.now)));
 }
 
+-- the places of the types among the items of the set are those of the types in the set
 pub returns-in_ok-concepts-clause-places : goal.returns-in_ok-concepts-clause-places
 returns-in_ok-concepts-clause-places g c =
     IfOk-weaker c.places_of_concepts.result _ _

@@ -10,6 +10,7 @@ use Rattle.pair_sets.proofs.TypeLemmas.{place_below, places_more_of}
 use Rattle.pair_sets.proofs.types.places_of_concepts.Goals as goal
 use Rattle.pair_sets.proofs.types.places_of_concepts.Goals.{in-Some+in_ok-push-in-Some, in-None}
 
+-- before the first concept, the empty list has the places of no types
 pub loop-concept-init : goal.loop-concept-init
 loop-concept-init c = record {
   within = subst (All (λ place. place < length (types_of c.args.reader.indexes.now.rows))) (sym c.new-places.ensures.items)
@@ -17,11 +18,13 @@ loop-concept-init c = record {
   told = λ place within. ap (λ (places : List ℕ). has places place) c.new-places.ensures.items;
 }
 
+-- the concept at hand is a number of a concept
 pub id_at-requires : goal.id_at-requires
 id_at-requires c =
     subst (λ (ids : List ℕ). get_or c.args.concepts.now c.loop-concept.concept-index 0 < length ids) c.args.reader.index.concepts
     (c.requires.below c.loop-concept.concept-index 0 c.loop-concept-test.true)
 
+-- the place of the concept at hand is appended if it is a type of rows
 pub loop-concept-preserved : goal.loop-concept-preserved
 loop-concept-preserved c =
     let types = types_of c.args.reader.indexes.now.rows in
@@ -53,6 +56,7 @@ loop-concept-preserved c =
           }
     ]
 
+-- after the last concept, the places are those of the types among all
 pub returns : goal.returns
 returns c =
     subst (λ (concepts : List ℕ). ArePlacesOf c.args.reader.indexes.now concepts c.loop-concept.places.items)

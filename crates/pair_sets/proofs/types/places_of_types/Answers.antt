@@ -10,11 +10,12 @@ use Rattle.pair_sets.proofs.ChoiceLemmas.{place_more}
 use Rattle.pair_sets.proofs.types.places_of_types.Goals as goal
 use Rattle.pair_sets.proofs.types.places_of_types.Goals.{then-is_in+in_ok-push, else-is_in}
 
--- 32 bits hold the place
+-- 32 bits hold the place of a type
 pub overflow_cast-place : goal.overflow_cast-place
 overflow_cast-place g c =
     omega (arith, c.loop-place-test.true, c.type_count.ensures.few, ap (λ (ids : List ℕ). length ids) c.types-types.ensures.items)
 
+-- the place at hand is appended exactly if the type there is in the set
 pub loop-place-preserved : goal.loop-place-preserved
 loop-place-preserved g c =
     let test : ℕ → Bool = is_one_of c.args.reader.indexes.now.concepts (g.S.ConceptSet.items_of c.args.set.now) in
@@ -32,6 +33,7 @@ loop-place-preserved g c =
           ∙ place_more test types k c.loop-place-test.true false (asked ∙ w.if-is_in.false) c.loop-place.places.items c.loop-place.invariant
     ]
 
+-- after the last type, the places are those of all types in the set
 pub returns-clause-places : goal.returns-clause-places
 returns-clause-places g c =
     let types = c.types-types.result.now in

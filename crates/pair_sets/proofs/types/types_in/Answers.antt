@@ -6,12 +6,14 @@ use Rattle.postings.specs.Indexed.{types_of}
 use Rattle.candidates.specs.Numbers.{is_one_of}
 use Rattle.pair_sets.proofs.types.types_in.Goals as goal
 
+-- the places of the types are below the count of types
 pub marks_of-requires : goal.marks_of-requires
 marks_of-requires g c =
     subst (All (λ place. place < c.type_count.result)) (sym c.as_slice.ensures.value)
     (subst (λ (count : ℕ). All (λ place. place < count) c.in_ok-numbers.numbers.items) (sym c.type_count.ensures.count)
     c.in_ok-numbers.ensures.places.within)
 
+-- the types whose place is marked are those in the set
 pub returns-clause-ids : goal.returns-clause-ids
 returns-clause-ids g c =
     let types = types_of c.args.reader.indexes.now.rows in

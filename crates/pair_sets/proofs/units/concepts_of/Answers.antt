@@ -7,12 +7,14 @@ use Rattle.pair_sets.proofs.TimesLemmas.{one_below}
 use Rattle.pair_sets.proofs.UnitLemmas.{concept_told}
 use Rattle.pair_sets.proofs.units.concepts_of.Goals as goal
 
+-- before the first group, no concept is found
 pub loop-group-init : goal.loop-group-init
 loop-group-init c = record {
   within = subst (All (λ concept. concept < length c.args.reader.indexes.now.concepts)) (sym c.new-found.ensures.items) (λ k d within. absurd (omega (arith, within)));
   concepts = ap (map (slice_index c.args.reader.indexes.now.concepts)) c.new-found.ensures.items;
 }
 
+-- the concept of the group at hand is appended to those of the groups before
 pub loop-group-preserved : goal.loop-group-preserved
 loop-group-preserved c =
     let concepts = c.args.reader.indexes.now.concepts in
@@ -33,9 +35,11 @@ loop-group-preserved c =
           ∙ ap (map concept_at) (sym (take_more numbers k 0 c.loop-group-test.true));
     }
 
+-- after the last group, the concepts found are numbers of concepts
 pub returns-clause-within : goal.returns-clause-within
 returns-clause-within c = c.loop-group.invariant.within
 
+-- after the last group, the concepts found are those of all groups
 pub returns-clause-concepts : goal.returns-clause-concepts
 returns-clause-concepts c =
     c.loop-group.invariant.concepts

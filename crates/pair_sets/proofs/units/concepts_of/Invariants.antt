@@ -3,6 +3,7 @@ use Rattle.postings.specs.Groups.{groups_in}
 use Rattle.candidates.specs.Groups.{concept_in}
 use Rattle.pair_sets.proofs.units.concepts_of.Given as goal
 
+-- `found` are the numbers of the concepts of the groups so far
 abbrev pub invariant-loop-group : goal.invariant-loop-group
 invariant-loop-group l = record {
   within : All (λ concept. concept < length l.reader.indexes.now.concepts) l.found.items;

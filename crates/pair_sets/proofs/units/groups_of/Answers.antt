@@ -11,6 +11,7 @@ use Rattle.candidates.proofs.SumLemmas.{listed_few}
 use Rattle.pair_sets.proofs.OwnedLemmas.{owned}
 use Rattle.pair_sets.proofs.units.groups_of.Goals as goal
 
+-- the items of the set are numbers of concepts
 pub numbers_of_groups-requires : goal.numbers_of_groups-requires
 numbers_of_groups-requires g c =
     let items = g.S.ConceptSet.items_of c.args.concepts.now in
@@ -19,6 +20,7 @@ numbers_of_groups-requires g c =
     (c.requires.bound ∙ ap (λ (ids : List ℕ). length ids) (sym c.args.reader.index.concepts))
     (all_below (g.S.ConceptSet.bound_of c.args.concepts.now) items (g.met.S.ConceptSet.rising c.args.concepts.now)))
 
+-- the ranges of the groups of each concept have all groups of the concepts
 pub returns-clause-groups : goal.returns-clause-groups
 returns-clause-groups g c =
     IfOk-weaker c.from_numbers.result _ _
@@ -33,6 +35,7 @@ returns-clause-groups g c =
     ∙ ap (λ (xs : List ℕ). numbers_where (length (groups_in c.args.reader.indexes.now)) (has xs)) c.as_slice-2.ensures.value))
     c.from_numbers.ensures.items
 
+-- the set of groups has the count of groups as its bound
 pub returns-clause-bound : goal.returns-clause-bound
 returns-clause-bound g c =
     IfOk-weaker c.from_numbers.result _ _
@@ -42,6 +45,7 @@ returns-clause-bound g c =
     (groups_are c.args.reader.indexes.now c.args.reader.snapshot.now.release c.args.reader.index c.concept_count.ensures.rising))
     c.from_numbers.ensures.bound
 
+-- the set has no more groups than the concepts have, added up
 pub returns-clause-few : goal.returns-clause-few
 returns-clause-few g c =
     IfOk-weaker c.from_numbers.result _ _

@@ -10,6 +10,7 @@ use Rattle.candidates.specs.Extents.{group_count_of}
 use Rattle.pair_sets.proofs.OwnedLemmas.{before_all, has_later, has_sooner, has_range, range_below, taken_more}
 use Rattle.pair_sets.proofs.units.numbers_of_groups.Goals as goal
 
+-- the range of the groups of the concept at hand is appended to those before
 pub loop-concept-preserved : goal.loop-concept-preserved
 loop-concept-preserved c =
     let indexed = c.args.reader.indexes.now in
@@ -48,6 +49,7 @@ loop-concept-preserved c =
           ];
     }
 
+-- after the last concept, the list has the groups of all concepts
 pub returns-clause-all : goal.returns-clause-all
 returns-clause-all c = λ concept group there from below.
     let all = take_all c.loop-concept.concept-index c.args.concepts.now c.loop-concept-test.false in

@@ -5,6 +5,7 @@ use Rattle.postings.specs.Groups.{groups_before, groups_in}
 use Rattle.candidates.specs.Extents.{group_count_of}
 use Rattle.pair_sets.proofs.units.numbers_of_groups.Given as goal
 
+-- `found` are the numbers of the groups of the concepts so far
 abbrev pub invariant-loop-concept : goal.invariant-loop-concept
 invariant-loop-concept l = record {
   within : All (λ group. group < length (groups_in l.reader.indexes.now)) l.found.items;

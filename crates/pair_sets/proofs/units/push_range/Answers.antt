@@ -3,6 +3,7 @@ use Rattle.std.specs.List.{range_with_len}
 use Rattle.pair_sets.proofs.OwnedLemmas.{range_next}
 use Rattle.pair_sets.proofs.units.push_range.Goals as goal
 
+-- the number at hand is appended to the range up to it
 pub loop-number-preserved : goal.loop-number-preserved
 loop-number-preserved c =
     let start = c.args.start in
@@ -18,6 +19,7 @@ loop-number-preserved c =
       few = omega arith;
     }
 
+-- after the last number, the range up to `end` is pushed
 pub returns : goal.returns
 returns c =
     let all : c.loop-number.number - c.args.start ≡ c.args.end - c.args.start = omega arith in

@@ -7,6 +7,7 @@ use Rattle.candidates.proofs.GroupLemmas.{groups_are}
 use Rattle.pair_sets.proofs.UnitLemmas.{owners_found}
 use Rattle.pair_sets.proofs.units.with_groups.Goals as goal
 
+-- the items of the set are numbers of groups
 pub concepts_of-requires : goal.concepts_of-requires
 concepts_of-requires g c =
     let groups = g.S.ConceptSet.items_of c.args.groups.now in
@@ -16,12 +17,15 @@ concepts_of-requires g c =
     (sym (groups_are c.args.reader.indexes.now c.args.reader.snapshot.now.release c.args.reader.index c.concept_count-concept_count.ensures.rising)))
     (all_below (g.S.ConceptSet.bound_of c.args.groups.now) groups (g.met.S.ConceptSet.rising c.args.groups.now)))
 
+-- the concepts of the groups are below the count of concepts
 pub as_often-requires : goal.as_often-requires
 as_often-requires g c =
     subst (λ (count : ℕ). All (λ concept. concept < count) c.as_slice-2.result.now)
     (ap (λ (concepts : List ℕ). length concepts) c.args.reader.index.concepts ∙ sym c.concept_count-concept_count.ensures.count)
     (subst (All (λ concept. concept < length c.args.reader.indexes.now.concepts)) (sym c.as_slice-2.ensures.value) c.in_ok-concepts.ensures.within)
 
+-- the concepts that stand among those of the groups as often as `count` asks are those whose number of groups in the
+-- set lies in `count`
 pub returns-clause-items : goal.returns-clause-items
 returns-clause-items g c =
     let release = c.args.reader.snapshot.now.release in

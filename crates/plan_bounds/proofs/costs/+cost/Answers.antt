@@ -12,6 +12,7 @@ use Rattle.plan_bounds.proofs.PartLemmas.{and_are, and_units_are, group_count-pa
 use Rattle.plan_bounds.proofs.PartLemmas.{or_units_are, pairs_are, pairs_units_are, plan_count-parts, units_are, values_are}
 use Rattle.plan_bounds.proofs.costs.+cost.Goals as goal
 
+-- a turn that takes the size and the bound of one part keeps the invariants of the tally and the sum
 pub parts_cost-loop-place-preserved : goal.parts_cost-loop-place-preserved
 parts_cost-loop-place-preserved t c =
     let left = c.loop-place.invariant in
@@ -21,12 +22,14 @@ parts_cost-loop-place-preserved t c =
       sum = sum_turn left.sum c.loop-place-test.true c.index-parts-place.is part.bound c.saturating_add-bound.ensures;
     }
 
+-- at the end the tally and the bound are those of all parts
 pub parts_cost-returns : goal.parts_cost-returns
 parts_cost-returns t c = record {
   tally = sizes_end c.loop-place.invariant.sizes c.loop-place-test.false;
   bound = sum_end c.loop-place.invariant.sum c.loop-place-test.false;
 }
 
+-- a turn that takes the size and the bound of one group plan keeps the invariants of the tally and the sum
 pub unit_parts_cost-loop-place-preserved : goal.unit_parts_cost-loop-place-preserved
 unit_parts_cost-loop-place-preserved t c =
     let left = c.loop-place.invariant in
@@ -36,12 +39,14 @@ unit_parts_cost-loop-place-preserved t c =
       sum = sum_turn left.sum c.loop-place-test.true c.index-parts-place.is part.bound c.saturating_add-bound.ensures;
     }
 
+-- at the end the tally and the bound are those of all group plans
 pub unit_parts_cost-returns : goal.unit_parts_cost-returns
 unit_parts_cost-returns t c = record {
   tally = sizes_end c.loop-place.invariant.sizes c.loop-place-test.false;
   bound = sum_end c.loop-place.invariant.sum c.loop-place-test.false;
 }
 
+-- the size of a conjunction is the least of its parts, and its own bound is twice the total of their sizes
 pub cost-returns-in-And : goal.cost-returns-in-And
 cost-returns-in-And t c =
     let indexed = c.args.lengths.indexes.now in
@@ -59,6 +64,7 @@ cost-returns-in-And t c =
           ∙ sym (ap (λ (plan : Physical). capped (bound indexed plan)) is);
     }
 
+-- the size of a disjunction is at most the total of its parts, and its own bound is that total for each part
 pub cost-returns-in-Or : goal.cost-returns-in-Or
 cost-returns-in-Or t c =
     let indexed = c.args.lengths.indexes.now in
@@ -77,6 +83,7 @@ cost-returns-in-Or t c =
           ∙ sym (ap (λ (plan : Physical). capped (bound indexed plan)) is);
     }
 
+-- the own bound of a difference is the sum of the sizes of its two parts
 pub cost-returns-in-Minus-clause-bound : goal.cost-returns-in-Minus-clause-bound
 cost-returns-in-Minus-clause-bound t c =
     let left = c.cost-left.ensures in
@@ -86,6 +93,7 @@ cost-returns-in-Minus-clause-bound t c =
     left.bound right.bound
     ∙ sym (ap (λ (plan : Physical). capped (bound c.args.lengths.indexes.now plan)) is)
 
+-- the size and the bound of a `Values` node are those that `values_cost` returns
 pub cost-returns-in-Values : goal.cost-returns-in-Values
 cost-returns-in-Values t c =
     let indexed = c.args.lengths.indexes.now in
@@ -95,6 +103,7 @@ cost-returns-in-Values t c =
       bound = c.values_cost.ensures.bound ∙ sym (ap (λ (plan : Physical). capped (bound indexed plan)) is);
     }
 
+-- the bound of a leaf of concepts is the one that `pairs_cost` returns for all concepts
 pub cost-returns-in-Pairs-clause-bound : goal.cost-returns-in-Pairs-clause-bound
 cost-returns-in-Pairs-clause-bound t c =
     let indexed = c.args.lengths.indexes.now in
@@ -105,6 +114,7 @@ cost-returns-in-Pairs-clause-bound t c =
     + (bound indexed types + test_sum (own_number indexed) test))) c.concepts-all.ensures
     ∙ sym (ap (λ (plan : Physical). capped (bound indexed plan)) (pairs_are c.in-Pairs.types c.in-Pairs.is c.deref-in-Pairs.ensures))
 
+-- the own bound of a node that counts groups is the size of its plan of groups, and all concepts if none may pass
 pub cost-returns-in-Units-clause-bound : goal.cost-returns-in-Units-clause-bound
 cost-returns-in-Units-clause-bound t c =
     let inner = c.unit_cost-inner.ensures in
@@ -114,6 +124,7 @@ cost-returns-in-Units-clause-bound t c =
     ∙ sym (ap (λ (plan : Physical). capped (bound c.args.lengths.indexes.now plan))
     (units_are c.in-Units.units c.in-Units.is c.deref-in-Units.ensures))
 
+-- the size and the bound of a `Values` node count as many types as the node has names
 pub values_cost-returns : goal.values_cost-returns
 values_cost-returns t c =
     let indexed = c.args.lengths.indexes.now in
@@ -127,6 +138,7 @@ values_cost-returns t c =
       );
     }
 
+-- the size and the bound of a leaf follow from the sizes of its types and its test
 pub pairs_cost-returns : goal.pairs_cost-returns
 pairs_cost-returns t c =
     let test = physical_test_of c.args.test.now in
@@ -141,6 +153,8 @@ pairs_cost-returns t c =
           c.cost-of_types.ensures.bound c.test_cost-of_test.ensures.bound;
     }
 
+-- the size of a conjunction of group plans is the least of its parts, and its own bound is twice the total of their
+-- sizes
 pub unit_cost-returns-in-And : goal.unit_cost-returns-in-And
 unit_cost-returns-in-And t c =
     let indexed = c.args.lengths.indexes.now in
@@ -159,6 +173,8 @@ unit_cost-returns-in-And t c =
           ∙ sym (ap (λ (plan : PhysicalUnits). capped (group_sum (own_number indexed) plan)) is);
     }
 
+-- the size of a disjunction of group plans is at most the total of its parts, and its own bound is that total for
+-- each part
 pub unit_cost-returns-in-Or : goal.unit_cost-returns-in-Or
 unit_cost-returns-in-Or t c =
     let indexed = c.args.lengths.indexes.now in
@@ -177,6 +193,7 @@ unit_cost-returns-in-Or t c =
           ∙ sym (ap (λ (plan : PhysicalUnits). capped (group_sum (own_number indexed) plan)) is);
     }
 
+-- the own bound of a difference of group plans is the sum of the sizes of its two parts
 pub unit_cost-returns-in-Minus-clause-bound : goal.unit_cost-returns-in-Minus-clause-bound
 unit_cost-returns-in-Minus-clause-bound t c =
     let left = c.unit_cost-left.ensures in
@@ -186,6 +203,7 @@ unit_cost-returns-in-Minus-clause-bound t c =
     left.bound right.bound
     ∙ sym (ap (λ (plan : PhysicalUnits). capped (group_sum (own_number c.args.lengths.indexes.now) plan)) is)
 
+-- the bound of a leaf of groups is the one that `pairs_cost` returns for all groups
 pub unit_cost-returns-in-Pairs-clause-bound : goal.unit_cost-returns-in-Pairs-clause-bound
 unit_cost-returns-in-Pairs-clause-bound t c =
     let indexed = c.args.lengths.indexes.now in

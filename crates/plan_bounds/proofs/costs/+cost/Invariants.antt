@@ -1,4 +1,4 @@
--- What is left of the parts, with what was taken, is what all of them are.
+-- The tally and the bound so far, continued over the parts that are left, are those of all parts.
 use denote.Param.Weighed.{most}
 use Rattle.std.proofs.Common.{◌+◌, ◌*◌, max}
 use Rattle.set_algebra.proofs.plan.ConceptPlan.TheLaws as concept_plan
@@ -7,12 +7,14 @@ use Rattle.plan_bounds.specs.Bounds.{own_number}
 use Rattle.plan_bounds.proofs.LoopLemmas.{SizesLeft, SumLeft, concept_sizes, concept_sum, unit_sizes, unit_sum}
 use Rattle.plan_bounds.proofs.costs.+cost.Given as goal
 
+-- the tally and the bound so far, continued over the parts from `place` on, are those of all parts
 abbrev pub invariant-parts_cost-loop-place : goal.invariant-parts_cost-loop-place
 invariant-parts_cost-loop-place l = record {
   sizes : SizesLeft (concept_sizes l.lengths.indexes.now) l.all l.parts l.place l.tally;
   sum : SumLeft (concept_sum (own_number l.lengths.indexes.now)) l.parts l.place l.bound;
 }
 
+-- the tally and the bound so far, continued over the group plans from `place` on, are those of all of them
 abbrev pub invariant-unit_parts_cost-loop-place : goal.invariant-unit_parts_cost-loop-place
 invariant-unit_parts_cost-loop-place l = record {
   sizes : SizesLeft (unit_sizes l.lengths.indexes.now) l.all l.parts l.place l.tally;

@@ -1,4 +1,4 @@
--- What is left of the parts, with what was added, is what all of them have.
+-- The sum so far and the floors of the parts that are left are the floors of all parts.
 use Rattle.std.proofs.Common.{◌+◌, ◌*◌, max}
 use Rattle.set_algebra.proofs.plan.ConceptPlan.TheLaws as concept_plan
 use Rattle.set_algebra.proofs.plan.ValueTest.TheLaws as value_test
@@ -6,10 +6,12 @@ use Rattle.plan_bounds.specs.Floors.{floor_number}
 use Rattle.plan_bounds.proofs.LoopLemmas.{SumLeft, concept_sum, unit_sum}
 use Rattle.plan_bounds.proofs.floors.+floor.Given as goal
 
+-- the floor so far and the floors of the parts from `part-index` on are the capped floors of all parts
 abbrev pub invariant-parts_floor-loop-part : goal.invariant-parts_floor-loop-part
 invariant-parts_floor-loop-part l =
     SumLeft (concept_sum (floor_number l.lengths.indexes.now)) l.parts l.part-index l.floor
 
+-- the floor so far and the floors of the group plans from `part-index` on are the capped floors of all of them
 abbrev pub invariant-unit_parts_floor-loop-part : goal.invariant-unit_parts_floor-loop-part
 invariant-unit_parts_floor-loop-part l =
     SumLeft (unit_sum (floor_number l.lengths.indexes.now)) l.parts l.part-index l.floor

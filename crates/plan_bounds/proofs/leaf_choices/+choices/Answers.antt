@@ -7,20 +7,25 @@ use Rattle.plan_bounds.proofs.LoopLemmas.{list_end, list_turn}
 use Rattle.plan_bounds.proofs.PartLemmas.{values_are}
 use Rattle.plan_bounds.proofs.leaf_choices.+choices.Goals as goal
 
+-- a turn that adds the choices of one part keeps the invariant of the list
 pub add_each-loop-part-preserved : goal.add_each-loop-part-preserved
 add_each-loop-part-preserved t c =
     list_turn c.loop-part.invariant c.loop-part-test.true c.part-item.is c.in_ok-add_choices.ensures
 
+-- at the end the choices of all parts are added
 pub add_each-returns : goal.add_each-returns
 add_each-returns t c = list_end c.loop-part.invariant c.loop-part-test.false
 
+-- a turn that adds the choices of one group plan keeps the invariant of the list
 pub add_each_units-loop-part-preserved : goal.add_each_units-loop-part-preserved
 add_each_units-loop-part-preserved t c =
     list_turn c.loop-part.invariant c.loop-part-test.true c.part-item.is c.in_ok-add_units.ensures
 
+-- at the end the choices of all group plans are added
 pub add_each_units-returns : goal.add_each_units-returns
 add_each_units-returns t c = list_end c.loop-part.invariant c.loop-part-test.false
 
+-- a `Values` node adds the choices of its start and then those of its types
 pub add_choices-returns-in_ok-add_choices-in-Values : goal.add_choices-returns-in_ok-add_choices-in-Values
 add_choices-returns-in_ok-add_choices-in-Values t c =
     let given = c.args.choices.now.items in

@@ -1,13 +1,17 @@
--- Behind what was added, what is left of the parts gives the choices of all.
+-- The list so far, followed by the choices of the parts that are left, is the given list and the choices of all
+-- parts.
 use Rattle.std.proofs.Common.{◌+◌, ◌*◌, max}
 use Rattle.set_algebra.proofs.plan.ConceptPlan.TheLaws as concept_plan
 use Rattle.set_algebra.proofs.plan.ValueTest.TheLaws as value_test
 use Rattle.plan_bounds.proofs.LoopLemmas.{ListLeft, concept_choices, unit_choices}
 use Rattle.plan_bounds.proofs.leaf_choices.+choices.Given as goal
 
+-- the choices so far, followed by those of the parts from `part-index` on, are the given ones and those of all parts
 abbrev pub invariant-add_each-loop-part : goal.invariant-add_each-loop-part
 invariant-add_each-loop-part l = ListLeft concept_choices l.initial.choices.items l.parts l.part-index l.choices.items
 
+-- the choices so far, followed by those of the group plans from `part-index` on, are the given ones and those of all
+-- of them
 abbrev pub invariant-add_each_units-loop-part : goal.invariant-add_each_units-loop-part
 invariant-add_each_units-loop-part l = ListLeft unit_choices l.initial.choices.items l.parts l.part-index l.choices.items
 

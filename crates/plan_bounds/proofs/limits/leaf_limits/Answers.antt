@@ -6,6 +6,7 @@ use Rattle.plan_bounds.specs.declared.leaf.Leaf.{Leaf}
 use Rattle.plan_bounds.proofs.FloorLemmas.{leaf-le}
 use Rattle.plan_bounds.proofs.limits.leaf_limits.Goals as goal
 
+-- the floor of a leaf is at most its bound, so the limits are in order
 pub returns-clause-ordered : goal.returns-clause-ordered
 returns-clause-ordered c =
     omega (

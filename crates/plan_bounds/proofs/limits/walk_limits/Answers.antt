@@ -4,6 +4,7 @@ use Rattle.plan_bounds.specs.Counts.{one_of}
 use Rattle.plan_bounds.proofs.FloorLemmas.{walk-le}
 use Rattle.plan_bounds.proofs.limits.walk_limits.Goals as goal
 
+-- the floor of a walk is at most its bound, so the limits are in order
 pub returns-clause-ordered : goal.returns-clause-ordered
 returns-clause-ordered c =
     omega (

@@ -8,6 +8,7 @@ use Rattle.planner.specs.inside.AskedInPlace.{group_with_asked, with_asked}
 use Rattle.planner.proofs.PassLemmas.{asking_concepts, asking_groups, each_all, each_more, rest_next}
 use Rattle.planner.proofs.asking.+put.Goals as goal
 
+-- a turn that gives one plan of concepts its choices keeps the invariant
 pub put_in_each-loop-place-preserved : goal.put_in_each-loop-place-preserved
 put_in_each-loop-place-preserved t c =
     let so_far = c.loop-place.invariant in
@@ -27,6 +28,7 @@ put_in_each-loop-place-preserved t c =
           ∙ sym (rest_next asking_concepts c.args.asked.now before place old (omega (arith, inside, so_far.unvisited.0)) was);
     }
 
+-- at the end all plans of concepts have their choices, and the rest of the list is returned
 pub put_in_each-returns : goal.put_in_each-returns
 put_in_each-returns t c =
     let so_far = c.loop-place.invariant in
@@ -39,6 +41,7 @@ put_in_each-returns t c =
           (take_all c.loop-place.place before (omega (arith, c.loop-place-test.false, c.len-place-end.ensures)));
     }
 
+-- a turn that gives one plan of groups its choices keeps the invariant
 pub put_in_each_units-loop-place-preserved : goal.put_in_each_units-loop-place-preserved
 put_in_each_units-loop-place-preserved t c =
     let so_far = c.loop-place.invariant in
@@ -58,6 +61,7 @@ put_in_each_units-loop-place-preserved t c =
           ∙ sym (rest_next asking_groups c.args.asked.now before place old (omega (arith, inside, so_far.unvisited.0)) was);
     }
 
+-- at the end all plans of groups have their choices, and the rest of the list is returned
 pub put_in_each_units-returns : goal.put_in_each_units-returns
 put_in_each_units-returns t c =
     let so_far = c.loop-place.invariant in

@@ -1,10 +1,13 @@
--- The parts so far have their choices, the others are as they were, and of the list there is what those so far have left.
+-- The parts before the place have their choices, the others are unchanged, and `rest` is what the parts before the
+-- place have left of the list.
 use Rattle.std.proofs.Common.{◌≡◌, ◌+◌, ◌*◌, max, take}
 use Rattle.set_algebra.proofs.plan.ConceptPlan.TheLaws as concept_plan
 use Rattle.set_algebra.proofs.plan.ValueTest.TheLaws as value_test
 use Rattle.planner.proofs.PassLemmas.{Each, asking_concepts, asking_groups}
 use Rattle.planner.proofs.asking.+put.Given as goal
 
+-- the plans of concepts before `place` have their choices, the others are unchanged, and `rest` is what is left of
+-- the list
 abbrev pub invariant-put_in_each-loop-place : goal.invariant-put_in_each-loop-place
 invariant-put_in_each-loop-place l = record {
   unvisited : goal.unvisited-put_in_each-loop-place l;
@@ -12,6 +15,8 @@ invariant-put_in_each-loop-place l = record {
   left : l.rest ≡ asking_concepts.rest l.asked (take l.place l.initial.parts.items);
 }
 
+-- the plans of groups before `place` have their choices, the others are unchanged, and `rest` is what is left of the
+-- list
 abbrev pub invariant-put_in_each_units-loop-place : goal.invariant-put_in_each_units-loop-place
 invariant-put_in_each_units-loop-place l = record {
   unvisited : goal.unvisited-put_in_each_units-loop-place l;

@@ -12,6 +12,7 @@ use Rattle.planner.specs.inside.ListedNodes.{IsNode}
 use Rattle.planner.proofs.ListedLemmas.{listed}
 use Rattle.planner.proofs.bound_list.+list.Goals as goal
 
+-- a turn that lists one plan of concepts keeps the invariants of the tally and the list
 pub list_parts-loop-place-preserved : goal.list_parts-loop-place-preserved
 list_parts-loop-place-preserved t c =
     let left = c.loop-place.invariant in
@@ -21,12 +22,14 @@ list_parts-loop-place-preserved t c =
       bounds = list_turn left.bounds c.loop-place-test.true c.index-parts-place.is part.bounds;
     }
 
+-- at the end the list has the bounds of all plans of concepts, and the tally their sizes
 pub list_parts-returns : goal.list_parts-returns
 list_parts-returns t c = record {
   bounds = list_end c.loop-place.invariant.bounds c.loop-place-test.false;
   tally = sizes_end c.loop-place.invariant.sizes c.loop-place-test.false;
 }
 
+-- a turn that lists one plan of groups keeps the invariants of the tally and the list
 pub list_unit_parts-loop-place-preserved : goal.list_unit_parts-loop-place-preserved
 list_unit_parts-loop-place-preserved t c =
     let left = c.loop-place.invariant in
@@ -36,6 +39,7 @@ list_unit_parts-loop-place-preserved t c =
       bounds = list_turn left.bounds c.loop-place-test.true c.index-parts-place.is part.bounds;
     }
 
+-- at the end the list has the bounds of all plans of groups, and the tally their sizes
 pub list_unit_parts-returns : goal.list_unit_parts-returns
 list_unit_parts-returns t c = record {
   bounds = list_end c.loop-place.invariant.bounds c.loop-place-test.false;
@@ -43,6 +47,7 @@ list_unit_parts-returns t c = record {
 }
 
 -- ---- a node whose sub-plans are listed
+-- a plan of concepts lists its own bound and then those of its sub-plans
 pub list-returns : goal.list-returns
 list-returns t c =
     let node = c.in_ok-node.ensures in
@@ -52,9 +57,11 @@ list-returns t c =
       size = c.closed.ensures.size ∙ node.size;
     }
 
+-- the place that a plan of concepts kept free lies within the list
 pub list-closed-requires : goal.list-closed-requires
 list-closed-requires t c = at_within _ _ _ c.in_ok-at.ensures.at c.in_ok-at.ensures.bounds c.in_ok-node.ensures.bounds
 
+-- a plan of groups lists its own bound and then those of its sub-plans
 pub list_units-returns : goal.list_units-returns
 list_units-returns t c =
     let node = c.in_ok-node.ensures in
@@ -64,10 +71,12 @@ list_units-returns t c =
       size = c.closed.ensures.size ∙ node.size;
     }
 
+-- the place that a plan of groups kept free lies within the list
 pub list_units-closed-requires : goal.list_units-closed-requires
 list_units-closed-requires t c = at_within _ _ _ c.in_ok-at.ensures.at c.in_ok-at.ensures.bounds c.in_ok-node.ensures.bounds
 
--- ---- the sub-plans of each sort of node
+-- ---- the sub-plans of each kind of node
+-- `list_values` lists the sub-plans of a `Values` node
 pub list_behind-returns-in-Values : goal.list_behind-returns-in-Values
 list_behind-returns-in-Values t c =
     let given = c.args.bounds.now.items in
@@ -76,6 +85,7 @@ list_behind-returns-in-Values t c =
     subst (λ plan. IfOk c.list_values.result (λ node. IsNode c.args.lengths.indexes.now plan given all node))
     (sym is) c.list_values.ensures
 
+-- an `Or` node of concepts lists its parts; its own bound is the total of their sizes for each part
 pub list_or-returns : goal.list_or-returns
 list_or-returns t c =
     let all = total (sizes c.args.lengths.indexes.now (physicals_of c.args.parts.now)) in
@@ -87,6 +97,7 @@ list_or-returns t c =
     ∙ capped_product all (plan_count (physicals_of c.args.parts.now)))
     (capped_least all c.cost_of_some-own.ensures.size inner.tally.sum c.concepts-all.ensures c.concepts-all.type_inv)
 
+-- an `Or` node of groups lists its parts; its own bound is the total of their sizes for each part
 pub list_units_or-returns : goal.list_units_or-returns
 list_units_or-returns t c =
     let all = total (group_sizes c.args.lengths.indexes.now (physical_units_list_of c.args.parts.now)) in
@@ -98,6 +109,7 @@ list_units_or-returns t c =
     ∙ capped_product all (group_count (physical_units_list_of c.args.parts.now)))
     (capped_least all c.cost_of_some-own.ensures.size inner.tally.sum c.groups-all.ensures c.groups-all.type_inv)
 
+-- a `Minus` node of concepts lists both parts; its own bound is the sum of their sizes
 pub list_minus-returns : goal.list_minus-returns
 list_minus-returns t c =
     let left = c.in_ok-left.ensures in
@@ -106,6 +118,7 @@ list_minus-returns t c =
     (c.cost_of_first.ensures.bound ∙ (λ i. capped (left.size i + right.size i)))
     (c.cost_of_first.ensures.size ∙ left.size)
 
+-- a `Minus` node of groups lists both parts; its own bound is the sum of their sizes
 pub list_units_minus-returns : goal.list_units_minus-returns
 list_units_minus-returns t c =
     let left = c.in_ok-left.ensures in
@@ -114,6 +127,7 @@ list_units_minus-returns t c =
     (c.cost_of_first.ensures.bound ∙ (λ i. capped (left.size i + right.size i)))
     (c.cost_of_first.ensures.size ∙ left.size)
 
+-- a `Values` node lists its start and then its types, of which it has as many as names
 pub list_values-returns : goal.list_values-returns
 list_values-returns t c =
     let indexed = c.args.lengths.indexes.now in
@@ -123,6 +137,7 @@ list_values-returns t c =
     (c.cost_of_values-own.ensures.bound ∙ (λ i. capped (values_bound indexed (count i) (from.size i))))
     (c.cost_of_values-own.ensures.size ∙ (λ i. values_size indexed (count i) (from.size i)))
 
+-- a leaf lists its types and then its test; its own bound follows from their sizes
 pub list_pairs-returns : goal.list_pairs-returns
 list_pairs-returns t c =
     let test = physical_test_of c.args.test.now in

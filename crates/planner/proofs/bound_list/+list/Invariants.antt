@@ -1,4 +1,4 @@
--- What is left of the parts, with what was taken, is what all of them are.
+-- The tally and the list so far, continued over the parts that are left, are those of all parts.
 use Rattle.std.proofs.Common.{◌+◌, ◌*◌, max}
 use denote.Param.Weighed.{most}
 use Rattle.set_algebra.proofs.plan.ConceptPlan.TheLaws as concept_plan
@@ -8,12 +8,14 @@ use Rattle.plan_bounds.specs.Bounds.{own_list}
 use Rattle.plan_bounds.proofs.LoopLemmas.{ListLeft, SizesLeft, concept_list, concept_sizes, unit_list, unit_sizes}
 use Rattle.planner.proofs.bound_list.+list.Given as goal
 
+-- the tally and the list so far, continued over the plans of concepts from `place` on, are those of all of them
 abbrev pub invariant-list_parts-loop-place : goal.invariant-list_parts-loop-place
 invariant-list_parts-loop-place l = record {
   sizes : SizesLeft (concept_sizes l.lengths.indexes.now) l.all l.parts l.place l.tally;
   bounds : ListLeft (concept_list (own_list l.lengths.indexes.now)) l.fn.bounds.items l.parts l.place l.bounds.items;
 }
 
+-- the tally and the list so far, continued over the plans of groups from `place` on, are those of all of them
 abbrev pub invariant-list_unit_parts-loop-place : goal.invariant-list_unit_parts-loop-place
 invariant-list_unit_parts-loop-place l = record {
   sizes : SizesLeft (unit_sizes l.lengths.indexes.now) l.all l.parts l.place l.tally;

@@ -11,6 +11,7 @@ use Rattle.planner.specs.Chosen.{all_chosen}
 use Rattle.planner.proofs.PassLemmas.{choosing_concepts, choosing_groups, each_all, each_more}
 use Rattle.planner.proofs.choosing.+assign.Goals as goal
 
+-- a turn that gives one plan of concepts its choices keeps the invariant
 pub assign_parts-loop-place-preserved : goal.assign_parts-loop-place-preserved
 assign_parts-loop-place-preserved t c =
     let left = c.loop-place.invariant in
@@ -29,6 +30,7 @@ assign_parts-loop-place-preserved t c =
       sizes = sizes_turn left.sizes (omega (arith, inside, left.unvisited.0)) (was old) c.assign_choices-size.ensures.size c.with-tally.ensures;
     }
 
+-- at the end all plans of concepts have their choices, and the tally has their sizes
 pub assign_parts-returns : goal.assign_parts-returns
 assign_parts-returns t c =
     let left = c.loop-place.invariant in
@@ -40,6 +42,7 @@ assign_parts-returns t c =
       tally = sizes_end left.sizes (omega (arith, c.loop-place-test.false, c.len-place-end.ensures));
     }
 
+-- a turn that gives one plan of groups its choices keeps the invariant
 pub assign_unit_parts-loop-place-preserved : goal.assign_unit_parts-loop-place-preserved
 assign_unit_parts-loop-place-preserved t c =
     let left = c.loop-place.invariant in
@@ -58,6 +61,7 @@ assign_unit_parts-loop-place-preserved t c =
       sizes = sizes_turn left.sizes (omega (arith, inside, left.unvisited.0)) (was old) c.assign_units-size.ensures.size c.with-tally.ensures;
     }
 
+-- at the end all plans of groups have their choices, and the tally has their sizes
 pub assign_unit_parts-returns : goal.assign_unit_parts-returns
 assign_unit_parts-returns t c =
     let left = c.loop-place.invariant in
@@ -68,6 +72,7 @@ assign_unit_parts-returns t c =
       tally = sizes_end left.sizes (omega (arith, c.loop-place-test.false, c.len-place-end.ensures));
     }
 
+-- the size of a `Values` node counts as many types as the node has names
 pub assign_values-returns-clause-size : goal.assign_values-returns-clause-size
 assign_values-returns-clause-size t c =
     let indexed = c.args.lengths.indexes.now in

@@ -1,4 +1,5 @@
--- The parts so far have their choices, the others are as they were, and the sizes of those that are left are those that they will have.
+-- The parts before the place have their choices, the others are unchanged, and the tally so far, continued over the
+-- sizes that the others will have, is that of all parts.
 use denote.Param.Weighed.{most}
 use Rattle.std.proofs.Common.{◌+◌, ◌*◌, max}
 use Rattle.set_algebra.proofs.plan.ConceptPlan.TheLaws as concept_plan
@@ -7,6 +8,8 @@ use Rattle.plan_bounds.proofs.LoopLemmas.{SizesLeft}
 use Rattle.planner.proofs.PassLemmas.{Each, choosing_concepts, choosing_groups, chosen_sizes, group_chosen_sizes}
 use Rattle.planner.proofs.choosing.+assign.Given as goal
 
+-- the plans of concepts before `place` have their choices, the others are unchanged, and the tally continues to that
+-- of all
 abbrev pub invariant-assign_parts-loop-place : goal.invariant-assign_parts-loop-place
 invariant-assign_parts-loop-place l = record {
   unvisited : goal.unvisited-assign_parts-loop-place l;
@@ -14,6 +17,8 @@ invariant-assign_parts-loop-place l = record {
   sizes : SizesLeft (chosen_sizes l.lengths.indexes.now) l.all l.initial.parts.items l.place l.tally;
 }
 
+-- the plans of groups before `place` have their choices, the others are unchanged, and the tally continues to that of
+-- all
 abbrev pub invariant-assign_unit_parts-loop-place : goal.invariant-assign_unit_parts-loop-place
 invariant-assign_unit_parts-loop-place l = record {
   unvisited : goal.unvisited-assign_unit_parts-loop-place l;

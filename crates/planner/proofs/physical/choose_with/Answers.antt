@@ -9,6 +9,7 @@ use Rattle.planner.proofs.AskedLemmas.{asked_are_offered, choices-asked}
 use Rattle.planner.proofs.ChosenLemmas.{asked_plan_kept, chosen_are_offered}
 use Rattle.planner.proofs.physical.choose_with.Goals as goal
 
+-- each leaf of the plan with requested choices offers its choice
 pub new-requires : goal.new-requires
 new-requires c =
     let asked = c.args.asked.now in
@@ -18,6 +19,7 @@ new-requires c =
     let offered = chosen_are_offered c.args.indexes.now (plan_of c.args.plan) in
     record { offered = subst AreOffered (sym given) (asked_are_offered asked least offered) }
 
+-- the plan that is returned has the logical plan that was given
 pub returns-clause-plan : goal.returns-clause-plan
 returns-clause-plan c =
     let assigned = rw c.lengths.ensures at c.assign_choices.ensures.plan in
@@ -25,6 +27,7 @@ returns-clause-plan c =
     ∙ asked_plan_kept c.args.indexes.now c.args.asked.now (plan_of c.args.plan) c.assign_choices.new.plan c.put_asked.new.plan
     assigned c.put_asked.ensures.plan
 
+-- the choices are the requested ones, leaf by leaf, or the least ones if a leaf does not offer them
 pub returns-clause-choices : goal.returns-clause-choices
 returns-clause-choices c =
     let asked = c.args.asked.now in

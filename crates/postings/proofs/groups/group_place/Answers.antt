@@ -7,14 +7,17 @@ use Rattle.postings.proofs.GroupLemmas.{numbered_place, ungrouped_place}
 use Rattle.postings.proofs.PairKeyLemmas.{place-ungrouped_keys, ungrouped_keys-more, ungrouped_keys-numbered}
 use Rattle.postings.proofs.groups.group_place.Goals as goal
 
+-- the place of a row's group number among the numbers is the place of its group
 pub returns-then-row-ne0-clause-place : goal.returns-then-row-ne0-clause-place
 returns-then-row-ne0-clause-place c = λ before behind short are so_far.
     c.place_of.ensures ∙ numbered_place before c.args.row.now behind c.args.numbers.now c.if-row-ne0.true c.requires.rising are
 
+-- a row with a group number leaves the pairs without one as they are
 pub returns-then-row-ne0-clause-ungrouped : goal.returns-then-row-ne0-clause-ungrouped
 returns-then-row-ne0-clause-ungrouped c = λ before so_far. so_far
     ∙ sym (ungrouped_keys-numbered before c.args.row.now c.if-row-ne0.true)
 
+-- the number of group numbers and a place among the pairs together fit in a `usize`
 pub overflow_add-result : goal.overflow_add-result
 overflow_add-result c =
     record {
@@ -26,6 +29,7 @@ overflow_add-result c =
       );
     }
 
+-- the place of a row's pair, counted after the group numbers, is the place of its group
 pub returns-clause-place : goal.returns-clause-place
 returns-clause-place c = λ before behind short are so_far.
     let row = c.args.row.now in
@@ -36,6 +40,7 @@ returns-clause-place c = λ before behind short are so_far.
     )
     ∙ ungrouped_place before row behind c.args.numbers.now (ungrouped_pairs before) c.if-row-ne0.false are refl
 
+-- a row without a group number adds its pair to the pairs without one, if the pair is new
 pub returns-clause-ungrouped : goal.returns-clause-ungrouped
 returns-clause-ungrouped c = λ before so_far.
     c.in_ok-place.ensures.keys

@@ -11,7 +11,7 @@ use Rattle.postings.proofs.SourceLemmas.{groups_ahead-more, of_source-own, rows_
 use Rattle.postings.proofs.groups.marks_in.Goals as goal
 use Rattle.postings.proofs.groups.marks_in.Goals.{In_ok-gather}
 
--- the places that are asked for are those of the source
+-- the places that `by_source` has for a source are places of rows
 pub gather-requires : goal.gather-requires
 gather-requires c =
     let keys : List ℕ = map (λ (row : CodedRow). row.source) c.args.rows.now in
@@ -23,12 +23,13 @@ gather-requires c =
     (list_of-places_by-within count keys source below) in
     λ k d inside. omega (arith, places k d inside, length-map c.args.rows.now (λ (row : CodedRow). row.source))
 
--- the rows that are gathered are those of the source
+-- the gathered rows are those of the source, and they and the groups before are no more than all rows
 record Gathered (rows found : List CodedRow) (count source : ℕ) : Type 0 where
   below : source < count
   own : found ≡ of_source rows source
   left : groups_ahead rows source + length found ≤ length rows
 
+-- `gather` leaves the rows of the source in `own`
 gathered : (c : In_ok-gather) → Gathered c.args.rows.now c.gather.new.own.items (length c.args.by_source.now) c.loop-source.source
 gathered c =
     let none : CodedRow = record { source = 0; type_place = 0; group = 0; value = 0 } in
@@ -47,6 +48,7 @@ gathered c =
       left = omega (arith, rows_left rows count source c.requires.sorted below, ap (λ (own : List CodedRow). length own) own);
     }
 
+-- the source of each gathered row is below 2^31
 pub push_sources-requires : goal.push_sources-requires
 push_sources-requires c =
     let rows : List CodedRow = c.args.rows.now in
@@ -56,6 +58,7 @@ push_sources-requires c =
     (sym (c.as_slice-own.ensures.value ∙ turn.own)) (of_source-own rows source) in
     λ k d inside. omega (arith, own k d inside, turn.below, c.requires.few_sources)
 
+-- the groups so far and the rows of the source are less than 2^31
 pub push_groups-requires : goal.push_groups-requires
 push_groups-requires c =
     let turn = gathered (goal.at.push_groups-requires c).In_ok-gather in
@@ -67,6 +70,7 @@ push_groups-requires c =
       ap (λ (own : List CodedRow). length own) c.as_slice-own.ensures.value,
     )
 
+-- 32 bits hold the number of groups before the next source
 pub overflow_add-ahead : goal.overflow_add-ahead
 overflow_add-ahead c =
     let turn = gathered (goal.at.overflow_add-ahead c).In_ok-gather in
@@ -85,6 +89,7 @@ first_start rows source le =
     let first : 0 ≡ source = omega (arith, le) in
     subst (λ (source : ℕ). get_or (0 ∷ []) source 0 ≡ groups_ahead rows source) first refl
 
+-- before the first source there are no marks, and one start, 0
 pub loop-source-init : goal.loop-source-init
 loop-source-init c = record {
   marks = record {
@@ -99,6 +104,7 @@ loop-source-init c = record {
   ahead = refl;
 }
 
+-- the marks of one source more are those so far, and the marks of its rows
 pub loop-source-preserved : goal.loop-source-preserved
 loop-source-preserved c =
     let rows : List CodedRow = c.args.rows.now in
@@ -126,6 +132,7 @@ loop-source-preserved c =
       ahead = ahead;
     }
 
+-- after the last source the marks are those of all rows
 pub returns : goal.returns
 returns c =
     let all : c.loop-source.source ≡ length c.args.by_source.now =

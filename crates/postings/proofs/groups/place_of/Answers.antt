@@ -17,6 +17,7 @@ not_falling items rises = IsNonDecreasingBy-from_default (λ n. n) items 0 (λ i
     same : (i j : ℕ) → i ≡ j → get_or items i 0 ≤ get_or items j 0
     same i j is = subst (λ k. get_or items i 0 ≤ get_or items k 0) is (omega arith)
 
+-- the partition point of rising numbers is how many of them are below `number`
 pub returns : goal.returns
 returns c =
     let numbers = c.args.numbers.now in

@@ -16,7 +16,7 @@ use Rattle.postings.proofs.PairKeyLemmas.{HaveShort, any-key, length-ungrouped_k
 use Rattle.postings.proofs.groups.push_groups.Goals as goal
 use Rattle.postings.proofs.groups.push_groups.Goals.{After-len-2, In_ok-place}
 
--- a row that stands for none
+-- a row for reading lists past their end
 none : CodedRow
 none = record { source = 0; type_place = 0; group = 0; value = 0 }
 
@@ -32,12 +32,13 @@ placed c =
     (c.as_slice.ensures.value ∙ c.loop-row.invariant.numbers ∙ ap numbers_of_groups split) c.loop-row.invariant.ungrouped
     ∙ ap (λ (rows : List CodedRow). place_in_source rows row) (sym split)
 
--- it is no further than there are rows
+-- the place of a row's group is at most the number of rows
 near : (c : In_ok-place) → c.in_ok-place.place ≤ length c.args.rows.now
 near c =
     let rows = c.args.rows.now in
     omega (arith, placed c, place_in_source-le rows (get_or rows c.loop-row.row-index none), length-group_codes-le rows)
 
+-- there are less than 2^32 pairs without a group number so far
 pub group_place-requires-clause-few : goal.group_place-requires-clause-few
 group_place-requires-clause-few c =
     let before : List CodedRow = take c.loop-row.row-index c.args.rows.now in
@@ -51,15 +52,19 @@ group_place-requires-clause-few c =
       length-take c.loop-row.row-index c.args.rows.now,
     )
 
+-- 32 bits hold the place of a row's group
 pub overflow_cast-place : goal.overflow_cast-place
 overflow_cast-place c = omega (arith, c.requires, near (goal.at.overflow_cast-place c).In_ok-place)
 
+-- 32 bits hold the number of a row's group
 pub overflow_add-ahead : goal.overflow_add-ahead
 overflow_add-ahead c = omega (arith, c.requires, near (goal.at.overflow_add-ahead c).In_ok-place)
 
+-- the number of a row's group is below 2^31
 pub new-requires : goal.new-requires
 new-requires c = omega (arith, c.requires, near (goal.at.new-requires c).In_ok-place)
 
+-- one row more adds its mark, its key and its pair
 pub loop-row-preserved : goal.loop-row-preserved
 unfolding none
 loop-row-preserved c =
@@ -89,7 +94,7 @@ loop-row-preserved c =
           c.grouped_key.ensures.short)));
     }
 
--- there are as many groups as numbers and pairs without one
+-- the group numbers and the pairs without one are together as many as the groups of the rows
 counted : (c : After-len-2) → c.len.result + c.len-2.result ≡ length (group_codes c.args.rows.now)
 counted c =
     let rows : List CodedRow = c.args.rows.now in
@@ -104,6 +109,7 @@ counted c =
       length-group_codes rows,
     )
 
+-- the sum of the group numbers and the pairs without one fits in a `usize`
 pub overflow_add-result : goal.overflow_add-result
 overflow_add-result c =
     record {
@@ -115,9 +121,11 @@ overflow_add-result c =
       );
     }
 
+-- 32 bits hold the number of groups of the rows
 pub overflow_cast-result : goal.overflow_cast-result
 overflow_cast-result c = omega (arith, c.requires, counted c, length-group_codes-le c.args.rows.now)
 
+-- after the last row `groups` has got the marks of all rows with their groups
 pub returns-clause-groups : goal.returns-clause-groups
 returns-clause-groups c =
     let rows : List CodedRow = c.args.rows.now in
@@ -126,8 +134,10 @@ returns-clause-groups c =
     ∙ ap (λ (own : List CodedRow). c.args.groups.now.items ++ marks_after has_same_in_group number [] own)
     (take_all c.loop-row.row-index rows c.loop-row-test.false)
 
+-- `push_groups` returns how many groups the rows have
 pub returns-clause-count : goal.returns-clause-count
 returns-clause-count c = counted (goal.at.returns-clause-count c).After-len-2
 
+-- the rows have no more groups than there are rows
 pub returns-clause-few : goal.returns-clause-few
 returns-clause-few c = omega (arith, counted (goal.at.returns-clause-few c).After-len-2, length-group_codes-le c.args.rows.now)

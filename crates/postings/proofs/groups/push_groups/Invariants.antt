@@ -5,6 +5,8 @@ use Rattle.postings.specs.inside.PairKeys.{grouped_keys, ungrouped_keys}
 use Rattle.postings.proofs.PairKeyLemmas.{HaveShort}
 use Rattle.postings.proofs.groups.push_groups.Given as goal
 
+-- the tables have the group numbers of all rows and the keys of the rows so far, and `groups` has got the marks of
+-- these rows
 abbrev pub invariant-loop-row : goal.invariant-loop-row
 invariant-loop-row l = record {
   numbers : l.tables.numbers.items ≡ numbers_of_groups l.rows;

@@ -13,6 +13,7 @@ use Rattle.postings.proofs.MarkLemmas.{marks_more}
 use Rattle.postings.proofs.PairKeyLemmas.{any-key, same_pair}
 use Rattle.postings.proofs.groups.push_sources.Goals as goal
 
+-- one row more adds its mark with the source, and its key
 pub loop-row-preserved : goal.loop-row-preserved
 loop-row-preserved c =
     let rows : List CodedRow = c.args.rows.now in
@@ -38,6 +39,7 @@ loop-row-preserved c =
           ∙ ap not (any-key has_same_pair pair_key same_pair (take at rows) row c.loop-row.invariant.short c.pair_key.ensures.short)));
     }
 
+-- after the last row `sources` has got the marks of all rows with their source
 pub returns : goal.returns
 returns c =
     c.loop-row.invariant.marks

@@ -13,11 +13,11 @@ use Rattle.postings.proofs.RisingLemmas.{listed_is_rising, rising-rises}
 use Rattle.postings.proofs.groups.put_group_numbers.Goals as goal
 use Rattle.postings.proofs.groups.put_group_numbers.Goals.{then-row-ne0+in_ok-push, else-row-ne0}
 
--- the numbers of groups among those of some rows, row by row
+-- the group numbers of rows, row by row, without 0
 abbrev numbered : List CodedRow → List ℕ
 numbered rows = filter (λ group. not (group == 0)) (map (λ (row : CodedRow). row.group) rows)
 
--- one row more adds the number of its group, where it has one
+-- one row more adds its group number, if it has one
 numbered_more : (rows : List CodedRow) (i : ℕ) (none : CodedRow) → i < length rows
     → numbered (take (i + 1) rows) ≡ numbered (take i rows) ++ numbered (get_or rows i none ∷ [])
 numbered_more rows i none within =
@@ -27,6 +27,7 @@ numbered_more rows i none within =
     ∙ ap (filter test) (map-append group (take i rows) (get_or rows i none ∷ []))
     ∙ filter-append test (map group (take i rows)) (group (get_or rows i none) ∷ [])
 
+-- after one row more `numbers` has the group numbers up to that row, and 32 bits hold each
 pub loop-row-preserved : goal.loop-row-preserved
 loop-row-preserved c =
     let none : CodedRow = record { source = 0; type_place = 0; group = 0; value = 0 } in
@@ -47,6 +48,7 @@ loop-row-preserved c =
       }
     ]
 
+-- after `keep_rising` the numbers are those of the groups, rising and each once
 pub returns : goal.returns
 returns c =
     let kept = listed_is_rising c.loop-row.numbers.items c.keep_rising.new.numbers.items c.keep_rising.ensures in

@@ -4,6 +4,7 @@ use Rattle.std.specs.List.{filter}
 use Rattle.postings.specs.declared.rows.CodedRow.{CodedRow}
 use Rattle.postings.proofs.groups.put_group_numbers.Given as goal
 
+-- `numbers` has the group numbers of the rows so far without 0, and 32 bits hold each
 abbrev pub invariant-loop-row : goal.invariant-loop-row
 invariant-loop-row l = record {
   numbers : l.numbers.items ≡ filter (λ group. not (group == 0)) (map (λ (row : CodedRow). row.group) (take l.row-index l.rows));

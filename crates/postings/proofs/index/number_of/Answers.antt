@@ -4,6 +4,7 @@ use Rattle.held_release.proofs.NumberingLemmas.{number_at, number_nowhere}
 use Rattle.postings.proofs.NumberLemmas.{rises_on}
 use Rattle.postings.proofs.index.number_of.Goals as goal
 
+-- the place that the binary search finds is the number of the concept
 pub returns-in-Ok : goal.returns-in-Ok
 returns-in-Ok c =
     let concepts = c.args.concepts.now in
@@ -12,6 +13,7 @@ returns-in-Ok c =
     (rises_on concepts c.requires.rising) in
     number_at concepts c.requires.rising c.args.id c.in-Ok.number found.0 found.1
 
+-- no concept has the identifier, if the binary search does not find it
 pub returns-in-Err : goal.returns-in-Err
 returns-in-Err c =
     let concepts = c.args.concepts.now in

@@ -6,9 +6,11 @@ use Rattle.postings.proofs.KeyedPlacesLemmas.{keyed_places-more}
 use Rattle.postings.proofs.lists.key_places.Goals as goal
 use Rattle.postings.proofs.lists.key_places.Goals.{then-key-count+in_ok-push, else-key-count}
 
+-- before the first key there are no pairs
 pub loop-place-init : goal.loop-place-init
 loop-place-init c = c.in_ok-pairs.ensures.items
 
+-- one key more adds its pair, if the key is below the count
 pub loop-place-preserved : goal.loop-place-preserved
 loop-place-preserved c =
     let keys = c.args.keys.now in
@@ -26,5 +28,6 @@ loop-place-preserved c =
           ∙ more
     ]
 
+-- after the last key the pairs are those of all keys
 pub returns : goal.returns
 returns c = c.loop-place.invariant ∙ ap (keyed_places c.args.count 0) (take_all c.loop-place.place c.args.keys.now (omega arith))

@@ -8,7 +8,7 @@ use Rattle.postings.specs.Places.{places_by}
 use Rattle.postings.proofs.row_indexes.group_lists.Goals as goal
 use Rattle.postings.proofs.row_indexes.group_lists.Goals.{After-index-count}
 
--- it is read there
+-- the code reads the last start
 last_start : (c : After-index-count)
     → c.index-count.result.now ≡ slice_index c.args.marks.now.starts.items (vec_len c.args.marks.now.starts - 1)
 last_start c =
@@ -17,16 +17,19 @@ last_start c =
     (omega (arith, c.len.ensures, c.requires.some)) (omega (arith, starts.ok.0))
     ∙ ap (λ long. slice_index starts.items (long - 1)) c.len.ensures
 
+-- the number of each mark is below the number of groups
 pub numbers_by_group-requires-clause-within : goal.numbers_by_group-requires-clause-within
 numbers_by_group-requires-clause-within c =
     subst (λ (count : ℕ). All (λ (mark : Flagged). mark.number < count) c.as_slice.result.now)
     (sym (last_start (goal.at.numbers_by_group-requires-clause-within c).After-index-count))
     (rw c.as_slice.ensures.value c.requires.within)
 
+-- rows of one group have one group number
 pub numbers_by_group-requires-clause-one : goal.numbers_by_group-requires-clause-one
 numbers_by_group-requires-clause-one c =
     subst (λ (marks : List Flagged). HaveOneNumber marks c.args.rows.now) (sym c.as_slice.ensures.value) c.requires.one
 
+-- there are less than 2^32 numbers of groups, one for each row
 pub places_by_key-requires : goal.places_by_key-requires
 places_by_key-requires c =
     let marks : List Flagged = c.as_slice-2.result.now in
@@ -40,14 +43,17 @@ places_by_key-requires c =
       c.requires.few,
     )
 
+-- there are as many group numbers as the last start says
 pub returns-clause-len : goal.returns-clause-len
 returns-clause-len c = c.in_ok-numbers.ensures.len ∙ last_start (goal.at.returns-clause-len c).After-index-count
 
+-- each group has the group number of its rows
 pub returns-clause-numbers : goal.returns-clause-numbers
 returns-clause-numbers c =
     subst (λ (marks : List Flagged). AreNumbersOf marks c.args.rows.now c.in_ok-numbers.numbers.items)
     c.as_slice.ensures.value c.in_ok-numbers.ensures.numbers
 
+-- the list of each group has the places of its number among the marks
 pub returns-clause-rows : goal.returns-clause-rows
 returns-clause-rows c =
     c.in_ok-rows.ensures

@@ -4,9 +4,11 @@ use Rattle.postings.specs.declared.rows.CodedRow.{CodedRow}
 use Rattle.postings.proofs.KeptLemmas.{AreNumbered, numbered_more}
 use Rattle.postings.proofs.row_indexes.numbers_by_group.Goals as goal
 
+-- before the first row there is a group number, 0, for each group
 pub loop-place-init : goal.loop-place-init
 loop-place-init c = record { len = c.in_ok-numbers.ensures.len; numbers = λ n mark row below. absurd (omega (arith, below)) }
 
+-- the number of each row's group is below the number of groups
 pub index_mut-requires : goal.index_mut-requires
 index_mut-requires c =
     let at = c.loop-place.place in
@@ -19,6 +21,7 @@ index_mut-requires c =
       c.loop-place.invariant.len,
     )
 
+-- one row more sets the group number of its group
 pub loop-place-preserved : goal.loop-place-preserved
 loop-place-preserved c =
     let marks = c.args.marks.now in

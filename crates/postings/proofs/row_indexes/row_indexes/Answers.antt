@@ -31,19 +31,22 @@ marked c =
     (subst (λ (n : ℕ). AreRowMarks n c.as_slice.result.now c.in_ok-marks.marks) c.concept_count-count.ensures.count
     c.in_ok-marks.ensures.marks)
 
--- the keys are those of the rows
+-- the places of types that serve as keys are those of the rows
 typed : (c : In_ok-keys) → c.in_ok-keys.keys.type_places.items ≡ map (λ (row : CodedRow). row.type_place) c.in_ok-coded.coded.rows.items
 typed c = c.in_ok-keys.ensures.types ∙ ap (map (λ (row : CodedRow). row.type_place)) c.as_slice-3.ensures.value
 
+-- the numbers of values that serve as keys are those of the rows
 valued : (c : In_ok-keys) → c.in_ok-keys.keys.values.items ≡ map (λ (row : CodedRow). row.value) c.in_ok-coded.coded.rows.items
 valued c = c.in_ok-keys.ensures.values ∙ ap (map (λ (row : CodedRow). row.value)) c.as_slice-3.ensures.value
 
+-- there are less than 2^31 rows of numbers
 pub marks_by_source-requires-clause-few : goal.marks_by_source-requires-clause-few
 marks_by_source-requires-clause-few c =
     let rises = c.concept_count-count.ensures.rising in
     subst (λ (rows : List CodedRow). length rows < 2 ^ 31) (sym c.as_slice.ensures.value)
     (few_codes c.args.snapshot.now.release rises c.in_ok-coded.coded c.in_ok-coded.ensures)
 
+-- the rows of numbers stand source by source
 pub marks_by_source-requires-clause-sorted : goal.marks_by_source-requires-clause-sorted
 marks_by_source-requires-clause-sorted c =
     let release = c.args.snapshot.now.release in
@@ -51,6 +54,7 @@ marks_by_source-requires-clause-sorted c =
     (subst (λ (rows : List CodedRow). IsBySource (length release.concepts) rows) (sym c.as_slice.ensures.value)
     (is_sorted release c.concept_count-count.ensures.rising c.in_ok-coded.coded c.in_ok-coded.ensures))
 
+-- there are less than 2^32 rows of numbers
 pub group_lists-requires-clause-few : goal.group_lists-requires-clause-few
 group_lists-requires-clause-few c =
     let rises = c.concept_count-count.ensures.rising in
@@ -58,6 +62,7 @@ group_lists-requires-clause-few c =
     few_codes c.args.snapshot.now.release rises c.in_ok-coded.coded c.in_ok-coded.ensures in
     subst (λ (rows : List CodedRow). length rows < 2 ^ 32) (sym c.as_slice-2.ensures.value) (omega (arith, few))
 
+-- there is a mark with the group for each row
 pub group_lists-requires-clause-long : goal.group_lists-requires-clause-long
 group_lists-requires-clause-long c =
     omega (
@@ -67,6 +72,7 @@ group_lists-requires-clause-long c =
           c.in_ok-marks.marks (marked (goal.at.group_lists-requires-clause-long c).In_ok-marks),
     )
 
+-- the number of each mark with a group is below the last start
 pub group_lists-requires-clause-within : goal.group_lists-requires-clause-within
 group_lists-requires-clause-within c =
     let starts = c.in_ok-marks.marks.starts.items in
@@ -75,12 +81,14 @@ group_lists-requires-clause-within c =
     (units_below c.args.snapshot.now.release c.concept_count-count.ensures.rising c.in_ok-coded.coded c.in_ok-coded.ensures
     c.in_ok-marks.marks (marked (goal.at.group_lists-requires-clause-within c).In_ok-marks))
 
+-- rows of one group have one group number
 pub group_lists-requires-clause-one : goal.group_lists-requires-clause-one
 group_lists-requires-clause-one c =
     subst (λ (rows : List CodedRow). HaveOneNumber c.in_ok-marks.marks.groups.items rows) (sym c.as_slice-2.ensures.value)
     (one_number c.args.snapshot.now.release c.concept_count-count.ensures.rising c.in_ok-coded.coded c.in_ok-coded.ensures
     c.in_ok-marks.marks (marked (goal.at.group_lists-requires-clause-one c).In_ok-marks))
 
+-- 32 bits hold the number of types
 pub overflow_cast-len : goal.overflow_cast-len
 overflow_cast-len c =
     omega (
@@ -93,6 +101,7 @@ overflow_cast-len c =
       c.in_ok-coded.ensures.few,
     )
 
+-- each row has a place of its type, a number of its value, and marks
 pub lists_by_keys-requires-clause-long : goal.lists_by_keys-requires-clause-long
 lists_by_keys-requires-clause-long c =
     let at = goal.at.lists_by_keys-requires-clause-long c in
@@ -100,6 +109,7 @@ lists_by_keys-requires-clause-long c =
     c.in_ok-marks.marks (marked at.In_ok-marks) c.in_ok-keys.keys.type_places.items c.in_ok-keys.keys.values.items
     (λ row. row.type_place) (λ row. row.value) (typed at.In_ok-keys) (valued at.In_ok-keys)
 
+-- the place of each row's type is below the number of types
 pub lists_by_keys-requires-clause-types : goal.lists_by_keys-requires-clause-types
 lists_by_keys-requires-clause-types c =
     subst (λ (xs : List ℕ). All (λ key. key < c.len.result) xs) (sym (typed (goal.at.lists_by_keys-requires-clause-types c).In_ok-keys))
@@ -111,6 +121,7 @@ lists_by_keys-requires-clause-types c =
       ap (λ (xs : List ℕ). length xs) c.in_ok-coded.ensures.ids,
     )))
 
+-- the indexes are those of the attribute rows
 pub returns : goal.returns
 returns c =
     let at = goal.at.returns c in

@@ -14,6 +14,7 @@ use Rattle.postings.specs.declared.rows.CodedRow.{CodedRow}
 use Rattle.postings.proofs.RowLemmas.{coded_push, length-more, rows_push, types_more}
 use Rattle.postings.proofs.rows.coded_rows.Goals as goal
 
+-- before the first row there are no rows of numbers and no types
 pub loop-n-init : goal.loop-n-init
 loop-n-init c =
     let concepts = c.args.snapshot.now.release.concepts in
@@ -27,14 +28,17 @@ loop-n-init c =
       few = omega (arith, ap (λ (keys : List ℕ). length keys) c.new.ensures);
     }
 
+-- there are less than 2^31 types so far
 pub place_near-requires-clause-few : goal.place_near-requires-clause-few
 place_near-requires-clause-few c =
     let count = c.attribute_count-n-end.ensures in
     omega (arith, c.loop-n.invariant.few, c.loop-n-test.true, count.count, count.few)
 
+-- the list of type identifiers is the table of types
 pub place_near-requires-clause-ids : goal.place_near-requires-clause-ids
 place_near-requires-clause-ids c = c.loop-n.invariant.ids
 
+-- the value of the row is in the tables of values
 pub number-value-requires-clause-there : goal.number-value-requires-clause-there
 number-value-requires-clause-there c =
     let release = c.args.snapshot.now.release in
@@ -44,15 +48,19 @@ number-value-requires-clause-there c =
     subst has (get_or_from_slice_get rows c.loop-n.n row row c.attribute_numbers-row.ensures.row)
     (c.in_ok-values.ensures.all c.loop-n.n row (slice_get_within rows c.loop-n.n row c.attribute_numbers-row.ensures.row))
 
+-- the decimals and the texts rise strictly
 pub number-value-requires-clause-rising : goal.number-value-requires-clause-rising
 number-value-requires-clause-rising c = c.in_ok-values.ensures.tables.rising
 
+-- there are less than 2^32 values
 pub number-value-requires-clause-few : goal.number-value-requires-clause-few
 number-value-requires-clause-few c = c.in_ok-values.ensures.few
 
+-- a value that is a concept has the number of a concept
 pub number-value-requires-clause-below : goal.number-value-requires-clause-below
 number-value-requires-clause-below c = c.attribute_numbers-row.ensures.value
 
+-- one row more stands for the next attribute row, and adds its type if it is new
 pub loop-n-preserved : goal.loop-n-preserved
 loop-n-preserved c =
     let release = c.args.snapshot.now.release in
@@ -102,6 +110,7 @@ loop-n-preserved c =
       few = omega (arith, ap length grown, (length-more types read.type_id).1, invariant.few);
     }
 
+-- after the last row the rows of numbers stand for all attribute rows
 pub returns : goal.returns
 returns c =
     let rows = attributes_by_source c.args.snapshot.now.release in

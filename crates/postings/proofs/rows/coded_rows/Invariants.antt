@@ -6,6 +6,7 @@ use Rattle.postings.specs.Indexed.{types_of}
 use Rattle.postings.specs.inside.ValueTables.{values_in}
 use Rattle.postings.proofs.rows.coded_rows.Given as goal
 
+-- the rows of numbers so far stand for the attribute rows so far, and the table has their types
 abbrev pub invariant-loop-n : goal.invariant-loop-n
 invariant-loop-n l =
     let release = l.snapshot.release in

@@ -7,6 +7,7 @@ use Rattle.postings.proofs.ValueLemmas.{texts_more}
 use Rattle.postings.proofs.texts.lent_texts.Goals as goal
 use Rattle.postings.proofs.texts.lent_texts.Goals.{in-Other+in_ok-push-in-Other, in-Concept, in-Decimal}
 
+-- one row more adds its value, if that is a text
 pub loop-n-preserved : goal.loop-n-preserved
 loop-n-preserved c =
     let release = c.args.snapshot.now.release in
@@ -35,6 +36,7 @@ loop-n-preserved c =
           ∙ sym (texts_more (attributes_by_source release) c.loop-n.n row c.attribute_numbers-row.ensures.row)
     ]
 
+-- after the last row the texts are those of all rows
 pub returns : goal.returns
 returns c =
     let count = c.attribute_count-n-end.ensures in

@@ -17,11 +17,13 @@ left c =
     ∙ ap (λ (texts : List (Bor (List ℕ))). map (λ (text : Bor (List ℕ)). text.now) texts) (c.as_slice.ensures.value
     ∙ dedup_is _ _ _ c.dedup.ensures.filtered)
 
+-- the texts rise strictly by their bytes
 pub returns-clause-rising : goal.returns-clause-rising
 returns-clause-rising c =
     subst (λ (texts : List (List ℕ)). IsStrictlySortedBy text_cmp texts) (sym (left (goal.at.returns-clause-rising c).In_ok-texts-2))
     (texts_sorted (λ (text : Bor (List ℕ)). text.now) c.sort_unstable.new.self.items c.sort_unstable.ensures.sorted)
 
+-- the texts are those among the values of the rows
 pub returns-clause-members : goal.returns-clause-members
 returns-clause-members c = λ text.
     let is = left (goal.at.returns-clause-members c).In_ok-texts-2 in
@@ -33,6 +35,7 @@ returns-clause-members c = λ text.
           (kept.1 (subst (λ (texts : List (List ℕ)). Contains texts text) (sym c.in_ok-texts.ensures) there)),
     )
 
+-- there are no more texts than rows with a text
 pub returns-clause-few : goal.returns-clause-few
 returns-clause-few c =
     let lent = λ (text : Bor (List ℕ)). text.now in

@@ -15,6 +15,7 @@ use Rattle.postings.proofs.ValueLemmas.{decimals_more, same_decimals}
 use Rattle.postings.proofs.values.decimals_among.Goals as goal
 use Rattle.postings.proofs.values.decimals_among.Goals.{After-dedup}
 
+-- one row more adds its value, if that is a decimal
 pub loop-n-preserved : goal.loop-n-preserved
 loop-n-preserved c =
     let release = c.args.snapshot.now.release in
@@ -23,22 +24,24 @@ loop-n-preserved c =
     ∙ (λ i. c.loop-n.invariant i ++ sym (same_decimals release.concepts read.value) i)
     ∙ sym (decimals_more (attributes_by_source release) c.loop-n.n (by_identifiers release.concepts read) c.attribute_numbers-row.ensures.row)
 
--- the decimals of all rows were gathered
+-- the decimals of all rows are gathered
 gathered : (c : After-dedup) → c.loop-n.decimals.items ≡ decimals_of (attributes_by_source c.args.snapshot.now.release)
 gathered c =
     c.loop-n.invariant
     ∙ ap decimals_of (take_all c.loop-n.n (attributes_by_source c.args.snapshot.now.release)
     (omega (arith, c.loop-n-test.false, c.attribute_count-n-end.ensures.by_source, c.attribute_count-n-end.ensures.count)))
 
--- and what is left of them has none twice
+-- the decimals that are left have no repeats
 left : (c : After-dedup) → c.dedup.new.self.items ≡ dedup int_eq c.sort_unstable.new.self.items
 left c = dedup_is int_eq c.sort_unstable.new.self.items c.dedup.new.self.items c.dedup.ensures.filtered
 
+-- the decimals rise strictly
 pub returns-clause-rising : goal.returns-clause-rising
 returns-clause-rising c =
     subst (IsStrictlySortedBy int_cmp) (sym (left (goal.at.returns-clause-rising c).After-dedup))
     (IsStrictlySortedBy-dedup int_cmp_total (λ one other. refl) c.sort_unstable.new.self.items c.sort_unstable.ensures.sorted)
 
+-- the decimals are those among the values of the rows
 pub returns-clause-members : goal.returns-clause-members
 returns-clause-members c = λ decimal.
     let at = (goal.at.returns-clause-members c).After-dedup in
@@ -53,6 +56,7 @@ returns-clause-members c = λ decimal.
           (subst (λ (all : List ℤ). Contains all decimal) (sym (gathered at)) there))),
     )
 
+-- there are no more decimals than rows with a decimal
 pub returns-clause-few : goal.returns-clause-few
 returns-clause-few c =
     omega (

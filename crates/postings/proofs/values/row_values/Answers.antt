@@ -5,6 +5,7 @@ use Rattle.held_release.specs.ValuesInForce.{is_value_among}
 use Rattle.postings.proofs.ValueLemmas.{all_by_source, few_values, length-values, values_there}
 use Rattle.postings.proofs.values.row_values.Goals as goal
 
+-- the value of each row is among the values
 pub returns-clause-all : goal.returns-clause-all
 returns-clause-all c =
     let release = c.args.snapshot.now.release in
@@ -13,6 +14,7 @@ returns-clause-all c =
     (all_by_source among release.concepts release.attributes c.attribute_count.ensures.values)
     (λ decimal. (c.in_ok-decimals.ensures.members decimal).1) (λ text. (c.in_ok-texts.ensures.members text).1)
 
+-- the decimals and the texts are those among the values of the rows
 pub returns-clause-tables : goal.returns-clause-tables
 returns-clause-tables c = record {
   rising = record { decimals_rise = c.in_ok-decimals.ensures.rising; texts_rise = c.in_ok-texts.ensures.rising };
@@ -20,6 +22,7 @@ returns-clause-tables c = record {
   texts_are = λ text. ∣ c.in_ok-texts.ensures.members text ∣₁;
 }
 
+-- there are less than 2^32 values
 pub returns-clause-few : goal.returns-clause-few
 returns-clause-few c =
     let release = c.args.snapshot.now.release in

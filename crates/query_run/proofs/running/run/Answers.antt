@@ -20,12 +20,12 @@ ended : (old mid new : Option (List ℕ)) (read buffer : List ℕ) (count : ℕ)
 ended old mid new read buffer count none first second =
     subst (Consumes old new) (append-nil read) (Consumes-trans old mid new read [] first (subst (λ (n : ℕ). Consumes mid new (take n buffer)) none second))
 
--- as many lines were answered, seen by what is kept of the last one
+-- a count of answers stays right if the number of lines added to it is replaced by an equal number
 counted : (result : Result ℕ RunFault) (answered more all : ℕ) → more ≡ all
     → IfOk result (λ count. count ≡ answered + more) → IfOk result (λ count. count ≡ answered + all)
 counted result answered more all same is = subst (λ (n : ℕ). IfOk result (λ count. count ≡ answered + n)) same is
 
--- one more read
+-- one more read makes the count of reads one greater, or the count stands still at its greatest number
 next_turn : (before mid after turn : ℕ) → (mid ≡ before + turn) ⊎ (mid ≡ 2 ^ 64 - 1)
     → after ≡ min (mid + 1) (2 ^ 64 - 1) → (after ≡ before + (turn + 1)) ⊎ (after ≡ 2 ^ 64 - 1)
 next_turn before mid after turn (inl is) counted = elim (cases_lt mid (2 ^ 64 - 1)) [
@@ -34,6 +34,7 @@ next_turn before mid after turn (inl is) counted = elim (cases_lt mid (2 ^ 64 - 
 ]
 next_turn before mid after turn (inr full) counted = inr (omega arith)
 
+-- before the first read no line is answered and nothing is written
 pub loop-turn-init : goal.loop-turn-init
 loop-turn-init g c =
     let written = g.W.AnswerOutput.written c.args.output.now in record {
@@ -54,6 +55,7 @@ loop-turn-init g c =
       );
     }
 
+-- if the input fails, the answers to all lines that ended are written
 pub returns-in-Err-read-clause-fault : goal.returns-in-Err-read-clause-fault
 returns-in-Err-read-clause-fault g c =
     let (read, lines, consumed, (unended, cut, kept), count, wrote) = c.loop-turn.invariant.lines in
@@ -68,6 +70,7 @@ returns-in-Err-read-clause-fault g c =
       feeds_cut answers read lines unended cut answered count old mid wrote,
     )
 
+-- at the end of the input the count is the number of query lines
 pub returns-then-count-eq0-clause-count : goal.returns-then-count-eq0-clause-count
 returns-then-count-eq0-clause-count g c =
     let (read, lines, consumed, (unended, cut, kept), count, wrote) = c.loop-turn.invariant.lines in
@@ -83,6 +86,7 @@ returns-then-count-eq0-clause-count g c =
     (c.in-Ok-read.ensures.bytes.1 c.if-count-eq0.true (omega (arith, c.loop-turn.invariant.room)))
     (counted c.finish.result c.loop-turn.progress.answered _ _ (last_count unended c.loop-turn.progress.pending.items kept cut.unended) c.finish.ensures.count)
 
+-- at the end of the input the answers to all query lines are written
 pub returns-then-count-eq0-clause-answers : goal.returns-then-count-eq0-clause-answers
 returns-then-count-eq0-clause-answers g c =
     let (read, lines, consumed, (unended, cut, kept), count, wrote) = c.loop-turn.invariant.lines in
@@ -100,6 +104,7 @@ returns-then-count-eq0-clause-answers g c =
     (g.met.A.AnswerLine.same_front c.args.answerer.now) unended c.loop-turn.progress.pending.items kept cut.unended _
     _) c.finish.ensures.answer)
 
+-- a fault of the last answer leaves the answers before it written
 pub returns-then-count-eq0-clause-fault : goal.returns-then-count-eq0-clause-fault
 returns-then-count-eq0-clause-fault g c =
     let (read, lines, consumed, (unended, cut, kept), count, wrote) = c.loop-turn.invariant.lines in
@@ -120,6 +125,7 @@ returns-then-count-eq0-clause-fault g c =
           fault _ _ left.1,
     )) c.finish.ensures.fault)
 
+-- a fault of an answer in a piece leaves the answers before it written
 pub returns-in-Err-take_piece-clause-fault : goal.returns-in-Err-take_piece-clause-fault
 returns-in-Err-take_piece-clause-fault g c =
     let (read, lines, consumed, (unended, cut, kept), count, wrote) = c.loop-turn.invariant.lines in
@@ -136,6 +142,7 @@ returns-in-Err-take_piece-clause-fault g c =
     (g.W.AnswerOutput.written c.take_piece.new.output)
     all (cut.goes_on piece) is leaves
 
+-- after one more piece its lines are answered, and the bytes after them are pending
 pub loop-turn-preserved : goal.loop-turn-preserved
 loop-turn-preserved g c =
     let (read, lines, consumed, (unended, cut, kept), count, wrote) = c.loop-turn.invariant.lines in
@@ -169,6 +176,7 @@ loop-turn-preserved g c =
       );
     }
 
+-- after 2^40 reads the answers to all lines that ended are written
 pub returns-clause-fault : goal.returns-clause-fault
 returns-clause-fault g c =
     let (read, lines, consumed, (unended, cut, kept), count, wrote) = c.loop-turn.invariant.lines in
@@ -182,13 +190,13 @@ returns-clause-fault g c =
       feeds_cut answers read lines unended cut answered count old mid wrote,
     )
 
--- what is kept of a line has no line feed either
+-- what is kept of a line without a line feed has no line feed
 pub finish-requires-clause-unended : goal.finish-requires-clause-unended
 finish-requires-clause-unended g c =
     let (read, lines, consumed, (unended, cut, kept), count, wrote) = c.loop-turn.invariant.lines in
     kept_clear unended c.loop-turn.progress.pending.items kept cut.unended
 
--- at the fault of an answer the input has not failed, and how often it was read is not told
+-- if an answer met a fault, the input has not failed
 pub returns-in-Err-take_piece-clause-failed : goal.returns-in-Err-take_piece-clause-failed
 returns-in-Err-take_piece-clause-failed g c =
     let (read, lines, consumed, (unended, cut, kept), count, wrote) = c.loop-turn.invariant.lines in
@@ -196,31 +204,37 @@ returns-in-Err-take_piece-clause-failed g c =
     let sound : g.R.QueryInput.has_failed c.read.new.self ≡ false = search rules in
     AnswerFault-failed c.in-Err-take_piece.fault _ _ _ sound is
 
+-- if an answer met a fault, the fault is not `Turns`
 pub returns-in-Err-take_piece-clause-turns : goal.returns-in-Err-take_piece-clause-turns
 returns-in-Err-take_piece-clause-turns g c =
     let (read, lines, consumed, (unended, cut, kept), count, wrote) = c.loop-turn.invariant.lines in
     let (further, is, leaves) = c.in-Err-take_piece.ensures.fault unended cut.unended kept in
     AnswerFault-turns c.in-Err-take_piece.fault _ _ _ _ is
 
+-- a run that ends well has read its input to the end
 pub returns-then-count-eq0-clause-end : goal.returns-then-count-eq0-clause-end
 returns-then-count-eq0-clause-end g c =
     let ended = c.in-Ok-read.ensures.bytes.1 c.if-count-eq0.true (omega (arith, c.loop-turn.invariant.room)) in
     on_ok_weaker c.finish.result (λ sound. ended) c.finish.ensures.sound
 
+-- after a run that ends well neither stream has failed
 pub returns-then-count-eq0-clause-sound : goal.returns-then-count-eq0-clause-sound
 returns-then-count-eq0-clause-sound g c =
     let input_sound : g.R.QueryInput.has_failed c.read.new.self ≡ false = search rules in
     on_ok_weaker c.finish.result (λ sound. (input_sound, sound)) c.finish.ensures.sound
 
+-- if the last answer met a fault, the input has not failed
 pub returns-then-count-eq0-clause-failed : goal.returns-then-count-eq0-clause-failed
 returns-then-count-eq0-clause-failed g c =
     let sound : g.R.QueryInput.has_failed c.read.new.self ≡ false = search rules in
     IfErr-weaker c.finish.result _ _ (λ fault left. AnswerFault-failed fault _ _ _ sound left.0) c.finish.ensures.fault
 
+-- if the last answer met a fault, the fault is not `Turns`
 pub returns-then-count-eq0-clause-turns : goal.returns-then-count-eq0-clause-turns
 returns-then-count-eq0-clause-turns g c =
     IfErr-weaker c.finish.result _ _ (λ fault left. AnswerFault-turns fault _ _ _ _ left.0) c.finish.ensures.fault
 
+-- a run that ends at `Turns` has read its input 2^40 times
 pub returns-clause-turns : goal.returns-clause-turns
 returns-clause-turns g c = elim c.loop-turn.invariant.turns [
   | inl is ↦ inl (omega (arith, is, c.loop-turn-test.false, c.loop-turn.auto._turn-end))

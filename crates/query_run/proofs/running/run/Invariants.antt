@@ -4,7 +4,7 @@ use Rattle.query_run.specs.KeptLine.{IsCutTo}
 use Rattle.query_run.specs.Lines.{AreWritten}
 use Rattle.query_run.proofs.running.run.Given as goal
 
--- what was read is cut into lines that were answered, and one that has not ended, of which the pending bytes are kept
+-- the bytes read are cut into answered lines and an unended line, whose kept front is the pending bytes
 abbrev pub invariant-loop-turn : goal.invariant-loop-turn
 invariant-loop-turn g l = record {
   input_sound : g.R.QueryInput.has_failed l.input ≡ false;

@@ -3,7 +3,7 @@ use Rattle.query_service.specs.Serve.{Task, TellsLoadFault}
 use Rattle.query_service.proofs.ServeLemmas.{asked_of_files, loaded_not, loaded_whole, refuses_with, within_standard}
 use Rattle.query_service.proofs.service.answer_source.Goals as goal
 
--- the release was loaded, and served by the run
+-- the release of the files was loaded and served, so the request ends with the status of that
 pub returns-in-Ok : goal.returns-in-Ok
 returns-in-Ok g c =
     let names : List (List ℕ) = map string_bytes c.load_from.new.names.items in
@@ -23,7 +23,7 @@ returns-in-Ok g c =
       inl (record { contents = contents; loaded = refl; ended = c.answer_lines.ensures }),
     )
 
--- the files were refused
+-- the files were refused, and nothing was read or written
 pub returns : goal.returns
 returns g c =
     let names : List (List ℕ) = map string_bytes c.load_from.new.names.items in

@@ -3,7 +3,7 @@ use Rattle.answer_printer.specs.ReportText.{report_text}
 use Rattle.query_service.proofs.ServeLemmas.{loaded_whole}
 use Rattle.query_service.proofs.service.report.Goals as goal
 
--- what was printed is the report of what was loaded
+-- the printed text is the report of the loaded release
 pub returns-in_ok-printed-in-Ok-clause-ok : goal.returns-in_ok-printed-in-Ok-clause-ok
 returns-in_ok-printed-in-Ok-clause-ok g c =
     let names = map string_bytes c.report_from.new.names.items in

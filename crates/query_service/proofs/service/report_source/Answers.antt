@@ -4,7 +4,7 @@ use Rattle.command_line.specs.declared.words.Mode.TheVariants.{Check}
 use Rattle.query_service.proofs.ServeLemmas.{ends_cut, ends_reported, refuses_with}
 use Rattle.query_service.proofs.service.report_source.Goals as goal
 
--- the report was written whole
+-- the report was written whole, so the request is done
 pub returns-in-Ok-write_all : goal.returns-in-Ok-write_all
 returns-in-Ok-write_all g c =
     let (contents, text, loads) = c.in-Ok.ensures.ok in
@@ -24,7 +24,7 @@ returns-in-Ok-write_all g c =
           c.args.output.now c.write_all.new.output c.args.errors.now refl refl (c.as_slice.ensures.value ∙ text) wrote.ok c.requires.input wrote.failure,
     )
 
--- the report was written in part
+-- the report was written in part, so the output has failed
 pub returns-in-Ok : goal.returns-in-Ok
 returns-in-Ok g c =
     let (contents, text, loads) = c.in-Ok.ensures.ok in
@@ -45,7 +45,7 @@ returns-in-Ok g c =
           c.tell_fault.ensures.status wrote.err c.requires.input wrote.failure c.tell_fault.ensures.told,
     )
 
--- the files were refused
+-- the files were refused, and nothing was written
 pub returns : goal.returns
 returns g c =
     let names : List (List ℕ) = map string_bytes c.report.new.names.items in

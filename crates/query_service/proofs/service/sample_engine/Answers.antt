@@ -8,6 +8,7 @@ use Rattle.sample_release.specs.SampleContents.{sample_contents}
 use Rattle.query_service.proofs.ServeLemmas.{same_contents, same_fault}
 use Rattle.query_service.proofs.service.sample_engine.Goals as goal
 
+-- the engine holds the built-in release
 pub returns-clause-ok : goal.returns-clause-ok
 returns-clause-ok g c =
     let files = map file_text c.sample_files.result in
@@ -18,6 +19,7 @@ returns-clause-ok g c =
     (ap (λ (limits : Limits). load_of limits (codes "en") files) c.standard.ensures ∙ c.sample_files.ensures.release))
     c.load.ensures.ok
 
+-- each fault is one of the built-in release
 pub returns-clause-err : goal.returns-clause-err
 returns-clause-err g c =
     let files = map file_text c.sample_files.result in

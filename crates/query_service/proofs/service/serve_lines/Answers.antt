@@ -14,7 +14,7 @@ returns-in-Ok g c = record {
   told = refl;
 }
 
--- they were answered until a fault, which was told
+-- the lines were answered until a fault, which was told
 pub returns-in-Err : goal.returns-in-Err
 returns-in-Err g c =
     let contents = g.Q.QueryEngine.contents c.args.engine.now in

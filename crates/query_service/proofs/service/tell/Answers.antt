@@ -7,7 +7,7 @@ use Rattle.query_service.specs.Streams.{IsTold}
 use Rattle.streams.specs.declared.output.AnswerOutput.{Ghosts}
 use Rattle.query_service.proofs.service.tell.Goals as goal
 
--- what a write of a line leaves, whether it fails or not
+-- a write of a line appends all of it, or if it fails, a front of it
 told : {T F E : Type 0} (e : Ghosts E) (result : Result T F) (before after : E) (line : List ℕ)
     → OnOk result (Appends (e.written before) (e.written after) line)
     → OnErr result ((place : ℕ) × (place < length line) × Appends (e.written before) (e.written after) (take place line))
@@ -21,5 +21,6 @@ told e (Err fault) before after line ok err is = record {
   front = (err.0, err.2);
 }
 
+-- the line was written, or a front of it if the write failed
 pub returns : goal.returns
 returns g c = told g.E.AnswerOutput c.write_all.result _ _ c.args.line.now c.write_all.ensures.ok c.write_all.ensures.err c.write_all.ensures.failure

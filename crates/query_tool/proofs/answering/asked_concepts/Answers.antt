@@ -4,7 +4,7 @@ use Rattle.set_algebra.proofs.PhysicalLemmas.{logical-physical_of}
 use Rattle.planner.specs.Asked.{choices_with}
 use Rattle.query_tool.proofs.answering.asked_concepts.Goals as goal
 
--- the plan is the one that was asked for, with its choices
+-- the visits are those of the plan that was asked for, with its choices
 pub returns-clause-reads : goal.returns-clause-reads
 returns-clause-reads g c = record {
   physical = physical_of c.in_ok-physical.physical.plan;

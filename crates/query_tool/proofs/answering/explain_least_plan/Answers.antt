@@ -9,6 +9,7 @@ use Rattle.answer_printer.specs.PlanText.{plan_text}
 use Rattle.query_tool.proofs.ExplanationLemmas.{explains}
 use Rattle.query_tool.proofs.answering.explain_least_plan.Goals as goal
 
+-- the printed text is that of the plan with the least bounds, so it explains the constraint
 pub returns-clause-ok : goal.returns-clause-ok
 returns-clause-ok c =
     let tree = tree_of c.args.constraint.now in

@@ -4,7 +4,7 @@ use Rattle.streams.proofs.WaitingLemmas.{LeavesAnswer-weaker}
 use Rattle.query_service.specs.Explanation.{IsExplanation}
 use Rattle.query_tool.proofs.explaining.write_explanation.Goals as goal
 
--- the text that is put explains the line
+-- the text that was put explains the line
 pub returns-in-Ok-clause-ok : goal.returns-in-Ok-clause-ok
 returns-in-Ok-clause-ok g c =
     let (text, is, told) = c.in-Ok.ensures.ok in
@@ -13,6 +13,7 @@ returns-in-Ok-clause-ok g c =
     (λ put. (c.as_slice.result.now, subst (IsExplanation c.args.engine.now c.args.line.now) (sym same) is, put))
     c.put_text.ensures.ok
 
+-- a fault leaves a front of the explanation, as it leaves a front of the text
 pub returns-in-Ok-clause-fault : goal.returns-in-Ok-clause-fault
 returns-in-Ok-clause-fault g c =
     let (text, is, told) = c.in-Ok.ensures.ok in

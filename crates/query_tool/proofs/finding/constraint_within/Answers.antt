@@ -11,6 +11,7 @@ use Rattle.query_tool.proofs.ExplanationLemmas.{explains_least}
 use Rattle.query_tool.proofs.LimitLemmas.{within_limit}
 use Rattle.query_tool.proofs.finding.constraint_within.Goals as goal
 
+-- if memory was refused, the visits stay within the limit, because the bound of the plan is
 pub returns-in_err-found-clause-limit : goal.returns-in_err-found-clause-limit
 returns-in_err-found-clause-limit g c =
     let plan = physical_of c.in_ok-physical.physical.plan in
@@ -19,7 +20,7 @@ returns-in_err-found-clause-limit g c =
     within_limit c.args.limit c.args.visits.now.count c.found_by.new.visits.count (bound c.args.indexes.now plan) under
     c.found_by.ensures.within c.found_by.ensures.fits
 
--- the bound is not above the limit, and the concepts were found
+-- the bound is not above the limit, and the concepts were found by the plan
 pub returns-clause-found : goal.returns-clause-found
 returns-clause-found g c =
     let tree = tree_of c.args.constraint.now in
@@ -41,6 +42,7 @@ returns-clause-found g c =
           c.in_ok-found.ensures.floor;
     }
 
+-- the visits stay within the limit, because the bound of the plan is
 pub returns-clause-limit : goal.returns-clause-limit
 returns-clause-limit g c =
     let plan = physical_of c.in_ok-physical.physical.plan in

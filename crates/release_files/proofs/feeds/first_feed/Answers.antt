@@ -5,6 +5,7 @@ use Rattle.release_files.specs.inside.Feeds.{feed_bits}
 use Rattle.release_files.proofs.FeedLemmas.{block_clear, block_feed, rest_clear, rest_feed}
 use Rattle.release_files.proofs.feeds.first_feed.Goals as goal
 
+-- if the next block has a line feed, its lowest bit tells the first line feed of all
 pub returns-then-feeds-ne0 : goal.returns-then-feeds-ne0
 returns-then-feeds-ne0 c =
     let bytes = c.args.bytes.now in
@@ -15,6 +16,7 @@ returns-then-feeds-ne0 c =
     c.loop-place.invariant.clear some (ap (count_trailing_zeros 64) c.feeds_at-feeds.ensures) in
     (found.within, found.before, found.is)
 
+-- a block without a line feed keeps the invariant for the next block
 pub loop-place-preserved : goal.loop-place-preserved
 loop-place-preserved c =
     let bytes = c.args.bytes.now in
@@ -23,6 +25,7 @@ loop-place-preserved c =
     let none : feed_bits (take 64 (drop place bytes)) ≡ 0 = omega (arith, c.feeds_at-feeds.ensures) in
     record { within = room; clear = block_clear bytes place room c.loop-place.invariant.clear none }
 
+-- a line feed that is found after the last whole block is the first of all
 pub returns-in-Some : goal.returns-in-Some
 returns-in-Some c =
     let bytes = c.args.bytes.now in
@@ -32,6 +35,7 @@ returns-in-Some c =
     told.0.high (λ k low. told.0.before k (omega arith) low) told.1 in
     (found.within, found.before, found.is)
 
+-- if no line feed is found after the last whole block, there is none
 pub returns-in-None : goal.returns-in-None
 returns-in-None c =
     let bytes = c.args.bytes.now in

@@ -1,4 +1,4 @@
--- The search goes on where it ended.
+-- The search begins after the bytes that were searched.
 use Rattle.std.proofs.Common.{◌≡◌, ◌<◌, ℕ, ◌+◌, length, drop, take, sym, subst, add-one, length-drop, arith, get_or, true, eqb}
 use Rattle.std.proofs.lemmas.List.{get_or-drop, take_rest, take_all}
 use Rattle.release_files.specs.Held.{IsEndedPart}
@@ -6,6 +6,7 @@ use Rattle.release_files.specs.Lines.{HasNoFeed}
 use Rattle.release_files.proofs.HeldLemmas.{clear_further, ended_part}
 use Rattle.release_files.proofs.held.ended_length.Goals as goal
 
+-- the bytes up to the line feed that is found, with it, are an ended part
 pub returns-in-Some : goal.returns-in-Some
 returns-in-Some c =
     let bytes = c.args.bytes.now in
@@ -22,6 +23,7 @@ returns-in-Some c =
       subst (λ (n : ℕ). IsEndedPart (take n bytes)) (sym (add-one (searched + at))) (ended_part bytes (searched + at) fits clear is),
     )
 
+-- if no line feed is found after the searched bytes, there is none
 pub returns-in-None : goal.returns-in-None
 returns-in-None c =
     let bytes = c.args.bytes.now in

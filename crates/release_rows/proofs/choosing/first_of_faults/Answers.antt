@@ -5,6 +5,7 @@ use Rattle.release_rows.proofs.ReadFromLemmas.{are-seen, conflict-seen, count-se
 use Rattle.release_rows.proofs.TakingLemmas.{at_told, if_told}
 use Rattle.release_rows.proofs.choosing.first_of_faults.Goals as goal
 
+-- there are never more rows than can be numbered within the limits, so that fault is not answered wrongly
 pub returns-then-keys-clause-first : goal.returns-then-keys-clause-first
 returns-then-keys-clause-first g c other own = if_told _ (g.P.PlaceSource.places c.args.files.now) (λ places told limits kept room same seen_by.
     let seen = seen_by (c.is_memory.ensures.other c.if-is_memory.false) (sym c.is_device.ensures ∙ c.if-is_device.false) in
@@ -18,6 +19,7 @@ returns-then-keys-clause-first g c other own = if_told _ (g.P.PlaceSource.places
       ap length c.keys.ensures.keys,
     )))
 
+-- a conflict among the rows that were read is the first fault of the places
 pub returns-in-Err-clause-first : goal.returns-in-Err-clause-first
 returns-in-Err-clause-first g c other own = if_told _ (g.P.PlaceSource.places c.args.files.now) (λ places told limits kept room same seen_by.
     let seen = seen_by (c.is_memory.ensures.other c.if-is_memory.false) (sym c.is_device.ensures ∙ c.if-is_device.false) in
@@ -26,6 +28,7 @@ returns-in-Err-clause-first g c other own = if_told _ (g.P.PlaceSource.places c.
     (subst (λ (keyed : Keyed). AreSeen keyed places seen.seen seen.beyond) same
     (are-seen limits places kept (Some c.args.fault) seen))))
 
+-- if no row that was read conflicts, the fault at which the first pass ended is the first
 pub returns-clause-first : goal.returns-clause-first
 returns-clause-first g c other own = if_told _ (g.P.PlaceSource.places c.args.files.now) (λ places told limits kept room same seen_by.
     let seen = seen_by other own in

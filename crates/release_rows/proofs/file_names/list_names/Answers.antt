@@ -5,6 +5,7 @@ use Rattle.release_rows.proofs.PiecesLemmas.{in_byte_order, in_order}
 use Rattle.release_rows.proofs.TakingLemmas.{at_told, if_told}
 use Rattle.release_rows.proofs.file_names.list_names.Goals as goal
 
+-- the sorted names are those of the files that the source tells, in byte order
 pub returns-clause-listed : goal.returns-clause-listed
 returns-clause-listed g c = (
   if_told _ (g.S.FileSource.files c.args.source.now) (λ known told.
@@ -13,5 +14,6 @@ returns-clause-listed g c = (
   c.in-Ok.ensures.failures,
 )
 
+-- the names that are left are in byte order
 pub returns-clause-rising : goal.returns-clause-rising
 returns-clause-rising g c = grind (arith, common_steps, nat_tests, in_byte_order)

@@ -5,6 +5,8 @@ use Rattle.release_rows.specs.Files.{later_line}
 use Rattle.release_rows.proofs.PiecesLemmas.{LinesLeft}
 use Rattle.release_rows.proofs.pieces.take_later.Given as goal
 
+-- after `turn` turns the lines left decide about all later lines, the source has taken no more than may be read, and
+-- no failure was counted
 abbrev pub invariant-loop-turn : goal.invariant-loop-turn
 invariant-loop-turn g l = record {
   left : (rest : List ℕ) → reachable l.fn.lines.held.left (g.S.FileSource.rest l.fn.source) ≡ Some rest → length (lines_to_come l.fn.lines rest) < l.turns

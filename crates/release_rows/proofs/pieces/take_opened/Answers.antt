@@ -6,6 +6,7 @@ use Rattle.release_rows.proofs.TakingLemmas.{stops_first}
 use Rattle.release_rows.proofs.PiecesLemmas.{cut_bytes, cut_reachable, cut_short, device_failed, device_fails, fails_from, few_lines, gave_line, gave_none, gives_next, goes_lines, goes_none, reads_most}
 use Rattle.release_rows.proofs.pieces.take_opened.Goals as goal
 
+-- if the first line is refused, going over the places of the file stops there
 pub returns-in-Err-take-clause-goes : goal.returns-in-Err-take-clause-goes
 returns-in-Err-take-clause-goes g c bytes told short other =
     let known = cut_reachable c.args.byte_limit c.saturating_add-limit.result c.within-lines.result.held.left _ bytes
@@ -21,6 +22,7 @@ returns-in-Err-take-clause-goes g c bytes told short other =
     (lines_to_come c.next_line.follows.lender-at-none gave.now) (sym lines ∙ gave.cut)
     c.args.taker.now c.take.new.self c.in-Err-take.fault (c.in-Err-take.ensures.err other))
 
+-- if the first line is taken, going over the file ends as going over the later lines does
 pub returns-in-Ok-clause-goes : goal.returns-in-Ok-clause-goes
 returns-in-Ok-clause-goes g c bytes told short =
     let H = g.S.FileSource.history in
@@ -43,6 +45,7 @@ returns-in-Ok-clause-goes g c bytes told short =
     (few_lines c.saturating_add-limit.result bytes (line_text c.in-Ok-Some.first) others
     (grind (arith, cut_bytes, short, c.saturating_add-limit.ensures, cut))))
 
+-- if the file has no line, its one place is taken or refused
 pub returns-in-Ok-None-clause-goes : goal.returns-in-Ok-None-clause-goes
 returns-in-Ok-None-clause-goes g c bytes told short =
     let known = cut_reachable c.args.byte_limit c.saturating_add-limit.result c.within-lines.result.held.left _ bytes
@@ -56,29 +59,35 @@ returns-in-Ok-None-clause-goes g c bytes told short =
     c.args.taker.now c.take-in-Ok-None.new.self c.take-in-Ok-None.result c.take-in-Ok-None.ensures.ok
     c.take-in-Ok-None.ensures.err
 
+-- if the source fails at the first line and the fault is not want of memory, the device failed at the file
 pub returns-in-Err-clause-goes : goal.returns-in-Err-clause-goes
 returns-in-Err-clause-goes g c bytes told short other =
     let H = g.S.FileSource.history in
     inl (device_fails c.args.file (H c.args.source.now) (H c.args.source.now) (H c.next_line.new.source) c.in-Err.fault c.fault_of.result c.in-Err.ensures.failures refl
     c.fault_of.ensures other)
 
+-- if the first line is refused, the source has taken no more bytes than may be read
 pub returns-in-Err-take-clause-bounded : goal.returns-in-Err-take-clause-bounded
 returns-in-Err-take-clause-bounded g c = reads_most _ _ _ _ _ c.next_line.follows.holds-at-none.1
     (omega (arith, c.saturating_add-limit.ensures, c.within-lines.ensures.left))
 
+-- after the later lines the source has taken no more bytes than may be read
 pub returns-in-Ok-clause-bounded : goal.returns-in-Ok-clause-bounded
 returns-in-Ok-clause-bounded g c = reads_most _ _ _ _ _
     (ReadsOn-trans _ _ _ _ _ _ c.next_line.follows.holds-at-none.1 c.take_later.ensures.bounded)
     (omega (arith, c.saturating_add-limit.ensures, c.within-lines.ensures.left))
 
+-- if the file has no line, the source has taken no more bytes than may be read
 pub returns-in-Ok-None-clause-bounded : goal.returns-in-Ok-None-clause-bounded
 returns-in-Ok-None-clause-bounded g c = reads_most _ _ _ _ _ c.next_line.follows.holds-at-none.1
     (omega (arith, c.saturating_add-limit.ensures, c.within-lines.ensures.left))
 
+-- if the source fails at the first line, it has taken no more bytes than may be read
 pub returns-in-Err-clause-bounded : goal.returns-in-Err-clause-bounded
 returns-in-Err-clause-bounded g c = reads_most _ _ _ _ _ c.next_line.follows.holds-at-none.1
     (omega (arith, c.saturating_add-limit.ensures, c.within-lines.ensures.left))
 
+-- if the device fails at the first line, it failed at the file that was open
 pub returns-in-Err-clause-failed : goal.returns-in-Err-clause-failed
 returns-in-Err-clause-failed g c device =
     let H = g.S.FileSource.history in

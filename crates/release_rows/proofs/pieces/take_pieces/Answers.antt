@@ -6,6 +6,7 @@ use Rattle.release_rows.proofs.PiecesLemmas.{fails_at_one, fails_at_file, fails_
 use Rattle.std.proofs.Common.{map, drop, ◌+◌, ◌++◌}
 use Rattle.release_rows.proofs.pieces.take_pieces.Goals as goal
 
+-- a file that was gone over keeps the invariant for the next file
 pub loop-file-preserved : goal.loop-file-preserved
 loop-file-preserved g c =
     let H = g.S.FileSource.history in
@@ -23,6 +24,7 @@ loop-file-preserved g c =
           c.loop-file.invariant.bounded c.in-Ok.ensures.bounded;
     }
 
+-- after the last file all places of the files have been taken
 pub returns-clause-ok : goal.returns-clause-ok
 returns-clause-ok g c = if_told _ (g.S.FileSource.files c.args.source.now)
     (λ known told. Leads-end g.T.PlaceTaker.takes g.T.PlaceTaker.refuses c.args.taker.now c.loop-file.taker _
@@ -33,12 +35,15 @@ returns-clause-ok g c = if_told _ (g.S.FileSource.files c.args.source.now)
       (c.loop-file.invariant.told known told),
     )))
 
+-- if the device failed at a file, the name of this file has a kind
 pub returns-in-Err-clause-kind : goal.returns-in-Err-clause-kind
 returns-in-Err-clause-kind g c = fails_at_read (has_kind_at (map string_bytes c.args.names.now)) c.loop-file.file (g.S.FileSource.history c.loop-file.source)
     (g.S.FileSource.history c.take_name.new.source) c.in-Err.fault c.in-Err.ensures.device
     (λ device. kind_at string_bytes c.args.names.now c.loop-file.file c.index-names-file.result c.as_str.result.now
     c.loop-file-test.true (c.as_str.ensures.value ∙ ap string_bytes c.index-names-file.is) ∙ c.in-Err.ensures.kind device)
 
+-- if going over a file ends at a fault other than want of memory, the device failed or going over all places stops
+-- there
 pub returns-in-Err-clause-err : goal.returns-in-Err-clause-err
 returns-in-Err-clause-err g c = if_told _ (g.S.FileSource.files c.args.source.now) (λ known told other.
     let all = places_from 0 (map (cut_file c.args.byte_limit) (listed known (map string_bytes c.args.names.now))) in
@@ -57,6 +62,7 @@ returns-in-Err-clause-err g c = if_told _ (g.S.FileSource.files c.args.source.no
     fails_at_file c.loop-file.file (g.S.FileSource.history c.args.source.now)
     (g.S.FileSource.history c.loop-file.source) (g.S.FileSource.history c.take_name.new.source) c.in-Err.fault c.loop-file.invariant.failures stopped)
 
+-- if the device failed, it failed at one of the names, and one failure was counted
 pub returns-in-Err-clause-device : goal.returns-in-Err-clause-device
 returns-in-Err-clause-device g c device =
     let H = g.S.FileSource.history in

@@ -6,6 +6,8 @@ use Rattle.release_rows.specs.DeviceFaults.{ReadsWithin}
 use Rattle.release_rows.proofs.TakingLemmas.{Leads}
 use Rattle.release_rows.proofs.pieces.take_pieces.Given as goal
 
+-- before file `file` the places left decide about all places, the source has read within the bound, and no failure
+-- was counted
 abbrev pub invariant-loop-file : goal.invariant-loop-file
 invariant-loop-file g l = record {
   told : (known : List FileText) → g.S.FileSource.files l.initial.source ≡ Some known

@@ -3,16 +3,19 @@ use Rattle.number_lists.specs.Members.{times}
 use Rattle.release_rows.proofs.NeighbourLemmas.{length-sides, twice_on_a_side}
 use Rattle.release_rows.proofs.repeated.again_keys.Goals as goal
 
--- the least key of a relationship
+-- the smallest key of a relationship
 bound : ℕ
 bound = 12223372036854775808
 
+-- if few keys are late, the equal neighbours of the sorted doubtful keys are the keys that occur twice
 pub returns-then-few_are_behind-clause-members : goal.returns-then-few_are_behind-clause-members
 returns-then-few_are_behind-clause-members c = λ key.
     let less = c.in_ok-again.ensures.times key in
     let twice = c.in_ok-doubtful.ensures.twice key in
     ((λ some. twice.0 (omega (arith, some, less))), (λ two. let more = twice.1 two in omega (arith, more, less)))
 
+-- if many keys are late, the equal neighbours of the keys below the bound and of those from it on are the keys that
+-- occur twice
 pub returns-clause-members : goal.returns-clause-members
 unfolding bound
 returns-clause-members c = λ key.
@@ -27,6 +30,7 @@ returns-clause-members c = λ key.
     c.in_ok-extend_from_slice.ensures.items ∙ ap (λ (others : List ℕ). low ++ others) c.as_slice.ensures.value in
     subst (λ (again : List ℕ). (1 ≤ times key again) ↔ (2 ≤ times key keys)) (sym all) (twice_on_a_side bound keys low high lows highs key)
 
+-- no more keys are found than the list has
 pub returns-clause-few : goal.returns-clause-few
 unfolding bound
 returns-clause-few c =

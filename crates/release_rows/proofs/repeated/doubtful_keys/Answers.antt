@@ -7,10 +7,12 @@ use Rattle.number_lists.specs.Members.{has}
 use Rattle.release_rows.proofs.NeighbourLemmas.{twice_among}
 use Rattle.release_rows.proofs.repeated.doubtful_keys.Goals as goal
 
+-- the sorted late keys without repetitions rise, as `RisingKeys::new` requires
 pub new-requires : goal.new-requires
 new-requires c = rw (dedup_is nat_eq c.sort_unstable.new.self.items c.dedup.new.self.items c.dedup.ensures.filtered)
     (IsStrictlyIncreasing-dedup c.sort_unstable.new.self.items c.sort_unstable.ensures.sorted)
 
+-- a key occurs twice among the doubtful keys exactly if it does in the list, and the list has at least as many keys
 pub returns : goal.returns
 returns c =
     let once = dedup_is nat_eq c.sort_unstable.new.self.items c.dedup.new.self.items c.dedup.ensures.filtered in record {

@@ -6,6 +6,7 @@ use Rattle.release_rows.proofs.NeighbourLemmas.{neighbours_more}
 use Rattle.release_rows.proofs.repeated.equal_neighbours.Goals as goal
 use Rattle.release_rows.proofs.repeated.equal_neighbours.Goals.{then-sorted-place+in_ok-push, else-sorted-place}
 
+-- a number is added to the equal neighbours if it equals the one before it
 pub loop-place-preserved : goal.loop-place-preserved
 loop-place-preserved c =
     let more = neighbours_more c.args.sorted.now c.loop-place.place c.loop-place.auto.place c.loop-place-test.true in
@@ -17,6 +18,7 @@ loop-place-preserved c =
           rw (w.repeated-is, before, more, ne_eqb _ _ w.if-sorted-place.false, append-nil) refl
     ]
 
+-- after the last number the list has the equal neighbours of all numbers
 pub returns : goal.returns
 returns c = c.loop-place.invariant
     ∙ ap equal_neighbours (take_all c.loop-place.place c.args.sorted.now c.loop-place-test.false)

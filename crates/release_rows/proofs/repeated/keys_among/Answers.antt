@@ -4,6 +4,7 @@ use Rattle.release_rows.proofs.NeighbourLemmas.{filter_more}
 use Rattle.release_rows.proofs.repeated.keys_among.Goals as goal
 use Rattle.release_rows.proofs.repeated.keys_among.Goals.{then-has+in_ok-push, else-has}
 
+-- a key is added if it is one of `others`
 pub loop-key-preserved : goal.loop-key-preserved
 loop-key-preserved c =
     let more = filter_more (has c.args.others) c.args.keys.now c.loop-key.key-index c.loop-key-test.true in
@@ -20,6 +21,7 @@ loop-key-preserved c =
       ];
     }
 
+-- after the last key the list has the keys that are in `others`
 pub returns : goal.returns
 returns c = c.loop-key.invariant.among
     ∙ ap (filter (has c.args.others)) (take_all c.loop-key.key-index c.args.keys.now c.loop-key-test.false)

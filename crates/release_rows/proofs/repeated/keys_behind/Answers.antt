@@ -4,6 +4,7 @@ use Rattle.release_rows.proofs.NeighbourLemmas.{behind_kept, behind_pushed}
 use Rattle.release_rows.proofs.repeated.keys_behind.Goals as goal
 use Rattle.release_rows.proofs.repeated.keys_behind.Goals.{then-key-highest+in_ok-push, else-key-highest}
 
+-- a key that is not above the highest is added, and a higher one becomes the highest
 pub loop-key-preserved : goal.loop-key-preserved
 loop-key-preserved c =
     let keys = c.args.keys.now in
@@ -23,5 +24,6 @@ loop-key-preserved c =
       })
     ]
 
+-- after the last key each key occurs in the list at most once more than among the late ones
 pub returns : goal.returns
 returns c = rw (take_all c.loop-key.key-index c.args.keys.now (omega arith)) at c.loop-key.invariant.behind

@@ -4,6 +4,7 @@ use Rattle.release_rows.proofs.NeighbourLemmas.{filter_more}
 use Rattle.release_rows.proofs.repeated.keys_below.Goals as goal
 use Rattle.release_rows.proofs.repeated.keys_below.Goals.{then-key-bound+in_ok-push, else-key-bound}
 
+-- a key is added if it is below the bound
 pub loop-key-preserved : goal.loop-key-preserved
 loop-key-preserved c =
     let more = filter_more (λ key. nat_lt key c.args.bound) c.args.keys.now c.loop-key.key-index c.loop-key-test.true in
@@ -13,6 +14,7 @@ loop-key-preserved c =
       | else-key-bound w ↦ rw (w.below-is, c.loop-key.invariant, more, le-ltb _ _ w.if-key-bound.false, append-nil) refl
     ]
 
+-- after the last key the list has all keys below the bound
 pub returns : goal.returns
 returns c = c.loop-key.invariant
     ∙ ap (filter (λ key. nat_lt key c.args.bound)) (take_all c.loop-key.key-index c.args.keys.now c.loop-key-test.false)

@@ -4,6 +4,7 @@ use Rattle.release_rows.proofs.NeighbourLemmas.{filter_more}
 use Rattle.release_rows.proofs.repeated.keys_from.Goals as goal
 use Rattle.release_rows.proofs.repeated.keys_from.Goals.{then-bound-key+in_ok-push, else-bound-key}
 
+-- a key is added if it is not below the bound
 pub loop-key-preserved : goal.loop-key-preserved
 loop-key-preserved c =
     let more = filter_more (λ key. not (nat_lt key c.args.bound)) c.args.keys.now c.loop-key.key-index
@@ -15,6 +16,7 @@ loop-key-preserved c =
           rw (w.others-is, c.loop-key.invariant, more, lt-ltb _ _ w.if-bound-key.false, append-nil) refl
     ]
 
+-- after the last key the list has all keys that are not below the bound
 pub returns : goal.returns
 returns c = c.loop-key.invariant
     ∙ ap (filter (λ key. not (nat_lt key c.args.bound)))

@@ -3,9 +3,11 @@ use Rattle.std.proofs.lemmas.List.Filters.{dedup_is}
 use Rattle.release_rows.proofs.NeighbourLemmas.{once_members, once_rises, rising_once}
 use Rattle.release_rows.proofs.repeated.repeated_keys.Goals as goal
 
+-- if the keys rise, no key occurs twice, and the empty list has all that do
 pub returns-then-rises-clause-members : goal.returns-then-rises-clause-members
 returns-then-rises-clause-members c = λ key. grind (arith, c.new.ensures.items, rising_once c.args.keys.now c.if-rises.ensures key)
 
+-- the sorted repeated keys without repetitions rise, are the keys that occur twice, and are no more than the list has
 pub returns : goal.returns
 returns c =
     let sorted = c.sort_unstable.new.self.items in

@@ -6,12 +6,15 @@ use Rattle.release_rows.proofs.VersionLemmas.{without_from, no_version, without_
 use Rattle.release_rows.proofs.versions.leave_latest.Goals as goal
 use Rattle.release_rows.proofs.versions.leave_latest.Goals.{then-code-latest, else-code-latest}
 
+-- the key of the version has an index in `latest`
 pub bounds-latest-key_place : goal.bounds-latest-key_place
 bounds-latest-key_place c = grind (arith, c.requires.keys c.loop-number.number no_version, c.code_and_place-code.ensures.code no_version)
 
+-- the first row of the version has a mark that can be written
 pub index_mut-requires : goal.index_mut-requires
 index_mut-requires c = grind (arith, c.requires.places c.loop-number.number no_version, c.code_and_place-code.ensures.place no_version)
 
+-- after one more version, the marks lack those of the outdated versions so far
 pub loop-number-preserved : goal.loop-number-preserved
 loop-number-preserved c =
     let chosen = c.loop-number.chosen.items in
@@ -36,6 +39,7 @@ loop-number-preserved c =
       keeps,
     )
 
+-- after the last version, the marks lack those of all outdated versions
 pub returns : goal.returns
 returns c =
     let are = rw (take_all c.loop-number.number c.args.versions.now (omega arith)) at c.loop-number.invariant.1 in

@@ -3,6 +3,7 @@ use Rattle.set_algebra.specs.Places.{concept_node}
 use Rattle.rewrites.proofs.KeepingLemmas.{keeps_meaning}
 use Rattle.rewrites.proofs.applying.apply.Goals as goal
 
+-- the plan that `apply` returns means the same as the given one over every release
 pub returns-in-Ok-clause-meaning : goal.returns-in-Ok-clause-meaning
 returns-in-Ok-clause-meaning c =
     λ release concept.

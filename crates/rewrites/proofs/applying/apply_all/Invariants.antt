@@ -5,6 +5,8 @@ use Rattle.set_algebra.specs.Plan.{plan_of}
 use Rattle.rewrites.specs.Steps.{all_applied}
 use Rattle.rewrites.proofs.applying.apply_all.Given as goal
 
+-- the rest of the steps makes of the plan so far what all steps make of the first plan, which means the same; at most
+-- one step is used in each turn
 abbrev pub invariant-loop-step : goal.invariant-loop-step
 invariant-loop-step l = record {
   steps :

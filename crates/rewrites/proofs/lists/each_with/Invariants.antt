@@ -2,6 +2,7 @@ use Rattle.std.proofs.Common.{◌≡◌, map, take}
 use Rattle.set_algebra.specs.Plan.{plan_of, plans_of, plan_then, and_plan}
 use Rattle.rewrites.proofs.lists.each_with.Given as goal
 
+-- the conjunctions of concepts of the plans of concepts read so far are made
 abbrev pub invariant-loop-part : goal.invariant-loop-part
 invariant-loop-part l =
     map plan_of l.made.items ≡

@@ -4,6 +4,7 @@ use Rattle.rewrites.specs.inside.Gives.{Gives}
 use Rattle.rewrites.proofs.RangeLemmas.{range_split_made}
 use Rattle.rewrites.proofs.ranges.range_split.Goals as goal
 
+-- `range_split` returns the plan that RangeSplit makes of a plan with a cardinality that can be split
 pub returns : goal.returns
 returns c =
     subst (λ (made : Option Plan). Gives made c.given.result)

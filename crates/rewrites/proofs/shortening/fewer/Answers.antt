@@ -11,6 +11,7 @@ twice : (items seen : List ConceptPlan) (result : _) → seen ≡ items → resu
 twice items seen result is told holds =
     sym (ap (λ (parts : List ConceptPlan). begins_twice (plans_of parts)) is) ∙ sym told ∙ holds
 
+-- dropping the first part of an `And` of concepts that begins with two equal parts is what Same makes of it
 pub returns-then-begins_twice-clause-and : goal.returns-then-begins_twice-clause-and
 returns-then-begins_twice-clause-and c =
     ap (λ (items : List ConceptPlan). and_plan (plans_of items)) c.remove.ensures.by_index.2
@@ -19,6 +20,7 @@ returns-then-begins_twice-clause-and c =
     (dropped And c.args.parts.items
     (twice _ _ _ c.deref.ensures.value c.begins_twice.ensures c.if-begins_twice.true)))
 
+-- dropping the first part of an `Or` of concepts that begins with two equal parts is what Same makes of it
 pub returns-then-begins_twice-clause-or : goal.returns-then-begins_twice-clause-or
 returns-then-begins_twice-clause-or c =
     ap (λ (items : List ConceptPlan). or_plan (plans_of items)) c.remove.ensures.by_index.2

@@ -2,5 +2,6 @@ use Rattle.std.proofs.Common.{refl, arith}
 use Rattle.rewrites.proofs.SimplifiedLists.{not_only}
 use Rattle.rewrites.proofs.shortening.take_only.Goals as goal
 
+-- `take_only` rightly returns the plans of concepts unchanged if their number is not 1
 pub returns-then-len-ne1 : goal.returns-then-len-ne1
 returns-then-len-ne1 c = (refl, not_only c.args.parts.items (omega (arith, c.len.ensures)))

@@ -3,6 +3,7 @@ use Rattle.std.proofs.lemmas.Grind.{common_steps}
 use Rattle.rewrites.proofs.SimplifiedLists.{here_more, all_here, groups_here_more, all_groups_here}
 use Rattle.rewrites.proofs.simplifying.+simplify.Goals as goal
 
+-- the loop of `simplify_parts` keeps its invariant: the first `i` plans of concepts are simplified
 pub simplify_parts-loop-i-preserved : goal.simplify_parts-loop-i-preserved
 simplify_parts-loop-i-preserved t c = (
   grind (arith, common_steps),
@@ -10,9 +11,11 @@ simplify_parts-loop-i-preserved t c = (
       c.loop-i.invariant.1 (omega arith) c.index_mut.ensures.value c.simplify_plan.ensures,
 )
 
+-- `simplify_parts` has simplified all plans of concepts after its loop
 pub simplify_parts-returns : goal.simplify_parts-returns
 simplify_parts-returns t c = c.loop-i.invariant.1 ∙ all_here c.args.parts.now.items c.loop-i.i (omega arith)
 
+-- the loop of `simplify_unit_parts` keeps its invariant: the first `i` plans of groups are simplified
 pub simplify_unit_parts-loop-i-preserved : goal.simplify_unit_parts-loop-i-preserved
 simplify_unit_parts-loop-i-preserved t c = (
   grind (arith, common_steps),
@@ -20,5 +23,6 @@ simplify_unit_parts-loop-i-preserved t c = (
       c.simplify_unit.new.plan c.loop-i.invariant.1 (omega arith) c.index_mut.ensures.value c.simplify_unit.ensures,
 )
 
+-- `simplify_unit_parts` has simplified all plans of groups after its loop
 pub simplify_unit_parts-returns : goal.simplify_unit_parts-returns
 simplify_unit_parts-returns t c = c.loop-i.invariant.1 ∙ all_groups_here c.args.parts.now.items c.loop-i.i (omega arith)

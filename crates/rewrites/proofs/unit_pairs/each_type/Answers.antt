@@ -3,10 +3,12 @@ use Rattle.set_algebra.specs.Plan.{units_from}
 use Rattle.rewrites.proofs.ListLemmas.{more_made, all_made, groups_made_of_plans}
 use Rattle.rewrites.proofs.unit_pairs.each_type.Goals as goal
 
+-- the loop of `each_type` keeps its invariant: it has made the `pairs_units` of the types read so far
 pub loop-part-preserved : goal.loop-part-preserved
 loop-part-preserved c =
     more_made _ _ _ _ _ _ _ _ c.in_ok-made.ensures c.loop-part-test.true c.part-item.is c.loop-part.invariant
     c.unit_pairs.ensures
 
+-- `each_type` returns the `pairs_units` made of all types, in their order
 pub returns : goal.returns
 returns c = ap units_from (all_made _ _ _ _ _ (omega arith) c.loop-part.invariant) ∙ groups_made_of_plans _ _

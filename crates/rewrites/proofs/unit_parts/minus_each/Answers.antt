@@ -1,5 +1,6 @@
 use Rattle.rewrites.proofs.unit_parts.minus_each.Goals as goal
 
+-- `minus_each` returns the difference of groups of `from` without `first`, without the `Or` of `rest`
 pub returns : goal.returns
 returns c =
     c.minus_units.ensures _ _

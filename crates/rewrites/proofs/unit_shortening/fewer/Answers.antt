@@ -11,6 +11,7 @@ twice : (items seen : List UnitPlan) (result : _) → seen ≡ items → result 
 twice items seen result is told holds =
     sym (ap (λ (parts : List UnitPlan). group_begins_twice (unit_plans_of parts)) is) ∙ sym told ∙ holds
 
+-- dropping the first part of an `And` of groups that begins with two equal parts is what Same makes of it
 pub returns-then-begins_twice-clause-and : goal.returns-then-begins_twice-clause-and
 returns-then-begins_twice-clause-and c =
     ap (λ (items : List UnitPlan). and_units (unit_plans_of items)) c.remove.ensures.by_index.2
@@ -19,6 +20,7 @@ returns-then-begins_twice-clause-and c =
     (group_dropped And c.args.parts.items
     (twice _ _ _ c.deref.ensures.value c.begins_twice.ensures c.if-begins_twice.true)))
 
+-- dropping the first part of an `Or` of groups that begins with two equal parts is what Same makes of it
 pub returns-then-begins_twice-clause-or : goal.returns-then-begins_twice-clause-or
 returns-then-begins_twice-clause-or c =
     ap (λ (items : List UnitPlan). or_units (unit_plans_of items)) c.remove.ensures.by_index.2

@@ -3,6 +3,7 @@ use Rattle.std.proofs.lemmas.Bool.Decides.{Decides-eqb}
 use Rattle.std.proofs.lemmas.Slice.Eq.{slice_eq-Decides}
 use Rattle.rf2_rows.proofs.recent.is_same_start.Goals as goal
 
+-- two texts of 18 bytes are equal if their first chunks of 18 bytes are
 pub returns-in-Some-Some : goal.returns-in-Some-Some
 returns-in-Some-Some c = λ same.
     let one = c.args.one.now in

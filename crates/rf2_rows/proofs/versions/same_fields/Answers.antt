@@ -1,4 +1,4 @@
--- At each place the formats are those of the columns, and the texts are accepted there.
+-- At each place the format is that of the column, and both texts are accepted in it.
 use Rattle.std.proofs.Common.{◌≡◌, ℕ, ◌+◌, ◌<◌, ◌&&◌, Bool, true, List, [], ◌≤◌, length, get_or, drop, map, None, refl, sym, ap, ◌∙◌, arith}
 use Rattle.std.specs.Borrow.{Bor}
 use Rattle.std.proofs.Math.ListN.{get_or-map, length-map}
@@ -16,7 +16,7 @@ use Rattle.rf2_rows.proofs.Accepted.{accepted_at, format_at, width_of_fields}
 use Rattle.rf2_rows.proofs.Columns.{get_or-texts_of, text_at}
 use Rattle.rf2_rows.proofs.versions.same_fields.Goals as goal
 
--- a row has 10 columns at the most
+-- a kind of file has at most 10 columns
 few_columns : (kind : FileKind) → length (columns_of kind) ≤ 10
 few_columns kind = grind arith
 
@@ -25,28 +25,30 @@ abbrev named_at : List Named → ℕ → Named
 named_at names place = get_or names place (Id Concept)
 
 module _ (kind : FileKind) (names : List Named) (are : map format_of names ≡ map (λ column. column.format) (columns_of kind)) where
+  -- there is one format name for each column of the kind
   as_many : length names ≡ length (columns_of kind)
   as_many = sym (length-map names format_of) ∙ ap length are ∙ length-map (columns_of kind) (λ column. column.format)
 
+  -- the name at a place names the format of the column at that place
   named : (place : ℕ) → format_of (named_at names place) ≡ format_at (columns_of kind) place
   named place =
       sym (get_or-map format_of names place (Id Concept))
       ∙ ap (λ formats. get_or formats place (id_format Concept)) are
       ∙ get_or-map (λ (column : Column). column.format) (columns_of kind) place (column [] (id_format Concept))
 
-  -- there is a field for each name
+  -- accepted fields have a field for each name
   within : (fields : List (Bor (List ℕ))) (place : ℕ) → fields_fault kind (texts_of fields) ≡ None → place < length names → place < length fields
   within fields place accepted inside =
       omega (arith, as_many, width_of_fields kind (texts_of fields) accepted, length-map fields (λ (field : Bor (List ℕ)). field.now))
 
-  -- the text at a place is accepted in its column
+  -- the text at a place of accepted fields is accepted in its column
   accepted_there : (fields : List (Bor (List ℕ))) (place : ℕ) → fields_fault kind (texts_of fields) ≡ None
       → place < length names → cause_of (format_of (named_at names place)) (text_at fields place) ≡ None
   accepted_there fields place accepted inside =
       rw (named place, ← get_or-texts_of fields place) (accepted_at kind (texts_of fields) place accepted (omega (arith, as_many)))
 
   module _ (ones others : List (Bor (List ℕ))) (accepted : fields_fault kind (texts_of ones) ≡ None) (also : fields_fault kind (texts_of others) ≡ None) where
-    -- what the values at a place say of the fields from that place on
+    -- the fields from a place on are one exactly if the values at the place are one and the fields after it are
     decides : (place : ℕ) (same : Bool) → place < length names
         → same ≡ same_value (format_of (named_at names place)) (text_at ones place) (text_at others place)
         → same_values (drop place (columns_of kind)) (drop place (texts_of ones)) (drop place (texts_of others))
@@ -65,7 +67,7 @@ module _ (kind : FileKind) (names : List Named) (are : map format_of names ≡ m
           get_or-texts_of others place,
         ) refl
 
-    -- behind the last place nothing is left to differ
+    -- after the last place nothing is left that could differ
     decided : (place : ℕ) → length names ≡ place → same_values (drop place (columns_of kind)) (drop place (texts_of ones)) (drop place (texts_of others)) ≡ true
     decided place all =
         let width = width_of_fields kind (texts_of ones) accepted in
@@ -76,36 +78,43 @@ module _ (kind : FileKind) (names : List Named) (are : map format_of names ≡ m
           drop_all place (texts_of others) (omega (arith, as_many)),
         ) refl
 
+-- the place of a field of `ones` fits in `usize`
 pub offset_bounds-ones-place : goal.offset_bounds-ones-place
 offset_bounds-ones-place c =
     let many = as_many c.args.kind c.formats-format-items.result.now c.formats-format-items.ensures in
     omega (arith, many, few_columns c.args.kind, c.loop-place-test.true)
 
+-- the place is within `ones`
 pub bounds-ones-place : goal.bounds-ones-place
 bounds-ones-place c =
     within c.args.kind c.formats-format-items.result.now c.formats-format-items.ensures
     c.args.ones.now c.loop-place.place c.requires.one c.loop-place-test.true
 
+-- the place of a field of `others` fits in `usize`
 pub offset_bounds-others-place : goal.offset_bounds-others-place
 offset_bounds-others-place c =
     let many = as_many c.args.kind c.formats-format-items.result.now c.formats-format-items.ensures in
     omega (arith, many, few_columns c.args.kind, c.loop-place-test.true)
 
+-- the place is within `others`
 pub bounds-others-place : goal.bounds-others-place
 bounds-others-place c =
     within c.args.kind c.formats-format-items.result.now c.formats-format-items.ensures
     c.args.others.now c.loop-place.place c.requires.other c.loop-place-test.true
 
+-- the text at the place in `ones` is accepted in its column
 pub same_value-requires-clause-one : goal.same_value-requires-clause-one
 same_value-requires-clause-one c =
     accepted_there c.args.kind c.formats-format-items.result.now c.formats-format-items.ensures
     c.args.ones.now c.loop-place.place c.requires.one c.loop-place-test.true
 
+-- the text at the place in `others` is accepted in its column
 pub same_value-requires-clause-other : goal.same_value-requires-clause-other
 same_value-requires-clause-other c =
     accepted_there c.args.kind c.formats-format-items.result.now c.formats-format-items.ensures
     c.args.others.now c.loop-place.place c.requires.other c.loop-place-test.true
 
+-- two values that differ at the place make the rows differ
 pub returns-then-not-same_value : goal.returns-then-not-same_value
 returns-then-not-same_value c =
     let step = decides c.args.kind c.formats-format-items.result.now c.formats-format-items.ensures c.args.ones.now
@@ -113,6 +122,7 @@ returns-then-not-same_value c =
     c.loop-place-test.true c.same_value.ensures in
     sym (c.loop-place.invariant ∙ rw c.if-not-same_value.true at step)
 
+-- two equal values at the place leave the decision to the columns after it
 pub loop-place-preserved : goal.loop-place-preserved
 loop-place-preserved c =
     let step = decides c.args.kind c.formats-format-items.result.now c.formats-format-items.ensures c.args.ones.now
@@ -120,6 +130,7 @@ loop-place-preserved c =
     c.loop-place-test.true c.same_value.ensures in
     c.loop-place.invariant ∙ rw c.if-not-same_value.false at step
 
+-- after the last column, all values were equal
 pub returns : goal.returns
 returns c =
     let all = decided c.args.kind c.formats-format-items.result.now c.formats-format-items.ensures c.args.ones.now

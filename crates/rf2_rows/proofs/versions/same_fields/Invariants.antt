@@ -4,7 +4,7 @@ use Rattle.text_parts.specs.Parts.{texts_of}
 use Rattle.rf2_rows.specs.Versions.{same_values}
 use Rattle.rf2_rows.proofs.versions.same_fields.Given as goal
 
--- the columns that are left decide
+-- whether the fields are one row depends on the columns from `place` on alone
 abbrev pub invariant-loop-place : goal.invariant-loop-place
 invariant-loop-place l =
     same_values (columns_of l.fn.kind) (texts_of l.ones) (texts_of l.others)

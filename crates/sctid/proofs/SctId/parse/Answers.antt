@@ -4,6 +4,7 @@ use Rattle.sctid.specs.Identifier.{fault_of}
 use Rattle.numerals.proofs.DigitLemmas.{decimal_of_text}
 use Rattle.sctid.proofs.SctId.parse.Goals as goal
 
+-- the number read is below 10^18, and its decimal text has no fault
 pub invariant_of-result : goal.invariant_of-result
 invariant_of-result c =
     let read = c.in-Some.ensures in
@@ -12,6 +13,7 @@ invariant_of-result c =
     let valid : fault_of text ≡ None = grind (arith, nat_tests) in
     (read.small, ap fault_of text_is ∙ valid)
 
+-- the decimal text of the number read is the text
 pub returns-clause-same : goal.returns-clause-same
 returns-clause-same c =
     let read = c.in-Some.ensures in

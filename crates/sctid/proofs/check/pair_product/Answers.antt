@@ -4,6 +4,7 @@ use Rattle.sctid.specs.Identifier.{permuted}
 use Rattle.sctid.proofs.Group.{table-pair, times-lt, permuted-lt}
 use Rattle.sctid.proofs.check.pair_product.Goals as goal
 
+-- the entry of the table is the product of the factors of the two digits, and an element
 pub returns : goal.returns
 returns c =
     let index = c.args.index in

@@ -3,6 +3,7 @@ use Rattle.sctid.specs.declared.check.TheConstants.{PRODUCTS}
 use Rattle.sctid.proofs.Group.{table-times, times-lt}
 use Rattle.sctid.proofs.check.times.Goals as goal
 
+-- the entry of the table is the product of `a` and `b`, and an element
 pub returns : goal.returns
 returns c =
     let product = ap (λ a. slice_index (slice_index_or PRODUCTS a []) c.from-2.result) c.from.ensures

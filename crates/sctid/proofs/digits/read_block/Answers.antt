@@ -2,30 +2,35 @@ use Rattle.std.proofs.Common.{◌≡◌, get_or, ap, sym, ◌∙◌, arith}
 use Rattle.sctid.proofs.Block.{digit_in_text, are_digits, pair, pair-lt, block_pairs, block_value, block_product, pair_factors, four_pairs}
 use Rattle.sctid.proofs.digits.read_block.Goals as goal
 
+-- the third and fourth digits write a number below 100
 pub pair_product-requires-clause-pair : goal.pair_product-requires-clause-pair
 pair_product-requires-clause-pair c =
     let bytes = c.args.block.now in
     let read = c.to_le_bytes.ensures ∙ block_pairs bytes c.from_le_bytes-digits.result c.told-block c.requires c.from_le_bytes-digits.ensures in
     omega (arith, ap (λ bs. get_or bs 2 0) read, pair-lt (digit_in_text bytes) 2 (are_digits bytes c.told-block c.requires) (omega arith))
 
+-- the first and second digits write a number below 100
 pub pair_product-requires-2-clause-pair : goal.pair_product-requires-2-clause-pair
 pair_product-requires-2-clause-pair c =
     let bytes = c.args.block.now in
     let read = c.to_le_bytes.ensures ∙ block_pairs bytes c.from_le_bytes-digits.result c.told-block c.requires c.from_le_bytes-digits.ensures in
     omega (arith, ap (λ bs. get_or bs 0 0) read, pair-lt (digit_in_text bytes) 0 (are_digits bytes c.told-block c.requires) (omega arith))
 
+-- the last two digits write a number below 100
 pub pair_product-requires-3-clause-pair : goal.pair_product-requires-3-clause-pair
 pair_product-requires-3-clause-pair c =
     let bytes = c.args.block.now in
     let read = c.to_le_bytes.ensures ∙ block_pairs bytes c.from_le_bytes-digits.result c.told-block c.requires c.from_le_bytes-digits.ensures in
     omega (arith, ap (λ bs. get_or bs 6 0) read, pair-lt (digit_in_text bytes) 6 (are_digits bytes c.told-block c.requires) (omega arith))
 
+-- the fifth and sixth digits write a number below 100
 pub pair_product-requires-4-clause-pair : goal.pair_product-requires-4-clause-pair
 pair_product-requires-4-clause-pair c =
     let bytes = c.args.block.now in
     let read = c.to_le_bytes.ensures ∙ block_pairs bytes c.from_le_bytes-digits.result c.told-block c.requires c.from_le_bytes-digits.ensures in
     omega (arith, ap (λ bs. get_or bs 4 0) read, pair-lt (digit_in_text bytes) 4 (are_digits bytes c.told-block c.requires) (omega arith))
 
+-- the four pairs give the number that the eight digits write, and their check product
 pub returns : goal.returns
 returns c =
     let bytes = c.args.block.now in

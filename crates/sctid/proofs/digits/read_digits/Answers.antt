@@ -8,12 +8,14 @@ use Rattle.numerals.proofs.DigitLemmas.{front_small}
 use Rattle.sctid.proofs.Product.{check_product-lt}
 use Rattle.sctid.proofs.digits.read_digits.Goals as goal
 
+-- if the front of the text is not digits, the text is not
 pub returns-in_default-clause-digits : goal.returns-in_default-clause-digits
 returns-in_default-clause-digits c =
     let text = c.args.text.now in
     let front = ap (list_all is_ascii_digit) (front_is text c.as_rchunks.result.0.now c.as_rchunks.ensures.front) in
     sym (not_digits text (length text % 8 + 0) (front ∙ sym c.in_default.ensures.digits))
 
+-- before the first block, the digits, number and check product are those of the front
 pub loop-block-init : goal.loop-block-init
 loop-block-init c =
     let text = c.args.text.now in
@@ -24,6 +26,7 @@ loop-block-init c =
       product = c.in-Some.ensures.product ∙ ap check_product (sym front);
     }
 
+-- if a block is not digits, the text is not
 pub returns-then-not-is_digits-clause-digits : goal.returns-then-not-is_digits-clause-digits
 returns-then-not-is_digits-clause-digits c =
     let text = c.args.text.now in
@@ -32,12 +35,14 @@ returns-then-not-is_digits-clause-digits c =
     let block = ap (list_all is_ascii_digit) (sym read) ∙ sym c.if-not-is_digits.ensures in
     sym (not_digits text (length text % 8 + 8 * (i + 1)) (digits-block text i c.loop-block.invariant.digits ∙ block))
 
+-- the number so far times 10^8 fits into 64 bits
 pub overflow_mul-read : goal.overflow_mul-read
 overflow_mul-read c =
     let text = c.args.text.now in
     let i = c.loop-block.block-index in
     omega (arith, front_small text (length text % 8 + 8 * i) 10 (omega (arith, c.as_rchunks.ensures.back_len)) c.loop-block.invariant.digits)
 
+-- the number with the next block fits into 64 bits
 pub overflow_add-read : goal.overflow_add-read
 overflow_add-read c =
     let text = c.args.text.now in
@@ -49,6 +54,7 @@ overflow_add-read c =
     let number = c.read_block-right.ensures.number ∙ ap (digits_value 10) read in
     omega (arith, value-block text i within block, front_small text (length text % 8 + 8 * (i + 1)) 18 (omega (arith, c.as_rchunks.ensures.back_len)) more)
 
+-- the check products of the block and of the text so far are elements
 pub times-requires : goal.times-requires
 times-requires c =
     let text = c.args.text.now in
@@ -58,6 +64,7 @@ times-requires c =
       right = omega (arith, check_product-lt (so_far text i) c.loop-block.invariant.digits);
     }
 
+-- with one block more, the digits, number and check product are those of the text up to its end
 pub loop-block-preserved : goal.loop-block-preserved
 loop-block-preserved c =
     let text = c.args.text.now in
@@ -75,6 +82,7 @@ loop-block-preserved c =
       product = cc (c.times.ensures.product);
     }
 
+-- a number of at most 18 digits is below 10^18
 pub returns-clause-small : goal.returns-clause-small
 returns-clause-small c =
     let text = c.args.text.now in

@@ -8,16 +8,19 @@ use Rattle.numerals.proofs.DigitLemmas.{digits_more, value_more, front_small}
 use Rattle.sctid.proofs.Product.{check_product-lt, check_product-more, digit-lt}
 use Rattle.sctid.proofs.digits.read_front.Goals as goal
 
+-- the number so far times 10 fits into 64 bits
 pub overflow_mul-number : goal.overflow_mul-number
 overflow_mul-number c =
     let small = front_small c.args.text.now c.loop-byte.byte-index 17 (omega arith) c.loop-byte.invariant.digits in
     omega arith
 
+-- the number with the next digit fits into 64 bits
 pub overflow_add-number : goal.overflow_add-number
 overflow_add-number c =
     let small = front_small c.args.text.now c.loop-byte.byte-index 17 (omega arith) c.loop-byte.invariant.digits in
     omega (arith, c.type_inv.text c.loop-byte.byte-index)
 
+-- before the first byte, the check product of the text is that of the whole text times the unit
 pub loop-byte-init : goal.loop-byte-init
 loop-byte-init c =
     let text = c.args.text.now in
@@ -29,12 +32,14 @@ loop-byte-init c =
       product = λ all. sym (times-zero (check_product text) (check_product-lt text all));
     }
 
+-- the byte minus the byte of 0 is below 10
 pub permuted-requires : goal.permuted-requires
 permuted-requires c =
     let byte = get_or c.args.text.now c.loop-byte.byte-index 0 in
     let digit : is_ascii_digit byte ≡ true = cc in
     omega (arith, digit-lt byte digit)
 
+-- with one byte more, the digits, the number and the check product are those of the bytes so far
 pub loop-byte-preserved : goal.loop-byte-preserved
 loop-byte-preserved c =
     let text = c.args.text.now in
@@ -54,6 +59,7 @@ loop-byte-preserved c =
           ∙ ap (times (check_product (drop (i + 1) text))) (sym product_is);
     }
 
+-- if no byte is left, the product so far is the check product of the text
 pub returns-clause-product : goal.returns-clause-product
 returns-clause-product c =
     let text = c.args.text.now in

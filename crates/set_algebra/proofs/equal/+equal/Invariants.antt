@@ -6,13 +6,15 @@ use Rattle.set_algebra.proofs.plan.ValueTest.TheLaws as value_test
 use Rattle.set_algebra.specs.Plan.{plans_of, unit_plans_of}
 use Rattle.set_algebra.proofs.equal.+equal.Given as goal
 
+-- the first `i` plans of the two lists of plans of concepts are equal
 abbrev pub invariant-same_each-loop-i : goal.invariant-same_each-loop-i
 invariant-same_each-loop-i l = plans_of (take l.i l.parts) ≡ plans_of (take l.i l.others)
 
+-- the first `i` plans of the two lists of plans of groups are equal
 abbrev pub invariant-same_each_unit-loop-i : goal.invariant-same_each_unit-loop-i
 invariant-same_each_unit-loop-i l = unit_plans_of (take l.i l.parts) ≡ unit_plans_of (take l.i l.others)
 
--- the functions go down the first plan; what is called for its parts comes after its caller
+-- the functions go down the first plan; on one plan, a called function has a smaller measure than its caller
 abbrev pub decreases-same : goal.decreases-same
 decreases-same l = 4 * goal.size-same l
 
@@ -34,7 +36,7 @@ decreases-same_walk l = 4 * goal.size-same_walk l + 2
 abbrev pub decreases-same_units : goal.decreases-same_units
 decreases-same_units l = 4 * goal.size-same_units l + 2
 
--- two sub-plans are as deep as the deeper of them
+-- the measure of two sub-plans is that of the deeper one
 abbrev pub decreases-same_minus : goal.decreases-same_minus
 decreases-same_minus l = 4 * max (concept_plan.the_size l.first.now) (concept_plan.the_size l.second.now) + 2
 

@@ -5,6 +5,7 @@ use Rattle.set_algebra.specs.Plan.{Plan}
 use Rattle.set_algebra.proofs.LoweringLemmas.{same_meaning}
 use Rattle.set_algebra.proofs.lowering.lower.Goals as goal
 
+-- over each release the plan that `lower` returns means exactly the concepts that the constraint denotes
 pub returns-clause-meaning : goal.returns-clause-meaning
 returns-clause-meaning c =
     λ release concept.

@@ -11,11 +11,12 @@ use Rattle.std.proofs.Common.{ℕ, ◌∙◌, List, Result, Ok, Err, IfOk, ap, a
 use Rattle.std.proofs.lemmas.Bool.{false≢true}
 use Rattle.std.specs.Result.{IsErr}
 
--- nothing is to be said of what a fault isn't
+-- `IfOk` holds of each result that is a fault
 no_ok : {T E : Type 0} (P : T → Type 0) (result : Result T E) → IsErr result → IfOk result P
 no_ok P (Ok done) is = absurd (false≢true is)
 no_ok P (Err fault) is = tt
 
+-- if the files are told, there are few enough rows to number, so that fault is not answered wrongly
 pub returns-then-not-are_few-clause-err : goal.returns-then-not-are_few-clause-err
 returns-then-not-are_few-clause-err g c =
     if_told _ (g.P.PlaceSource.places c.args.files.now)
@@ -27,6 +28,7 @@ returns-then-not-are_few-clause-err g c =
           (at_told _ _ places told c.in-Ok.ensures.ok)),
     ))
 
+-- a snapshot that is finished is the load from the places
 pub returns-in_ok-language-in-Ok-clause-ok : goal.returns-in_ok-language-in-Ok-clause-ok
 returns-in_ok-language-in-Ok-clause-ok g c = if_told _ (g.P.PlaceSource.places c.args.files.now) (λ places told.
     grind (
@@ -37,6 +39,7 @@ returns-in_ok-language-in-Ok-clause-ok g c = if_told _ (g.P.PlaceSource.places c
       c.finish.ensures.ok,
     ))
 
+-- a fault of finishing is that of the load from the places, or want of memory
 pub returns-in_ok-language-in-Ok-clause-err : goal.returns-in_ok-language-in-Ok-clause-err
 returns-in_ok-language-in-Ok-clause-err g c = if_told _ (g.P.PlaceSource.places c.args.files.now) (λ places told.
     let count = c.in-Ok.read.count in
@@ -47,7 +50,7 @@ returns-in_ok-language-in-Ok-clause-err g c = if_told _ (g.P.PlaceSource.places 
     (at_told _ _ places told c.in-Ok.ensures.ok)) in
     if_err _ _ c.finish.result (λ fault said own. subst (IsFaultOf fault) is said) c.finish.ensures.err)
 
--- a fault of what is finished is neither the device's nor that of a file
+-- a fault of finishing is not one of the device
 pub returns-in_ok-language-in-Ok-clause-device : goal.returns-in_ok-language-in-Ok-clause-device
 returns-in_ok-language-in-Ok-clause-device g c =
     let own = finished-own (string_bytes c.in_ok-language-in-Ok.language) c.args.kinds c.in-Ok.read.count
@@ -55,10 +58,12 @@ returns-in_ok-language-in-Ok-clause-device g c =
     if_err _ _ c.finish.result (λ fault said device. absurd (false≢true (sym (own fault said).own ∙ device)))
     c.finish.ensures.err
 
+-- a fault of finishing counts no failure
 pub returns-in_ok-language-in-Ok-clause-calm : goal.returns-in_ok-language-in-Ok-clause-calm
 returns-in_ok-language-in-Ok-clause-calm g c = raised_by_none (g.P.PlaceSource.history c.args.files.now)
     (g.P.PlaceSource.history c.read_rows.new.files) c.finish.result c.in-Ok.ensures.calm
 
+-- a fault of finishing names no file that failed
 pub returns-in_ok-language-in-Ok-clause-kind : goal.returns-in_ok-language-in-Ok-clause-kind
 returns-in_ok-language-in-Ok-clause-kind g c =
     let own = finished-own (string_bytes c.in_ok-language-in-Ok.language) c.args.kinds c.in-Ok.read.count
@@ -66,18 +71,21 @@ returns-in_ok-language-in-Ok-clause-kind g c =
     let reads = has_kind_at (g.P.PlaceSource.asked c.args.files.now).names in
     if_err _ _ c.finish.result (λ fault said. (own fault said).kind reads) c.finish.ensures.err
 
+-- a fault of finishing names no file
 pub returns-in_ok-language-in-Ok-clause-named : goal.returns-in_ok-language-in-Ok-clause-named
 returns-in_ok-language-in-Ok-clause-named g c =
     let own = finished-own (string_bytes c.in_ok-language-in-Ok.language) c.args.kinds c.in-Ok.read.count
     (read_in c.in-Ok.read.lists) in
     if_err _ _ c.finish.result (λ fault said. rw (own fault said).named tt) c.finish.ensures.err
 
+-- a fault of finishing is not that there is no Concept file
 pub returns-in_ok-language-in-Ok-clause-found : goal.returns-in_ok-language-in-Ok-clause-found
 returns-in_ok-language-in-Ok-clause-found g c =
     let own = finished-own (string_bytes c.in_ok-language-in-Ok.language) c.args.kinds c.in-Ok.read.count
     (read_in c.in-Ok.read.lists) in
     if_err _ _ c.finish.result (λ fault said. (own fault said).found) c.finish.ensures.err
 
+-- if memory is refused, no snapshot is answered
 pub returns-in_err-language-in-Ok-clause-ok : goal.returns-in_err-language-in-Ok-clause-ok
 returns-in_err-language-in-Ok-clause-ok g c = if_told _ (g.P.PlaceSource.places c.args.files.now) (λ places told.
     no_ok _ c.from_residual.result c.from_residual.ensures.0)

@@ -2,7 +2,7 @@ use Rattle.std.proofs.Common.{◌≡◌, arith, rules, get_or, length, refl}
 use Rattle.std.proofs.lemmas.Option.{slice_get-get_or}
 use Rattle.streams.proofs.folder.folder_and_path.Goals as goal
 
--- the only folder
+-- if there is one folder, the name is the path below it
 pub returns-in-len1 : goal.returns-in-len1
 returns-in-len1 c =
     let only : length c.args.folders.now ≡ 1 = omega arith in (

@@ -4,6 +4,7 @@ use Rattle.std.proofs.lemmas.Result.{IfOk-weaker}
 use Rattle.streams.specs.Walk.{AreFilesBelow, AreFilesOf, AreFilesOfAll}
 use Rattle.streams.proofs.folder.list_folders.Goals as goal
 
+-- if there is one folder, the names are the paths of its files
 pub returns-in-len1 : goal.returns-in-len1
 returns-in-len1 g c tree told =
     let folders = c.args.folders.now in
@@ -24,6 +25,7 @@ returns-in-len1 g c tree told =
     ))
     (c.list_files.ensures tree told)
 
+-- if there is not exactly one folder, the names are paths after the numbers of the folders
 pub returns : goal.returns
 returns g c tree told =
     let folders = c.args.folders.now in

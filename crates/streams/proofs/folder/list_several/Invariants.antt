@@ -2,7 +2,7 @@ use Rattle.std.proofs.Common.{◌≡◌, ◌+◌, ◌++◌, ℕ, List, Some, dro
 use Rattle.streams.specs.Walk.{AreFilesOfAll, FolderTree}
 use Rattle.streams.proofs.folder.list_several.Given as goal
 
--- the files of the folders ahead come behind those that were listed
+-- the names listed so far, followed by those of the files of the folders ahead, are the names of all files
 abbrev pub invariant-loop-index : goal.invariant-loop-index
 invariant-loop-index g l =
     (tree : FolderTree) (others : List (List ℕ)) → g.R.FolderSystem.tree l.rt ≡ Some tree

@@ -2,6 +2,7 @@ use Rattle.std.proofs.Common.{◌≡◌, ◌<◌, ◌∙◌, Some, ap, length, r
 use Rattle.std.proofs.lemmas.Option.{slice_get-get_or}
 use Rattle.streams.proofs.folder.numbered.Goals as goal
 
+-- the number before the first `/` is that of the folder that is answered
 pub returns : goal.returns
 returns c =
     let index = c.in_ok-index.index in

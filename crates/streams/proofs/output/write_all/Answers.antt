@@ -5,7 +5,7 @@ use Rattle.std.proofs.KnownBytes.{Appends-trans}
 use Rattle.std.proofs.lemmas.Slice.{between_to_end}
 use Rattle.streams.proofs.output.write_all.Goals as goal
 
--- what a write took of the rest follows what was written before
+-- the bytes that a write took follow those that were written before
 pub loop-at-preserved : goal.loop-at-preserved
 loop-at-preserved g c =
     let bytes = c.args.bytes.now in

@@ -4,6 +4,7 @@ use Rattle.streams.specs.inside.WalkInside.{found_by}
 use Rattle.streams.proofs.WalkLemmas.{level_next, level_none}
 use Rattle.streams.proofs.walk.list_files.Goals as goal
 
+-- one level that the walk goes through keeps the invariant for the next level
 pub loop-turn-preserved : goal.loop-turn-preserved
 loop-turn-preserved g c = record {
   ahead = λ tree names told rest. c.loop-turn.invariant.ahead tree names told
@@ -17,6 +18,7 @@ loop-turn-preserved g c = record {
   none = ap (λ (found : Found). found.folders) c.take_folders-level.ensures.found;
 }
 
+-- after the last level the files that were found are those below the folder
 pub returns : goal.returns
 returns g c tree told =
     c.loop-turn.invariant.ahead tree (map string_bytes c.loop-turn.walk.files.items) told

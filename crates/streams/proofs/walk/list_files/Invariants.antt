@@ -3,7 +3,8 @@ use Rattle.streams.specs.Walk.{AreFilesBelow, Descends, FolderTree}
 use Rattle.streams.specs.inside.WalkInside.{found_by}
 use Rattle.streams.proofs.walk.list_files.Given as goal
 
--- to go through the levels that are left ends as to go through all does
+-- going through the levels that are left ends as going through all levels does, and no folder of the next level was
+-- found yet
 abbrev pub invariant-loop-turn : goal.invariant-loop-turn
 invariant-loop-turn g l = record {
   ahead : (tree : FolderTree) (names : List (List ℕ)) → g.R.FolderSystem.tree l.rt ≡ Some tree

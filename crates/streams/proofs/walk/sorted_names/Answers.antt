@@ -3,6 +3,7 @@ use Rattle.std.proofs.lemmas.List.Sorted.{IsPermutation-map}
 use Rattle.streams.proofs.WalkLemmas.{names_in_order}
 use Rattle.streams.proofs.walk.sorted_names.Goals as goal
 
+-- the sorted names are those in the folder, in byte order
 pub returns : goal.returns
 returns g c tree told = record {
   given = map string_bytes c.in_ok-names.names.items;

@@ -13,12 +13,14 @@ use Rattle.walks.proofs.AskedLemmas.{with_lists_below, with_lists_enough}
 use Rattle.walks.proofs.ReadLemmas.{asked_counted, with_lists_length}
 use Rattle.walks.proofs.led.enough_for.Goals as goal
 
+-- the items of `wanted` are below the bound of the set
 pub with_lists-requires-clause-below : goal.with_lists-requires-clause-below
 with_lists-requires-clause-below g c =
     subst (λ (bound : ℕ). All (λ concept. concept < bound) c.as_slice.result.now) (sym c.bound.ensures)
     (subst (All (λ concept. concept < g.S.ConceptSet.bound_of c.args.wanted.now)) (sym (c.as_slice.ensures.value ∙ c.in_ok-own.ensures.items))
     (all_below (g.S.ConceptSet.bound_of c.args.wanted.now) (g.S.ConceptSet.items_of c.args.wanted.now) (g.met.S.ConceptSet.rising c.args.wanted.now)))
 
+-- the items of `wanted`, each followed by its list, are below the bound of the set
 pub from_numbers-requires : goal.from_numbers-requires
 from_numbers-requires g c =
     let count = g.S.ConceptSet.bound_of c.args.wanted.now in
@@ -31,6 +33,7 @@ from_numbers-requires g c =
     (with_lists_below count c.args.reader.indexes.now.hierarchy c.requires.over c.asked-family.result wanted
     (all_below count wanted (g.met.S.ConceptSet.rising c.args.wanted.now))))
 
+-- the items of `wanted` and their lists are enough to test `wanted`
 pub returns-clause-enough : goal.returns-clause-enough
 returns-clause-enough g c =
     let count = g.S.ConceptSet.bound_of c.args.wanted.now in
@@ -49,19 +52,21 @@ returns-clause-enough g c =
     (with_lists_enough count hierarchy c.requires.over family wanted (all_below count wanted (g.met.S.ConceptSet.rising c.args.wanted.now)))))
     c.from_numbers.ensures.items
 
+-- if memory is refused for the lists, no more is counted than testing `wanted` reads
 pub returns-in_err-numbers-clause-counted : goal.returns-in_err-numbers-clause-counted
 returns-in_err-numbers-clause-counted g c =
     asked_counted c.args.reader.indexes.now.hierarchy c.args.operator c.asked-family.result
     (ap (lists_of c.args.reader.indexes.now.hierarchy) c.asked-family.ensures ∙ c.of.ensures.asked c.args.reader.indexes.now.hierarchy)
     (c.as_slice.ensures.value ∙ c.in_ok-own.ensures.items) c.items.ensures.counted c.with_lists.ensures.counted
 
+-- no more is counted than testing `wanted` reads
 pub returns-clause-counted : goal.returns-clause-counted
 returns-clause-counted g c =
     asked_counted c.args.reader.indexes.now.hierarchy c.args.operator c.asked-family.result
     (ap (lists_of c.args.reader.indexes.now.hierarchy) c.asked-family.ensures ∙ c.of.ensures.asked c.args.reader.indexes.now.hierarchy)
     (c.as_slice.ensures.value ∙ c.in_ok-own.ensures.items) c.items.ensures.counted c.with_lists.ensures.counted
 
--- no more numbers are found than are listed
+-- the set has no more numbers than are listed: the items of `wanted` and of their lists
 pub returns-clause-few : goal.returns-clause-few
 returns-clause-few g c =
     let wanted = g.S.ConceptSet.items_of c.args.wanted.now in

@@ -7,9 +7,11 @@ use Rattle.walks.proofs.JoinedLemmas.{over_length}
 use Rattle.walks.proofs.LedLemmas.{asked_apart}
 use Rattle.walks.proofs.led.is_kept_apart.Goals as goal
 
+-- the concept has a list in the family
 pub list-requires : goal.list-requires
 list-requires g c = omega (arith, c.requires.below, over_length (g.S.ConceptSet.bound_of c.args.operand.now) c.args.reader.indexes.now.hierarchy c.requires.over c.args.family)
 
+-- a concept of the set is kept apart exactly if its list has none of the set
 pub returns-then-has-clause-led : goal.returns-then-has-clause-led
 returns-then-has-clause-led g c =
     let items = g.S.ConceptSet.items_of c.args.operand.now in
@@ -19,6 +21,7 @@ returns-then-has-clause-led g c =
     ∙ asked_apart (g.S.ConceptSet.bound_of c.args.operand.now) c.args.reader.indexes.now.hierarchy c.requires.over items (g.met.S.ConceptSet.rising c.args.operand.now)
     c.args.family c.args.concept c.requires.below
 
+-- a concept that is not in the set is not kept apart
 pub returns-else-has-clause-led : goal.returns-else-has-clause-led
 returns-else-has-clause-led g c =
     let items = g.S.ConceptSet.items_of c.args.operand.now in

@@ -7,9 +7,11 @@ use Rattle.walks.proofs.JoinedLemmas.{over_length}
 use Rattle.walks.proofs.LedLemmas.{asked_back}
 use Rattle.walks.proofs.led.is_listed.Goals as goal
 
+-- the concept has a list in the family that leads back
 pub list-requires : goal.list-requires
 list-requires g c = omega (arith, c.requires.below, over_length (g.S.ConceptSet.bound_of c.args.operand.now) c.args.reader.indexes.now.hierarchy c.requires.over c.back.result)
 
+-- the list that leads back has one of the set exactly if the joined lists of the set have the concept
 pub returns-clause-led : goal.returns-clause-led
 returns-clause-led g c =
     let items = g.S.ConceptSet.items_of c.args.operand.now in

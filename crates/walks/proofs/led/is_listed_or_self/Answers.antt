@@ -5,6 +5,7 @@ use Rattle.walks.specs.Families.{lists_of}
 use Rattle.walks.proofs.LedLemmas.{asked_or_self}
 use Rattle.walks.proofs.led.is_listed_or_self.Goals as goal
 
+-- a concept of the set is in the union of the set and its joined lists
 pub returns-then-has-clause-led : goal.returns-then-has-clause-led
 returns-then-has-clause-led g c =
     let count = g.S.ConceptSet.bound_of c.args.operand.now in
@@ -14,6 +15,7 @@ returns-then-has-clause-led g c =
     ∙ sym (λ i. own i || has (joined count (lists_of c.args.reader.indexes.now.hierarchy c.args.family) items) c.args.concept)
     ∙ asked_or_self count c.args.reader.indexes.now.hierarchy c.requires.over items (g.met.S.ConceptSet.rising c.args.operand.now) c.args.family c.args.concept c.requires.below
 
+-- a concept that is not in the set is in the union exactly if the joined lists of the set have it
 pub returns-else-has-clause-led : goal.returns-else-has-clause-led
 returns-else-has-clause-led g c =
     let count = g.S.ConceptSet.bound_of c.args.operand.now in

@@ -10,6 +10,7 @@ use Rattle.walks.proofs.LedLemmas.{led_asked}
 use Rattle.walks.proofs.ReadLemmas.{asked_counted}
 use Rattle.walks.proofs.led.led_among.Goals as goal
 
+-- the items of `wanted` are below the bound of `operand`
 pub those_led_to-requires-clause-below : goal.those_led_to-requires-clause-below
 those_led_to-requires-clause-below g c =
     let wanted = g.S.ConceptSet.items_of c.args.wanted.now in
@@ -17,6 +18,7 @@ those_led_to-requires-clause-below g c =
     (subst (λ (bound : ℕ). All (λ concept. concept < bound) wanted) c.requires.wanted
     (all_below (g.S.ConceptSet.bound_of c.args.wanted.now) wanted (g.met.S.ConceptSet.rising c.args.wanted.now)))
 
+-- what is kept of the items of `wanted` rises
 pub from_items-requires : goal.from_items-requires
 from_items-requires g c =
     let count = g.S.ConceptSet.bound_of c.args.operand.now in
@@ -29,6 +31,7 @@ from_items-requires g c =
     (rises_within-filter 0 count (has led) wanted (subst (λ (bound : ℕ). IsRisingBelow bound wanted) c.requires.wanted
     (g.met.S.ConceptSet.rising c.args.wanted.now))))
 
+-- what is kept of `wanted` is what the operator leads to that is in `wanted`
 pub returns-clause-items : goal.returns-clause-items
 returns-clause-items g c =
     let count = g.S.ConceptSet.bound_of c.args.operand.now in
@@ -45,12 +48,14 @@ returns-clause-items g c =
     ∙ ap (filter (has wanted)) (sym (c.of-step.ensures.led c.args.reader.indexes.now.hierarchy count items)))
     c.from_items.ensures.items
 
+-- if memory is refused in the test of `wanted`, no more is counted than the test reads
 pub returns-in_err-kept-clause-counted : goal.returns-in_err-kept-clause-counted
 returns-in_err-kept-clause-counted g c =
     asked_counted c.args.reader.indexes.now.hierarchy c.args.operator (asked_of c.of-step.result)
     (c.of-step.ensures.asked c.args.reader.indexes.now.hierarchy)
     (c.as_slice.ensures.value ∙ c.in_ok-own.ensures.items) c.items.ensures.counted c.those_led_to.ensures.counted
 
+-- no more is counted than testing `wanted` reads
 pub returns-clause-counted : goal.returns-clause-counted
 returns-clause-counted g c =
     asked_counted c.args.reader.indexes.now.hierarchy c.args.operator (asked_of c.of-step.result)

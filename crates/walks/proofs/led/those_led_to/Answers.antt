@@ -10,9 +10,11 @@ use Rattle.walks.specs.Families.{lists_of}
 use Rattle.walks.proofs.led.those_led_to.Goals as goal
 use Rattle.walks.proofs.led.those_led_to.Goals.{then-is_led_to+in_ok-push, else-is_led_to}
 
+-- the concept at hand is below the bound of `operand`
 pub is_led_to-requires-clause-below : goal.is_led_to-requires-clause-below
 is_led_to-requires-clause-below g c = c.requires.below c.loop-concept.concept-index 0 c.loop-concept-test.true
 
+-- the concept at hand is kept if the step leads to it, and its list is counted
 pub loop-concept-preserved : goal.loop-concept-preserved
 loop-concept-preserved g c =
     let test : ℕ → Bool =
@@ -34,17 +36,20 @@ loop-concept-preserved g c =
           c.args.concepts.now k c.loop-concept-test.true c.loop-concept.invariant.counted c.is_led_to.ensures.counted;
     }
 
+-- if memory is refused at a concept, the lists up to its own are counted
 pub returns-in_err-push-clause-counted : goal.returns-in_err-push-clause-counted
 returns-in_err-push-clause-counted g c =
     counted_some (λ concept. length (list_of (lists_of c.args.reader.indexes.now.hierarchy (asked_of c.args.step)) concept))
     c.args.concepts.now c.loop-concept.concept-index c.loop-concept-test.true c.loop-concept.invariant.counted
     c.is_led_to.ensures.counted
 
+-- after the last concept, the lists of all are counted
 pub returns-clause-counted : goal.returns-clause-counted
 returns-clause-counted g c =
     counted_all (λ concept. length (list_of (lists_of c.args.reader.indexes.now.hierarchy (asked_of c.args.step)) concept))
     c.args.concepts.now c.loop-concept.concept-index c.loop-concept.invariant.counted
 
+-- after the last concept, those that the step leads to are kept of all
 pub returns-clause-items : goal.returns-clause-items
 returns-clause-items g c =
     let test : ℕ → Bool =

@@ -6,7 +6,7 @@ use Rattle.walks.specs.inside.Steps.{asked_of, stepped}
 use Rattle.walks.specs.Families.{items_in, lists_of}
 use Rattle.walks.proofs.led.those_led_to.Given as goal
 
--- those of the concepts so far, whose lists are counted
+-- `kept` are the concepts so far that the step leads to, and the lists of the concepts so far are counted
 abbrev pub invariant-loop-concept : goal.invariant-loop-concept
 invariant-loop-concept g l = record {
   kept : l.kept.items

@@ -4,7 +4,7 @@ use Rattle.candidates.specs.Within.{may_be}
 use Rattle.candidates.proofs.AddsLemmas.{adds_some}
 use Rattle.walks.proofs.led.walk_by.Goals as goal
 
--- the candidates are some of what was found
+-- the tally that adds all that was found adds enough for the candidates among it
 pub returns-clause-adds : goal.returns-clause-adds
 returns-clause-adds g c =
     subst (λ (items : List ℕ). Adds items c.args.tally.now c.walk.new.tally) (sym c.in_ok-found-2.ensures.items)

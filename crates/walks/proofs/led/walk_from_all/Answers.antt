@@ -12,7 +12,7 @@ use Rattle.walks.proofs.AskedLemmas.{all_with_own, led_from_all}
 use Rattle.walks.proofs.ReadLemmas.{asked_from_many}
 use Rattle.walks.proofs.led.walk_from_all.Goals as goal
 
--- an operator that leads to all concepts leads to all candidates
+-- an operator that leads from all concepts to themselves leads to all candidates
 pub returns-then-is_or_self-clause-items : goal.returns-then-is_or_self-clause-items
 returns-then-is_or_self-clause-items g c =
     let may : ℕ → Bool = may_be g.S.ConceptSet.items_of c.args.candidates.now in
@@ -32,25 +32,29 @@ returns-then-is_or_self-clause-items g c =
     ∙ ap (filter may) (sym led))
     c.all_below.ensures.items
 
--- more than one concept is asked
+-- if memory is refused in the test, no more is counted than going through several concepts and walking from them reads
 pub returns-in_err-led-clause-counted : goal.returns-in_err-led-clause-counted
 returns-in_err-led-clause-counted g c =
     counted_in c.led_among.ensures.counted
     (asked_from_many (g.S.ConceptSet.bound_of c.args.from.now) c.args.reader.indexes.now.hierarchy c.requires.over c.args.operator
     (g.S.ConceptSet.items_of c.args.from.now) (g.met.S.ConceptSet.rising c.args.from.now) c.requires.many)
 
+-- if memory is refused after the test, no more is counted than going through several concepts and walking from them
+-- reads
 pub returns-in_err-left-clause-counted : goal.returns-in_err-left-clause-counted
 returns-in_err-left-clause-counted g c =
     counted_in c.led_among.ensures.counted
     (asked_from_many (g.S.ConceptSet.bound_of c.args.from.now) c.args.reader.indexes.now.hierarchy c.requires.over c.args.operator
     (g.S.ConceptSet.items_of c.args.from.now) (g.met.S.ConceptSet.rising c.args.from.now) c.requires.many)
 
+-- testing several concepts counts no more than going through them and walking from them reads
 pub returns-clause-counted : goal.returns-clause-counted
 returns-clause-counted g c =
     counted_in c.led_among.ensures.counted
     (asked_from_many (g.S.ConceptSet.bound_of c.args.from.now) c.args.reader.indexes.now.hierarchy c.requires.over c.args.operator
     (g.S.ConceptSet.items_of c.args.from.now) (g.met.S.ConceptSet.rising c.args.from.now) c.requires.many)
 
+-- all that the operator leads to is in the set of all concepts, so the test keeps all of it
 pub returns-clause-items : goal.returns-clause-items
 returns-clause-items g c =
     let may : ℕ → Bool = may_be g.S.ConceptSet.items_of c.args.candidates.now in

@@ -8,7 +8,8 @@ use Rattle.walks.proofs.JoinedLemmas.{over_length}
 use Rattle.reading.proofs.CountLemmas.{counted_all, counted_next, counted_out, counted_some}
 use Rattle.walks.proofs.led.with_lists.Goals as goal
 
--- the next concept comes behind what the earlier ones have, and its list behind it
+-- the concepts before concept k with their lists, then concept k, then its list are the first k + 1 concepts with their
+-- lists
 with_lists_more : (lists : List (List ℕ)) (concepts : List ℕ) (k : ℕ) {before pushed list next : List ℕ} → k < length concepts
     → before ≡ flat_map (λ concept. concept ∷ list_of lists concept) (take k concepts)
     → pushed ≡ before ++ get_or concepts k 0 ∷ [] → list ≡ list_of lists (get_or concepts k 0) → next ≡ pushed ++ list
@@ -23,6 +24,7 @@ with_lists_more lists concepts k within so_far with_concept is with_list =
     ∙ sym (flat_map-append entries (take k concepts) (concept ∷ []))
     ∙ ap (flat_map entries) (sym (take_more concepts k 0 within))
 
+-- the concept at hand has a list in the family
 pub list-requires : goal.list-requires
 list-requires c =
     omega (
@@ -31,6 +33,7 @@ list-requires c =
       over_length c.args._count c.args.reader.indexes.now.hierarchy c.requires.over c.args.family,
     )
 
+-- the concept at hand and its list come after those of the earlier concepts, and its list is counted
 pub loop-concept-preserved : goal.loop-concept-preserved
 loop-concept-preserved c =
     let lists = lists_of c.args.reader.indexes.now.hierarchy c.args.family in
@@ -42,22 +45,26 @@ loop-concept-preserved c =
           c.loop-concept.invariant.counted (counted_out c.list.ensures.counted (omega arith));
     }
 
+-- if memory is refused for a concept, the lists of the earlier concepts are counted
 pub returns-in_err-push-clause-counted : goal.returns-in_err-push-clause-counted
 returns-in_err-push-clause-counted c =
     counted_all (λ concept. length (list_of (lists_of c.args.reader.indexes.now.hierarchy c.args.family) concept))
     c.args.concepts.now c.loop-concept.concept-index c.loop-concept.invariant.counted
 
+-- if memory is refused for a list, the lists up to this one are counted
 pub returns-in_err-extend_from_slice-clause-counted : goal.returns-in_err-extend_from_slice-clause-counted
 returns-in_err-extend_from_slice-clause-counted c =
     counted_some (λ concept. length (list_of (lists_of c.args.reader.indexes.now.hierarchy c.args.family) concept))
     c.args.concepts.now c.loop-concept.concept-index c.loop-concept-test.true c.loop-concept.invariant.counted
     (counted_out c.list.ensures.counted (omega arith))
 
+-- after the last concept, the lists of all are counted
 pub returns-clause-counted : goal.returns-clause-counted
 returns-clause-counted c =
     counted_all (λ concept. length (list_of (lists_of c.args.reader.indexes.now.hierarchy c.args.family) concept))
     c.args.concepts.now c.loop-concept.concept-index c.loop-concept.invariant.counted
 
+-- after the last concept, `numbers` are all concepts, each followed by its list
 pub returns-clause-items : goal.returns-clause-items
 returns-clause-items c =
     c.loop-concept.invariant.numbers

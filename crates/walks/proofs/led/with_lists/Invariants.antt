@@ -5,7 +5,7 @@ use Rattle.reading.specs.Counted.{CountsWithin}
 use Rattle.walks.specs.Families.{items_in, lists_of}
 use Rattle.walks.proofs.led.with_lists.Given as goal
 
--- the concepts so far, each with its list behind it, which is counted
+-- `numbers` are the concepts so far, each followed by its list, and these lists are counted
 abbrev pub invariant-loop-concept : goal.invariant-loop-concept
 invariant-loop-concept l = record {
   numbers : l.numbers.items

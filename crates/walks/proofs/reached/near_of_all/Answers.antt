@@ -10,12 +10,14 @@ use Rattle.walks.specs.Families.{lists_of}
 use Rattle.walks.proofs.JoinedLemmas.{join_list, over_length, over_rising}
 use Rattle.walks.proofs.reached.near_of_all.Goals as goal
 
+-- the empty set joins the lists of no concepts
 pub loop-concept-init : goal.loop-concept-init
 loop-concept-init c = record {
   joined = λ n. ap (λ (xs : List ℕ). has xs n) c.in_ok-found.ensures.items;
   bound = c.in_ok-found.ensures.bound;
 }
 
+-- the concept at hand has a near list
 pub of-requires : goal.of-requires
 of-requires c =
     let below : get_or c.args.concepts.now c.loop-concept.concept-index 0 < c.args.count =
@@ -27,6 +29,7 @@ of-requires c =
       ap (λ (lists : List (List ℕ)). length lists) c.requires.near,
     )
 
+-- the near list of the concept at hand rises below the bound of the set
 pub add_all-requires : goal.add_all-requires
 add_all-requires c =
     let listed = c.of.ensures ∙ ap (λ (lists : List (List ℕ)). list_of lists (get_or c.args.concepts.now c.loop-concept.concept-index 0)) c.requires.near in
@@ -35,6 +38,7 @@ add_all-requires c =
     (over_rising c.args.count c.args.reader.indexes.now.hierarchy c.requires.over (near_of c.args._family) (get_or c.args.concepts.now c.loop-concept.concept-index 0)
     (c.requires.below c.loop-concept.concept-index 0 c.loop-concept-test.true)))
 
+-- with the near list of the concept at hand, the set joins the near lists of one concept more
 pub loop-concept-preserved : goal.loop-concept-preserved
 loop-concept-preserved c =
     let lists = lists_of c.args.reader.indexes.now.hierarchy (near_of c.args._family) in
@@ -56,6 +60,7 @@ loop-concept-preserved c =
       bound = c.in_ok-add_all.ensures.bound ∙ c.loop-concept.invariant.bound;
     }
 
+-- after the last concept, the set joins the near lists of all
 pub returns-clause-joined : goal.returns-clause-joined
 returns-clause-joined c =
     subst (λ (some : List ℕ). AreJoined (lists_of c.args.reader.indexes.now.hierarchy (near_of c.args._family)) some

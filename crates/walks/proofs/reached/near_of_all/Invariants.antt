@@ -5,7 +5,7 @@ use Rattle.walks.specs.inside.Joined.{AreJoined, near_of}
 use Rattle.walks.specs.Families.{lists_of}
 use Rattle.walks.proofs.reached.near_of_all.Given as goal
 
--- the lists of the concepts so far are there
+-- `found` joins the near lists of the concepts so far
 abbrev pub invariant-loop-concept : goal.invariant-loop-concept
 invariant-loop-concept l = record {
   joined : AreJoined (lists_of l.reader.indexes.now.hierarchy (near_of l.fn._family)) (take l.concept-index l.concepts) (numbers_where l.found.bound (is_set l.found.words.items));

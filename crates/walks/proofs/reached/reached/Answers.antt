@@ -13,6 +13,7 @@ use Rattle.walks.proofs.ReachedLemmas.{passed_first, passed_on, passed_over, tur
 use Rattle.walks.proofs.reached.reached.Goals as goal
 use Rattle.walks.proofs.reached.reached.Goals.{then-is_in_first_alone+in_ok-add_all, else-is_in_first_alone}
 
+-- the place of a turn fits in `usize`
 pub offset_bounds-order-place_of_turn : goal.offset_bounds-order-place_of_turn
 offset_bounds-order-place_of_turn g c =
     let order = c.parents_first-order.result.now in
@@ -20,12 +21,14 @@ offset_bounds-order-place_of_turn g c =
     turn_within (length order) c.args.family c.loop-turn.turn c.loop-turn-test.true in
     omega arith
 
+-- the place of a turn is within the order
 pub bounds-order-place_of_turn : goal.bounds-order-place_of_turn
 bounds-order-place_of_turn g c =
     let order = c.parents_first-order.result.now in
     subst (λ (place : ℕ). place < length order) (sym c.place_of_turn.ensures)
     (turn_within (length order) c.args.family c.loop-turn.turn c.loop-turn-test.true)
 
+-- the joined near lists of the set are what the pass has found before the first turn
 pub loop-turn-init : goal.loop-turn-init
 loop-turn-init g c =
     let release = c.args.reader.snapshot.now.release in
@@ -44,6 +47,7 @@ loop-turn-init g c =
       bound = c.in_ok-found.ensures.bound ∙ c.bound.ensures;
     }
 
+-- the items of the set are below its bound
 pub near_of_all-requires-clause-below : goal.near_of_all-requires-clause-below
 near_of_all-requires-clause-below g c =
     let count = g.S.ConceptSet.bound_of c.args.set.now in
@@ -52,6 +56,7 @@ near_of_all-requires-clause-below g c =
     (subst (λ (concepts : List ℕ). All (λ concept. concept < count) concepts) (sym c.requires.concepts)
     (all_below count items (g.met.S.ConceptSet.rising c.args.set.now)))
 
+-- the concept of a turn has a near list
 pub of-requires : goal.of-requires
 of-requires g c =
     let release = c.args.reader.snapshot.now.release in
@@ -67,6 +72,7 @@ of-requires g c =
     c.requires.over f c.requires.whole items (g.met.S.ConceptSet.rising c.args.set.now) c.loop-turn.turn
     c.loop-turn-test.true))
 
+-- the near list of the concept of a turn rises below the bound of the set
 pub add_all-requires : goal.add_all-requires
 add_all-requires g c =
     let release = c.args.reader.snapshot.now.release in
@@ -84,6 +90,7 @@ add_all-requires g c =
     (near_rises release order c.concept_count.ensures.rising c.parents_first-order.ensures.order count hierarchy
     c.requires.over f c.requires.whole items (g.met.S.ConceptSet.rising c.args.set.now) turn c.loop-turn-test.true))
 
+-- a turn adds the near list of its concept exactly if that is found and not in the set
 pub loop-turn-preserved : goal.loop-turn-preserved
 loop-turn-preserved g c =
     let release = c.args.reader.snapshot.now.release in
@@ -129,6 +136,7 @@ loop-turn-preserved g c =
       }
     ]
 
+-- if all that was found first is in the set, it is the joined lists of the set
 pub returns-then-closed-clause-joined : goal.returns-then-closed-clause-joined
 returns-then-closed-clause-joined g c =
     let release = c.args.reader.snapshot.now.release in
@@ -144,6 +152,7 @@ returns-then-closed-clause-joined g c =
     c.in_ok-found.ensures.joined)
     (sym c.in_ok-closed.ensures ∙ c.if-closed.true)
 
+-- after the last turn, the joined lists of the set are found
 pub returns-clause-joined : goal.returns-clause-joined
 returns-clause-joined g c =
     let release = c.args.reader.snapshot.now.release in
@@ -157,30 +166,35 @@ returns-clause-joined g c =
     (numbers_where c.loop-turn.found.bound (is_set c.loop-turn.found.words.items)) (omega arith)
     c.loop-turn.invariant.passed
 
+-- if memory is refused for the near lists, no more is counted than a pass reads
 pub returns-in_err-found-clause-counted : goal.returns-in_err-found-clause-counted
 returns-in_err-found-clause-counted g c =
     pass_counted c.args.reader.snapshot.now.release c.args.reader.indexes.now.hierarchy
     (g.S.ConceptSet.bound_of c.args.set.now) c.parents_first-order.result.now c.requires.over.count_is
     c.parents_first-order.ensures.order c.near_lists-near.ensures.counted c.parents_first-order.ensures.counted
 
+-- if memory is refused in the comparison with the set, no more is counted than a pass reads
 pub returns-in_err-closed-clause-counted : goal.returns-in_err-closed-clause-counted
 returns-in_err-closed-clause-counted g c =
     pass_counted c.args.reader.snapshot.now.release c.args.reader.indexes.now.hierarchy
     (g.S.ConceptSet.bound_of c.args.set.now) c.parents_first-order.result.now c.requires.over.count_is
     c.parents_first-order.ensures.order c.near_lists-near.ensures.counted c.parents_first-order.ensures.counted
 
+-- if the near lists are enough, no more is counted than a pass reads
 pub returns-then-closed-clause-counted : goal.returns-then-closed-clause-counted
 returns-then-closed-clause-counted g c =
     pass_counted c.args.reader.snapshot.now.release c.args.reader.indexes.now.hierarchy
     (g.S.ConceptSet.bound_of c.args.set.now) c.parents_first-order.result.now c.requires.over.count_is
     c.parents_first-order.ensures.order c.near_lists-near.ensures.counted c.parents_first-order.ensures.counted
 
+-- if memory is refused in a turn, no more is counted than a pass reads
 pub returns-in_err-add_all-clause-counted : goal.returns-in_err-add_all-clause-counted
 returns-in_err-add_all-clause-counted g c =
     pass_counted c.args.reader.snapshot.now.release c.args.reader.indexes.now.hierarchy
     (g.S.ConceptSet.bound_of c.args.set.now) c.parents_first-order.result.now c.requires.over.count_is
     c.parents_first-order.ensures.order c.near_lists-near.ensures.counted c.parents_first-order.ensures.counted
 
+-- after the last turn, no more is counted than a pass reads
 pub returns-clause-counted : goal.returns-clause-counted
 returns-clause-counted g c =
     pass_counted c.args.reader.snapshot.now.release c.args.reader.indexes.now.hierarchy

@@ -6,7 +6,7 @@ use Rattle.walks.specs.Families.{lists_of}
 use Rattle.walks.proofs.ReachedLemmas.{IsPassed}
 use Rattle.walks.proofs.reached.reached.Given as goal
 
--- what is found before a turn
+-- `found` is what the pass has found before the turn
 abbrev pub invariant-loop-turn : goal.invariant-loop-turn
 invariant-loop-turn g l = record {
   passed : IsPassed (lists_of l.reader.indexes.now.hierarchy l.family) (lists_of l.reader.indexes.now.hierarchy (near_of l.family))

@@ -6,6 +6,7 @@ use Rattle.number_lists.specs.KeyedLists.{list_of}
 use Rattle.reading.proofs.CountLemmas.{counted_all, counted_next, counted_out, counted_some}
 use Rattle.walks.proofs.reference_sets.components.Goals as goal
 
+-- the components of the reference set at hand come after those of the earlier ones, and are counted
 pub loop-refset-preserved : goal.loop-refset-preserved
 loop-refset-preserved c =
     let lists = c.args.reader.indexes.now.members in
@@ -20,16 +21,19 @@ loop-refset-preserved c =
           c.loop-refset.invariant.counted (counted_out c.members.ensures.counted (omega arith));
     }
 
+-- if memory is refused for a reference set, the components up to its last are counted
 pub returns-in_err-extend_from_slice-clause-counted : goal.returns-in_err-extend_from_slice-clause-counted
 returns-in_err-extend_from_slice-clause-counted c =
     counted_some (λ refset. length (list_of c.args.reader.indexes.now.members refset)) c.args.refsets.now c.loop-refset.refset-index
     c.loop-refset-test.true c.loop-refset.invariant.counted (counted_out c.members.ensures.counted (omega arith))
 
+-- after the last reference set, the components of all are counted
 pub returns-clause-counted : goal.returns-clause-counted
 returns-clause-counted c =
     counted_all (λ refset. length (list_of c.args.reader.indexes.now.members refset)) c.args.refsets.now c.loop-refset.refset-index
     c.loop-refset.invariant.counted
 
+-- after the last reference set, `found` are the components of all
 pub returns-clause-items : goal.returns-clause-items
 returns-clause-items c =
     c.loop-refset.invariant.found

@@ -5,7 +5,7 @@ use Rattle.reading.specs.Counted.{CountsWithin}
 use Rattle.walks.specs.Families.{items_in}
 use Rattle.walks.proofs.reference_sets.components.Given as goal
 
--- the components of the reference sets so far, which are counted
+-- `found` are the components of the reference sets so far, one set after the other, and they are counted
 abbrev pub invariant-loop-refset : goal.invariant-loop-refset
 invariant-loop-refset l = record {
   found : l.found.items ≡ flat_map (list_of l.reader.indexes.now.members) (take l.refset-index l.refsets);

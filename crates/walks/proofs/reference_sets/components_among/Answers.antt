@@ -6,6 +6,7 @@ use Rattle.walks.specs.inside.Components.{is_in_one_of}
 use Rattle.walks.proofs.reference_sets.components_among.Goals as goal
 use Rattle.walks.proofs.reference_sets.components_among.Goals.{then-is_component+in_ok-push, else-is_component}
 
+-- the concept at hand is kept if it is a component of one of the reference sets
 pub loop-concept-preserved : goal.loop-concept-preserved
 loop-concept-preserved c =
     let asked : ℕ → Bool = is_in_one_of c.args.reader.indexes.now.members c.args.refsets.now in
@@ -21,6 +22,7 @@ loop-concept-preserved c =
           (ap (λ (kept : Vec ℕ _). kept.items) w.kept-is ∙ sym (append-nil c.loop-concept.kept.items))
     ]
 
+-- after the last concept, the components among all are kept
 pub returns : goal.returns
 returns c =
     c.loop-concept.invariant

@@ -3,6 +3,7 @@ use Rattle.std.proofs.lemmas.List.{take_all}
 use Rattle.walks.specs.inside.Components.{is_in_one_of}
 use Rattle.walks.proofs.reference_sets.is_component.Goals as goal
 
+-- after the last reference set, `found` says whether the concept is a component of one of all
 pub returns : goal.returns
 returns c =
     c.loop-refset.invariant

@@ -8,6 +8,7 @@ use Rattle.postings.specs.Indexed.{members_of}
 use Rattle.walks.proofs.MemberLemmas.{members_below, members_listed}
 use Rattle.walks.proofs.reference_sets.members.Goals as goal
 
+-- the components in the lists are numbers of concepts
 pub from_numbers-requires : goal.from_numbers-requires
 from_numbers-requires g c =
     let release = c.args.reader.snapshot.now.release in
@@ -21,6 +22,7 @@ from_numbers-requires g c =
     (subst (All (λ number. number < length release.concepts)) (sym found_are)
     (members_below release refsets below))
 
+-- the numbers in the lists of the reference sets are the components that the release denotes
 pub returns-clause-items : goal.returns-clause-items
 returns-clause-items g c =
     let release = c.args.reader.snapshot.now.release in

@@ -7,6 +7,7 @@ use Rattle.walks.specs.inside.Components.{is_in_one_of}
 use Rattle.walks.proofs.MemberLemmas.{members_asked}
 use Rattle.walks.proofs.reference_sets.members_among.Goals as goal
 
+-- the components among the items of `wanted` rise
 pub from_items-requires : goal.from_items-requires
 from_items-requires g c =
     let wanted = g.S.ConceptSet.items_of c.args.wanted.now in
@@ -18,6 +19,7 @@ from_items-requires g c =
     (rises_within-filter 0 (length c.args.reader.snapshot.now.release.concepts) asked wanted
     (subst (λ (bound : ℕ). IsRisingBelow bound wanted) c.requires.wanted (g.met.S.ConceptSet.rising c.args.wanted.now))))
 
+-- the items of `wanted` in the list of a reference set are the components that the release denotes within `wanted`
 pub returns-clause-items : goal.returns-clause-items
 returns-clause-items g c =
     let release = c.args.reader.snapshot.now.release in

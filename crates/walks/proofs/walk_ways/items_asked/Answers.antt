@@ -7,6 +7,7 @@ use Rattle.walks.specs.Reads.{AreAsked}
 use Rattle.walks.proofs.ReadLemmas.{asked_within}
 use Rattle.walks.proofs.walk_ways.items_asked.Goals as goal
 
+-- the candidates and their lists, as their extent says, are enough items to test them
 pub returns-in-Within : goal.returns-in-Within
 returns-in-Within g c indexed =
     let items_of = g.S.ConceptSet.items_of in

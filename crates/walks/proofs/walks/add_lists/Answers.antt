@@ -18,6 +18,7 @@ use Rattle.walks.proofs.walks.add_lists.Goals as goal
 use Rattle.walks.proofs.walks.add_lists.Goals.{then-is_long-long+then-not-has_list+else-not-may_be_read+in_ok-add_list}
 use Rattle.walks.proofs.walks.add_lists.Goals.{then-is_long-long+else-not-has_list, else-is_long-long}
 
+-- before the first concept, no list is joined and nothing is counted
 pub loop-concept-init : goal.loop-concept-init
 loop-concept-init g c = record {
   joined = λ before joined.
@@ -28,6 +29,7 @@ loop-concept-init g c = record {
   spends = spends_none c.args.left.now c.args.visits.now;
 }
 
+-- the concept at hand has a list in the family
 pub length-items-requires : goal.length-items-requires
 length-items-requires g c =
     let below : get_or c.args.concepts.now c.loop-concept.concept-index 0
@@ -40,11 +42,13 @@ length-items-requires g c =
           c.args.family,
     )
 
+-- the hierarchy has as many concepts as the bound of the set that has grown
 pub add_list-requires-clause-over : goal.add_list-requires-clause-over
 add_list-requires-clause-over g c =
     subst (λ (count : ℕ). IsOver count c.args.reader.indexes.now.hierarchy) (sym c.loop-concept.invariant.bound)
     c.requires.over
 
+-- the concept at hand is below the bound of the set that has grown
 pub add_list-requires-clause-below : goal.add_list-requires-clause-below
 add_list-requires-clause-below g c =
     let below : get_or c.args.concepts.now c.loop-concept.concept-index 0
@@ -52,9 +56,11 @@ add_list-requires-clause-below g c =
     c.loop-concept-test.true in
     omega (arith, below, c.loop-concept.invariant.bound)
 
+-- if memory is refused for a list, the set keeps its bound
 pub returns-in_err-add_list-clause-bound : goal.returns-in_err-add_list-clause-bound
 returns-in_err-add_list-clause-bound g c = c.add_list.ensures.bound ∙ c.loop-concept.invariant.bound
 
+-- the list of the concept at hand is joined if it is chosen, and read unless the set has it already
 pub loop-concept-preserved : goal.loop-concept-preserved
 loop-concept-preserved g c =
     let hierarchy = c.args.reader.indexes.now.hierarchy in
@@ -68,7 +74,7 @@ loop-concept-preserved g c =
     let left = c.args.left.now in
     let visits = c.args.visits.now in
     let inside = c.loop-concept-test.true in
-    -- those whose lists were read, and those once this concept had its turn
+    -- `so_far`: the concepts whose lists are joined before this turn; `next`: those after it
     let so_far : List ℕ = with_length lists long (take k concepts) in
     let next : List ℕ = with_length lists long (take (k + 1) concepts) in
     let tested : beq (is_long (list_of lists concept)) long ≡ beq c.is_long.result long =
@@ -135,12 +141,14 @@ loop-concept-preserved g c =
           }
     ]
 
+-- if the limit stops the reading, no more is counted than the chosen lists of all concepts have
 pub returns-then-not-may_be_read-clause-counted : goal.returns-then-not-may_be_read-clause-counted
 returns-then-not-may_be_read-clause-counted g c =
     counted_in c.loop-concept.invariant.counted
     (items_so_far (lists_of c.args.reader.indexes.now.hierarchy c.args.family) c.args.long c.args.concepts.now
     c.loop-concept.concept-index)
 
+-- if memory is refused for a list, no more is counted than the chosen lists of all concepts have
 pub returns-in_err-add_list-clause-counted : goal.returns-in_err-add_list-clause-counted
 returns-in_err-add_list-clause-counted g c =
     let lists = lists_of c.args.reader.indexes.now.hierarchy c.args.family in
@@ -155,7 +163,7 @@ returns-in_err-add_list-clause-counted g c =
       items_so_far lists long c.args.concepts.now (k + 1),
     ))
 
--- the lists of all concepts are there
+-- after the last concept, the chosen lists of all concepts are joined
 pub returns-clause-joined : goal.returns-clause-joined
 returns-clause-joined g c = λ _ before joined.
     subst (λ (some : List ℕ). AreJoined (lists_of c.args.reader.indexes.now.hierarchy c.args.family)
@@ -164,5 +172,6 @@ returns-clause-joined g c = λ _ before joined.
     (take_all c.loop-concept.concept-index c.args.concepts.now (omega arith))
     (c.loop-concept.invariant.joined before joined)
 
+-- after the last concept, the set still has its bound
 pub returns-clause-bound : goal.returns-clause-bound
 returns-clause-bound g c = c.loop-concept.invariant.bound

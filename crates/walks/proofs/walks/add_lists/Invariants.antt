@@ -5,7 +5,8 @@ use Rattle.walks.specs.Families.{items_in, lists_of}
 use Rattle.walks.specs.inside.Counts.{Spends}
 use Rattle.walks.proofs.walks.add_lists.Given as goal
 
--- the lists of the concepts so far are there, and what was read for them is taken from what is left
+-- the chosen lists of the concepts so far are joined to those before, and what was read for them is counted and taken
+-- from the limit
 abbrev pub invariant-loop-concept : goal.invariant-loop-concept
 invariant-loop-concept g l = record {
   joined : (before : List ℕ) → AreJoined (lists_of l.reader.indexes.now.hierarchy l.family) before (g.S.ConceptSet.items_of l.initial.found)

@@ -12,6 +12,7 @@ use Rattle.walks.proofs.JoinedLemmas.{both_joined}
 use Rattle.walks.proofs.ReadLemmas.{parts_within}
 use Rattle.walks.proofs.walks.all_listed.Goals as goal
 
+-- the long lists and then the short lists join the lists of all concepts of the set
 pub returns-clause-joined : goal.returns-clause-joined
 returns-clause-joined g c =
     let lists = lists_of c.args.reader.indexes.now.hierarchy c.args.family in
@@ -25,12 +26,14 @@ returns-clause-joined g c =
     (both_joined lists concepts items
     (c.in_ok-short.ensures.joined c.if-not-short.false (with_length lists true concepts) (c.in_ok-long.ensures.joined c.if-not-long.false [] none)))
 
+-- the concepts are below the bound of the set to which the long lists are added
 pub add_lists-requires-clause-below : goal.add_lists-requires-clause-below
 add_lists-requires-clause-below g c =
     subst (λ (count : ℕ). All (λ concept. concept < count) c.args.concepts.now) (sym (c.in_ok-found.ensures.bound ∙ c.bound-count.ensures))
     (subst (All (λ concept. concept < g.S.ConceptSet.bound_of c.args.operand.now)) (sym c.requires.concepts)
     (all_below (g.S.ConceptSet.bound_of c.args.operand.now) (g.S.ConceptSet.items_of c.args.operand.now) (g.met.S.ConceptSet.rising c.args.operand.now)))
 
+-- the concepts are below the bound of the set to which the short lists are added
 pub add_lists-requires-2-clause-below : goal.add_lists-requires-2-clause-below
 add_lists-requires-2-clause-below g c =
     subst (λ (count : ℕ). All (λ concept. concept < count) c.args.concepts.now)
@@ -38,13 +41,14 @@ add_lists-requires-2-clause-below g c =
     (subst (All (λ concept. concept < g.S.ConceptSet.bound_of c.args.operand.now)) (sym c.requires.concepts)
     (all_below (g.S.ConceptSet.bound_of c.args.operand.now) (g.S.ConceptSet.items_of c.args.operand.now) (g.met.S.ConceptSet.rising c.args.operand.now)))
 
+-- the concepts whose lists are measured are below the bound of `operand`
 pub has_more_items-requires-clause-below : goal.has_more_items-requires-clause-below
 has_more_items-requires-clause-below g c =
     subst (λ (count : ℕ). All (λ concept. concept < count) c.args.concepts.now) (sym c.bound-count.ensures)
     (subst (All (λ concept. concept < g.S.ConceptSet.bound_of c.args.operand.now)) (sym c.requires.concepts)
     (all_below (g.S.ConceptSet.bound_of c.args.operand.now) (g.S.ConceptSet.items_of c.args.operand.now) (g.met.S.ConceptSet.rising c.args.operand.now)))
 
--- the long lists alone, and then the others
+-- if memory is refused for the long lists, no more is counted than all lists have
 pub returns-in_err-long-clause-counted : goal.returns-in_err-long-clause-counted
 returns-in_err-long-clause-counted g c =
     let count = g.S.ConceptSet.bound_of c.args.operand.now in
@@ -57,6 +61,7 @@ returns-in_err-long-clause-counted g c =
     (subst (IsRisingBelow count) (sym c.requires.concepts) (g.met.S.ConceptSet.rising c.args.operand.now)) in
     counted_in c.add_lists.ensures.counted (omega (arith, parts))
 
+-- if memory is refused for the short lists, no more is counted than all lists have
 pub returns-in_err-short-clause-counted : goal.returns-in_err-short-clause-counted
 returns-in_err-short-clause-counted g c =
     let count = g.S.ConceptSet.bound_of c.args.operand.now in
@@ -69,6 +74,7 @@ returns-in_err-short-clause-counted g c =
     (parts_within count c.args.reader.indexes.now.hierarchy over c.args.family c.args.concepts.now
     (subst (IsRisingBelow count) (sym c.requires.concepts) (g.met.S.ConceptSet.rising c.args.operand.now)))
 
+-- the long lists and the short lists of the concepts have no more items than all lists
 pub returns-clause-counted : goal.returns-clause-counted
 returns-clause-counted g c =
     let count = g.S.ConceptSet.bound_of c.args.operand.now in

@@ -9,11 +9,13 @@ use Rattle.number_lists.specs.KeyedLists.{list_of}
 use Rattle.walks.specs.Families.{lists_of}
 use Rattle.walks.proofs.walks.apart.Goals as goal
 
+-- the items of the set are below its bound
 pub kept_apart-requires-clause-below : goal.kept_apart-requires-clause-below
 kept_apart-requires-clause-below g c =
     subst (λ (items : List ℕ). All (λ item. item < g.S.ConceptSet.bound_of c.args.operand.now) items) (sym c.requires.concepts)
     (all_below (g.S.ConceptSet.bound_of c.args.operand.now) (g.S.ConceptSet.items_of c.args.operand.now) (g.met.S.ConceptSet.rising c.args.operand.now))
 
+-- the items that are kept apart rise
 pub from_items-requires : goal.from_items-requires
 from_items-requires g c =
     let test : ℕ → Bool = λ concept. not (list_any (has (g.S.ConceptSet.items_of c.args.operand.now))
@@ -25,6 +27,7 @@ from_items-requires g c =
     (rises_within-filter 0 (g.S.ConceptSet.bound_of c.args.operand.now) test
     (g.S.ConceptSet.items_of c.args.operand.now) (g.met.S.ConceptSet.rising c.args.operand.now)))
 
+-- what is kept of the items are those without an item in their list
 pub returns-clause-items : goal.returns-clause-items
 returns-clause-items g c =
     let test : ℕ → Bool = λ concept. not (list_any (has (g.S.ConceptSet.items_of c.args.operand.now))

@@ -17,7 +17,7 @@ use Rattle.number_lists.specs.Rising.{IsRisingBelow}
 use Rattle.walks.proofs.ReadLemmas.{items_of_kept, items_of_set}
 use Rattle.walks.proofs.walks.kept_apart.Goals as goal
 
--- those that are left are some of the concepts
+-- the concepts that are left after their near lists are some of the concepts, so they are below the bound of the set
 pub kept_in_room-requires-clause-below : goal.kept_in_room-requires-clause-below
 kept_in_room-requires-clause-below g c =
     let set = has (g.S.ConceptSet.items_of c.args.set.now) in
@@ -26,7 +26,8 @@ kept_in_room-requires-clause-below g c =
     (All-filter (λ concept. not (list_any set (list_of (lists_of c.args.reader.indexes.now.hierarchy c.near.result) concept)))
     (λ concept. concept < g.S.ConceptSet.bound_of c.args.set.now) c.args.concepts.now c.requires.below)
 
--- a pass has room for the lists of those that are left, which are no more than those of all
+-- the lists of the concepts that are left have no more items than those of all, so a pass has room if they have too
+-- many
 pub kept_in_room-requires-clause-pass : goal.kept_in_room-requires-clause-pass
 kept_in_room-requires-clause-pass g c more =
     let lists = lists_of c.args.reader.indexes.now.hierarchy c.args.family in
@@ -44,6 +45,7 @@ kept_in_room-requires-clause-pass g c more =
       items_of_kept lists left c.args.concepts.now,
     ))
 
+-- to test the near lists and then the whole lists keeps those that a test of the whole lists alone keeps
 pub returns-clause-kept : goal.returns-clause-kept
 returns-clause-kept g c =
     let count = g.S.ConceptSet.bound_of c.args.set.now in
@@ -67,7 +69,7 @@ returns-clause-kept g c =
     (slice_index_or c.args.concepts.now k d) (c.requires.below k d inside)))
     c.kept_in_room.ensures.kept
 
--- without near lists no more is read than the lists of the concepts have
+-- without near lists, no more is counted than the lists of the concepts have
 pub returns-in_default-clause-counted : goal.returns-in_default-clause-counted
 returns-in_default-clause-counted g c =
     let over : IsOver (g.S.ConceptSet.bound_of c.args.set.now) c.args.reader.indexes.now.hierarchy = record {
@@ -79,7 +81,7 @@ returns-in_default-clause-counted g c =
     (items_of_set (g.S.ConceptSet.bound_of c.args.set.now) c.args.reader.indexes.now.hierarchy over c.args.family c.args.concepts.now
     (subst (IsRisingBelow (g.S.ConceptSet.bound_of c.args.set.now)) (sym c.requires.concepts) (g.met.S.ConceptSet.rising c.args.set.now)))
 
--- the near lists, and those that there is room for
+-- no more is counted than the near lists and the room after them
 pub returns-clause-counted : goal.returns-clause-counted
 returns-clause-counted g c =
     let room : HasRoom c.args.reader.indexes.now.hierarchy c.args.family (g.S.ConceptSet.bound_of c.args.set.now)

@@ -11,12 +11,14 @@ use Rattle.walks.proofs.JoinedLemmas.{over_length}
 use Rattle.walks.proofs.walks.kept_by_lists.Goals as goal
 use Rattle.walks.proofs.walks.kept_by_lists.Goals.{then-not-meets+in_ok-push, else-not-meets}
 
+-- the concept at hand has a list in the family
 pub list-requires : goal.list-requires
 list-requires g c =
     let below : get_or c.args.concepts.now c.loop-concept.concept-index 0 < g.S.ConceptSet.bound_of c.args.set.now =
     c.requires.below c.loop-concept.concept-index 0 c.loop-concept-test.true in
     omega (arith, below, over_length (g.S.ConceptSet.bound_of c.args.set.now) c.args.reader.indexes.now.hierarchy c.requires.over c.args.family)
 
+-- the concept at hand is kept if its list has none of the set, and its list is counted
 pub loop-concept-preserved : goal.loop-concept-preserved
 loop-concept-preserved g c =
     let none : List ℕ → Bool = λ list. not (list_any (has (g.S.ConceptSet.items_of c.args.set.now)) list) in
@@ -40,17 +42,20 @@ loop-concept-preserved g c =
           c.loop-concept.invariant.counted (counted_out c.list.ensures.counted (omega arith));
     }
 
+-- if memory is refused at a concept, the lists up to its own are counted
 pub returns-in_err-push-clause-counted : goal.returns-in_err-push-clause-counted
 returns-in_err-push-clause-counted g c =
     counted_some (λ concept. length (list_of (lists_of c.args.reader.indexes.now.hierarchy c.args.family) concept))
     c.args.concepts.now c.loop-concept.concept-index c.loop-concept-test.true c.loop-concept.invariant.counted
     (counted_out c.list.ensures.counted (omega arith))
 
+-- after the last concept, the lists of all are counted
 pub returns-clause-counted : goal.returns-clause-counted
 returns-clause-counted g c =
     counted_all (λ concept. length (list_of (lists_of c.args.reader.indexes.now.hierarchy c.args.family) concept))
     c.args.concepts.now c.loop-concept.concept-index c.loop-concept.invariant.counted
 
+-- after the last concept, those of all are kept whose list has none of the set
 pub returns-clause-kept : goal.returns-clause-kept
 returns-clause-kept g c =
     let test : ℕ → Bool = λ concept. not (list_any (has (g.S.ConceptSet.items_of c.args.set.now))

@@ -7,7 +7,7 @@ use Rattle.reading.specs.Counted.{CountsWithin}
 use Rattle.walks.specs.Families.{items_in, lists_of}
 use Rattle.walks.proofs.walks.kept_by_lists.Given as goal
 
--- those of the concepts so far, whose lists are counted
+-- `kept` are the concepts so far whose list has none of the set, and the lists of the concepts so far are counted
 abbrev pub invariant-loop-concept : goal.invariant-loop-concept
 invariant-loop-concept g l = record {
   kept : l.kept.items

@@ -15,10 +15,11 @@ use Rattle.reading.proofs.CountLemmas.{counted_full}
 use Rattle.walks.proofs.LedLemmas.{asked_outside, back_is_whole}
 use Rattle.walks.proofs.walks.kept_in_room.Goals as goal
 
+-- the family that leads back from a whole family is whole
 pub reached-requires-clause-whole : goal.reached-requires-clause-whole
 reached-requires-clause-whole g c = ap is_whole c.back.ensures ∙ back_is_whole c.args.family c.requires.whole
 
--- a concept has none of the set in its list where it is none of those that the set leads back to
+-- a concept is outside what the set leads to in the family that leads back exactly if its list has none of the set
 pub returns-then-items_of_lists-room-clause-kept : goal.returns-then-items_of_lists-room-clause-kept
 returns-then-items_of_lists-room-clause-kept g c =
     let count = g.S.ConceptSet.bound_of c.args.set.now in
@@ -41,6 +42,7 @@ returns-then-items_of_lists-room-clause-kept g c =
     (slice_index_or c.args.concepts.now k d) (c.requires.below k d inside) found joined))
     c.kept_outside.ensures
 
+-- the lists have no more items than `room`, so reading them counts no more
 pub returns-clause-counted : goal.returns-clause-counted
 returns-clause-counted g c =
     counted_full c.kept_by_lists.ensures.counted

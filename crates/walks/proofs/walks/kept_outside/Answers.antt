@@ -6,6 +6,7 @@ use Rattle.idset.proofs.Places.{filter_step}
 use Rattle.walks.proofs.walks.kept_outside.Goals as goal
 use Rattle.walks.proofs.walks.kept_outside.Goals.{then-not-has+in_ok-push, else-not-has}
 
+-- the concept at hand is kept if it is not in the set
 pub loop-concept-preserved : goal.loop-concept-preserved
 loop-concept-preserved g c =
     let test : ℕ → Bool = λ concept. not (has (g.S.ConceptSet.items_of c.args.set.now) concept) in
@@ -21,6 +22,7 @@ loop-concept-preserved g c =
           (ap (λ (kept : Vec ℕ _). kept.items) w.kept-is ∙ sym (append-nil c.loop-concept.kept.items))
     ]
 
+-- after the last concept, those of all are kept that are not in the set
 pub returns : goal.returns
 returns g c =
     c.loop-concept.invariant

@@ -8,13 +8,14 @@ use Rattle.walks.specs.Led.{joined}
 use Rattle.walks.specs.Families.{lists_of}
 use Rattle.walks.proofs.walks.listed_or_self.Goals as goal
 
+-- the items of the set rise below the bound of what was found
 pub add_all-requires : goal.add_all-requires
 add_all-requires g c =
     subst (λ (bound : ℕ). IsRisingBelow bound c.args.concepts.now) (sym c.in_ok-found.ensures.bound)
     (subst (λ (items : List ℕ). IsRisingBelow (g.S.ConceptSet.bound_of c.args.operand.now) items) (sym c.requires.concepts)
     (g.met.S.ConceptSet.rising c.args.operand.now))
 
--- the order of the two does not matter
+-- the union of the joined lists and the set is the union of the set and the joined lists
 pub returns-clause-items : goal.returns-clause-items
 returns-clause-items g c =
     let bound = g.S.ConceptSet.bound_of c.args.operand.now in
@@ -24,7 +25,7 @@ returns-clause-items g c =
     ∙ (λ i. all_items (c.in_ok-found.ensures.bound i) (c.in_ok-found.ensures.items i) (c.requires.concepts i))
     ∙ all_items-swap bound bound items others refl
 
--- the rows of the list were added, and then those of the concepts
+-- the tally that adds the joined lists and then the set adds enough for their union
 pub returns-clause-adds : goal.returns-clause-adds
 returns-clause-adds g c =
     let bound = g.S.ConceptSet.bound_of c.args.operand.now in

@@ -5,6 +5,7 @@ use Rattle.walks.proofs.JoinedLemmas.{over_length}
 use Rattle.walks.proofs.LedLemmas.{none_left, one_left}
 use Rattle.walks.proofs.walks.one_apart.Goals as goal
 
+-- the concept has a list in the family
 pub has_itself-requires-clause-below : goal.has_itself-requires-clause-below
 has_itself-requires-clause-below g c =
     omega (
@@ -13,6 +14,7 @@ has_itself-requires-clause-below g c =
       over_length c.args.count c.args.reader.indexes.now.hierarchy c.requires.over c.args.family,
     )
 
+-- of a single concept that is in its own list nothing is kept apart
 pub returns-then-has_itself-clause-items : goal.returns-then-has_itself-clause-items
 returns-then-has_itself-clause-items g c =
     let lists = lists_of c.args.reader.indexes.now.hierarchy c.args.family in
@@ -20,6 +22,7 @@ returns-then-has_itself-clause-items g c =
     (λ found same. same ∙ sym (none_left lists c.args.concept (sym c.has_itself.ensures ∙ c.if-has_itself.true)))
     c.from_items.ensures.items
 
+-- a single concept that is not in its own list is kept apart
 pub returns-else-has_itself-clause-items : goal.returns-else-has_itself-clause-items
 returns-else-has_itself-clause-items g c =
     let lists = lists_of c.args.reader.indexes.now.hierarchy c.args.family in

@@ -6,10 +6,12 @@ use Rattle.walks.specs.Families.{lists_of}
 use Rattle.walks.proofs.JoinedLemmas.{all_joined}
 use Rattle.walks.proofs.walks.union.Goals as goal
 
+-- the words of what was found mark numbers below the bound of `operand`
 pub from_words-requires : goal.from_words-requires
 from_words-requires g c =
     subst (λ (count : ℕ). AreWordsBelow count c.words.result.now) (c.in_ok-found.ensures.bound ∙ sym c.bound.ensures) c.words.ensures.below
 
+-- the numbers that the words mark are the joined lists of the set
 pub returns-clause-items : goal.returns-clause-items
 returns-clause-items g c =
     let count = g.S.ConceptSet.bound_of c.args.operand.now in

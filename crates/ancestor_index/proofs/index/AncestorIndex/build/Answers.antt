@@ -11,15 +11,18 @@ use Rattle.ancestor_index.proofs.ClosureLemmas.{length-where}
 use Rattle.ancestor_index.proofs.CompleteLemmas.{rising}
 use Rattle.ancestor_index.proofs.index.AncestorIndex.build.Goals as goal
 
+-- both ends of each row are below the count of concepts
 pub linked_lists-requires-clause-within : goal.linked_lists-requires-clause-within
 linked_lists-requires-clause-within c =
     subst (λ (n : ℕ). IsWithin n c.isa_rows-rows.result.now)
     (sym c.concept_count-count.ensures.count) c.isa_rows-rows.ensures.within
 
+-- the parents are below the count of concepts
 pub turned-requires-clause-items : goal.turned-requires-clause-items
 turned-requires-clause-items c =
     where_below c.concept_count-count.result (is_child c.isa_rows-rows.result.now) c.in_ok-parents.parents c.in_ok-parents.ensures
 
+-- there are fewer than 2^32 lists of parents
 pub turned-requires-clause-few : goal.turned-requires-clause-few
 turned-requires-clause-few c =
     let fit : c.concept_count-count.result < 2 ^ 32 = c.concept_count-count.type_inv in
@@ -30,6 +33,7 @@ turned-requires-clause-few c =
       fit,
     )
 
+-- the order has fewer than 2^32 concepts
 pub ancestor_lists-requires-clause-few : goal.ancestor_lists-requires-clause-few
 ancestor_lists-requires-clause-few c =
     let fit : c.concept_count-count.result < 2 ^ 32 = c.concept_count-count.type_inv in
@@ -37,6 +41,7 @@ ancestor_lists-requires-clause-few c =
     let first = c.parents_first.ensures rows c.isa_rows-rows.ensures.rows c.isa_rows-rows.ensures.within in
     omega (arith, order_count (length c.args.snapshot.now.release.concepts) rows c.parents_first.result.now first, c.concept_count-count.ensures.count, fit)
 
+-- the lists of parents are those of the rows, and the order has parents first
 pub ancestor_lists-requires-clause-parents : goal.ancestor_lists-requires-clause-parents
 ancestor_lists-requires-clause-parents c =
     let rows = c.isa_rows-rows.result.now in
@@ -46,6 +51,7 @@ ancestor_lists-requires-clause-parents c =
           (c.in_ok-parents.ensures ∙ (λ i. lists_where (c.concept_count-count.ensures.count i) (is_child rows))) first,
     )
 
+-- the ancestors are below the count of concepts
 pub turned_rising-requires-clause-items : goal.turned_rising-requires-clause-items
 turned_rising-requires-clause-items c =
     let rows = c.isa_rows-rows.result.now in
@@ -56,6 +62,7 @@ turned_rising-requires-clause-items c =
     (c.parents_first.ensures rows c.isa_rows-rows.ensures.rows c.isa_rows-rows.ensures.within) c.in_ok-ancestors.ensures in
     where_below count (reaches rows) c.in_ok-ancestors.ancestors ancestors
 
+-- there are fewer than 2^32 lists of ancestors
 pub turned_rising-requires-clause-few : goal.turned_rising-requires-clause-few
 turned_rising-requires-clause-few c =
     let fit : c.concept_count-count.result < 2 ^ 32 = c.concept_count-count.type_inv in
@@ -67,6 +74,7 @@ turned_rising-requires-clause-few c =
     (c.parents_first.ensures rows c.isa_rows-rows.ensures.rows c.isa_rows-rows.ensures.within) c.in_ok-ancestors.ensures in
     omega (arith, ap (λ (lists : List (List ℕ)). length lists) ancestors, length-where count (reaches rows), fit)
 
+-- the lists of ancestors rise
 pub turned_rising-requires-clause-rising : goal.turned_rising-requires-clause-rising
 turned_rising-requires-clause-rising c =
     let rows = c.isa_rows-rows.result.now in
@@ -77,6 +85,7 @@ turned_rising-requires-clause-rising c =
     (c.parents_first.ensures rows c.isa_rows-rows.ensures.rows c.isa_rows-rows.ensures.within) c.in_ok-ancestors.ensures in
     subst (λ (lists : List (List ℕ)). All IsStrictlyIncreasing lists) (sym ancestors) (rising count (reaches rows))
 
+-- the descendants are below the count of concepts
 pub wide_lists-requires-clause-items : goal.wide_lists-requires-clause-items
 wide_lists-requires-clause-items c =
     let rows = c.isa_rows-rows.result.now in
@@ -90,6 +99,7 @@ wide_lists-requires-clause-items c =
     ∙ ap (turned count) ancestors ∙ turned_where count (reaches rows) in
     where_below count (λ concept other. reaches rows other concept) c.in_ok-descendants.descendants descendants
 
+-- there are fewer than 2^32 lists of descendants
 pub wide_lists-requires-clause-few : goal.wide_lists-requires-clause-few
 wide_lists-requires-clause-few c =
     let fit : c.concept_count-count.result < 2 ^ 32 = c.concept_count-count.type_inv in
@@ -100,6 +110,7 @@ wide_lists-requires-clause-few c =
       length-lists_by c.concept_count-count.result (turned_from 0 c.in_ok-ancestors.ancestors),
     )
 
+-- the long lists of descendants are kept as words
 pub invariant_of-result : goal.invariant_of-result
 invariant_of-result c =
     let fit : c.concept_count-count.result < 2 ^ 32 = c.concept_count-count.type_inv in
@@ -111,6 +122,7 @@ invariant_of-result c =
           c.in_ok-wide.wide.words.items) (sym long) c.in_ok-wide.ensures,
     )
 
+-- the four families of lists are the hierarchy of the release
 pub returns-clause-hierarchy : goal.returns-clause-hierarchy
 returns-clause-hierarchy c =
     let rows = c.isa_rows-rows.result.now in

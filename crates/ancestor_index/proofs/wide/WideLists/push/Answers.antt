@@ -3,6 +3,7 @@ use Rattle.ancestor_index.specs.Wide.{AreWide, IsKept}
 use Rattle.ancestor_index.proofs.WideLemmas.{wide_step}
 use Rattle.ancestor_index.proofs.wide.WideLists.push.Goals as goal
 
+-- with the words of one list more, the long lists are kept as words
 pub returns : goal.returns
 returns c = λ lists wide.
     let count = c.args.count in

@@ -2,6 +2,7 @@ use Rattle.std.proofs.Common.{◌∙◌, arith, drop, take}
 use Rattle.answer_printer.proofs.AnswerLemmas.{most_shown}
 use Rattle.answer_printer.proofs.form.AnswerForm.shown.Goals as goal
 
+-- the list has the shown items, also if no number of them is asked for
 pub returns : goal.returns
 returns g c =
     let form = c.args.self.now in

@@ -6,11 +6,12 @@ use Rattle.ecl_parser.specs.inside.Reading.{behind_close, stands}
 use Rattle.ecl_parser.proofs.EndLemmas.{stands_within}
 use Rattle.ecl_parser.proofs.tokens.Tokens.behind_close.Goals as goal
 
--- a token that stands there is one of the tokens, and of them each has an end
+-- a `(` at a place is one of the tokens, and has an end among `count` ends
 has_end : (tokens : List Token) (place count : ℕ) → stands marks.RoundOpen (symbols_from tokens place) ≡ true
     → count ≡ length (symbols tokens) → place < count
 has_end tokens place count is long = let within = stands_within marks.RoundOpen (symbols tokens) place is in omega arith
 
+-- the end at the place lies within the tokens
 pub offset_bounds-ends-place : goal.offset_bounds-ends-place
 offset_bounds-ends-place c =
     let Stands : List Token → Type 0 = λ tokens. stands marks.RoundOpen (symbols_from tokens c.args.place) ≡ true in
@@ -18,12 +19,14 @@ offset_bounds-ends-place c =
     (subst Stands (sym c.self.view_is) c.requires) c.self.invariant.long in
     omega (arith, c.self.told.1.1)
 
+-- the place lies within the ends
 pub bounds-ends-place : goal.bounds-ends-place
 bounds-ends-place c =
     let Stands : List Token → Type 0 = λ tokens. stands marks.RoundOpen (symbols_from tokens c.args.place) ≡ true in
     has_end c.self.inside.tokens.now c.args.place (length c.self.inside.ends.now)
     (subst Stands (sym c.self.view_is) c.requires) c.self.invariant.long
 
+-- the tokens from the end on are those after the `)` that closes the bracket
 pub returns : goal.returns
 returns c =
     let Ends : List Token → Type 0 = λ tokens. stands marks.RoundOpen (symbols_from tokens c.args.place) ≡ true

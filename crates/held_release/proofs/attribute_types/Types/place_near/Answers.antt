@@ -6,6 +6,7 @@ use Rattle.std.proofs.lemmas.List.Folds.{list_any_at}
 use Rattle.std.proofs.lemmas.Option.{get_or_from_slice_get, slice_get_within}
 use Rattle.held_release.proofs.attribute_types.Types.place_near.Goals as goal
 
+-- if the type stands at the guessed place, it is among the types, and `keys_behind` adds none
 pub returns-then-is_at-clause-numbers : goal.returns-then-is_at-clause-numbers
 returns-then-is_at-clause-numbers c =
     let numbers = c.args.self.now.numbers in

@@ -5,6 +5,7 @@ use Rattle.held_release.proofs.TypeLemmas.{place_near, placed_type}
 use Rattle.held_release.proofs.attribute_types.Types.place_of.Goals as goal
 use Rattle.held_release.proofs.attribute_types.Types.place_of.Goals.{then-is_new+in_ok-push, else-is_new}
 
+-- the place of the type fits into 32 bits
 pub overflow_cast-result : goal.overflow_cast-result
 overflow_cast-result c =
     record {
@@ -16,6 +17,7 @@ overflow_cast-result c =
       );
     }
 
+-- the type stands at the place that is answered
 pub returns-clause-place : goal.returns-clause-place
 returns-clause-place c =
     let place = c.in_ok-place.place in

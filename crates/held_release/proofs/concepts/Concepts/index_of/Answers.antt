@@ -3,6 +3,7 @@ use Rattle.std.proofs.lemmas.Grind.{common_steps}
 use Rattle.held_release.proofs.BucketLemmas.{greater_behind, less_before}
 use Rattle.held_release.proofs.concepts.Concepts.index_of.Goals as goal
 
+-- every identifier before the start of the bucket of `id` is less than `id`
 pub number_between-requires-clause-above : goal.number_between-requires-clause-above
 number_between-requires-clause-above c = λ place before.
     grind (
@@ -12,6 +13,7 @@ number_between-requires-clause-above c = λ place before.
           c.bucket_of-bucket.result c.bucket_of-bucket.ensures.is place,
     )
 
+-- every identifier from the start of the next bucket on is greater than `id`
 pub number_between-requires-clause-below : goal.number_between-requires-clause-below
 number_between-requires-clause-below c = λ place behind inside.
     grind (

@@ -6,6 +6,7 @@ use Rattle.held_release.specs.AttributesBySource.{HasNumbersBelow, attribute_num
 use Rattle.held_release.specs.Contents.{Contents}
 use Rattle.held_release.proofs.held_release.Snapshot.attribute_numbers.Goals as goal
 
+-- the row is the one with number `n` by source, and its numbers are those of concepts
 pub returns : goal.returns
 returns c =
     let concepts = c.self.inside.concepts in

@@ -5,6 +5,7 @@ use Rattle.held_release.specs.AttributesBySource.{numbered_lent, value_by_identi
 use Rattle.held_release.specs.Contents.{Contents}
 use Rattle.held_release.proofs.held_release.Snapshot.attribute_row.Goals as goal
 
+-- the row with its value by identifier is the one with number `n` by source
 pub returns-clause-row : goal.returns-clause-row
 returns-clause-row c =
     let concepts = c.args.self.now.release.concepts in

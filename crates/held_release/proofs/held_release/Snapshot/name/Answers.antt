@@ -3,6 +3,7 @@ use Rattle.held_release.specs.Name.{name_among}
 use Rattle.held_release.proofs.LineLemmas.{line_among}
 use Rattle.held_release.proofs.held_release.Snapshot.name.Goals as goal
 
+-- the line at the number is the line of the concept with some name
 pub name-requires-clause-line : goal.name-requires-clause-line
 name-requires-clause-line c =
     let inside = c.self.inside in

@@ -5,6 +5,7 @@ use Rattle.number_lists.proofs.CutLemmas.{cut}
 use Rattle.held_release.proofs.LineLemmas.{line_places}
 use Rattle.held_release.proofs.lines.ConceptLines.name.Goals as goal
 
+-- the start of the line is among the starts
 pub index-from-requires : goal.index-from-requires
 index-from-requires c = grind (
   arith,
@@ -14,6 +15,7 @@ index-from-requires c = grind (
   c.requires.number,
 )
 
+-- the end of the line is among the starts
 pub index-to-requires : goal.index-to-requires
 index-to-requires c = grind (
   arith,
@@ -23,7 +25,7 @@ index-to-requires c = grind (
   c.requires.number,
 )
 
--- the places that are read are those of the line
+-- the text between the two starts that are read is the line at `number`
 line_read : (starts texts text : List ℕ) (lists : List (List ℕ)) (number from to : ℕ) → text ≡ texts
     → (lines more : List ℕ) × (texts ≡ lines ++ more) × AreStarts starts lines → cut starts texts ≡ lists → number < length lists
     → from ≡ get_or starts number from → to ≡ get_or starts (number + 1) to
@@ -31,6 +33,7 @@ line_read : (starts texts text : List ℕ) (lists : List (List ℕ)) (number fro
 line_read starts texts text lists number from to same begun are below from_read to_read =
     grind (arith, (line_places starts texts lists number begun are below), get_or_read, same)
 
+-- the text between the two places is the line of the concept with some name
 pub name_between-requires : goal.name_between-requires
 name_between-requires c =
     grind (
@@ -45,6 +48,7 @@ name_between-requires c =
       c.requires.line,
     )
 
+-- the name that is found is the one in the line
 pub returns : goal.returns
 returns c = grind (
   arith,

@@ -11,7 +11,7 @@ use Rattle.held_release.proofs.NumberingLemmas.{number_has}
 use Rattle.held_release.proofs.numbered_attributes.NumberedAttributes.add.Goals as goal
 use Rattle.held_release.proofs.numbered_attributes.NumberedAttributes.add.Goals.{In_ok-push-in-Some-found}
 
--- the row by numbers is the one that was read
+-- the row by numbers stands for the row that was read
 row_own : (c : In_ok-push-in-Some-found)
     → IsOwnRow c.args.concepts.now c.number_value.new.concrete (attribute_read c.row-row.result)
     (record { source = c.in-Some.source; group = c.row-row.result.group; type_id = c.row-row.result.type_id; value = c.in-Some-found.value })
@@ -21,6 +21,7 @@ row_own c =
     (subst (IsNumberOf c.args.concepts.now c.number_value.new.concrete (attribute_read c.row-row.result).value) c.in-Some-found.is
     c.in_ok-found.ensures.value)
 
+-- a row whose source is not in force adds no attribute
 pub returns-in_default-clause-rows : goal.returns-in_default-clause-rows
 returns-in_default-clause-rows c = λ default.
     let keys = c.args.concepts.now in
@@ -30,6 +31,7 @@ returns-in_default-clause-rows c = λ default.
     subst (λ (attribute : Attribute). before ≡ before ++ attributes_among keys (attribute ∷ [])) (c.row-row.ensures default)
     (sym (append-nil before) ∙ ap (λ (more : List Attribute). before ++ more) (sym (source_left_out keys (attribute_read c.row-row.result) none)))
 
+-- a row whose source and value have numbers adds its attribute
 pub returns-in_ok-push-in-Some-found-clause-rows : goal.returns-in_ok-push-in-Some-found-clause-rows
 returns-in_ok-push-in-Some-found-clause-rows c = λ default.
     let keys = c.args.concepts.now in
@@ -42,6 +44,7 @@ returns-in_ok-push-in-Some-found-clause-rows c = λ default.
     (record { source = c.in-Some.source; group = c.row-row.result.group; type_id = c.row-row.result.type_id; value = c.in-Some-found.value })
     c.in_ok-push-in-Some-found.ensures.items (row_own c))
 
+-- all rows with the added one are numbered
 pub returns-in_ok-push-in-Some-found-clause-numbered : goal.returns-in_ok-push-in-Some-found-clause-numbered
 returns-in_ok-push-in-Some-found-clause-numbered c =
     all_numbered-push c.args.self.now.concrete c.number_value.new.concrete c.in_ok-found.ensures.grown c.args.concepts.now
@@ -49,6 +52,7 @@ returns-in_ok-push-in-Some-found-clause-numbered c =
     (record { source = c.in-Some.source; group = c.row-row.result.group; type_id = c.row-row.result.type_id; value = c.in-Some-found.value })
     c.in_ok-push-in-Some-found.ensures.items (row_own c).numbered
 
+-- a row whose value is a concept not in force adds no attribute
 pub returns-in-None-clause-rows : goal.returns-in-None-clause-rows
 returns-in-None-clause-rows c = λ default.
     let keys = c.args.concepts.now in
@@ -64,6 +68,7 @@ returns-in-None-clause-rows c = λ default.
     (row_left_out c.args.self.now.concrete grown c.in_ok-found.ensures.grown keys c.args.self.now.rows.items c.requires.numbered read
     (value_left_out keys read there none))
 
+-- the rows stay numbered if none is added
 pub returns-in-None-clause-numbered : goal.returns-in-None-clause-numbered
 returns-in-None-clause-numbered c =
     all_numbered c.args.self.now.concrete c.number_value.new.concrete c.in_ok-found.ensures.grown c.args.concepts.now

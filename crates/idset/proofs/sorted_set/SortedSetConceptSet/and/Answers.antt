@@ -4,6 +4,7 @@ use Rattle.idset.proofs.Rising.{common_items-swap}
 use Rattle.number_lists.proofs.RisingLemmas.{rising_fits}
 use Rattle.idset.proofs.sorted_set.SortedSetConceptSet.and.Goals as goal
 
+-- the common items are the same if the other list is gone through
 pub returns-in_ok-items-2-clause-items : goal.returns-in_ok-items-2-clause-items
 returns-in_ok-items-2-clause-items c =
     let mine = c.args.self.now in

@@ -6,11 +6,13 @@ use Rattle.idset.specs.Words.{AreWordsBelow, is_set}
 use Rattle.idset.proofs.WordLemmas.{holds_less, items_below}
 use Rattle.idset.proofs.word_set.WordSet.remove_all.Goals as goal
 
+-- each item to remove has its bit within the words
 pub unmark_all-requires : goal.unmark_all-requires
 unmark_all-requires c = λ k d in'.
     let mine = c.args.self.now in
     omega (arith, items_below mine.bound c.args.items.now c.requires k d in', c.deref_mut.ensures.len, mine.held.enough, ap length c.deref_mut.ensures.value)
 
+-- clearing bits leaves the words within the bound
 pub invariant_of-self : goal.invariant_of-self
 invariant_of-self c =
     let mine = c.args.self.now in
@@ -25,6 +27,7 @@ invariant_of-self c =
       rising = subst (λ (words : List ℕ). IsRisingBelow mine.bound (numbers_where mine.bound (is_set words))) (sym whole) holds.rising;
     }
 
+-- clearing the bits of `items` leaves the items of the set that are not in `items`
 pub returns-clause-items : goal.returns-clause-items
 returns-clause-items c =
     let mine = c.args.self.now in

@@ -6,11 +6,13 @@ use Rattle.idset.specs.Words.{AreWordsBelow, is_set}
 use Rattle.idset.proofs.WordLemmas.{holds_more, items_below}
 use Rattle.idset.proofs.word_set.WordSetConceptSet.add_all.Goals as goal
 
+-- each item to add has its bit within the words
 pub mark_all-requires : goal.mark_all-requires
 mark_all-requires c = λ k d in'.
     let mine = c.args.self.now in
     omega (arith, items_below mine.bound c.args.items.now c.requires k d in', c.deref_mut.ensures.len, mine.held.enough, ap length c.deref_mut.ensures.value)
 
+-- setting bits of items below the bound leaves the words within the bound
 pub invariant_of-self : goal.invariant_of-self
 invariant_of-self c =
     let mine = c.args.self.now in
@@ -25,6 +27,7 @@ invariant_of-self c =
       rising = subst (λ (words : List ℕ). IsRisingBelow mine.bound (numbers_where mine.bound (is_set words))) (sym whole) holds.rising;
     }
 
+-- setting the bits of `items` gives the union of the set and `items`
 pub returns-clause-items : goal.returns-clause-items
 returns-clause-items c =
     let mine = c.args.self.now in

@@ -3,6 +3,7 @@ use Rattle.std.specs.Simd.Lanes.{zip2}
 use Rattle.idset.proofs.WordLemmas.{holds_and, same_words}
 use Rattle.idset.proofs.word_set.WordSetConceptSet.and.Goals as goal
 
+-- the words of both sets are equally many, because their bounds are equal
 pub and_words-requires : goal.and_words-requires
 and_words-requires c =
     let mine = c.args.self.now in
@@ -11,6 +12,7 @@ and_words-requires c =
     ∙ same_words mine.bound theirs.bound mine.words.items theirs.words.items c.requires mine.held theirs.held
     ∙ sym (ap length c.deref.ensures.value)
 
+-- `bit_and` of the words of both sets stays within the bound
 pub invariant_of-result : goal.invariant_of-result
 invariant_of-result c =
     let mine = c.args.self.now in
@@ -20,6 +22,7 @@ invariant_of-result c =
     let holds = holds_and mine.bound theirs.bound mine.words.items theirs.words.items c.in_ok-words.words.items c.requires mine.held theirs.held made in
     record { held = holds.held; small = mine.small; rising = holds.rising }
 
+-- `bit_and` of the words of both sets holds their common items
 pub returns-clause-items : goal.returns-clause-items
 returns-clause-items c =
     let mine = c.args.self.now in

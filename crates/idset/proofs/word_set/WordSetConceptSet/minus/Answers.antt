@@ -4,6 +4,7 @@ use Rattle.idset.specs.Words.{bit_minus}
 use Rattle.idset.proofs.WordLemmas.{holds_minus, same_words}
 use Rattle.idset.proofs.word_set.WordSetConceptSet.minus.Goals as goal
 
+-- the words of both sets are equally many, because their bounds are equal
 pub minus_words-requires : goal.minus_words-requires
 minus_words-requires c =
     let mine = c.args.self.now in
@@ -12,6 +13,7 @@ minus_words-requires c =
     ∙ same_words mine.bound theirs.bound mine.words.items theirs.words.items c.requires mine.held theirs.held
     ∙ sym (ap length c.deref.ensures.value)
 
+-- `bit_minus` of the words of both sets stays within the bound
 pub invariant_of-result : goal.invariant_of-result
 invariant_of-result c =
     let mine = c.args.self.now in
@@ -21,6 +23,7 @@ invariant_of-result c =
     let holds = holds_minus mine.bound theirs.bound mine.words.items theirs.words.items c.in_ok-words.words.items c.requires mine.held theirs.held made in
     record { held = holds.held; small = mine.small; rising = holds.rising }
 
+-- `bit_minus` of the words of both sets holds the items of the first that are not in the second
 pub returns-clause-items : goal.returns-clause-items
 returns-clause-items c =
     let mine = c.args.self.now in

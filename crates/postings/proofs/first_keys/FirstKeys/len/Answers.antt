@@ -1,6 +1,7 @@
 use Rattle.std.proofs.Common.{List, ℕ, ap, arith, length, length-append}
 use Rattle.postings.proofs.first_keys.FirstKeys.len.Goals as goal
 
+-- the few and the others are together as many as the keys
 pub returns : goal.returns
 returns c =
     omega (

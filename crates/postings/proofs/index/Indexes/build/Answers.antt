@@ -6,6 +6,7 @@ use Rattle.postings.proofs.BuildLemmas.{indexes_of_own, length-members, members_
 use Rattle.postings.proofs.StatsLemmas.{lists_for}
 use Rattle.postings.proofs.index.Indexes.build.Goals as goal
 
+-- there are less than 2^32 lists of members
 pub with_members-requires : goal.with_members-requires
 with_members-requires c =
     let ids = c.args.snapshot.now.release.concepts in
@@ -16,14 +17,17 @@ with_members-requires c =
           c.concept_count.ensures.count c.in_ok-members.ensures,
     )
 
+-- the identifiers of the concepts rise
 pub typed_rows-requires-clause-rising : goal.typed_rows-requires-clause-rising
 typed_rows-requires-clause-rising c =
     subst (λ (ids : List ℕ). IsStrictlyIncreasing ids) (sym (c.as_slice.ensures.value ∙ c.in_ok-concepts.ensures)) c.concept_count.ensures.rising
 
+-- there are less than 2^31 identifiers of concepts
 pub typed_rows-requires-clause-few : goal.typed_rows-requires-clause-few
 typed_rows-requires-clause-few c =
     subst (λ (ids : List ℕ). length ids < 2 ^ 31) (sym (c.as_slice.ensures.value ∙ c.in_ok-concepts.ensures)) c.concept_count.ensures.few
 
+-- the built fields fit together as `AreIndexed` demands
 pub invariant_of-result : goal.invariant_of-result
 invariant_of-result c =
     let release = c.args.snapshot.now.release in
@@ -40,6 +44,7 @@ invariant_of-result c =
           ∙ (λ i. map (concept_number (c.as_slice.ensures.value i)) c.in_ok-rows.rows.types.ids.items);
     }
 
+-- the built indexes are those of the release
 pub returns : goal.returns
 returns c =
     let release = c.args.snapshot.now.release in

@@ -6,6 +6,7 @@ use Rattle.postings.specs.Indexed.{Indexed}
 use Rattle.postings.proofs.TableLemmas.{rising_is_sorted}
 use Rattle.postings.proofs.index.Indexes.decimals.Goals as goal
 
+-- the decimals are sorted, since they rise strictly
 pub returns-clause-rising : goal.returns-clause-rising
 returns-clause-rising c =
     subst (λ (indexed : Indexed). IsSorted int_cmp indexed.decimals) c.self.view_is

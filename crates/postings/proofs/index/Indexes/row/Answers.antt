@@ -21,9 +21,11 @@ within c =
     (row_coded_within c.self.inside c.self.invariant c.args.self.now c.self.view_is c.args.n
     (near c.self.inside c.self.invariant c.args.self.now c.self.view_is c.args.n c.requires))
 
+-- the indexes keep row `n`
 pub row-row-requires : goal.row-row-requires
 row-row-requires c = row_there c.self.inside c.self.invariant c.args.self.now c.self.view_is c.args.n c.requires
 
+-- the place of the row's type is in the list of type identifiers
 pub index-requires : goal.index-requires
 index-requires c =
     omega (
@@ -32,11 +34,13 @@ index-requires c =
       ap (λ (ids : List ℕ). length ids) c.self.invariant.rows.coded.ids,
     )
 
+-- the number of the row's value is that of a value
 pub value-requires : goal.value-requires
 value-requires c =
     subst (λ (indexed : Indexed). c.row-row.result.value < length (values_of indexed)) c.self.view_is
     (within (goal.at.value-requires c).After-row-row).value
 
+-- the row that is returned stands for row `n` of the attribute rows
 pub returns-clause-row : goal.returns-clause-row
 returns-clause-row c =
     let concepts = c.self.inside.concepts.items in
@@ -56,6 +60,7 @@ returns-clause-row c =
     c.index.result.now c.value.result c.self.invariant.rows.coded.ids (within (goal.at.returns-clause-row c).After-row-row).type_place
     c.index.ensures valued)
 
+-- the source of the row is the number of a concept
 pub returns-clause-source : goal.returns-clause-source
 returns-clause-source c =
     subst (λ (indexed : Indexed). c.row-row.result.source < length indexed.concepts) c.self.view_is

@@ -3,6 +3,7 @@ use Rattle.postings.specs.Indexed.{Indexed}
 use Rattle.postings.proofs.UnitLemmas.{length-rows}
 use Rattle.postings.proofs.index.Indexes.row_count.Goals as goal
 
+-- 32 bits hold the number of rows
 pub overflow_cast-result : goal.overflow_cast-result
 overflow_cast-result c =
     omega (
@@ -12,6 +13,7 @@ overflow_cast-result c =
       c.self.invariant.rows.coded.few,
     )
 
+-- there are as many rows as places of types
 pub returns-clause-count : goal.returns-clause-count
 returns-clause-count c =
     omega (

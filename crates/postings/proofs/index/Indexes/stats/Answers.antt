@@ -5,6 +5,7 @@ use Rattle.postings.specs.Indexed.{Indexed}
 use Rattle.postings.proofs.StatsLemmas.{stats_told}
 use Rattle.postings.proofs.index.Indexes.stats.Goals as goal
 
+-- the counts are those of any release whose indexes they are
 pub returns-clause-release : goal.returns-clause-release
 returns-clause-release c = λ release is.
     let ancestors = c.ancestor_count.ensures ∙ ap (λ (indexed : Indexed). length (concat indexed.hierarchy.ancestors)) c.self.view_is in

@@ -17,6 +17,7 @@ told indexed concepts place found are below is =
     ∙ get_or-map (concept_number indexed.concepts) types place 0 found below
     ∙ sym (ap (concept_of_type indexed) (slice_get-get_or types place 0 below))
 
+-- the concept found for a place is that of the type at the place
 pub returns-in-Some : goal.returns-in-Some
 returns-in-Some c =
     let lookup = c.in-Some.ensures.lookup in

@@ -7,20 +7,20 @@ use Rattle.postings.proofs.UnitLemmas.{concept_told, first_kept, has_first, sour
 use Rattle.postings.proofs.index.Indexes.unit_concept.Goals as goal
 use Rattle.postings.proofs.index.Indexes.unit_concept.Goals.{After-index-at, After-number, After-of}
 
--- the first row of the group can be read
+-- the indexes keep the first row of the group
 there : (c : After-of) → IsKept c.self.inside.rows (get_or c.of.result.now 0 0)
 there c =
     first_kept c.self.inside c.self.invariant c.args.self.now c.self.view_is c.args.unit c.requires (get_or c.of.result.now 0 0) 0
     (ap (λ (rows : List ℕ). get_or rows 0 0) c.of.ensures)
 
--- its place
+-- the code reads the place of the group's first row
 placed : (c : After-index-at) → c.index-at.result.now ≡ slice_index c.self.inside.rows.places.items (get_or c.of.result.now 0 0)
 placed c =
     c.index-at.ensures
     ∙ get_or_default c.self.inside.rows.places.items (get_or c.of.result.now 0 0) c.index-at.result.now 0
     (there (goal.at-After-index-at c).After-of).place
 
--- and its source
+-- the code reads the source of the group's first row
 read : (c : After-number) → c.number.result ≡ (row_kept c.self.inside.rows (get_or c.of.result.now 0 0)).source
 read c =
     let marks = c.self.inside.rows.by_type.sources.items in
@@ -32,9 +32,11 @@ read c =
     (omega (arith, place, (there (goal.at-After-number c).After-of).source))
     ∙ ap (mark_at marks) place)
 
+-- there is a list of rows for the group
 pub of-requires : goal.of-requires
 of-requires c = unit_listed c.self.inside c.self.invariant c.args.self.now c.self.view_is c.args.unit c.requires
 
+-- the list of the group's rows is not empty
 pub bounds-of-0 : goal.bounds-of-0
 bounds-of-0 c =
     omega (
@@ -43,13 +45,16 @@ bounds-of-0 c =
       has_first c.self.inside c.self.invariant c.args.self.now c.self.view_is c.args.unit c.requires,
     )
 
+-- the group's first row has a place among the rows of all types
 pub index-at-requires : goal.index-at-requires
 index-at-requires c = omega (arith, (there (goal.at.index-at-requires c).After-of).place)
 
+-- the column of sources has a cell at the place of the group's first row
 pub index-requires : goal.index-requires
 index-requires c =
     omega (arith, placed (goal.at.index-requires c).After-index-at, (there (goal.at.index-requires c).After-of).source)
 
+-- the source of the group's first row is the number of a concept
 pub returns-clause-within : goal.returns-clause-within
 returns-clause-within c =
     omega (
@@ -60,6 +65,7 @@ returns-clause-within c =
       ap (λ (indexed : Indexed). length indexed.concepts) c.self.view_is,
     )
 
+-- the source of the group's first row is the concept of the group
 pub returns-clause-concept : goal.returns-clause-concept
 returns-clause-concept c =
     concept_told c.self.inside c.self.invariant c.args.self.now c.self.view_is c.args.unit c.requires (get_or c.of.result.now 0 0) 0

@@ -5,10 +5,12 @@ use Rattle.postings.specs.inside.KeptRows.{IsKept, mark_at}
 use Rattle.postings.proofs.UnitLemmas.{row_there, unit_told}
 use Rattle.postings.proofs.index.Indexes.unit_of.Goals as goal
 
+-- row `n` has a place among the rows of all types
 pub index-place-requires : goal.index-place-requires
 index-place-requires c =
     omega (arith, (row_there c.self.inside c.self.invariant c.args.self.now c.self.view_is c.args.n c.requires).place)
 
+-- the group number at the place of row `n` leads to its group
 pub returns : goal.returns
 returns c =
     let rows = c.self.inside.rows in

@@ -2,6 +2,7 @@ use Rattle.std.proofs.Common.{ℕ, List, length, ap, arith}
 use Rattle.number_lists.proofs.CutLemmas.{length-cut}
 use Rattle.postings.proofs.texts.Texts.len.Goals as goal
 
+-- there is one text less than starts
 pub returns : goal.returns
 returns c =
     omega (

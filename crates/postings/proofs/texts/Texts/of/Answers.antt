@@ -5,13 +5,14 @@ use Rattle.number_lists.proofs.CutLemmas.{below_cut, end_within, found}
 use Rattle.postings.proofs.texts.Texts.of.Goals as goal
 use Rattle.postings.proofs.texts.Texts.of.Goals.{After-index-to}
 
--- where the text starts and ends
+-- the two ends of a text are its start and the next start, and they are within the bytes
 record Ends (starts bytes : List ℕ) (place from to : ℕ) : Type 0 where
   start : from ≡ get_or starts place 0
   end : to ≡ get_or starts (place + 1) 0
   rise : from ≤ to
   within : to ≤ length bytes
 
+-- the code reads the two ends of the text
 ends : (c : After-index-to)
     → Ends c.self.inside.starts.items c.self.inside.bytes.items c.args.place c.index-from.result.now c.index-to.result.now
 ends c =
@@ -27,10 +28,12 @@ ends c =
       within = omega (arith, end, end_within starts bytes c.self.invariant (c.args.place + 1) next);
     }
 
+-- the text has a start
 pub index-from-requires : goal.index-from-requires
 index-from-requires c =
     omega (arith, below_cut c.self.inside.starts.items c.self.inside.bytes.items c.args.self.now c.args.place c.self.view_is c.requires)
 
+-- the place after the text fits in a `usize`
 pub overflow_add-place : goal.overflow_add-place
 overflow_add-place c =
     record {
@@ -41,21 +44,26 @@ overflow_add-place c =
       );
     }
 
+-- there is a start after that of the text
 pub index-to-requires : goal.index-to-requires
 index-to-requires c =
     omega (arith, below_cut c.self.inside.starts.items c.self.inside.bytes.items c.args.self.now c.args.place c.self.view_is c.requires)
 
+-- the length of the slice of the text is no negative number
 pub slice_bounds-result-count : goal.slice_bounds-result-count
 slice_bounds-result-count c = (ends (goal.at.slice_bounds-result-count c).After-index-to).rise
 
+-- the slice of the text starts no later than it ends
 pub slice_bounds-result-start : goal.slice_bounds-result-start
 slice_bounds-result-start c = (ends (goal.at.slice_bounds-result-start c).After-index-to).rise
 
+-- the slice of the text ends within the bytes
 pub slice_bounds-result-end : goal.slice_bounds-result-end
 slice_bounds-result-end c =
     subst (λ (bytes : List ℕ). c.index-to.result.now ≤ length bytes) (sym c.deref.ensures.value)
     (ends (goal.at.slice_bounds-result-end c).After-index-to).within
 
+-- the slice from the text's start to the next start is the text
 pub returns : goal.returns
 returns c =
     let at = ends (goal.at.returns c).After-index-to in

@@ -19,6 +19,7 @@ asked c place below is =
     ∙ is_before nat_list_cmp_total c.args.self.now c.requires.rising c.args.text.now place [] below is middle
     (omega (arith, c.loop-from-test.true, c.loop-from.invariant.within))
 
+-- if the middle text is less than the text, the text stands after it
 pub loop-from-preserved-then-is_lt : goal.loop-from-preserved-then-is_lt
 loop-from-preserved-then-is_lt c = record {
   within = c.loop-from.invariant.within;
@@ -28,6 +29,7 @@ loop-from-preserved-then-is_lt c = record {
   );
 }
 
+-- if the middle text is not less than the text, the text stands there or before it
 pub loop-from-preserved : goal.loop-from-preserved
 loop-from-preserved c = record {
   within = omega (arith, c.loop-from-test.true, c.loop-from.invariant.within);
@@ -37,6 +39,7 @@ loop-from-preserved c = record {
   );
 }
 
+-- the place at which the search ends is that of the text
 pub returns : goal.returns
 returns c =
     let texts = c.args.self.now in

@@ -4,7 +4,7 @@ use Rattle.number_lists.specs.inside.KeyedListsInside.{AreStarts}
 use Rattle.postings.proofs.texts.Texts.push.Goals as goal
 use Rattle.postings.proofs.texts.Texts.push.Goals.{In_ok-push}
 
--- one place more, where all bytes end
+-- the starts get one more, at which all bytes end
 placed : (c : In_ok-push) → c.push.new.self.items
     ≡ c.self.inside.starts.items ++ (length c.self.inside.bytes.items + length c.args.text.now) ∷ []
 placed c =
@@ -19,6 +19,7 @@ placed c =
     ) in
     c.in_ok-push.ensures.items ∙ ap (λ n. c.self.inside.starts.items ++ n ∷ []) end
 
+-- the starts still begin at 0, do not fall, and end where the bytes do
 pub invariant_of-result : goal.invariant_of-result
 invariant_of-result c =
     let bytes = c.self.inside.bytes.items in
@@ -28,6 +29,7 @@ invariant_of-result c =
     (subst (λ (grown : List ℕ). AreStarts (starts ++ (length bytes + length text) ∷ []) grown)
     (sym c.in_ok-extend_from_slice.ensures.items) (starts-push starts bytes text c.self.invariant))
 
+-- the texts get one more at the end
 pub returns : goal.returns
 returns c =
     let text = c.args.text.now in

@@ -11,7 +11,7 @@ use Rattle.postings.proofs.ValueLemmas.{concept_placed, decimal_placed, had_deci
 use Rattle.postings.proofs.values.Values.number.Goals as goal
 use Rattle.postings.proofs.values.Values.number.Goals.{After-place_of, After-place_of-place}
 
--- the place of a decimal, and that of a text, have numbers
+-- 32 bits hold the place of a decimal, counted after the concepts
 near_decimal : (c : After-place_of)
     → length c.args.snapshot.now.release.concepts + c.place_of.result < 2 ^ 32
 near_decimal c =
@@ -24,6 +24,7 @@ near_decimal c =
       ap length c.as_slice.ensures.value,
     )
 
+-- 32 bits hold the place of a text, counted after the concepts and the decimals
 near_text : (c : After-place_of-place)
     → length c.args.snapshot.now.release.concepts + (length c.args.self.now.decimals.items + c.place_of-place.result) < 2 ^ 32
 near_text c =
@@ -35,10 +36,12 @@ near_text c =
       slice_get_within tables.texts c.place_of-place.result c.in-Other.text.now c.place_of-place.ensures,
     )
 
+-- the decimals rise strictly
 pub place_of-requires-clause-rising : goal.place_of-requires-clause-rising
 place_of-requires-clause-rising c =
     subst (IsStrictlySortedBy int_cmp) (sym c.as_slice.ensures.value) c.requires.rising.decimals_rise
 
+-- a decimal that is among the values is among the decimals
 pub place_of-requires-clause-there : goal.place_of-requires-clause-there
 place_of-requires-clause-there c =
     let concepts = c.args.snapshot.now.release.concepts in
@@ -48,6 +51,7 @@ place_of-requires-clause-there c =
     subst (λ (decimals : List ℤ). Contains decimals c.in-Decimal.decimal.0) (sym c.as_slice.ensures.value)
     (had_decimal concepts tables.decimals.items tables.texts c.in-Decimal.decimal.0 there)
 
+-- a text that is among the values is among the texts
 pub place_of-place-requires-clause-there : goal.place_of-place-requires-clause-there
 place_of-place-requires-clause-there c =
     let concepts = c.args.snapshot.now.release.concepts in
@@ -56,21 +60,26 @@ place_of-place-requires-clause-there c =
     let there = subst has c.in-Other.is c.requires.there in
     had_text concepts tables.decimals.items tables.texts c.in-Other.text.now there
 
+-- 32 bits hold the place of a decimal
 pub overflow_cast-result : goal.overflow_cast-result
 overflow_cast-result c = record { fits = omega (arith, near_decimal (goal.at.overflow_cast-result c).After-place_of) }
 
+-- 32 bits hold the number of a decimal
 pub overflow_add-result : goal.overflow_add-result
 overflow_add-result c =
     record { fits = omega (arith, near_decimal (goal.at.overflow_add-result c).After-place_of, c.concept_count-concepts.ensures.count) }
 
+-- the number of decimals and the place of a text together fit in a `usize`
 pub overflow_add-result-in-Other : goal.overflow_add-result-in-Other
 overflow_add-result-in-Other c =
     record { fits = omega (arith, near_text (goal.at.overflow_add-result-in-Other c).After-place_of-place, c.len.ensures) }
 
+-- 32 bits hold the place of a text, counted after the decimals
 pub overflow_cast-result-in-Other : goal.overflow_cast-result-in-Other
 overflow_cast-result-in-Other c =
     record { fits = omega (arith, near_text (goal.at.overflow_cast-result-in-Other c).After-place_of-place, c.len.ensures) }
 
+-- 32 bits hold the number of a text
 pub overflow_add-result-in-Other-2 : goal.overflow_add-result-in-Other-2
 overflow_add-result-in-Other-2 c =
     record {
@@ -82,6 +91,7 @@ overflow_add-result-in-Other-2 c =
       );
     }
 
+-- the value with the number of a concept is the concept
 pub returns-in-Concept : goal.returns-in-Concept
 returns-in-Concept c =
     let concepts = c.args.snapshot.now.release.concepts in
@@ -90,6 +100,7 @@ returns-in-Concept c =
     (subst (λ (value : NumberedValue). IsNumberBelow (length concepts) (numbered_lent value)) c.in-Concept.is c.requires.below)
     ∙ ap (λ (value : NumberedValue). Some (value_by_identifier concepts (numbered_lent value))) (sym c.in-Concept.is)
 
+-- the value with the number of a decimal is the decimal
 pub returns-in-Decimal : goal.returns-in-Decimal
 returns-in-Decimal c =
     let concepts = c.args.snapshot.now.release.concepts in
@@ -99,6 +110,7 @@ returns-in-Decimal c =
     (ap (λ (decimals : List ℤ). slice_get decimals c.place_of.result) (sym c.as_slice.ensures.value) ∙ c.place_of.ensures)
     ∙ ap (λ (value : NumberedValue). Some (value_by_identifier concepts (numbered_lent value))) (sym c.in-Decimal.is)
 
+-- the value with the number of a text is the text
 pub returns-in-Other : goal.returns-in-Other
 returns-in-Other c =
     let concepts = c.args.snapshot.now.release.concepts in

@@ -4,6 +4,7 @@ use Rattle.postings.specs.Indexed.{value_at}
 use Rattle.postings.proofs.ValueLemmas.{text_behind, values_behind}
 use Rattle.postings.proofs.values.Values.value.Goals as goal
 
+-- the text at a place after the decimals is the value there
 pub returns : goal.returns
 returns c =
     let decimals = c.args.self.now.decimals.items in

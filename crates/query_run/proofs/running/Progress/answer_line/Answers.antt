@@ -4,11 +4,13 @@ use Rattle.query_run.specs.declared.running.RunFault.{RunFault}
 use Rattle.query_run.proofs.FaultLemmas.{answers_one, is_answer_fault, leaves_one}
 use Rattle.query_run.proofs.running.Progress.answer_line.Goals as goal
 
+-- the answer to the pending bytes and `line` is written
 pub returns-in-Ok-clause-answer : goal.returns-in-Ok-clause-answer
 returns-in-Ok-clause-answer g c =
     let (text, is, wrote) = c.in-Ok.ensures.answer in
     answers_one (g.A.AnswerLine.answers c.args.answerer.now) _ _ (c.args.self.now.pending.items ++ c.args.line.now) text is wrote
 
+-- a fault of the answer leaves what the run's fault says
 pub returns-in-Err-clause-fault : goal.returns-in-Err-clause-fault
 returns-in-Err-clause-fault g c =
     let answers = g.A.AnswerLine.answers c.args.answerer.now in

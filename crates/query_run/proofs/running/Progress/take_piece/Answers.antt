@@ -7,6 +7,7 @@ use Rattle.query_run.proofs.LineLemmas.{IsCutInto-pending, IsCutInto-ended, IsCu
 use Rattle.query_run.proofs.FaultLemmas.{answers_none, answers_then, LeavesWritten_after, LeavesWritten-more}
 use Rattle.query_run.proofs.running.Progress.take_piece.Goals as goal
 
+-- before the first line the bytes before the piece are pending
 pub loop-line-init : goal.loop-line-init
 loop-line-init g c = record {
   sound = c.requires.sound;
@@ -22,7 +23,7 @@ loop-line-init g c = record {
   );
 }
 
--- one more line was answered
+-- one more line that ended is answered, and the pending bytes are empty
 pub loop-line-preserved : goal.loop-line-preserved
 loop-line-preserved g c =
     let line = c.in-Some.line.now in
@@ -48,7 +49,7 @@ loop-line-preserved g c =
           );
     }
 
--- the fault met the answer to the line behind those that were answered
+-- the fault met the answer to the line after those that were answered
 pub returns-in-Err-clause-fault : goal.returns-in-Err-clause-fault
 returns-in-Err-clause-fault g c unended clear kept =
     let (before, lines, whole, (begun, cut, is), count, wrote) = c.loop-line.invariant.lines unended clear kept in
@@ -71,7 +72,7 @@ returns-in-Err-clause-fault g c unended clear kept =
           (LeavesWritten_after answers lines ((begun ++ line) ∷ query_lines rest) 0 old mid new c.in-Err.fault wrote here),
     )
 
--- what is behind the last line that ended is kept
+-- the bytes after the last line feed of the piece are kept
 pub returns-in-Ok-keep-clause-ok : goal.returns-in-Ok-keep-clause-ok
 returns-in-Ok-keep-clause-ok g c unended clear kept =
     let (before, lines, whole, (begun, cut, is), count, wrote) = c.loop-line.invariant.lines unended clear kept in
@@ -86,7 +87,7 @@ returns-in-Ok-keep-clause-ok g c unended clear kept =
       wrote,
     )
 
--- all lines that ended were answered
+-- if the bytes after the last line feed can't be kept, all lines that ended were answered
 pub returns-in-Err-keep-clause-fault : goal.returns-in-Err-keep-clause-fault
 returns-in-Err-keep-clause-fault g c unended clear kept =
     let (before, lines, whole, (begun, cut, is), count, wrote) = c.loop-line.invariant.lines unended clear kept in
@@ -103,6 +104,7 @@ returns-in-Err-keep-clause-fault g c unended clear kept =
       ),
     )
 
+-- a line with its line feed is cut off, so the rest gets shorter
 pub loop-line-smaller : goal.loop-line-smaller
 loop-line-smaller g c =
     let line = c.in-Some.line.now in
@@ -110,6 +112,7 @@ loop-line-smaller g c =
     let is : c.loop-line.rest.now ≡ line ++ 10 ∷ later = c.in-Some.ensures.0 in
     omega (arith, ap length is, length-append line (10 ∷ later))
 
+-- one more answer can be counted, because a piece has fewer than 2^64 lines
 pub answer_line-requires-clause-room : goal.answer_line-requires-clause-room
 answer_line-requires-clause-room g c =
     let line = c.in-Some.line.now in

@@ -3,8 +3,8 @@ use Rattle.query_run.specs.KeptLine.{IsCutTo, kept_of}
 use Rattle.query_run.specs.Lines.{AreWritten, HasNoFeed}
 use Rattle.query_run.proofs.running.Progress.take_piece.Given as goal
 
--- whatever the line was of which the first pending bytes were kept: it and what came before the rest of the piece
--- are cut into lines that were answered
+-- for each line whose front the pending bytes were: this line and the piece, up to `rest`, are cut into lines that
+-- were answered
 abbrev pub invariant-loop-line : goal.invariant-loop-line
 invariant-loop-line g l = record {
   sound : g.W.AnswerOutput.has_failed l.output ≡ false;
@@ -18,5 +18,6 @@ invariant-loop-line g l = record {
       × AreWritten (g.A.AnswerLine.answers l.answerer) lines (g.W.AnswerOutput.written l.fn.output) (g.W.AnswerOutput.written l.output);
 }
 
+-- the rest of the piece gets shorter
 abbrev pub decreases-loop-line : goal.decreases-loop-line
 decreases-loop-line g l = length l.rest

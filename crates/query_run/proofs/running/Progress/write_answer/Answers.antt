@@ -5,7 +5,7 @@ use Rattle.streams.specs.Waiting.{WritesFront}
 use Rattle.streams.proofs.WaitingLemmas.{Puts-lost, Puts-written}
 use Rattle.query_run.proofs.running.Progress.write_answer.Goals as goal
 
--- the output failed where what waited of the answer was written
+-- the output failed at what waited of the answer, so a front of the answer is written
 pub returns-in-Err-flush-clause-fault : goal.returns-in-Err-flush-clause-fault
 returns-in-Err-flush-clause-fault g c =
     let (text, is, put) = c.in-Ok.ensures.ok in
@@ -17,7 +17,7 @@ returns-in-Err-flush-clause-fault g c =
           (Puts-lost _ _ _ c.args.self.now.waiting text c.answer_line.new.piece put c.in-Err-flush.ensures.err),
     )
 
--- what waited of the answer was written behind the rest of it
+-- the written part of the answer and what waited of it are the whole answer
 pub returns-in-Ok-flush-clause-answer : goal.returns-in-Ok-flush-clause-answer
 returns-in-Ok-flush-clause-answer g c =
     let (text, is, put) = c.in-Ok.ensures.ok in

@@ -5,7 +5,7 @@ use Rattle.query_service.specs.LimitedAnswer.{IsAnswerWithin}
 use Rattle.query_tool.proofs.LimitLemmas.{counted_answers, unlimited_answers}
 use Rattle.query_tool.proofs.engine.Engine.answer.Goals as goal
 
--- the answer without a limit, in the form of all lines with names
+-- the answer under the greatest limit, with all lines and names, is the answer to the line
 pub returns-clause-ok : goal.returns-clause-ok
 returns-clause-ok c =
     let contents = c.args.self.now in

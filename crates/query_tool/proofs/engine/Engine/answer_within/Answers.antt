@@ -8,6 +8,7 @@ use Rattle.query_tool.proofs.LimitLemmas.{counted_answers, found_answers, same_c
 use Rattle.query_tool.proofs.PromiseLemmas.{limited_answer_said, same_said}
 use Rattle.query_tool.proofs.engine.Engine.answer_within.Goals as goal
 
+-- the printed text answers the line under the limit, with the visits counted
 pub returns-clause-ok : goal.returns-clause-ok
 returns-clause-ok c =
     let early = c.args.visits.now.count in
@@ -18,7 +19,7 @@ returns-clause-ok c =
     (λ printed. (_, same_counted c.args.limit c.args.form c.args.line.now early late _ c.self.view_is counted, printed))
     c.print_and_drop.ensures.ok
 
--- in the words of the promise
+-- the printed text answers the line under the limit in the words of the promise
 pub returns-clause-promised : goal.returns-clause-promised
 returns-clause-promised c =
     let early = c.args.visits.now.count in
@@ -32,12 +33,14 @@ returns-clause-promised c =
     (λ printed. (_, same_said c.args.limit c.args.form c.args.line.now _ c.self.view_is said, printed))
     c.print_and_drop.ensures.ok
 
+-- the concepts that a constraint denotes rise, because those of the release do
 pub returns-clause-rising : goal.returns-clause-rising
 returns-clause-rising c = λ tree.
     subst (λ (contents : Contents). IsStrictlyIncreasing (denotation contents.release tree)) c.self.view_is
     (IsStrictlyIncreasing-filter (denotes c.self.inside.snapshot.release tree)
     c.self.inside.snapshot.release.concepts c.self.invariant.0)
 
+-- the concepts that a constraint denotes rise, also if memory was refused
 pub returns-in_err-found-clause-rising : goal.returns-in_err-found-clause-rising
 returns-in_err-found-clause-rising c = λ tree.
     subst (λ (contents : Contents). IsStrictlyIncreasing (denotation contents.release tree)) c.self.view_is

@@ -7,7 +7,7 @@ use Rattle.query_service.specs.LimitedAnswer.{IsAnswerWithin}
 use Rattle.query_tool.proofs.LimitLemmas.{unlimited_answers}
 use Rattle.query_tool.proofs.engine.Engine.write_answer.Goals as goal
 
--- the answer without a limit, in the form of all lines with names
+-- the text put under the greatest limit, with all lines and names, is the answer to the line
 pub returns-clause-ok : goal.returns-clause-ok
 returns-clause-ok g c =
     let contents = c.args.self.now in
@@ -22,6 +22,7 @@ returns-clause-ok g c =
     ))
     c.write_within.ensures.ok
 
+-- a fault leaves a front of the answer to the line
 pub returns-clause-fault : goal.returns-clause-fault
 returns-clause-fault g c =
     let contents = c.args.self.now in

@@ -8,7 +8,7 @@ use Rattle.ancestor_index.specs.HierarchyLists.{Hierarchy}
 use Rattle.ancestor_index.proofs.ClosureLemmas.{length-where, list_of-where}
 use Rattle.reading.proofs.reader.Reader.is_descendant.Goals as goal
 
--- the list is of those below the number of concepts that stand so to the concept
+-- the descendants of a concept rise, since their list has the numbers below a count that pass a test
 pub has_number-requires : goal.has_number-requires
 has_number-requires c =
     let release = c.args.self.snapshot.now.release in

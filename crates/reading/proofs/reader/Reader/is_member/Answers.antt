@@ -4,6 +4,7 @@ use Rattle.number_lists.specs.KeyedLists.{list_of}
 use Rattle.postings.proofs.MemberLists.{members_rise}
 use Rattle.reading.proofs.reader.Reader.is_member.Goals as goal
 
+-- the components of a reference set rise below 2^32, as `has_number` requires
 pub has_number-requires : goal.has_number-requires
 has_number-requires c =
     let release = c.args.self.snapshot.now.release in

@@ -1,15 +1,17 @@
--- What is held begins with a part.
+-- The bytes that are held begin with a part.
 use Rattle.std.proofs.Common.{◌≡◌, ℕ, length, ap, sym, refl, ◌∙◌, subst, arith}
 use Rattle.release_files.specs.Held.{GrowsBy, reachable}
 use Rattle.release_files.specs.Lines.{HasNoFeed}
 use Rattle.release_files.proofs.HeldLemmas.{begins_ended, begins_last, GrowsBy-clear, GrowsBy-keeps, GrowsBy-length, GrowsBy-none, KeepsBytes-trans, ReadsOn-trans, TakesWithin-trans}
 use Rattle.release_files.proofs.held.Held.find_part.Goals as goal
 
+-- if a line feed is found, the bytes up to it are the first part
 pub returns-in-Some-clause-part : goal.returns-in-Some-clause-part
 returns-in-Some-clause-part g c =
     let (some, within, part) = rw c.bytes.ensures at c.in-Some.ensures in
     begins_ended (reachable c.loop-count.self.left (g.S.FileSource.rest c.loop-count.source)) c.loop-count.self.bytes c.in-Some.count some part
 
+-- if no more bytes come, the bytes without a line feed are the last part, or there is none
 pub returns-then-branch-eq0-clause-part : goal.returns-then-branch-eq0-clause-part
 returns-then-branch-eq0-clause-part g c =
     let before = reachable c.loop-count.self.left (g.S.FileSource.rest c.loop-count.source) in
@@ -23,6 +25,7 @@ returns-then-branch-eq0-clause-part g c =
     (ap length (c.bytes-searched.ensures ∙ sym same))
     (subst HasNoFeed (c.bytes.ensures ∙ sym same) c.in_default.ensures)
 
+-- a piece that is read keeps the invariant
 pub loop-count-preserved : goal.loop-count-preserved
 loop-count-preserved g c =
     let first = g.S.FileSource.rest c.args.source.now in
@@ -48,6 +51,7 @@ loop-count-preserved g c =
       history = ReadsOn-trans _ _ _ _ _ _ kept.history read.history;
     }
 
+-- each piece makes the bytes that are held longer, so that fewer than 2^64 turns remain
 pub loop-count-smaller : goal.loop-count-smaller
 loop-count-smaller g c =
     omega (
@@ -57,6 +61,7 @@ loop-count-smaller g c =
       c.in_ok-read_piece.ensures.room,
     )
 
+-- if no more bytes come, the bytes that were searched are all that are held
 pub returns-then-branch-eq0-clause-within : goal.returns-then-branch-eq0-clause-within
 returns-then-branch-eq0-clause-within g c =
     omega (

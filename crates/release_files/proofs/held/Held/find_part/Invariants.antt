@@ -3,7 +3,8 @@ use Rattle.release_files.specs.Held.{KeepsBytes, ReadsOn, TakesWithin, reachable
 use Rattle.release_files.specs.Lines.{HasNoFeed}
 use Rattle.release_files.proofs.held.Held.find_part.Given as goal
 
--- no line feed is among the bytes that were searched
+-- no line feed is among the bytes that were searched, the bytes of the file are kept, and the source read within
+-- bounds
 abbrev pub invariant-loop-count : goal.invariant-loop-count
 invariant-loop-count g l = record {
   within : l.searched ≤ length l.self.bytes;
@@ -16,5 +17,6 @@ invariant-loop-count g l = record {
   history : ReadsOn (g.S.FileSource.history l.fn.source) (g.S.FileSource.history l.source) l.fn.self.left l.self.left;
 }
 
+-- the room up to 2^64 bytes falls as the bytes that are held grow
 abbrev pub decreases-loop-count : goal.decreases-loop-count
 decreases-loop-count g l = 2 ^ 64 - length l.self.bytes

@@ -3,6 +3,7 @@ use Rattle.release_files.specs.Held.{reachable}
 use Rattle.release_files.proofs.HeldLemmas.{GrowsBy-keeps, GrowsBy-length, KeepsBytes-trans, ReadsOn-trans, TakesWithin-trans}
 use Rattle.release_files.proofs.held.Held.read_at_least.Goals as goal
 
+-- a piece that is read keeps the invariant
 pub loop-self-preserved : goal.loop-self-preserved
 loop-self-preserved g c =
     let first = g.S.FileSource.rest c.args.source.now in
@@ -24,6 +25,7 @@ loop-self-preserved g c =
       history = ReadsOn-trans _ _ _ _ _ _ kept.history read.history;
     }
 
+-- each piece lowers the number of bytes that are missing
 pub loop-self-smaller : goal.loop-self-smaller
 loop-self-smaller g c =
     omega (

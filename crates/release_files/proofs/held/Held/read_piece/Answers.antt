@@ -1,10 +1,11 @@
--- The piece stands behind the bytes that were held.
+-- The piece follows the bytes that were held.
 use Rattle.std.proofs.Common.{◌≡◌, ◌+◌, ◌-◌, ◌∙◌, ℕ, List, ap, sym, arith, length, take}
 use Rattle.std.specs.Vec.{with_items}
 use Rattle.std.proofs.lemmas.List.{with_items_is}
 use Rattle.release_files.proofs.HeldLemmas.{few_bytes, grows_reached, takes_read}
 use Rattle.release_files.proofs.held.Held.read_piece.Goals as goal
 
+-- the bytes that are held grow by the piece that was read
 pub returns-clause-piece : goal.returns-clause-piece
 returns-clause-piece g c =
     let inside = c.self.inside in
@@ -33,14 +34,17 @@ returns-clause-piece g c =
     (omega (arith, c.min-room.ensures, left_is))
     (omega (arith, left_is)))
 
+-- if the source fails, fewer than 2^64 bytes are held
 pub returns-in_err-count-clause-room : goal.returns-in_err-count-clause-room
 returns-in_err-count-clause-room g c = few_bytes _ 0 (c.self.inside.filled - c.self.inside.start) (omega arith)
 
+-- after a read fewer than 2^64 bytes are held
 pub returns-clause-room : goal.returns-clause-room
 returns-clause-room g c =
     few_bytes _ 0 (c.self.inside.filled - c.self.inside.start + c.in_ok-count.count)
     (omega (arith, c.in_ok-count.ensures.few, c.min-room.ensures))
 
+-- a read takes no more bytes than may be read
 pub returns-clause-bounded : goal.returns-clause-bounded
 returns-clause-bounded g c =
     let inside = c.self.inside in
@@ -50,6 +54,7 @@ returns-clause-bounded g c =
     c.in_ok-count.ensures.piece c.in_ok-count.ensures.within c.in_ok-count.ensures.few c.min-room.ensures
     (ap (λ held. held.left) c.self.view_is)
 
+-- the number of bytes that may be read falls by as many as were read
 pub returns-clause-counted : goal.returns-clause-counted
 returns-clause-counted g c =
     omega (arith, c.in_ok-count.ensures.few, c.min-room.ensures, ap (λ held. held.left) c.self.view_is)

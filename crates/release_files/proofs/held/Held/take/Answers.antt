@@ -2,6 +2,7 @@ use Rattle.std.proofs.Common.{◌∙◌, ap, ◌-◌, arith, drop, length, lengt
 use Rattle.release_files.proofs.HeldLemmas.{slice_behind}
 use Rattle.release_files.proofs.held.Held.take.Goals as goal
 
+-- the sum of `start` and `count` does not overflow, since that many bytes are held
 pub overflow_add-self : goal.overflow_add-self
 overflow_add-self c =
     let inside = c.self.inside in
@@ -14,6 +15,7 @@ overflow_add-self c =
       );
     }
 
+-- the bytes that are left are those held, without the first `count`
 pub returns-clause-bytes : goal.returns-clause-bytes
 returns-clause-bytes c =
     slice_behind c.self.inside.buffer.items c.self.inside.start c.args.count c.self.inside.filled

@@ -1,4 +1,4 @@
--- The mark is dropped of what is held.
+-- A byte order mark is dropped from the bytes that are held.
 use Rattle.std.proofs.Common.{◌∙◌, ap, arith, length, refl}
 use Rattle.release_files.specs.declared.piece_lines.PieceLines.{PieceLines}
 use Rattle.release_files.specs.declared.piece_lines.Stage.TheVariants.{Begun}
@@ -7,6 +7,7 @@ use Rattle.release_files.specs.Lines.{mark_length}
 use Rattle.release_files.proofs.PieceLemmas.{begun_keeps}
 use Rattle.release_files.proofs.piece_lines.PieceLines.begin.Goals as goal
 
+-- dropping a byte order mark keeps the lines to come
 pub returns-clause-kept : goal.returns-clause-kept
 returns-clause-kept g c =
     let read = c.in_ok-read_at_least.ensures in

@@ -10,9 +10,11 @@ use Rattle.rf2_rows.proofs.RowTextLemmas.{text_in-row}
 use Rattle.rf2_rows.proofs.VersionLemmas.{time_in-on}
 use Rattle.release_rows.proofs.comparing.Comparing.compare.Goals as goal
 
+-- the effective time of a row has at most eight digits, as `take` requires
 pub take-requires-clause-time : goal.take-requires-clause-time
 take-requires-clause-time c time told = grind (arith, common_steps, nat_tests, short_time_on, time_in-on)
 
+-- if the expected row does not fit, it conflicts with an earlier row
 pub returns-then-not-fits-clause-err : goal.returns-then-not-fits-clause-err
 returns-then-not-fits-clause-err c other rows expected =
     let key : key_in c.args.self.now.keys.now.uuids (row_text c.args.kind c.args.line.bytes.now) ≡ c.args.key =
@@ -24,6 +26,7 @@ returns-then-not-fits-clause-err c other rows expected =
     let fits = c.in_ok-fits.ensures.conflict rows expected.taken (rw key at expected.kinds) in
     (refl, rw (key, time) (not-false _ (sym fits ∙ c.if-not-fits.true)))
 
+-- a row that fits has been compared after the earlier ones
 pub returns-clause-ok : goal.returns-clause-ok
 returns-clause-ok c =
     let key : key_in c.args.self.now.keys.now.uuids (row_text c.args.kind c.args.line.bytes.now) ≡ c.args.key =

@@ -6,6 +6,7 @@ use Rattle.release_rows.proofs.CompareLemmas.{denied-line}
 use Rattle.release_rows.proofs.TakingLemmas.{if_err}
 use Rattle.release_rows.proofs.comparing.Comparing.compare_line.Goals as goal
 
+-- if `compare` refuses the row of the line, the place of the line is refused
 pub returns-in-Ok-clause-err : goal.returns-in-Ok-clause-err
 returns-in-Ok-clause-err c = if_err _ _ c.compare.result (λ fault said other.
     denied-line (compared_in c.args.self.now) c.args.file c.args.kind

@@ -7,6 +7,7 @@ use Rattle.release_rows.proofs.ReadLineLemmas.{read-added, read-row, stopped-cro
 use Rattle.release_rows.proofs.TakingLemmas.{if_err}
 use Rattle.release_rows.proofs.rows.Rows.read_line.Goals as goal
 
+-- if the row of a line was added, the place of the line was read
 pub returns-in-Ok-clause-ok : goal.returns-in-Ok-clause-ok
 returns-in-Ok-clause-ok c =
     grind (
@@ -22,6 +23,7 @@ returns-in-Ok-clause-ok c =
       c.add.ensures.ok,
     )
 
+-- if no more rows of the kind may come, the place of the line stops the pass
 pub returns-in-Ok-clause-err : goal.returns-in-Ok-clause-err
 returns-in-Ok-clause-err c =
     let read = read-row c.args.kind c.args.line.bytes.now c.read_row.result c.in-Ok.row c.in-Ok.is

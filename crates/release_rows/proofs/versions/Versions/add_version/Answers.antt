@@ -5,6 +5,7 @@ use Rattle.release_rows.proofs.VersionLemmas.{kept_more, key_place-code, taken_f
 use Rattle.release_rows.proofs.versions.Versions.add_version.Goals as goal
 use Rattle.release_rows.proofs.versions.Versions.add_version.Goals.{In_ok-push-2}
 
+-- the first row of a new version is taken after the earlier rows
 pub returns-clause-taken : goal.returns-clause-taken
 returns-clause-taken c = rw (← c.self.view_is) (λ rows before.
     taken_first (taken_in c.self.inside) c.self.invariant.rising rows before (noted c.args.row.now) c.args.code
@@ -12,7 +13,7 @@ returns-clause-taken c = rw (← c.self.view_is) (λ rows before.
     (rw (← c.self.view_is) at c.requires.new) c.requires.accepted c.in_ok-meet.ensures.keys
     (rw (← c.self.inside.chosen.ok.0, ← c.len-place.ensures) c.in_ok-push-2.ensures.ok) c.in_ok-push.ensures.items)
 
--- the version that is added is kept, and at most one code
+-- the table keeps to `AreKept` with the version that is added and at most one more code
 kept : (c : In_ok-push-2) (codes : List ℕ) → length codes ≤ length c.self.inside.seen + 1
     → AreKept (record {
       repeated = c.self.inside.repeated;
@@ -27,6 +28,7 @@ kept c codes few =
     c.in_ok-push-2.ensures.ok c.in_ok-push.ensures.items (omega (arith, place, code.within))
     (omega (arith, c.len-place.ensures, c.self.inside.chosen.ok.0))
 
+-- after the code is added, the table keeps to `AreKept`
 pub invariant_of-self-2 : goal.invariant_of-self-2
 invariant_of-self-2 c =
     let codes : c.meet.new.self ≡ c.self.inside.seen ++ c.args.code ∷ [] =
@@ -34,6 +36,7 @@ invariant_of-self-2 c =
     kept (goal.at.invariant_of-self-2 c).In_ok-push-2 c.meet.new.self
     (omega (arith, ap length codes, length_push c.self.inside.seen c.args.code))
 
+-- if the code cannot be added, the table keeps to `AreKept`
 pub invariant_of-self-in_err-meet : goal.invariant_of-self-in_err-meet
 invariant_of-self-in_err-meet c = kept (goal.at.invariant_of-self-in_err-meet c).In_ok-push-2 c.meet.new.self
     (omega (arith, ap length c.in_err-meet.ensures.err))

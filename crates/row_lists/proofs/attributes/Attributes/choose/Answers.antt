@@ -6,6 +6,7 @@ use Rattle.row_lists.proofs.ChosenItemLemmas.{All-marked, map-marked}
 use Rattle.row_lists.proofs.attributes.Attributes.choose.Goals as goal
 use Rattle.std.proofs.Common.{arith}
 
+-- the chosen rows have their values among the concrete values
 pub invariant_of-self : goal.invariant_of-self
 invariant_of-self c = grind (
   arith,
@@ -15,5 +16,6 @@ invariant_of-self c = grind (
       (marked (in_list ListedAttribute c.args.marks.now) c.args.choices.now) c.self.inside.rows.items c.self.invariant),
 )
 
+-- the chosen rows stand for the chosen attributes
 pub returns : goal.returns
 returns c = grind (arith, c.in_ok-self-inside.ensures, c.as_slice.ensures.value, map-marked, c.self.view_is)

@@ -5,6 +5,7 @@ use Rattle.row_lists.specs.ConcreteValues.{Concrete, a_number}
 use Rattle.row_lists.specs.declared.concrete_values.KeptConcrete.TheVariants.{Decimal}
 use Rattle.row_lists.proofs.concrete_values.ConcreteValues.push_decimal.Goals as goal
 
+-- adding a number adds one value at the end
 pub returns-clause-grown : goal.returns-clause-grown
 returns-clause-grown c =
     let texts = c.self.inside.texts.items in
@@ -15,6 +16,7 @@ returns-clause-grown c =
           ∙ ap (λ (values : List Concrete). values ++ added) c.self.view_is,
     )
 
+-- the index that is answered is within the values
 pub returns-clause-within : goal.returns-clause-within
 returns-clause-within c = omega (
   arith,

@@ -9,6 +9,7 @@ use Rattle.row_lists.proofs.ConcreteLemmas.{concrete-extends, placed-extends}
 use Rattle.row_lists.proofs.SpanLemmas.{all-push, rows-push, rows-same}
 use Rattle.row_lists.proofs.concrete_values.ConcreteValues.push_text.Goals as goal
 
+-- if the value cannot be added after its text was, the values stay the same
 pub returns-in_err-push-clause-grown : goal.returns-in_err-push-clause-grown
 returns-in_err-push-clause-grown c =
     let texts = c.self.inside.texts.items in
@@ -22,6 +23,7 @@ returns-in_err-push-clause-grown c =
           ∙ sym (append-nil c.args.self.now),
     )
 
+-- after the value is added, all texts stand within the buffer
 pub invariant_of-self-2 : goal.invariant_of-self-2
 invariant_of-self-2 c =
     let texts = c.self.inside.texts.items in
@@ -30,6 +32,7 @@ invariant_of-self-2 c =
     all-push (IsPlaced texts) (IsPlaced grown) (placed-extends texts grown extends) c.self.inside.values.items c.push.new.self.items (Other c.in_ok-span.span)
     c.in_ok-push.ensures.items c.self.invariant c.in_ok-span.ensures.span.placed
 
+-- adding a text adds one value at the end
 pub returns-clause-grown : goal.returns-clause-grown
 returns-clause-grown c =
     let texts = c.self.inside.texts.items in
@@ -42,6 +45,7 @@ returns-clause-grown c =
           ∙ ap (λ (values : List Concrete). values ++ added) c.self.view_is,
     )
 
+-- the index that is answered is within the values
 pub returns-clause-within : goal.returns-clause-within
 returns-clause-within c = omega (
   arith,
@@ -51,6 +55,7 @@ returns-clause-within c = omega (
   c.len-place.ensures,
 )
 
+-- if the value cannot be added, there are no more values than before
 pub returns-in_err-push-clause-count : goal.returns-in_err-push-clause-count
 returns-in_err-push-clause-count c = omega (
   arith,
@@ -60,6 +65,7 @@ returns-in_err-push-clause-count c = omega (
   length-map c.self.inside.values.items (concrete_in c.self.inside.texts.items),
 )
 
+-- if the value cannot be added, the texts still stand within the longer buffer
 pub invariant_of-self-in_err-push : goal.invariant_of-self-in_err-push
 invariant_of-self-in_err-push c =
     let texts = c.self.inside.texts.items in

@@ -6,6 +6,7 @@ use Rattle.row_lists.proofs.ChosenItemLemmas.{All-marked}
 use Rattle.row_lists.proofs.names.Names.choose.Goals as goal
 use Rattle.std.proofs.Common.{string_bytes, arith}
 
+-- the texts of the chosen rows stand in the buffer
 pub invariant_of-self : goal.invariant_of-self
 invariant_of-self c = grind (
   arith,

@@ -7,6 +7,7 @@ use Rattle.row_lists.proofs.NameLemmas.{name-extends, placed-extends}
 use Rattle.row_lists.proofs.SpanLemmas.{all-push, extends-both, rows-push, text-extends, text_span-extends}
 use Rattle.row_lists.proofs.names.Names.push.Goals as goal
 
+-- if the term cannot be added, the texts of the rows still stand in the buffer
 pub invariant_of-self-in_err-term : goal.invariant_of-self-in_err-term
 invariant_of-self-in_err-term c =
     All-weaker (IsPlaced (string_bytes c.self.inside.texts)) (IsPlaced (string_bytes c.push_text-2.new.texts))
@@ -14,6 +15,7 @@ invariant_of-self-in_err-term c =
     (c.args.language.now, c.in_err-term.ensures.same ∙ c.in_ok-language.ensures.grown)
     (IsUtf8-string_bytes c.self.inside.texts) (IsUtf8-string_bytes c.push_text-2.new.texts)) c.self.inside.rows.items c.self.invariant
 
+-- if the row cannot be added, the texts of the rows still stand in the longer buffer
 pub invariant_of-self-in_err-push : goal.invariant_of-self-in_err-push
 invariant_of-self-in_err-push c =
     let texts = string_bytes c.self.inside.texts in
@@ -24,6 +26,7 @@ invariant_of-self-in_err-push c =
     (placed-extends texts grown extends (IsUtf8-string_bytes c.self.inside.texts)
     (IsUtf8-string_bytes c.push_text-2.new.texts)) c.self.inside.rows.items c.self.invariant)
 
+-- after the row is added, the texts of all rows stand in the buffer
 pub invariant_of-self-2 : goal.invariant_of-self-2
 invariant_of-self-2 c =
     let texts = string_bytes c.self.inside.texts in
@@ -39,6 +42,7 @@ invariant_of-self-2 c =
       term = c.in_ok-term.ensures.text;
     })
 
+-- after the row is added, its name comes last
 pub returns : goal.returns
 returns c =
     let texts = string_bytes c.self.inside.texts in

@@ -7,6 +7,7 @@ use Rattle.row_lists.specs.declared.names.NameRow.{NameRow}
 use Rattle.row_lists.proofs.NameLemmas.{map-filter}
 use Rattle.row_lists.proofs.names.Names.retain_among.Goals as goal
 
+-- the texts of the rows that are retained stand in the buffer
 pub invariant_of-self : goal.invariant_of-self
 invariant_of-self g c =
     let left =
@@ -19,6 +20,7 @@ invariant_of-self g c =
           (IsPlaced (string_bytes c.self.inside.texts)) c.self.inside.rows.items c.self.invariant),
     )
 
+-- the rows that are retained are those of the known concepts
 pub returns : goal.returns
 returns g c =
     let left : c.retain.new.self.items

@@ -9,6 +9,7 @@ use Rattle.snapshot.proofs.load.SnapshotLoadSnapshot.load.Goals as goal
 use Rattle.std.proofs.lemmas.Grind.{common_steps}
 use Rattle.std.proofs.lemmas.Bool.Decides.{nat_tests}
 
+-- if no file has the name of a Concept file, the load of the files answers that fault
 pub returns-then-not-has_concept_file-clause-err : goal.returns-then-not-has_concept_file-clause-err
 returns-then-not-has_concept_file-clause-err c other =
     grind (
@@ -20,6 +21,7 @@ returns-then-not-has_concept_file-clause-err c other =
       c.if-not-has_concept_file.ensures,
     )
 
+-- a snapshot that is answered is the load of the files
 pub returns-clause-ok : goal.returns-clause-ok
 returns-clause-ok c = grind (
   arith,
@@ -33,6 +35,7 @@ returns-clause-ok c = grind (
   c.load_places.ensures.ok,
 )
 
+-- a fault that is answered is that of the load of the files, or want of memory
 pub returns-clause-err : goal.returns-clause-err
 returns-clause-err c =
     let loaded : loaded_from c.in_force.result c.args.lang.now c.kind_count.result

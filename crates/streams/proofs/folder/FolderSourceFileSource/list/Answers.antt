@@ -3,6 +3,7 @@ use Rattle.streams.specs.Walk.{AreFilesOf}
 use Rattle.streams.proofs.WalkLemmas.{given_ok}
 use Rattle.streams.proofs.folder.FolderSourceFileSource.list.Goals as goal
 
+-- the names that the source answers are those of the files of the folders
 pub returns-clause-listed : goal.returns-clause-listed
 returns-clause-listed g c tree told =
     given_ok (λ names. AreFilesOf tree c.args.self.now.folders.now (map string_bytes names.items)) c.counted.result

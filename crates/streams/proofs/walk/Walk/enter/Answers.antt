@@ -4,6 +4,7 @@ use Rattle.streams.specs.inside.WalkInside.{found_by}
 use Rattle.streams.proofs.WalkLemmas.{enters_again, enters_ok, told_again, told_first}
 use Rattle.streams.proofs.walk.Walk.enter.Goals as goal
 
+-- a folder that was entered before is not entered again
 pub returns-then-not-is_new : goal.returns-then-not-is_new
 returns-then-not-is_new g c tree told =
     enters_again tree c.args.folder.now c.args.below.now c.as_str.result.now c.in_ok-folder_number.field-0
@@ -12,6 +13,7 @@ returns-then-not-is_new g c tree told =
     (told_again _ c.in_ok-is_new.is_new c.in_ok-is_new.ensures.new c.if-not-is_new.true)
     c.in_ok-is_new.ensures.keys
 
+-- a folder that is new is entered if what stands in it can be taken
 pub returns : goal.returns
 returns g c tree told =
     enters_ok tree c.args.folder.now c.args.below.now c.as_str.result.now c.in_ok-folder_number.field-0

@@ -3,6 +3,7 @@ use Rattle.streams.specs.inside.WalkInside.{found_by}
 use Rattle.streams.proofs.WalkLemmas.{enters_next, enters_none}
 use Rattle.streams.proofs.walk.Walk.enter_all.Goals as goal
 
+-- one folder that is entered keeps the invariant for the next folder
 pub loop-below-preserved : goal.loop-below-preserved
 loop-below-preserved g c tree last new told rest =
     c.loop-below.invariant tree last new told
@@ -10,6 +11,7 @@ loop-below-preserved g c tree last new told rest =
     c.loop-below.self.entered c.enter.new.self.entered last (found_by c.loop-below.self) (found_by c.enter.new.self) new
     c.loop-below-test.true (c.as_str.ensures.value ∙ ap string_bytes c.below-item.is) (c.in-Ok.ensures tree told) rest)
 
+-- after the last folder all folders of the level have been entered
 pub returns : goal.returns
 returns g c tree told =
     c.loop-below.invariant tree c.loop-below.self.entered (found_by c.loop-below.self) told

@@ -3,7 +3,7 @@ use Rattle.streams.specs.Walk.{EntersAll, FolderTree, Found}
 use Rattle.streams.specs.inside.WalkInside.{found_by}
 use Rattle.streams.proofs.walk.Walk.enter_all.Given as goal
 
--- to enter the folders ahead ends as to enter all does
+-- entering the folders ahead ends as entering all folders of the level does
 abbrev pub invariant-loop-below : goal.invariant-loop-below
 invariant-loop-below g l =
     (tree : FolderTree) (last : List ℕ) (new : Found) → g.R.FolderSystem.tree l.rt ≡ Some tree

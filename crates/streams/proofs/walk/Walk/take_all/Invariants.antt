@@ -3,7 +3,7 @@ use Rattle.streams.specs.Walk.{FolderTree, found_in}
 use Rattle.streams.specs.inside.WalkInside.{found_by}
 use Rattle.streams.proofs.walk.Walk.take_all.Given as goal
 
--- what is found under the names ahead is what is found under all
+-- the names ahead add what all names add, and the folders that were entered stay the same
 abbrev pub invariant-loop-name : goal.invariant-loop-name
 invariant-loop-name g l = record {
   ahead : (tree : FolderTree) → g.R.FolderSystem.tree l.rt ≡ Some tree
