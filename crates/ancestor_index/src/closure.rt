@@ -1,4 +1,4 @@
-//! The ancestors of each concept: its parents and their ancestors.
+//! Finding the ancestors of each concept: its parents and their ancestors.
 ghost use Rattle.std.specs.Prelude.{ℕ, ◌≡◌, ◌<◌, ◌^◌, ◌||◌, ◌++◌, Bool, List, All, IfOk, IfSome, OnOk, length, map, nat_eq, slice_index, vec_len};
 ghost use Rattle.std.specs.List.{IsDistinct};
 ghost use Rattle.hierarchy.specs.Hierarchy.{reaches};
@@ -18,19 +18,21 @@ use number_lists::{KeyedLists, keep_rising};
 use std::alloc::{AllocError, Global};
 use std::mem::swap;
 
-// How many lists are joined one after another at most. Each join copies all that was joined before, so more lists
-// would take long: they are gathered and sorted instead.
+// How many lists are merged one after another at most. Each merge copies all that was merged
+// before, so more lists would take long: they are gathered and sorted instead.
 const FEW: usize = 8;
 
-// Buffers for joining one list after another, so that no join asks for memory of its own.
+// Two buffers for merging one list after another. All merges use them, so that a merge has no
+// buffer of its own.
 #[derive(Drop)]
 struct Room {
     list: Vec<u32>,
-    // receives the joined list; then both buffers are swapped
+    // receives the merged list; then both buffers are swapped
     spare: Vec<u32>,
 }
 
-/// Returns the ancestors of each concept, from the parents of each and an order in which parents come first.
+/// Returns the list of ancestors of each concept. `parents` has the list of parents of each
+/// concept, and `order` has all concepts, parents before their children.
 pub fn ancestor_lists(
     alloc: Global,
     parents: &KeyedLists,
@@ -46,13 +48,14 @@ pub fn ancestor_lists(
     reordered(alloc, &by_place, places.as_slice())
 }
 
-// Returns the place of each concept in the order.
+// Returns for each concept its place in `order`.
 fn places_in(alloc: Global, order: &[u32]) -> Result<Vec<u32>, AllocError>
     requires few { length order.now < 2 ^ 32 }
     requires once { IsDistinct nat_eq order.now }
     requires below { All (λ concept. concept < length order.now) order.now }
     ensures len { IfOk result (λ places. vec_len places ≡ length order.now) }
-    ensures places { IfOk result (λ places. (place : ℕ) → place < length order.now → slice_index places.items (slice_index order.now place) ≡ place) }
+    ensures places { IfOk result (λ places. (place : ℕ) → place < length order.now
+        → slice_index places.items (slice_index order.now place) ≡ place) }
 {
     let mut places = vec![in alloc; 0u32; order.len()]?;
     for (place, concept) in order.iter().enumerate() {
@@ -61,7 +64,9 @@ fn places_in(alloc: Global, order: &[u32]) -> Result<Vec<u32>, AllocError>
     Ok(places)
 }
 
-// Returns the ancestors of each concept of the order, in the order of the concepts.
+// Returns the lists of ancestors of the concepts, in the order of `order`. When the list of a
+// concept is made, those of its parents are there already. `places` has the place of each concept
+// in `order`.
 fn ancestors_in_order(
     alloc: Global,
     parents: &KeyedLists,
@@ -71,9 +76,11 @@ fn ancestors_in_order(
     requires few { length order.now < 2 ^ 32 }
     requires parents { (rows : List (ℕ × ℕ)) × AreParentsBy rows parents.now order.now }
     requires len { length places.now ≡ length order.now }
-    requires places { (place : ℕ) → place < length order.now → slice_index places.now (slice_index order.now place) ≡ place }
+    requires places { (place : ℕ) → place < length order.now
+        → slice_index places.now (slice_index order.now place) ≡ place }
     ensures { IfOk result (λ lists. (rows : List (ℕ × ℕ)) → AreParentsBy rows parents.now order.now
-        → lists ≡ map (λ concept. numbers_where (length order.now) (reaches rows concept)) order.now) }
+        → lists ≡ map (λ concept. numbers_where (length order.now) (reaches rows concept))
+        order.now) }
 {
     let count = order.len() as u32;
     let mut lists = KeyedLists::with_capacity(alloc, order.len(), order.len())?;
@@ -98,7 +105,9 @@ fn ancestors_in_order(
     Ok(lists)
 }
 
-// Leaves `concepts` and the lists at their places in `room`, in rising order and once each.
+// Leaves in `room.list` the union of `concepts` and their lists of ancestors, in rising order and
+// once each. The list of a concept is the one in `lists` at its entry of `places`, and `wide` has
+// the bitmaps of the long lists. All numbers are below `count`.
 fn join(
     alloc: Global,
     room: &mut Room,
@@ -109,12 +118,14 @@ fn join(
     count: u32,
 ) -> Result<(), AllocError>
     requires count { length places.now ≡ count }
-    requires concepts { All (λ concept. (concept < count) × (concept < length places.now) × (slice_index places.now concept < length lists.now)) concepts.now }
+    requires concepts { All (λ concept. (concept < count) × (concept < length places.now)
+        × (slice_index places.now concept < length lists.now)) concepts.now }
     requires sorted { IsRisingBelow count concepts.now }
     requires items { AreItemsBelow count lists.now }
     requires rising { AreRisingBelow count lists.now }
     requires wide { AreWide count lists.now wide.now.ends.items wide.now.words.items }
-    ensures { OnOk result (room.new.list.items ≡ listed_numbers count (gathered_by places.now lists.now concepts.now)) }
+    ensures { OnOk result (room.new.list.items
+        ≡ listed_numbers count (gathered_by places.now lists.now concepts.now)) }
 {
     if concepts.len() <= FEW && !has_long(concepts, places, lists, count) {
         return join_few(room, concepts, places, lists, count);
@@ -122,9 +133,11 @@ fn join(
     join_many(alloc, &mut room.list, concepts, places, lists, wide, count)
 }
 
-// Whether one of the lists of `concepts` has more than a 32nd of all numbers.
+// Whether the list of one of `concepts` has more than a 32nd of all numbers below `count`. The list
+// of a concept is the one in `lists` at its entry of `places`.
 fn has_long(concepts: &[u32], places: &[u32], lists: &KeyedLists, count: u32) -> bool
-    requires { All (λ concept. (concept < count) × (concept < length places.now) × (slice_index places.now concept < length lists.now)) concepts.now }
+    requires { All (λ concept. (concept < count) × (concept < length places.now)
+        × (slice_index places.now concept < length lists.now)) concepts.now }
 {
     let most = (count / 32) as usize;
     for concept in concepts {
@@ -135,7 +148,8 @@ fn has_long(concepts: &[u32], places: &[u32], lists: &KeyedLists, count: u32) ->
     false
 }
 
-// Joins at most `FEW` lists. The lists rise, so they are joined without sorting.
+// Does what `join` does, for at most `FEW` lists. Each list rises, so they are merged without
+// sorting.
 fn join_few(
     room: &mut Room,
     concepts: &[u32],
@@ -143,10 +157,12 @@ fn join_few(
     lists: &KeyedLists,
     count: u32,
 ) -> Result<(), AllocError>
-    requires concepts { All (λ concept. (concept < count) × (concept < length places.now) × (slice_index places.now concept < length lists.now)) concepts.now }
+    requires concepts { All (λ concept. (concept < count) × (concept < length places.now)
+        × (slice_index places.now concept < length lists.now)) concepts.now }
     requires sorted { IsRisingBelow count concepts.now }
     requires rising { AreRisingBelow count lists.now }
-    ensures { OnOk result (room.new.list.items ≡ listed_numbers count (gathered_by places.now lists.now concepts.now)) }
+    ensures { OnOk result (room.new.list.items
+        ≡ listed_numbers count (gathered_by places.now lists.now concepts.now)) }
 {
     room.list.clear();
     room.list.extend_from_slice(concepts)?;
@@ -158,7 +174,8 @@ fn join_few(
     Ok(())
 }
 
-// Joins any number of lists: it sorts the short ones, and joins the long ones by their words.
+// Does what `join` does, for any number of lists, and leaves the union in `list`. Sorts the items
+// of the short lists, and unites the bitmaps of the long ones.
 fn join_many(
     alloc: Global,
     list: &mut Vec<u32>,
@@ -168,18 +185,21 @@ fn join_many(
     wide: &WideLists,
     count: u32,
 ) -> Result<(), AllocError>
-    requires concepts { All (λ concept. (concept < count) × (concept < length places.now) × (slice_index places.now concept < length lists.now)) concepts.now }
+    requires concepts { All (λ concept. (concept < count) × (concept < length places.now)
+        × (slice_index places.now concept < length lists.now)) concepts.now }
     requires items { AreItemsBelow count lists.now }
     requires wide { AreWide count lists.now wide.now.ends.items wide.now.words.items }
-    ensures { OnOk result (list.new.items ≡ listed_numbers count (gathered_by places.now lists.now concepts.now)) }
+    ensures { OnOk result (list.new.items
+        ≡ listed_numbers count (gathered_by places.now lists.now concepts.now)) }
 {
     let joined: Option<WordSet> = gather(alloc, list, concepts, places, lists, wide, count)?;
     keep_rising(list);
     add_joined(alloc, list, joined)
 }
 
-// Gathers `concepts` and the lists at their places. The long lists go into a set, because joining them takes words
-// and not all their items. The others go into `list`.
+// Gathers `concepts` and their lists. The long lists go into the set that it returns, because it
+// takes their bitmaps word by word and not item by item. `concepts` and the short lists go into
+// `list`, in any order; what `list` had before is dropped.
 fn gather<S: ConceptSet>(
     alloc: Global,
     list: &mut Vec<u32>,
@@ -189,10 +209,12 @@ fn gather<S: ConceptSet>(
     wide: &WideLists,
     count: u32,
 ) -> Result<Option<S>, AllocError>
-    requires concepts { All (λ concept. (concept < count) × (concept < length places.now) × (slice_index places.now concept < length lists.now)) concepts.now }
+    requires concepts { All (λ concept. (concept < count) × (concept < length places.now)
+        × (slice_index places.now concept < length lists.now)) concepts.now }
     requires items { AreItemsBelow count lists.now }
     requires wide { AreWide count lists.now wide.now.ends.items wide.now.words.items }
-    ensures gathered { IfOk result (λ joined. AreGathered S.items_of count (gathered_by places.now lists.now concepts.now) list.new.items joined) }
+    ensures gathered { IfOk result (λ joined. AreGathered S.items_of count
+        (gathered_by places.now lists.now concepts.now) list.new.items joined) }
     ensures below { OnOk result (All (λ item. item < count) list.new.items) }
     ensures bound { IfOk result (λ joined. IfSome joined (λ set. S.bound_of set ≡ count)) }
 {
@@ -207,7 +229,8 @@ fn gather<S: ConceptSet>(
     Ok(joined)
 }
 
-// Gathers a list: into the set if the list has words, otherwise into `list`.
+// Adds the list `own` to the set `joined` if the list has a bitmap, `words`, and otherwise to the
+// end of `list`. Returns the set.
 fn add_list<S: ConceptSet>(
     alloc: Global,
     list: &mut Vec<u32>,
@@ -220,7 +243,8 @@ fn add_list<S: ConceptSet>(
     requires own { All (λ item. item < count) own.now }
     requires list { All (λ item. item < count) list.old.items }
     requires bound { IfSome joined (λ set. S.bound_of set ≡ count) }
-    ensures gathered { IfOk result (λ now. (all : List ℕ) → AreGathered S.items_of count all list.old.items joined
+    ensures gathered { IfOk result (λ now. (all : List ℕ)
+        → AreGathered S.items_of count all list.old.items joined
         → AreGathered S.items_of count (all ++ own.now) list.new.items now) }
     ensures below { OnOk result (All (λ item. item < count) list.new.items) }
     ensures bound { IfOk result (λ now. IfSome now (λ set. S.bound_of set ≡ count)) }
@@ -237,7 +261,8 @@ fn add_list<S: ConceptSet>(
     }
 }
 
-// Returns the set, if there is one, with the numbers of `words` added.
+// Returns the set `joined` with the numbers of the bitmap `words` added. Returns the set of these
+// numbers alone if `joined` is `None`.
 fn with_words<S: ConceptSet>(
     alloc: Global,
     joined: Option<S>,
@@ -247,7 +272,8 @@ fn with_words<S: ConceptSet>(
     requires words { AreWordsBelow count words.now }
     requires bound { IfSome joined (λ set. S.bound_of set ≡ count) }
     ensures items { IfOk result (λ set. (number : ℕ) → number < count
-        → has (S.items_of set) number ≡ (has_joined S.items_of joined number || is_set words.now number)) }
+        → has (S.items_of set) number
+        ≡ (has_joined S.items_of joined number || is_set words.now number)) }
     ensures bound { IfOk result (λ set. S.bound_of set ≡ count) }
 {
     let set = S::from_words(alloc, words, count)?;
@@ -257,15 +283,17 @@ fn with_words<S: ConceptSet>(
     }
 }
 
-// Adds the items of the set, if there is one, to a rising list.
+// Adds the items of the set `joined`, if there is one, to `list`, which rises and still rises then.
 fn add_joined<S: ConceptSet>(
     alloc: Global,
     list: &mut Vec<u32>,
     joined: Option<S>,
 ) -> Result<(), AllocError>
     requires { IfSome joined (λ set. IsRisingBelow (S.bound_of set) list.old.items) }
-    ensures { OnOk result ((count : ℕ) (test : ℕ → Bool) → IfSome joined (λ set. S.bound_of set ≡ count) → list.old.items ≡ numbers_where count test
-        → list.new.items ≡ numbers_where count (λ number. test number || has_joined S.items_of joined number)) }
+    ensures { OnOk result ((count : ℕ) (test : ℕ → Bool) → IfSome joined
+        (λ set. S.bound_of set ≡ count) → list.old.items ≡ numbers_where count test
+        → list.new.items ≡ numbers_where count
+        (λ number. test number || has_joined S.items_of joined number)) }
 {
     if let Some(mut set) = joined {
         set.add_all(alloc, list.as_slice())?;
@@ -274,7 +302,7 @@ fn add_joined<S: ConceptSet>(
     Ok(())
 }
 
-// Returns the lists at `places`.
+// Returns for each of `places`, in order, the list of `lists` at this place.
 fn reordered(alloc: Global, lists: &KeyedLists, places: &[u32]) -> Result<KeyedLists, AllocError>
     requires { All (λ place. place < length lists.now) places.now }
     ensures { IfOk result (λ found. found ≡ map (λ place. list_of lists.now place) places.now) }

@@ -1,11 +1,12 @@
-//! Lists by a key that grow. Their only fault is want of memory.
+//! Adding a list to a `KeyedLists`, with want of memory as the only fault.
 ghost use Rattle.std.specs.Prelude.{◌≡◌, ◌++◌, ◌∷◌, [], IfOk};
 
 use number_lists::{KeyedLists, PushFault};
 use std::alloc::{AllocError, Global};
 
-/// Returns the lists with one more. Lists that can't hold all pairs of a hierarchy, which would take 16 GiB and more
-/// in each direction, are refused like want of memory.
+/// Returns `lists` with `list` added as the last one. Fails with `AllocError` if memory is refused,
+/// and also if all lists together would have 2^32 items or more. A hierarchy of that size would
+/// take 16 GiB and more in each direction.
 pub fn with_list(lists: KeyedLists, list: &[u32]) -> Result<KeyedLists, AllocError>
     ensures { IfOk result (λ grown. grown ≡ lists ++ list.now ∷ []) }
 {

@@ -14,14 +14,15 @@ use number_lists::KeyedLists;
 use std::alloc::{AllocError, Global};
 use std::marker::Model;
 
-/// The hierarchy of a release. Contracts see its four families of lists.
+/// The hierarchy of a release: the ancestors, the descendants, the parents and the children of each
+/// concept. Contracts see four lists of lists, each with a list for every concept number.
 #[derive(Drop)]
 pub struct AncestorIndex {
     ancestors: KeyedLists,
     descendants: KeyedLists,
     parents: KeyedLists,
     children: KeyedLists,
-    // the long lists of descendants as words of bits
+    // the long lists of descendants again, as bitmaps in words of 64 bits
     wide: WideLists,
 }
 
@@ -38,8 +39,10 @@ impl Model for AncestorIndex {
 }
 
 impl AncestorIndex {
-    /// Makes the hierarchy of a release, whose concepts are numbered in rising order. Takes time and memory linear
-    /// in the pairs of a concept and an ancestor. 2^32 such pairs or more are answered as want of memory.
+    /// Builds the hierarchy of the release in `snapshot`, which numbers its concepts in rising
+    /// order. Takes time and memory linear in the number of pairs of a concept and one of its
+    /// ancestors. Fails with `AllocError` if memory is refused, or if there are 2^32 such pairs or
+    /// more.
     pub fn build(alloc: Global, snapshot: &Snapshot) -> Result<AncestorIndex, AllocError>
         ensures hierarchy { IfOk result (λ index. index ≡ hierarchy_of snapshot.now.release) }
         ensures rising { IsStrictlyIncreasing snapshot.now.release.concepts }
@@ -47,9 +50,9 @@ impl AncestorIndex {
         let count = snapshot.concept_count();
         let rows = snapshot.isa_rows();
         let parents = linked_lists(alloc, count, rows)?;
-        let children = parents.turned(alloc, count)?;
+        let children = parents.transposed(alloc, count)?;
         let ancestors = ancestor_lists(alloc, &parents, snapshot.parents_first())?;
-        let descendants = ancestors.turned_rising(alloc, count)?;
+        let descendants = ancestors.transposed_rising(alloc, count)?;
         let wide = wide_lists(alloc, &descendants, count)?;
         Ok(AncestorIndex {
             ancestors,
@@ -74,8 +77,9 @@ impl AncestorIndex {
         self.parents.flat().len()
     }
 
-    /// Returns the concepts that a concept reaches by is-a rows, in rising order. `concept` is below the number of
-    /// concepts (Expression Constraint Language, "Simple Expression Constraints", `>`).
+    /// Returns the ancestors of `concept` in rising order: the concepts that it reaches by is-a
+    /// rows (Expression Constraint Language, "Simple Expression Constraints", `>`). `concept` is
+    /// below the number of concepts.
     pub fn ancestors(&self, concept: u32) -> &[u32]
         requires { concept < length self.now.ancestors }
         ensures { result.now ≡ list_of self.now.ancestors concept }
@@ -83,8 +87,9 @@ impl AncestorIndex {
         self.ancestors.of(concept)
     }
 
-    /// Returns the concepts that reach a concept by is-a rows, in rising order. `concept` is below the number of
-    /// concepts (Expression Constraint Language, "Simple Expression Constraints", `<`).
+    /// Returns the descendants of `concept` in rising order: the concepts that reach it by is-a
+    /// rows (Expression Constraint Language, "Simple Expression Constraints", `<`). `concept` is
+    /// below the number of concepts.
     pub fn descendants(&self, concept: u32) -> &[u32]
         requires { concept < length self.now.descendants }
         ensures { result.now ≡ list_of self.now.descendants concept }
@@ -92,18 +97,22 @@ impl AncestorIndex {
         self.descendants.of(concept)
     }
 
-    /// Returns the descendants of a concept as words of bits, a bit for each concept, if they are more than a 32nd
-    /// of all concepts, and otherwise `None`. `concept` is below the number of concepts.
+    /// Returns the descendants of `concept` as a bitmap in words of 64 bits, with a bit for each
+    /// concept, if they are more than a 32nd of all concepts, and otherwise `None`. `concept` is
+    /// below the number of concepts.
     pub fn descendant_words(&self, concept: u32) -> Option<&[u64]>
         requires { concept < length self.now.descendants }
-        ensures some { IfSome result (λ words. AreWordsOf (length self.now.descendants) (list_of self.now.descendants concept) words.now) }
-        ensures wide { IsSome result ↔ IsWide (length self.now.descendants) (list_of self.now.descendants concept) }
+        ensures some { IfSome result (λ words. AreWordsOf (length self.now.descendants)
+            (list_of self.now.descendants concept) words.now) }
+        ensures wide { IsSome result ↔ IsWide (length self.now.descendants)
+            (list_of self.now.descendants concept) }
     {
         self.wide.of(concept, self.descendants.len())
     }
 
-    /// Returns the concepts that an is-a row of a concept leads to, in rising order, each once. `concept` is below
-    /// the number of concepts (Expression Constraint Language, "Simple Expression Constraints", `>!`).
+    /// Returns the parents of `concept` in rising order and once each: the concepts to which one of
+    /// its is-a rows leads (Expression Constraint Language, "Simple Expression Constraints", `>!`).
+    /// `concept` is below the number of concepts.
     pub fn parents(&self, concept: u32) -> &[u32]
         requires { concept < length self.now.parents }
         ensures { result.now ≡ list_of self.now.parents concept }
@@ -111,8 +120,9 @@ impl AncestorIndex {
         self.parents.of(concept)
     }
 
-    /// Returns the concepts from which an is-a row leads to a concept, in rising order, each once. `concept` is
-    /// below the number of concepts (Expression Constraint Language, "Simple Expression Constraints", `<!`).
+    /// Returns the children of `concept` in rising order and once each: the concepts from which an
+    /// is-a row leads to it (Expression Constraint Language, "Simple Expression Constraints",
+    /// `<!`). `concept` is below the number of concepts.
     pub fn children(&self, concept: u32) -> &[u32]
         requires { concept < length self.now.children }
         ensures { result.now ≡ list_of self.now.children concept }
@@ -120,14 +130,14 @@ impl AncestorIndex {
         self.children.of(concept)
     }
 
-    /// Returns the parents of all concepts, a list for each.
+    /// Returns the parents of all concepts, a list for each concept number.
     pub fn all_parents(&self) -> &KeyedLists
         ensures { result.now ≡ self.now.parents }
     {
         &self.parents
     }
 
-    /// Returns the children of all concepts, a list for each.
+    /// Returns the children of all concepts, a list for each concept number.
     pub fn all_children(&self) -> &KeyedLists
         ensures { result.now ≡ self.now.children }
     {

@@ -1,7 +1,8 @@
 //! The hierarchy of a release as complete lists.
 //!
-//! `AncestorIndex` has for each concept, by its number, all its ancestors and descendants, its parents and its
-//! children, in rising order and once each. `linked_lists` makes such lists of other rows between concepts.
+//! `AncestorIndex` has for each concept, by its number, all its ancestors and descendants, its
+//! parents and its children, in rising order and once each. `linked_lists` makes lists of this form
+//! from any rows between concepts.
 #![tactic(auto)]
 
 mod closure;

@@ -1,4 +1,4 @@
-//! Lists of the concepts to which rows between concepts lead.
+//! For each concept, the list of the concepts to which rows lead from it.
 ghost use Rattle.std.specs.Prelude.{◌≡◌, ◌<◌, ◌^◌, IfOk, length};
 ghost use Rattle.hierarchy.specs.Hierarchy.{IsWithin};
 ghost use Rattle.ancestor_index.specs.HierarchyLists.{is_child, lists_where};
@@ -7,8 +7,9 @@ use crate::rising::rising_lists;
 use number_lists::KeyedLists;
 use std::alloc::{AllocError, Global};
 
-/// Returns for each concept below `count` the concepts that `rows` lead to, in rising order and once each. There are
-/// fewer than 2^32 rows, and both ends of each are below `count`.
+/// Returns for each concept below `count` the concepts to which `rows` lead from it, in rising
+/// order and once each. A row is the concept that it leads from and the one that it leads to, both
+/// below `count`. There are fewer than 2^32 rows.
 pub fn linked_lists(
     alloc: Global,
     count: u32,

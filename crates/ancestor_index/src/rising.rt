@@ -1,4 +1,4 @@
-//! Lists by a key in rising order, without repeats.
+//! Sorting each list of a `KeyedLists`, without repeats.
 ghost use Rattle.std.specs.Prelude.{◌≡◌, ◌<◌, ◌^◌, IfOk, length, map};
 ghost use Rattle.number_lists.specs.Rising.{listed_numbers};
 ghost use Rattle.number_lists.specs.KeyedLists.{AreItemsBelow};
@@ -7,7 +7,8 @@ use crate::grown::with_list;
 use number_lists::{KeyedLists, keep_rising};
 use std::alloc::{AllocError, Global};
 
-/// Returns each of `lists` in rising order, without repeats. All items are below `bound`.
+/// Returns `lists` with each list brought into rising order, without repeats. All items are below
+/// `bound`.
 pub fn rising_lists(alloc: Global, lists: &KeyedLists, bound: u32) -> Result<KeyedLists, AllocError>
     requires items { AreItemsBelow bound lists.now }
     requires few { length lists.now < 2 ^ 32 }

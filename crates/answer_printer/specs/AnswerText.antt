@@ -1,22 +1,24 @@
--- The text that answers a query, or refuses a text that is no query.
+-- The text that answers a query, and the lines that refuse one.
 use Rattle.std.specs.Prelude.{ℕ, ◌++◌, Bool, true, false, List, [], ◌∷◌, length, drop, take, codes, decimal}
 use Rattle.std.specs.Prelude.{Option, None, Some}
 use Rattle.std.specs.List.{flat_map}
 use Rattle.ecl_lexer.specs.Refusals.{feature_name}
 use Rattle.ecl_lexer.specs.declared.fault.QueryFault.{QueryFault}
-use Rattle.ecl_lexer.specs.declared.fault.QueryFault.TheVariants.{Long, Utf8, Token, Unsupported, Limit, Depth, Syntax, Memory}
+use Rattle.ecl_lexer.specs.declared.fault.QueryFault.TheVariants.{Long, Utf8, Token, Unsupported, Limit, Depth, Syntax}
+use Rattle.ecl_lexer.specs.declared.fault.QueryFault.TheVariants.{Memory}
 use Rattle.held_release.specs.Line.{concept_line}
 use Rattle.answer_printer.specs.declared.form.AnswerForm.{AnswerForm}
 
--- a number on a line of its own
+-- a number in decimal on a line of its own
 abbrev pub number_line : ℕ → List ℕ
 number_line number = decimal number ++ 10 ∷ []
 
--- the first line of an answer: `OK` and the count of concepts
+-- the first line of an answer: `OK` and the number of concepts
 abbrev pub answer_head : ℕ → List ℕ
 answer_head count = codes "OK " ++ number_line count
 
--- the answer: its first line, then a line for each concept, with its name if it has one
+-- the whole answer: its first line, then a line for each of `concepts`, with its name if `name` has
+-- one
 abbrev pub answer_text : (ℕ → Option (List ℕ)) → List ℕ → List ℕ
 answer_text name concepts = answer_head (length concepts) ++ flat_map (concept_line name) concepts
 
@@ -24,28 +26,30 @@ answer_text name concepts = answer_head (length concepts) ++ flat_map (concept_l
 abbrev pub whole_form : AnswerForm
 whole_form = record { offset = 0; first = None; names = true }
 
--- the concepts whose lines are written: those after the first `offset`, and of these the first `first`, or all
+-- the concepts whose lines are written: `offset` concepts are skipped, and at most `first` of the
+-- others are kept (all if `first` is `None`)
 abbrev pub shown_of : ℕ → Option ℕ → List ℕ → List ℕ
 shown_of offset None concepts = drop offset concepts
 shown_of offset (Some first) concepts = take first (drop offset concepts)
 
--- the names that are written: those of the concepts, or none
+-- the names that an answer shows: those of `name`, or none
 abbrev pub shown_names : Bool → (ℕ → Option (List ℕ)) → ℕ → Option (List ℕ)
 shown_names true name = name
 shown_names false name = λ concept. None
 
--- an answer in a form: `OK` and the count of all concepts, then the lines that the form asks for
+-- the answer in a form: `OK` and the count of all concepts, then the lines that the form asks for
 abbrev pub answer_in : AnswerForm → (ℕ → Option (List ℕ)) → List ℕ → List ℕ
 answer_in form name concepts =
     answer_head (length concepts)
-    ++ flat_map (concept_line (shown_names form.names name)) (shown_of form.offset form.first concepts)
+    ++ flat_map (concept_line (shown_names form.names name))
+    (shown_of form.offset form.first concepts)
 
--- the line that refuses a constraint whose plan may visit more items than a limit allows: `ERR bound` and the bound
--- `most`
+-- the line that refuses a constraint whose plan may visit more items than the limit: `ERR bound`
+-- and the plan's bound `most`
 abbrev pub bound_refusal : ℕ → List ℕ
 bound_refusal most = codes "ERR bound " ++ number_line most
 
--- the line that refuses a text; want of memory has no line
+-- the line that refuses a text; `Memory` has no line
 abbrev pub refusal_text : QueryFault → List ℕ
 refusal_text Long = codes "ERR long\n"
 refusal_text Utf8 = codes "ERR utf8\n"

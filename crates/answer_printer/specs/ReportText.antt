@@ -1,9 +1,10 @@
--- The text of the report of a loaded release, in numbers.
+-- The text of the report on a loaded release: its row counts.
 use Rattle.std.specs.Prelude.{ℕ, ◌++◌, List, codes}
 use Rattle.held_release.specs.declared.report.Report.{Report}
 use Rattle.answer_printer.specs.AnswerText.{number_line}
 
--- the report: a line each for the files that have a kind, the rows of the five lists, and the rows in none of them
+-- the report, one number a line: the files of a known kind, the rows in force of the five lists,
+-- and the rows in none of these lists
 abbrev pub report_text : Report → List ℕ
 report_text report =
     (codes "FILES " ++ number_line report.files)

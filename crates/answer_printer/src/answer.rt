@@ -13,18 +13,19 @@ use crate::numbers::append_number;
 use held_release::Snapshot;
 use idset::ConceptSet;
 use std::alloc::{AllocError, Global};
-use streams::{AnswerFault, AnswerOutput, IoFault, Piece};
+use streams::{AnswerFault, AnswerOutput, IoFault, OutputBuffer};
 
-// The most bytes that the first line has: `OK `, 10 digits and LF.
+// The greatest length of the first line: `OK `, 10 digits and LF.
 const HEAD_ROOM: usize = 14;
 
-// The most bytes that a line without a name has: 18 digits and LF.
+// The greatest length of a line without a name: 18 digits and LF.
 const BARE_LINE_ROOM: usize = 19;
 
-/// Appends `OK`, the number of the concepts of a set, and then a line for each, in the rising order of their
-/// identifiers: the identifier, and the name if the concept has one (Expression Constraint Language, "Concept
-/// references"). Every line ends in LF. The set holds concepts by their numbers in the release. If memory is
-/// refused, it returns `AllocError`, and `output` is unchanged.
+/// Appends the whole answer to a query that found the concepts `set`. The first line is `OK` and
+/// the number of concepts. Then each concept has a line, in rising order of the identifiers: its
+/// identifier, and its name between bars if it has one (Expression Constraint Language, "Concept
+/// references"). Every line ends in LF. `set` holds the concepts by their numbers in `snapshot`. If
+/// memory is refused, it returns `AllocError`, and `output` is unchanged.
 pub fn print_answer<S: ConceptSet>(
     alloc: Global,
     snapshot: &Snapshot,
@@ -32,14 +33,17 @@ pub fn print_answer<S: ConceptSet>(
     output: &mut Vec<u8>,
 ) -> Result<(), AllocError>
     requires { S.bound_of set.now ≡ length snapshot.now.release.concepts }
-    ensures ok { OnOk result (output.new.items ≡ output.old.items ++ answer_text (name_of snapshot.now.release snapshot.now.language) (map (slice_index snapshot.now.release.concepts) (S.items_of set.now))) }
+    ensures ok { OnOk result (output.new.items ≡ output.old.items
+        ++ answer_text (name_of snapshot.now.release snapshot.now.language)
+        (map (slice_index snapshot.now.release.concepts) (S.items_of set.now))) }
     ensures err { OnErr result (output.new.items ≡ output.old.items) }
 {
     print_answer_in(alloc, snapshot, set, AnswerForm::whole(), output)
 }
 
-/// Appends the answer in a form. The count is that of all concepts; only the lines that the form asks for are
-/// appended. If memory is refused, it returns `AllocError`, and `output` is unchanged.
+/// Appends the answer for the concepts `set`, as `print_answer` does, but only the lines that
+/// `form` asks for. The count on the first line is that of all concepts in `set`. If memory is
+/// refused, it returns `AllocError`, and `output` is unchanged.
 pub fn print_answer_in<S: ConceptSet>(
     alloc: Global,
     snapshot: &Snapshot,
@@ -62,8 +66,9 @@ pub fn print_answer_in<S: ConceptSet>(
     appended
 }
 
-// Appends the answer of concepts in a form. If memory is refused, a part of it is appended. The room is made at
-// once, so that nothing is copied again.
+// Appends the answer for `set`, whose lines are those of the numbers `shown`. If memory is refused,
+// a part of it may be appended. `reserve` takes all room at once, so that no byte is copied again
+// when `output` grows.
 fn append_answer<S: ConceptSet>(
     snapshot: &Snapshot,
     set: &S,
@@ -83,7 +88,8 @@ fn append_answer<S: ConceptSet>(
     append_lines(snapshot, shown, form.names, output)
 }
 
-// Appends the first line of the answer of `count` concepts. If memory is refused, a part of it may be appended.
+// Appends the first line of an answer with `count` concepts. If memory is refused, a part of the
+// line may be appended.
 fn append_head(count: usize, output: &mut Vec<u8>) -> Result<(), AllocError>
     ensures ok { OnOk result (output.new.items ≡ output.old.items ++ answer_head count) }
     ensures begun { IsPrefixOf output.old.items output.new.items }
@@ -94,8 +100,8 @@ fn append_head(count: usize, output: &mut Vec<u8>) -> Result<(), AllocError>
     Ok(())
 }
 
-// Returns at least the number of bytes that an answer with these lines has, and not much more; `usize::MAX` if it
-// would be greater.
+// Returns an upper bound, close to the true value, on the length of an answer with the lines of
+// `concepts`; `usize::MAX` if the bound would be greater.
 fn room_of(snapshot: &Snapshot, concepts: &[u32], names: bool) -> usize
     requires { All (λ concept. concept < length snapshot.now.release.concepts) concepts.now }
 {
@@ -109,7 +115,8 @@ fn room_of(snapshot: &Snapshot, concepts: &[u32], names: bool) -> usize
     room
 }
 
-// Appends the lines of concepts. If memory is refused, a part of them may be appended.
+// Appends a line for each of `concepts`, with names if `names` is true. If memory is refused, a
+// part of the lines may be appended.
 fn append_lines(
     snapshot: &Snapshot,
     concepts: &[u32],
@@ -118,7 +125,8 @@ fn append_lines(
 ) -> Result<(), AllocError>
     requires { All (λ concept. concept < length snapshot.now.release.concepts) concepts.now }
     ensures ok { OnOk result (output.new.items ≡ output.old.items
-        ++ flat_map (concept_line (shown_names names (name_of snapshot.now.release snapshot.now.language)))
+        ++ flat_map (concept_line (shown_names names
+        (name_of snapshot.now.release snapshot.now.language)))
         (map (slice_index snapshot.now.release.concepts) concepts.now)) }
     ensures begun { IsPrefixOf output.old.items output.new.items }
 {
@@ -128,7 +136,8 @@ fn append_lines(
     Ok(())
 }
 
-// Appends the line of a concept. If memory is refused, a part of it may be appended.
+// Appends the line of `concept`, with its name if `names` is true. If memory is refused, a part of
+// the line may be appended.
 fn append_line(
     snapshot: &Snapshot,
     concept: u32,
@@ -149,27 +158,28 @@ fn append_line(
     Ok(())
 }
 
-/// Puts the text that `print_answer_in` appends into a piece of an output, line by line. All memory is taken before
-/// the first byte is put: if it is refused, the piece and the output are unchanged. If the output fails, a proper
-/// front of the waiting bytes and the text was written.
+/// Puts the text that `print_answer_in` appends into `buffer`, line by line; the buffer writes to
+/// `output` whenever it is full. All memory is taken before the first byte is put: if it is
+/// refused, `buffer` and `output` are unchanged. If `output` fails, it has received a proper prefix
+/// of the bytes that waited in `buffer` followed by the answer.
 pub fn write_answer<S: ConceptSet, W: AnswerOutput>(
     alloc: Global,
     snapshot: &Snapshot,
     set: &S,
     form: AnswerForm,
-    piece: &mut Piece,
+    buffer: &mut OutputBuffer,
     output: &mut W,
 ) -> Result<(), AnswerFault>
     requires set { S.bound_of set.now ≡ length snapshot.now.release.concepts }
-    requires sound { W.has_failed output.old ≡ false }
-    ensures ok { OnOk result (Puts (W.written output.old) (W.written output.new) piece.old
+    requires not_failed { W.has_failed output.old ≡ false }
+    ensures ok { OnOk result (Puts (W.written output.old) (W.written output.new) buffer.old
         (answer_in form (name_of snapshot.now.release snapshot.now.language)
-        (map (slice_index snapshot.now.release.concepts) (S.items_of set.now))) piece.new) }
+        (map (slice_index snapshot.now.release.concepts) (S.items_of set.now))) buffer.new) }
     ensures fault { IfErr result (λ fault. LeavesAnswer
         (λ text. text ≡ answer_in form (name_of snapshot.now.release snapshot.now.language)
         (map (slice_index snapshot.now.release.concepts) (S.items_of set.now)))
-        fault (W.written output.old) (W.written output.new) piece.old piece.new) }
-    ensures sound { OnOk result (W.has_failed output.new ≡ false) }
+        fault (W.written output.old) (W.written output.new) buffer.old buffer.new) }
+    ensures not_failed { OnOk result (W.has_failed output.new ≡ false) }
     ensures failed { IfErr result (λ fault. W.has_failed output.new ≡ is_write fault) }
 {
     let shown = match form.shown(alloc, set) {
@@ -185,7 +195,7 @@ pub fn write_answer<S: ConceptSet, W: AnswerOutput>(
         head.as_slice(),
         shown.as_slice(),
         form.names,
-        piece,
+        buffer,
         output,
     ) {
         Ok(()) => Ok(()),
@@ -193,7 +203,7 @@ pub fn write_answer<S: ConceptSet, W: AnswerOutput>(
     }
 }
 
-// Returns the first line of the answer of `count` concepts.
+// Returns the first line of an answer with `count` concepts.
 fn head_line(alloc: Global, count: usize) -> Result<Vec<u8>, AllocError>
     ensures { IfOk result (λ line. line.items ≡ answer_head count) }
 {
@@ -202,51 +212,57 @@ fn head_line(alloc: Global, count: usize) -> Result<Vec<u8>, AllocError>
     Ok(line)
 }
 
-// Puts a first line and the lines of concepts into a piece of an output.
+// Puts the first line `head` and the lines of `concepts` into `buffer`, which writes to `output`.
 fn put_answer<W: AnswerOutput>(
     snapshot: &Snapshot,
     head: &[u8],
     concepts: &[u32],
     names: bool,
-    piece: &mut Piece,
+    buffer: &mut OutputBuffer,
     output: &mut W,
 ) -> Result<(), IoFault>
-    requires concepts { All (λ concept. concept < length snapshot.now.release.concepts) concepts.now }
-    requires sound { W.has_failed output.old ≡ false }
-    ensures ok { OnOk result (Puts (W.written output.old) (W.written output.new) piece.old
-        (head.now ++ flat_map (concept_line (shown_names names (name_of snapshot.now.release snapshot.now.language)))
-        (map (slice_index snapshot.now.release.concepts) concepts.now)) piece.new) }
-    ensures err { OnErr result (WritesFront (W.written output.old) (W.written output.new) (piece.old
-        ++ (head.now ++ flat_map (concept_line (shown_names names (name_of snapshot.now.release snapshot.now.language)))
+    requires concepts { All (λ concept. concept < length snapshot.now.release.concepts)
+        concepts.now }
+    requires not_failed { W.has_failed output.old ≡ false }
+    ensures ok { OnOk result (Puts (W.written output.old) (W.written output.new) buffer.old
+        (head.now ++ flat_map (concept_line
+        (shown_names names (name_of snapshot.now.release snapshot.now.language)))
+        (map (slice_index snapshot.now.release.concepts) concepts.now)) buffer.new) }
+    ensures err { OnErr result (WritesFront (W.written output.old) (W.written output.new)
+        (buffer.old ++ (head.now ++ flat_map
+        (concept_line (shown_names names (name_of snapshot.now.release snapshot.now.language)))
         (map (slice_index snapshot.now.release.concepts) concepts.now)))) }
     ensures failure { W.has_failed output.new ≡ is_err result }
 {
-    match piece.put(head, output) {
-        Ok(()) => put_lines(snapshot, concepts, names, piece, output),
+    match buffer.put(head, output) {
+        Ok(()) => put_lines(snapshot, concepts, names, buffer, output),
         Err(fault) => Err(fault),
     }
 }
 
-// Puts the lines of concepts into a piece of an output.
+// Puts a line for each of `concepts` into `buffer`, with names if `names` is true.
 fn put_lines<W: AnswerOutput>(
     snapshot: &Snapshot,
     concepts: &[u32],
     names: bool,
-    piece: &mut Piece,
+    buffer: &mut OutputBuffer,
     output: &mut W,
 ) -> Result<(), IoFault>
-    requires concepts { All (λ concept. concept < length snapshot.now.release.concepts) concepts.now }
-    requires sound { W.has_failed output.old ≡ false }
-    ensures ok { OnOk result (Puts (W.written output.old) (W.written output.new) piece.old
-        (flat_map (concept_line (shown_names names (name_of snapshot.now.release snapshot.now.language)))
-        (map (slice_index snapshot.now.release.concepts) concepts.now)) piece.new) }
-    ensures err { OnErr result (WritesFront (W.written output.old) (W.written output.new) (piece.old
-        ++ flat_map (concept_line (shown_names names (name_of snapshot.now.release snapshot.now.language)))
+    requires concepts { All (λ concept. concept < length snapshot.now.release.concepts)
+        concepts.now }
+    requires not_failed { W.has_failed output.old ≡ false }
+    ensures ok { OnOk result (Puts (W.written output.old) (W.written output.new) buffer.old
+        (flat_map (concept_line (shown_names names
+        (name_of snapshot.now.release snapshot.now.language)))
+        (map (slice_index snapshot.now.release.concepts) concepts.now)) buffer.new) }
+    ensures err { OnErr result (WritesFront (W.written output.old) (W.written output.new)
+        (buffer.old ++ flat_map (concept_line
+        (shown_names names (name_of snapshot.now.release snapshot.now.language)))
         (map (slice_index snapshot.now.release.concepts) concepts.now))) }
     ensures failure { W.has_failed output.new ≡ is_err result }
 {
     for concept in concepts {
-        match put_line(snapshot, *concept, names, piece, output) {
+        match put_line(snapshot, *concept, names, buffer, output) {
             Ok(()) => {}
             Err(fault) => return Err(fault),
         }
@@ -254,43 +270,45 @@ fn put_lines<W: AnswerOutput>(
     Ok(())
 }
 
-// Puts the line of a concept: with its name as the snapshot keeps it, or its identifier alone.
+// Puts the line of `concept` into `buffer`. With `names`, this is the line that the snapshot keeps;
+// without, the identifier alone.
 fn put_line<W: AnswerOutput>(
     snapshot: &Snapshot,
     concept: u32,
     names: bool,
-    piece: &mut Piece,
+    buffer: &mut OutputBuffer,
     output: &mut W,
 ) -> Result<(), IoFault>
     requires concept { concept < length snapshot.now.release.concepts }
-    requires sound { W.has_failed output.old ≡ false }
-    ensures ok { OnOk result (Puts (W.written output.old) (W.written output.new) piece.old
+    requires not_failed { W.has_failed output.old ≡ false }
+    ensures ok { OnOk result (Puts (W.written output.old) (W.written output.new) buffer.old
         (concept_line (shown_names names (name_of snapshot.now.release snapshot.now.language))
-        (slice_index snapshot.now.release.concepts concept)) piece.new) }
-    ensures err { OnErr result (WritesFront (W.written output.old) (W.written output.new) (piece.old
-        ++ concept_line (shown_names names (name_of snapshot.now.release snapshot.now.language))
+        (slice_index snapshot.now.release.concepts concept)) buffer.new) }
+    ensures err { OnErr result (WritesFront (W.written output.old) (W.written output.new)
+        (buffer.old ++ concept_line (shown_names names
+        (name_of snapshot.now.release snapshot.now.language))
         (slice_index snapshot.now.release.concepts concept))) }
     ensures failure { W.has_failed output.new ≡ is_err result }
 {
     if names {
-        return piece.put(snapshot.line(concept), output);
+        return buffer.put(snapshot.line(concept), output);
     }
-    put_number_line(snapshot.id_at(concept).number(), piece, output)
+    put_number_line(snapshot.id_at(concept).number(), buffer, output)
 }
 
-// Puts a number on a line of its own into a piece of an output.
+// Puts `number` in decimal and LF into `buffer`.
 fn put_number_line<W: AnswerOutput>(
     number: u64,
-    piece: &mut Piece,
+    buffer: &mut OutputBuffer,
     output: &mut W,
 ) -> Result<(), IoFault>
     requires { W.has_failed output.old ≡ false }
-    ensures ok { OnOk result (Puts (W.written output.old) (W.written output.new) piece.old
-        (number_line number) piece.new) }
+    ensures ok { OnOk result (Puts (W.written output.old) (W.written output.new) buffer.old
+        (number_line number) buffer.new) }
     ensures err { OnErr result (WritesFront (W.written output.old) (W.written output.new)
-        (piece.old ++ number_line number)) }
+        (buffer.old ++ number_line number)) }
     ensures failure { W.has_failed output.new ≡ is_err result }
 {
     let mut digits = itoa::Buffer::new();
-    piece.put_line(digits.format(number).as_bytes(), output)
+    buffer.put_line(digits.format(number).as_bytes(), output)
 }

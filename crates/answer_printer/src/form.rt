@@ -1,18 +1,19 @@
-//! Which lines of an answer are written.
+//! The form of an answer: which of its lines are written.
 ghost use Rattle.std.specs.Prelude.{◌≡◌, IfOk};
 ghost use Rattle.answer_printer.specs.AnswerText.{shown_of, whole_form};
 
 use idset::ConceptSet;
 use std::alloc::{AllocError, Global};
 
-/// Which lines of an answer are written, and whether with names. In each form the count is that of all concepts.
+/// Says which lines of concepts an answer has, and whether they have names. In each form, the count
+/// on the first line is that of all concepts found.
 #[derive(Clone, Copy, Debug)]
 pub struct AnswerForm {
     /// How many lines of concepts are skipped before the first that is written.
     pub offset: u64,
-    /// How many lines of concepts are written at most, from the offset on; `None` writes all.
+    /// How many lines of concepts are written at most, after the skipped ones; `None` writes all.
     pub first: Option<u64>,
-    /// Whether the line of a concept has its name.
+    /// Whether the line of a concept has the concept's name.
     pub names: bool,
 }
 
@@ -28,13 +29,14 @@ impl AnswerForm {
         }
     }
 
-    /// Returns the items of a set whose lines are written.
+    /// Returns the numbers of the concepts in `set` whose lines this form writes, in rising order.
     pub(crate) fn shown<S: ConceptSet>(
         &self,
         alloc: Global,
         set: &S,
     ) -> Result<Vec<u32>, AllocError>
-        ensures { IfOk result (λ shown. shown.items ≡ shown_of self.now.offset self.now.first (S.items_of set.now)) }
+        ensures { IfOk result (λ shown. shown.items
+            ≡ shown_of self.now.offset self.now.first (S.items_of set.now)) }
     {
         let most = self.first.unwrap_or(u64::MAX);
         let shown = set.some_items(alloc, self.offset, most)?;

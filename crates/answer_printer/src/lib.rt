@@ -1,9 +1,9 @@
-//! The texts that the program writes: the answer to a query, the plan of a query, the report of a release, and the
-//! lines that refuse a query, a release or its files.
+//! The texts that the program writes: the answer to a query, the plan of a query, the report on a
+//! release, and the lines that refuse a query, a release or its files.
 //!
-//! Each printer appends to a vector. If memory is refused, it returns `AllocError`, and the vector is unchanged. The
-//! answer to a query may also be put into a piece of an output, line by line. `specs/` says which bytes are
-//! appended.
+//! Each printer appends to a vector. If memory is refused, it returns `AllocError`, and the vector
+//! is unchanged. `write_answer` puts the answer to a query into an output buffer instead, line by
+//! line. `specs/` defines the bytes that are appended.
 #![tactic(auto)]
 
 mod answer;

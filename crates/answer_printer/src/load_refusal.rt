@@ -1,4 +1,4 @@
-//! The line on standard error that tells why a release was refused, or why its files can't be read.
+//! The line on standard error that says why a release was refused, or why its files can't be read.
 ghost use Rattle.std.specs.Prelude.{◌≡◌, ◌++◌, ◌∷◌, [], codes, decimal, OnErr, OnOk, IfOk, slice_index_or};
 ghost use Rattle.answer_printer.specs.LoadRefusal.{cause_word as word_of_cause, id_word as word_of_id, load_refusal, refused_line};
 ghost use Rattle.answer_printer.specs.ToldName.{told_name};
@@ -10,26 +10,28 @@ use row_lists::LoadFault;
 use sctid::IdFault;
 use std::alloc::{AllocError, Global};
 
-/// Appends the line that tells why a release was refused: `REFUSED`, the kind of the fault, and then its file, line,
-/// column and cause or its concept, as far as the fault has them. `names` are the names of the files that were to be
-/// loaded, in their order. A file is told by its name there, with control characters as `\x` and two hexadecimal
-/// digits. Lines and columns count from 1; column 0 stands for a wrong number of fields. If memory is refused, it
-/// returns `AllocError`, and `output` is unchanged.
+/// Appends the line that says why a release was refused: `REFUSED`, the kind of `fault`, and then
+/// the fault's file, line, column and cause or its concept, as far as the fault has them. A fault
+/// names a file by its index in `names`, the list of the files that were to be loaded. The file's
+/// name is printed with each ASCII control character as `\x` and two hexadecimal digits. Lines and
+/// columns count from 1; column 0 means that the row has a wrong number of fields. If memory is
+/// refused, it returns `AllocError`, and `output` is unchanged.
 pub fn print_load_fault(
     alloc: Global,
     fault: LoadFault,
     names: &[&str],
     output: &mut Vec<u8>,
 ) -> Result<(), AllocError>
-    ensures ok { OnOk result (output.new.items ≡ output.old.items ++ load_refusal (texts_of names.now) fault) }
+    ensures ok { OnOk result (output.new.items ≡ output.old.items
+        ++ load_refusal (texts_of names.now) fault) }
     ensures err { OnErr result (output.new.items ≡ output.old.items) }
 {
     let line = refusal_line(alloc, fault, names)?;
     output.extend_from_slice(line.as_slice())
 }
 
-// Returns the line of a fault. It is built apart from the output, so that a refused growth leaves no part of it
-// there.
+// Returns the line of `fault`. It is built in a vector of its own, so that a refused allocation
+// leaves no part of it in the output.
 fn refusal_line(alloc: Global, fault: LoadFault, names: &[&str]) -> Result<Vec<u8>, AllocError>
     ensures { IfOk result (λ line. line.items ≡ load_refusal (texts_of names.now) fault) }
 {
@@ -52,9 +54,11 @@ fn refusal_line(alloc: Global, fault: LoadFault, names: &[&str]) -> Result<Vec<u
     }
 }
 
-// Returns the line for a file that can't be read, or for files that can't be listed.
+// Returns the line for a file that can't be read; without `file`, the line for folders whose files
+// can't be listed.
 fn device_line(alloc: Global, names: &[&str], file: Option<usize>) -> Result<Vec<u8>, AllocError>
-    ensures { IfOk result (λ line. line.items ≡ load_refusal (texts_of names.now) (LoadFault.Device file)) }
+    ensures { IfOk result (λ line. line.items
+        ≡ load_refusal (texts_of names.now) (LoadFault.Device file)) }
 {
     match file {
         Some(file) => file_line(alloc, b"device", name_at(names, file)),
@@ -62,7 +66,7 @@ fn device_line(alloc: Global, names: &[&str], file: Option<usize>) -> Result<Vec
     }
 }
 
-// Returns the line of a fault that has a kind alone.
+// Returns the line of a fault that has no more than a kind.
 fn plain_line(alloc: Global, kind: &[u8]) -> Result<Vec<u8>, AllocError>
     ensures { IfOk result (λ line. line.items ≡ refused_line (kind.now ∷ [])) }
 {
@@ -71,7 +75,7 @@ fn plain_line(alloc: Global, kind: &[u8]) -> Result<Vec<u8>, AllocError>
     Ok(line)
 }
 
-// Returns the line of a fault in a file.
+// Returns the line of a fault in a file, with the file's name.
 fn file_line(alloc: Global, kind: &[u8], name: &str) -> Result<Vec<u8>, AllocError>
     ensures { IfOk result (λ line. line.items ≡ refused_line (kind.now ∷ told_name name.now ∷ [])) }
 {
@@ -81,9 +85,10 @@ fn file_line(alloc: Global, kind: &[u8], name: &str) -> Result<Vec<u8>, AllocErr
     Ok(line)
 }
 
-// Returns the line of a fault in a line of a file.
+// Returns the line of a fault in line `number` of a file.
 fn place_line(alloc: Global, kind: &[u8], name: &str, number: u64) -> Result<Vec<u8>, AllocError>
-    ensures { IfOk result (λ line. line.items ≡ refused_line (kind.now ∷ told_name name.now ∷ decimal number ∷ [])) }
+    ensures { IfOk result (λ line. line.items
+        ≡ refused_line (kind.now ∷ told_name name.now ∷ decimal number ∷ [])) }
 {
     let mut line = begun(alloc, kind)?;
     push_name(&mut line, name)?;
@@ -92,9 +97,11 @@ fn place_line(alloc: Global, kind: &[u8], name: &str, number: u64) -> Result<Vec
     Ok(line)
 }
 
-// Returns the line of a fault in a row.
+// Returns the line of a fault in a row: file, line, column and cause.
 fn row_line(alloc: Global, name: &str, number: u64, fault: RowFault) -> Result<Vec<u8>, AllocError>
-    ensures { IfOk result (λ line. line.items ≡ refused_line (codes "row" ∷ told_name name.now ∷ decimal number ∷ decimal fault.column ∷ word_of_cause fault.cause ∷ [])) }
+    ensures { IfOk result (λ line. line.items
+        ≡ refused_line (codes "row" ∷ told_name name.now ∷ decimal number ∷ decimal fault.column
+        ∷ word_of_cause fault.cause ∷ [])) }
 {
     let mut line = begun(alloc, b"row")?;
     push_name(&mut line, name)?;
@@ -105,9 +112,10 @@ fn row_line(alloc: Global, name: &str, number: u64, fault: RowFault) -> Result<V
     Ok(line)
 }
 
-// Returns the line of a cycle through a concept.
+// Returns the line for an is-a cycle through the concept with the identifier `concept`.
 fn cycle_line(alloc: Global, concept: u64) -> Result<Vec<u8>, AllocError>
-    ensures { IfOk result (λ line. line.items ≡ refused_line (codes "cycle" ∷ decimal concept ∷ [])) }
+    ensures { IfOk result (λ line. line.items
+        ≡ refused_line (codes "cycle" ∷ decimal concept ∷ [])) }
 {
     let mut line = begun(alloc, b"cycle")?;
     push_number(&mut line, concept)?;
@@ -115,7 +123,7 @@ fn cycle_line(alloc: Global, concept: u64) -> Result<Vec<u8>, AllocError>
     Ok(line)
 }
 
-// Returns the name of a file, or no bytes if there is no such file.
+// Returns the name of the file at index `file`, or an empty name if `names` is too short.
 fn name_at<'a>(names: &[&'a str], file: usize) -> &'a str
     ensures { result.now ≡ slice_index_or (texts_of names.now) file [] }
 {
@@ -125,7 +133,7 @@ fn name_at<'a>(names: &[&'a str], file: usize) -> &'a str
     }
 }
 
-// Returns a line up to the kind of the fault.
+// Returns the beginning of a line: `REFUSED`, a space and the kind of the fault.
 fn begun(alloc: Global, kind: &[u8]) -> Result<Vec<u8>, AllocError>
     ensures { IfOk result (λ line. line.items ≡ codes "REFUSED" ++ 32 ∷ kind.now) }
 {
@@ -134,7 +142,7 @@ fn begun(alloc: Global, kind: &[u8]) -> Result<Vec<u8>, AllocError>
     Ok(line)
 }
 
-// Adds a space and a word.
+// Appends a space and `word`.
 fn push_word(line: &mut Vec<u8>, word: &[u8]) -> Result<(), AllocError>
     ensures { OnOk result (line.new.items ≡ line.old.items ++ 32 ∷ word.now) }
 {
@@ -142,7 +150,7 @@ fn push_word(line: &mut Vec<u8>, word: &[u8]) -> Result<(), AllocError>
     line.extend_from_slice(word)
 }
 
-// Adds a space and a number.
+// Appends a space and `number` in decimal.
 fn push_number(line: &mut Vec<u8>, number: u64) -> Result<(), AllocError>
     ensures { OnOk result (line.new.items ≡ line.old.items ++ 32 ∷ decimal number) }
 {
@@ -150,7 +158,7 @@ fn push_number(line: &mut Vec<u8>, number: u64) -> Result<(), AllocError>
     push_word(line, digits.format(number).as_bytes())
 }
 
-// Returns the word for the cause for which a row is refused.
+// Returns the word for the cause why a row is refused.
 fn cause_word(cause: RowCause) -> &'static [u8]
     ensures { result.now ≡ word_of_cause cause }
 {
@@ -166,7 +174,7 @@ fn cause_word(cause: RowCause) -> &'static [u8]
     }
 }
 
-// Returns the word for the cause for which an identifier is refused.
+// Returns the word for the cause why an identifier is refused.
 fn id_word(fault: IdFault) -> &'static [u8]
     ensures { result.now ≡ word_of_id fault }
 {

@@ -3,7 +3,8 @@ ghost use Rattle.std.specs.Prelude.{◌≡◌, ◌++◌, decimal, OnErr, OnOk};
 
 use std::alloc::AllocError;
 
-/// Appends a number in decimal. If memory is refused, it returns `AllocError`, and `output` is unchanged.
+/// Appends `number` in decimal. If memory is refused, it returns `AllocError`, and `output` is
+/// unchanged.
 pub fn append_number(number: u64, output: &mut Vec<u8>) -> Result<(), AllocError>
     ensures ok { OnOk result (output.new.items ≡ output.old.items ++ decimal number) }
     ensures err { OnErr result (output.new.items ≡ output.old.items) }

@@ -1,6 +1,6 @@
-//! The text of a plan: its nodes, and how many items each of them visits at most.
+//! The text of a plan: a line for each node, with the most items that it visits.
 ghost use Rattle.std.specs.Prelude.{◌≡◌, ◌++◌, ◌∷◌, IfOk, OnErr, OnOk, codes, drop, length};
-ghost use Rattle.set_algebra.specs.Physical.{physical_units_of, physical_units_list_of, physical_of, physicals_of};
+ghost use Rattle.set_algebra.specs.Physical.{physical_groups_of, physical_groups_list_of, physical_of, physicals_of};
 ghost use Rattle.set_algebra.specs.Physical.{physical_test_of};
 ghost use Rattle.answer_printer.specs.AnswerText.{number_line};
 ghost use Rattle.answer_printer.specs.inside.PlanLines.{before_bound, below, below_group, first_bound, with_bounds};
@@ -8,16 +8,17 @@ ghost use Rattle.answer_printer.specs.PlanText.{bound_line, group_outline, group
 ghost use Rattle.answer_printer.specs.PlanText.{outline, plan_text, plans_outline, test_outline};
 
 use crate::numbers::append_number;
-use crate::plan_words::{write_node, write_unit_node};
+use crate::plan_words::{write_group_node, write_node};
 use planner::{PhysicalPlan, bound, own_bounds};
 use postings::Indexes;
 use set_algebra::{ConceptPlan, UnitPlan, ValueTest};
 use std::alloc::{AllocError, Global};
 
-/// Appends the text of a plan over the indexes of a release: `PLAN` and how many items the plan visits at most, then
-/// a line for each node, a node before its children, which have one space more before them. A line says what the
-/// node is, for a leaf also by which rows it is answered, and how many items the node itself visits at most, besides
-/// its children. Every line ends in LF. If memory is refused, it returns `AllocError`, and `output` is unchanged.
+/// Appends the text of a plan over the indexes of a release. The first line is `PLAN` and the bound
+/// of the plan: how many items it visits at most. Then each node has a line, before its children,
+/// which are indented by one space more. The line says what the node is; for a leaf also which rows
+/// answer it (its choice); and how many items the node itself visits at most, without its children.
+/// Every line ends in LF. If memory is refused, it returns `AllocError`, and `output` is unchanged.
 pub fn print_plan(
     alloc: Global,
     physical: &PhysicalPlan,
@@ -32,14 +33,15 @@ pub fn print_plan(
     output.extend_from_slice(text.as_slice())
 }
 
-// Returns the text of a plan. It is built apart from the output, so that a refused growth leaves no part of it
-// there.
+// Returns the text of a plan. It is built in a vector of its own, so that a refused allocation
+// leaves no part of it in the output.
 fn plan_bytes(
     alloc: Global,
     physical: &PhysicalPlan,
     indexes: &Indexes,
 ) -> Result<Vec<u8>, AllocError>
-    ensures { IfOk result (λ text. text.items ≡ plan_text indexes.now (physical_of physical.now.plan)) }
+    ensures { IfOk result (λ text. text.items
+        ≡ plan_text indexes.now (physical_of physical.now.plan)) }
 {
     let bounds = own_bounds(alloc, physical, indexes)?;
     let mut text = Vec::from_slice(alloc, b"PLAN ")?;
@@ -48,8 +50,8 @@ fn plan_bytes(
     Ok(text)
 }
 
-// Adds the lines of a concept plan, each after `spaces`. The nodes take the first entries of `bounds`; it returns
-// the remaining ones.
+// Appends the lines of a concept plan, each indented by `spaces`. `bounds` lists the nodes' own
+// bounds, this plan's first; it returns the bounds that this plan's lines did not use.
 #[cycle(write)]
 fn write_plan<'a>(
     alloc: Global,
@@ -63,14 +65,14 @@ fn write_plan<'a>(
     ensures bounds { IfOk result (λ left. left.now
         ≡ drop (length (outline before_bound spaces.now (physical_of plan.now))) bounds.now) }
 {
-    let behind = write_line(plan, spaces, bounds, text)?;
+    let following = write_line(plan, spaces, bounds, text)?;
     let deeper = one_space_more(alloc, spaces)?;
-    let left = write_below(alloc, plan, deeper.as_slice(), behind, text)?;
+    let left = write_below(alloc, plan, deeper.as_slice(), following, text)?;
     Ok(left)
 }
 
-// Adds the lines below a node of a concept plan, each after `spaces`. The nodes take the first entries of `bounds`;
-// it returns the remaining ones.
+// Appends the lines of the nodes below a node of a concept plan, each indented by `spaces`.
+// `bounds` begins with their own bounds; it returns the bounds that their lines did not use.
 #[cycle(write)]
 fn write_below<'a>(
     alloc: Global,
@@ -104,14 +106,14 @@ fn write_below<'a>(
             let left = write_plan(alloc, types, spaces, bounds, text)?;
             write_test(alloc, test, spaces, left, text)
         }
-        ConceptPlan::Units { units, .. } => { write_units(alloc, units, spaces, bounds, text) }
+        ConceptPlan::Units { units, .. } => { write_groups(alloc, units, spaces, bounds, text) }
     }
 }
 
-// Adds the lines of a group plan, each after `spaces`. The nodes take the first entries of `bounds`; it returns the
-// remaining ones.
+// Appends the lines of a group plan, each indented by `spaces`. `bounds` begins with the own bounds
+// of its nodes; it returns the bounds that its lines did not use.
 #[cycle(write)]
-fn write_units<'a>(
+fn write_groups<'a>(
     alloc: Global,
     plan: &UnitPlan,
     spaces: &[u8],
@@ -119,20 +121,21 @@ fn write_units<'a>(
     text: &mut Vec<u8>,
 ) -> Result<&'a [u64], AllocError>
     ensures text { OnOk result (text.new.items ≡ text.old.items ++ with_bounds
-        (group_outline before_bound spaces.now (physical_units_of plan.now)) bounds.now) }
+        (group_outline before_bound spaces.now (physical_groups_of plan.now)) bounds.now) }
     ensures bounds { IfOk result (λ left. left.now
-        ≡ drop (length (group_outline before_bound spaces.now (physical_units_of plan.now))) bounds.now) }
+        ≡ drop (length (group_outline before_bound spaces.now (physical_groups_of plan.now)))
+        bounds.now) }
 {
-    let behind = write_unit_line(plan, spaces, bounds, text)?;
+    let following = write_group_line(plan, spaces, bounds, text)?;
     let deeper = one_space_more(alloc, spaces)?;
-    let left = write_below_unit(alloc, plan, deeper.as_slice(), behind, text)?;
+    let left = write_below_group(alloc, plan, deeper.as_slice(), following, text)?;
     Ok(left)
 }
 
-// Adds the lines below a node of a group plan, each after `spaces`. The nodes take the first entries of `bounds`; it
-// returns the remaining ones.
+// Appends the lines of the nodes below a node of a group plan, each indented by `spaces`. `bounds`
+// begins with their own bounds; it returns the bounds that their lines did not use.
 #[cycle(write)]
-fn write_below_unit<'a>(
+fn write_below_group<'a>(
     alloc: Global,
     plan: &UnitPlan,
     spaces: &[u8],
@@ -140,18 +143,19 @@ fn write_below_unit<'a>(
     text: &mut Vec<u8>,
 ) -> Result<&'a [u64], AllocError>
     ensures text { OnOk result (text.new.items ≡ text.old.items ++ with_bounds
-        (below_group before_bound spaces.now (physical_units_of plan.now)) bounds.now) }
+        (below_group before_bound spaces.now (physical_groups_of plan.now)) bounds.now) }
     ensures bounds { IfOk result (λ left. left.now
-        ≡ drop (length (below_group before_bound spaces.now (physical_units_of plan.now))) bounds.now) }
+        ≡ drop (length (below_group before_bound spaces.now (physical_groups_of plan.now)))
+        bounds.now) }
 {
     match plan {
         UnitPlan::Nothing | UnitPlan::Every => Ok(bounds),
         UnitPlan::And(parts) | UnitPlan::Or(parts) => {
-            write_unit_parts(alloc, parts, spaces, bounds, text)
+            write_group_parts(alloc, parts, spaces, bounds, text)
         }
         UnitPlan::Minus(first, second) => {
-            let left = write_units(alloc, first, spaces, bounds, text)?;
-            write_units(alloc, second, spaces, left, text)
+            let left = write_groups(alloc, first, spaces, bounds, text)?;
+            write_groups(alloc, second, spaces, left, text)
         }
         UnitPlan::Pairs { types, test, .. } => {
             let left = write_plan(alloc, types, spaces, bounds, text)?;
@@ -160,8 +164,8 @@ fn write_below_unit<'a>(
     }
 }
 
-// Adds the lines of the plan in a test, if it has one, for a test is no node itself. The nodes take the first
-// entries of `bounds`; it returns the remaining ones.
+// Appends the lines of the plan inside `test`, if it has one; the test itself is no node and has no
+// line. It returns the bounds that these lines did not use.
 #[cycle(write)]
 fn write_test<'a>(
     alloc: Global,
@@ -173,7 +177,8 @@ fn write_test<'a>(
     ensures text { OnOk result (text.new.items ≡ text.old.items ++ with_bounds
         (test_outline before_bound spaces.now (physical_test_of test.now)) bounds.now) }
     ensures bounds { IfOk result (λ left. left.now
-        ≡ drop (length (test_outline before_bound spaces.now (physical_test_of test.now))) bounds.now) }
+        ≡ drop (length (test_outline before_bound spaces.now (physical_test_of test.now)))
+        bounds.now) }
 {
     match test {
         ValueTest::Within(operand) | ValueTest::Outside(operand) => {
@@ -183,8 +188,8 @@ fn write_test<'a>(
     }
 }
 
-// Adds the lines of a list of concept plans, each after `spaces`. The nodes take the first entries of `bounds`; it
-// returns the remaining ones.
+// Appends the lines of several concept plans, each indented by `spaces`. `bounds` begins with the
+// own bounds of their nodes; it returns the bounds that their lines did not use.
 #[cycle(write)]
 fn write_parts<'a>(
     alloc: Global,
@@ -196,7 +201,8 @@ fn write_parts<'a>(
     ensures text { OnOk result (text.new.items ≡ text.old.items ++ with_bounds
         (plans_outline before_bound spaces.now (physicals_of parts.now)) bounds.now) }
     ensures bounds { IfOk result (λ left. left.now
-        ≡ drop (length (plans_outline before_bound spaces.now (physicals_of parts.now))) bounds.now) }
+        ≡ drop (length (plans_outline before_bound spaces.now (physicals_of parts.now)))
+        bounds.now) }
 {
     let mut left = bounds;
     for place in 0..parts.len() {
@@ -205,29 +211,32 @@ fn write_parts<'a>(
     Ok(left)
 }
 
-// Adds the lines of a list of group plans, each after `spaces`. The nodes take the first entries of `bounds`; it
-// returns the remaining ones.
+// Appends the lines of several group plans, each indented by `spaces`. `bounds` begins with the own
+// bounds of their nodes; it returns the bounds that their lines did not use.
 #[cycle(write)]
-fn write_unit_parts<'a>(
+fn write_group_parts<'a>(
     alloc: Global,
     parts: &[UnitPlan],
     spaces: &[u8],
     bounds: &'a [u64],
     text: &mut Vec<u8>,
 ) -> Result<&'a [u64], AllocError>
-    ensures text { OnOk result (text.new.items ≡ text.old.items ++ with_bounds (groups_outline before_bound spaces.now
-        (physical_units_list_of parts.now)) bounds.now) }
+    ensures text { OnOk result (text.new.items ≡ text.old.items
+        ++ with_bounds (groups_outline before_bound spaces.now (physical_groups_list_of parts.now))
+        bounds.now) }
     ensures bounds { IfOk result (λ left. left.now
-        ≡ drop (length (groups_outline before_bound spaces.now (physical_units_list_of parts.now))) bounds.now) }
+        ≡ drop (length (groups_outline before_bound spaces.now (physical_groups_list_of parts.now)))
+        bounds.now) }
 {
     let mut left = bounds;
     for place in 0..parts.len() {
-        left = write_units(alloc, &parts[place], spaces, left, text)?;
+        left = write_groups(alloc, &parts[place], spaces, left, text)?;
     }
     Ok(left)
 }
 
-// Adds the line of a node of a concept plan with the first of `bounds`; returns the remaining ones.
+// Appends the line of one node of a concept plan, which ends with the first of `bounds`; returns
+// the remaining bounds.
 fn write_line<'a>(
     plan: &ConceptPlan,
     spaces: &[u8],
@@ -236,42 +245,44 @@ fn write_line<'a>(
 ) -> Result<&'a [u64], AllocError>
     ensures text { OnOk result (text.new.items ≡ text.old.items ++ bound_line
         (spaces.now ++ node_words (physical_of plan.now)) (first_bound bounds.now)) }
-    ensures behind { IfOk result (λ behind. behind.now ≡ drop 1 bounds.now) }
+    ensures following { IfOk result (λ following. following.now ≡ drop 1 bounds.now) }
 {
     text.extend_from_slice(spaces)?;
     write_node(plan, text)?;
-    let behind = write_bound(bounds, text)?;
-    Ok(behind)
+    let following = write_bound(bounds, text)?;
+    Ok(following)
 }
 
-// Adds the line of a node of a group plan with the first of `bounds`; returns the remaining ones.
-fn write_unit_line<'a>(
+// Appends the line of one node of a group plan, which ends with the first of `bounds`; returns the
+// remaining bounds.
+fn write_group_line<'a>(
     plan: &UnitPlan,
     spaces: &[u8],
     bounds: &'a [u64],
     text: &mut Vec<u8>,
 ) -> Result<&'a [u64], AllocError>
     ensures text { OnOk result (text.new.items ≡ text.old.items ++ bound_line
-        (spaces.now ++ group_words (physical_units_of plan.now)) (first_bound bounds.now)) }
-    ensures behind { IfOk result (λ behind. behind.now ≡ drop 1 bounds.now) }
+        (spaces.now ++ group_words (physical_groups_of plan.now)) (first_bound bounds.now)) }
+    ensures following { IfOk result (λ following. following.now ≡ drop 1 bounds.now) }
 {
     text.extend_from_slice(spaces)?;
-    write_unit_node(plan, text)?;
-    let behind = write_bound(bounds, text)?;
-    Ok(behind)
+    write_group_node(plan, text)?;
+    let following = write_bound(bounds, text)?;
+    Ok(following)
 }
 
-// Ends a line with the first of `bounds`; returns the remaining ones.
+// Ends a line with a space, the first of `bounds` (0 if there is none), and LF; returns the
+// remaining bounds.
 fn write_bound<'a>(bounds: &'a [u64], text: &mut Vec<u8>) -> Result<&'a [u64], AllocError>
     ensures text { OnOk result (text.new.items ≡ text.old.items ++
         (codes " " ++ number_line (first_bound bounds.now))) }
-    ensures behind { IfOk result (λ behind. behind.now ≡ drop 1 bounds.now) }
+    ensures following { IfOk result (λ following. following.now ≡ drop 1 bounds.now) }
 {
     text.push(b' ')?;
     match bounds.split_first() {
-        Some((most, behind)) => {
+        Some((most, following)) => {
             write_number(*most, text)?;
-            Ok(behind)
+            Ok(following)
         }
         None => {
             write_number(0, text)?;
@@ -280,7 +291,7 @@ fn write_bound<'a>(bounds: &'a [u64], text: &mut Vec<u8>) -> Result<&'a [u64], A
     }
 }
 
-// Adds a number and ends the line.
+// Appends `number` and LF.
 fn write_number(number: u64, text: &mut Vec<u8>) -> Result<(), AllocError>
     ensures { OnOk result (text.new.items ≡ text.old.items ++ number_line number) }
 {

@@ -2,7 +2,7 @@
 ghost use Rattle.std.specs.Prelude.{◌≡◌, ◌++◌, OnOk};
 ghost use Rattle.std.specs.Fmt.{signed_decimal};
 ghost use Rattle.constraint_tree.specs.Text.{compare_text, most_text};
-ghost use Rattle.set_algebra.specs.Physical.{physical_units_of, physical_of, physical_test_of};
+ghost use Rattle.set_algebra.specs.Physical.{physical_groups_of, physical_of, physical_test_of};
 ghost use Rattle.answer_printer.specs.PlanText.{choice_words, count_words, group_words, leaf_words, node_words, operator_word as word_of_operator, pairs_words, test_words};
 
 use crate::numbers::append_number;
@@ -12,7 +12,7 @@ use rf2_rows::Decimal;
 use set_algebra::{ConceptPlan, UnitPlan, ValueTest};
 use std::alloc::AllocError;
 
-/// Adds the words for a node of a concept plan.
+/// Appends the words that describe one node of a concept plan, without its children.
 pub fn write_node(plan: &ConceptPlan, text: &mut Vec<u8>) -> Result<(), AllocError>
     ensures { OnOk result (text.new.items ≡ text.old.items ++ node_words (physical_of plan.now)) }
 {
@@ -46,9 +46,10 @@ pub fn write_node(plan: &ConceptPlan, text: &mut Vec<u8>) -> Result<(), AllocErr
     }
 }
 
-/// Adds the words for a node of a group plan.
-pub fn write_unit_node(plan: &UnitPlan, text: &mut Vec<u8>) -> Result<(), AllocError>
-    ensures { OnOk result (text.new.items ≡ text.old.items ++ group_words (physical_units_of plan.now)) }
+/// Appends the words that describe one node of a group plan, without its children.
+pub fn write_group_node(plan: &UnitPlan, text: &mut Vec<u8>) -> Result<(), AllocError>
+    ensures { OnOk result (text.new.items ≡ text.old.items
+        ++ group_words (physical_groups_of plan.now)) }
 {
     match plan {
         UnitPlan::Nothing => text.extend_from_slice(b"no-units"),
@@ -68,14 +69,15 @@ pub fn write_unit_node(plan: &UnitPlan, text: &mut Vec<u8>) -> Result<(), AllocE
     }
 }
 
-// Adds the words for a leaf: what it counts, and by which rows it is answered.
+// Appends the words for a leaf: its cardinality, its test, and its choice (which rows answer it).
 fn write_leaf(
     count: Cardinality,
     test: &ValueTest,
     choice: Choice,
     text: &mut Vec<u8>,
 ) -> Result<(), AllocError>
-    ensures { OnOk result (text.new.items ≡ text.old.items ++ leaf_words count (physical_test_of test.now) choice) }
+    ensures { OnOk result (text.new.items ≡ text.old.items
+        ++ leaf_words count (physical_test_of test.now) choice) }
 {
     write_count(count, text)?;
     text.push(b' ')?;
@@ -84,7 +86,7 @@ fn write_leaf(
     text.extend_from_slice(choice_word(choice))
 }
 
-// Adds the words for a cardinality.
+// Appends a cardinality, such as `1..*`.
 fn write_count(count: Cardinality, text: &mut Vec<u8>) -> Result<(), AllocError>
     ensures { OnOk result (text.new.items ≡ text.old.items ++ count_words count) }
 {
@@ -96,9 +98,11 @@ fn write_count(count: Cardinality, text: &mut Vec<u8>) -> Result<(), AllocError>
     }
 }
 
-// Adds the words for the test of a value.
+// Appends the words for a test on values: `within` or `outside` a set, or a comparison with a
+// number.
 fn write_test(test: &ValueTest, text: &mut Vec<u8>) -> Result<(), AllocError>
-    ensures { OnOk result (text.new.items ≡ text.old.items ++ test_words (physical_test_of test.now)) }
+    ensures { OnOk result (text.new.items ≡ text.old.items
+        ++ test_words (physical_test_of test.now)) }
 {
     match test {
         ValueTest::Within(_) => text.extend_from_slice(b"within"),
@@ -111,7 +115,7 @@ fn write_test(test: &ValueTest, text: &mut Vec<u8>) -> Result<(), AllocError>
     }
 }
 
-// Adds a number, which counts units of 10^-18.
+// Appends a decimal number as an integer: how many units of 10^-18 it has.
 fn write_decimal(number: Decimal, text: &mut Vec<u8>) -> Result<(), AllocError>
     ensures { OnOk result (text.new.items ≡ text.old.items ++ signed_decimal number.0) }
 {
@@ -119,7 +123,8 @@ fn write_decimal(number: Decimal, text: &mut Vec<u8>) -> Result<(), AllocError>
     text.extend_from_slice(digits.format(number.0).as_bytes())
 }
 
-// Returns the words for the direction in which rows are read: from their sources, or backwards.
+// Returns the words for the direction in which attribute rows are read: `pairs out` from their
+// sources, or `pairs in` backwards, from their values.
 fn direction(back: bool) -> &'static [u8]
     ensures { result.now ≡ pairs_words back }
 {
@@ -144,7 +149,7 @@ fn operator_word(operator: Operator) -> &'static [u8]
     }
 }
 
-// Returns the sign of a comparison.
+// Returns the sign of a comparison operator.
 fn compare_sign(compare: Compare) -> &'static [u8]
     ensures { result.now ≡ compare_text compare }
 {
@@ -158,7 +163,7 @@ fn compare_sign(compare: Compare) -> &'static [u8]
     }
 }
 
-// Returns the words for the choice of a leaf.
+// Returns the words for a leaf's choice.
 fn choice_word(choice: Choice) -> &'static [u8]
     ensures { result.now ≡ choice_words choice }
 {

@@ -1,4 +1,4 @@
-//! The report of a release.
+//! The report on a loaded release.
 ghost use Rattle.std.specs.Prelude.{◌≡◌, ◌++◌, IfOk, OnErr, OnOk};
 ghost use Rattle.answer_printer.specs.AnswerText.{number_line};
 ghost use Rattle.answer_printer.specs.ReportText.{report_text};
@@ -7,9 +7,10 @@ use crate::numbers::append_number;
 use held_release::Report;
 use std::alloc::{AllocError, Global};
 
-/// Appends how many rows a release has, each number on a line of its own after a word: the files that have a kind
-/// (`FILES`), the rows in force of the five lists (`CONCEPTS`, `ISA`, `ATTRIBUTES`, `MEMBERS` and `NAMES`), and the
-/// rows in none of them (`PASSED`). If memory is refused, it returns `AllocError`, and `output` is unchanged.
+/// Appends the row counts of a release. Each line has a word and a number: `FILES` counts the files
+/// whose name has a known kind; `CONCEPTS`, `ISA`, `ATTRIBUTES`, `MEMBERS` and `NAMES` count the
+/// rows in force of the five lists; `PASSED` counts the rows in none of these lists. If memory is
+/// refused, it returns `AllocError`, and `output` is unchanged.
 pub fn print_report(alloc: Global, report: &Report, output: &mut Vec<u8>) -> Result<(), AllocError>
     ensures ok { OnOk result (output.new.items ≡ output.old.items ++ report_text report.now) }
     ensures err { OnErr result (output.new.items ≡ output.old.items) }
@@ -18,8 +19,8 @@ pub fn print_report(alloc: Global, report: &Report, output: &mut Vec<u8>) -> Res
     output.extend_from_slice(text.as_slice())
 }
 
-// Returns the text of a report. It is built apart from the output, so that a refused growth leaves no part of it
-// there.
+// Returns the text of `report`. It is built in a vector of its own, so that a refused allocation
+// leaves no part of it in the output.
 fn report_bytes(alloc: Global, report: &Report) -> Result<Vec<u8>, AllocError>
     ensures { IfOk result (λ text. text.items ≡ report_text report.now) }
 {
@@ -34,7 +35,7 @@ fn report_bytes(alloc: Global, report: &Report) -> Result<Vec<u8>, AllocError>
     Ok(text)
 }
 
-// Adds a line of a word and a number.
+// Appends `word`, the number `count`, and LF.
 fn push_count(word: &[u8], count: u64, text: &mut Vec<u8>) -> Result<(), AllocError>
     ensures { OnOk result (text.new.items ≡ text.old.items ++ (word.now ++ number_line count)) }
 {

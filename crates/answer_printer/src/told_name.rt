@@ -1,12 +1,12 @@
-//! The name of a file as it is told.
+//! The printed form of a file's name.
 ghost use Rattle.std.specs.Prelude.{◌≡◌, ◌<◌, ◌++◌, ◌∷◌, false, OnOk};
 ghost use Rattle.std.specs.Fmt.{digit_glyph};
 ghost use Rattle.answer_printer.specs.ToldName.{told_byte, told_name};
 
 use std::alloc::AllocError;
 
-/// Adds a space and the name of a file. Control characters of ASCII are told by `\x` and two hexadecimal digits, so
-/// that the text is one line whatever the name is.
+/// Appends a space and the name of a file to `line`. Each ASCII control character is printed as
+/// `\x` and two hexadecimal digits, so that any name stays on one line.
 pub fn push_name(line: &mut Vec<u8>, name: &str) -> Result<(), AllocError>
     ensures { OnOk result (line.new.items ≡ line.old.items ++ 32 ∷ told_name name.now) }
 {
@@ -17,7 +17,7 @@ pub fn push_name(line: &mut Vec<u8>, name: &str) -> Result<(), AllocError>
     Ok(())
 }
 
-// Adds a byte of a name as it is told.
+// Appends one byte of a name: a control character as `\x` and its digits, any other byte as it is.
 fn push_byte(line: &mut Vec<u8>, byte: u8) -> Result<(), AllocError>
     ensures { OnOk result (line.new.items ≡ line.old.items ++ told_byte byte) }
 {

@@ -1,5 +1,5 @@
 pub mod AddsLemmas
-pub mod ExtentLemmas
+pub mod StatsLemmas
 pub mod GroupLemmas
 pub mod ListLemmas
 pub mod Normal

@@ -1,5 +1,6 @@
 -- Sets that are restricted to candidates.
-use Rattle.std.proofs.Common.{ℕ, ◌≡◌, ◌<◌, ◌+◌, ◌∙◌, ◌∷◌, [], Bool, true, false, not, ◌&&◌, ◌||◌, ◌==◌, cond, List, length, get_or, take, refl, sym, ap, inl, inr}
+use Rattle.std.proofs.Common.{ℕ, ◌≡◌, ◌<◌, ◌+◌, ◌∙◌, ◌∷◌, [], Bool, true, false, not, ◌&&◌, ◌||◌, ◌==◌, cond, List}
+use Rattle.std.proofs.Common.{length, get_or, take, refl, sym, ap, inl, inr}
 use Rattle.std.specs.Prelude.{filter, slice_get}
 use Rattle.std.specs.List.{list_all, list_any}
 use Rattle.std.proofs.lemmas.Bool.{cases_eq, eq-eqb, ne_eqb}
@@ -10,7 +11,8 @@ use Rattle.idset.specs.Sets.{all_items, other_items}
 use Rattle.number_lists.specs.Members.{has}
 use Rattle.number_lists.specs.Rising.{numbers_where}
 use Rattle.idset.proofs.Normal.{all_items-numbers_where, other_items-numbers_where}
-use Rattle.number_lists.proofs.WhereLemmas.{filter-numbers_where, has-numbers_where, numbers_where-agree, numbers_where-none}
+use Rattle.number_lists.proofs.WhereLemmas.{filter-numbers_where, has-numbers_where, numbers_where-agree}
+use Rattle.number_lists.proofs.WhereLemmas.{numbers_where-none}
 use Rattle.postings.specs.Groups.{all_groups}
 use Rattle.candidates.specs.Groups.{groups_where, some_group_in}
 use Rattle.candidates.specs.Numbers.{numbers_in}
@@ -30,7 +32,7 @@ together : (a b c : Bool) → ((a && b) && c) ≡ (a && (b && c))
 together true b c = refl
 together false b c = refl
 
--- a filtered list has n exactly if the list has n and n passes the filter
+-- `filter p xs` contains `n` exactly if `xs` contains `n` and `n` passes `p`
 pub has_kept : (p : ℕ → Bool) (xs : List ℕ) (n : ℕ) → has (filter p xs) n ≡ (has xs n && p n)
 has_kept p [] n = refl
 has_kept p (x ∷ xs) n = elim (cases_eq x n) [
@@ -51,29 +53,33 @@ has_kept p (x ∷ xs) n = elim (cases_eq x n) [
     by_other rest apart true = (λ i. apart i || rest i) ∙ sym (λ i. (apart i || has xs n) && p n)
     by_other rest apart false = rest ∙ sym (λ i. (apart i || has xs n) && p n)
 
--- the candidates that a filter keeps of the numbers in `set` are the numbers that are candidates and in `set`
-pub restricted_to : (bound : ℕ) (may set : ℕ → Bool) (found left : List ℕ) → found ≡ numbers_where bound set → left ≡ filter may found
+-- filtering the numbers in `set` by `may` gives the candidates (`may`) that are in `set`
+pub restricted_to : (bound : ℕ) (may set : ℕ → Bool) (found left : List ℕ) → found ≡ numbers_where bound set
+    → left ≡ filter may found
     → left ≡ numbers_where bound (λ n. may n && set n)
 restricted_to bound may set found left found_is left_is =
     left_is ∙ ap (filter may) found_is ∙ filter-numbers_where bound set may
     ∙ (λ i. numbers_where bound (λ n. and_swap (set n) (may n) i))
 
--- without a candidate, the empty list is the numbers that are candidates and in `set`
+-- if there is no candidate, the candidates in `set` are the empty list
 pub none_within : (bound : ℕ) (may set : ℕ → Bool) (found : List ℕ) → ((n : ℕ) → may n ≡ false) → found ≡ []
     → found ≡ numbers_where bound (λ n. may n && set n)
 none_within bound may set found none is =
     is ∙ sym (numbers_where-none bound) ∙ (λ i. numbers_where bound (λ n. sym (none n) i && set n))
 
--- the numbers of a first result that are in `set` are the numbers that are in `start` and in `set`
+-- if `found` has the numbers in `start`, and `next` those of `found` in `set`, then `next` has the numbers that are in
+-- both
 pub asked_of : (bound : ℕ) (start set : ℕ → Bool) (found next : List ℕ) → found ≡ numbers_where bound start
     → next ≡ numbers_where bound (λ n. has found n && set n)
     → next ≡ numbers_where bound (λ n. start n && set n)
 asked_of bound start set found next found_is next_is =
     next_is
     ∙ numbers_where-agree bound (λ n. has found n && set n) (λ n. start n && set n)
-    (λ n within. ap (λ (b : Bool). b && set n) (ap (λ (xs : List ℕ). has xs n) found_is ∙ has-numbers_where bound start n within))
+    (λ n within. ap (λ (b : Bool). b && set n) (ap (λ (xs : List ℕ). has xs n) found_is
+    ∙ has-numbers_where bound start n within))
 
--- the candidates in `one`, less those of them in `other`, are the candidates that are in `one` and not in `other`
+-- removing from the candidates in `one` those of them in `other` gives the candidates that are in `one` and not in
+-- `other`
 pub minus_within : (bound : ℕ) (may one other : ℕ → Bool) (left right found : List ℕ)
     → left ≡ numbers_where bound (λ n. may n && one n)
     → right ≡ numbers_where bound (λ n. has left n && other n)
@@ -90,81 +96,92 @@ minus_within bound may one other left right found left_is right_is found_is =
     less true false c = refl
     less false b c = refl
 
-module _ {X : Type 0} (bound : ℕ) (test : X → ℕ → Bool) (parts : List X) (k : ℕ) (d : X) (within : k < length parts) where
-  -- to pass the first k parts and part k is to pass the first k + 1 parts
-  one_more : (start : ℕ → Bool) (n : ℕ) → ((start n && list_all (λ part. test part n) (take k parts)) && test (get_or parts k d) n)
-      ≡ (start n && list_all (λ part. test part n) (take (k + 1) parts))
-  one_more start n =
-      together (start n) (list_all (λ part. test part n) (take k parts)) (test (get_or parts k d) n)
-      ∙ ap (λ (b : Bool). start n && b) (sym (all_take (λ part. test part n) parts k d within))
-      ∙ ap (λ (m : ℕ). start n && list_all (λ part. test part n) (take m parts)) (sym (next_place k))
+module _ {X : Type 0} (bound : ℕ) (test : X → ℕ → Bool) (parts : List X) (k : ℕ) (d : X) (within : k < length parts)
+  where
+    -- to pass the first k parts and part k is to pass the first k + 1 parts
+    one_more : (start : ℕ → Bool) (n : ℕ)
+        → ((start n && list_all (λ part. test part n) (take k parts)) && test (get_or parts k d) n)
+        ≡ (start n && list_all (λ part. test part n) (take (k + 1) parts))
+    one_more start n =
+        together (start n) (list_all (λ part. test part n) (take k parts)) (test (get_or parts k d) n)
+        ∙ ap (λ (b : Bool). start n && b) (sym (all_take (λ part. test part n) parts k d within))
+        ∙ ap (λ (m : ℕ). start n && list_all (λ part. test part n) (take m parts)) (sym (next_place k))
 
-  -- if `found` passes the first k parts, and `next` are those of `found` that pass part k, `next` passes the first k +
-  -- 1 parts
-  pub all_within : (start : ℕ → Bool) (found next : List ℕ)
-      → found ≡ numbers_where bound (λ n. start n && list_all (λ part. test part n) (take k parts))
-      → next ≡ numbers_where bound (λ n. has found n && test (get_or parts k d) n)
-      → next ≡ numbers_where bound (λ n. start n && list_all (λ part. test part n) (take (k + 1) parts))
-  all_within start found next found_is next_is =
-      asked_of bound (λ n. start n && list_all (λ part. test part n) (take k parts)) (test (get_or parts k d)) found next found_is next_is
-      ∙ (λ i. numbers_where bound (λ n. one_more start n i))
+    -- a conjunction, one part more: if `found` has the numbers in `start` that pass the first `k` parts, and `next`
+    -- those of `found` that pass part `k`, then `next` has those that pass the first `k + 1` parts
+    pub all_within : (start : ℕ → Bool) (found next : List ℕ)
+        → found ≡ numbers_where bound (λ n. start n && list_all (λ part. test part n) (take k parts))
+        → next ≡ numbers_where bound (λ n. has found n && test (get_or parts k d) n)
+        → next ≡ numbers_where bound (λ n. start n && list_all (λ part. test part n) (take (k + 1) parts))
+    all_within start found next found_is next_is =
+        asked_of bound (λ n. start n && list_all (λ part. test part n) (take k parts)) (test (get_or parts k d)) found
+        next found_is next_is
+        ∙ (λ i. numbers_where bound (λ n. one_more start n i))
 
-  -- if all that start also pass part k, what passes the first k parts passes the first k + 1 parts
-  pub all_again : (start : ℕ → Bool) (found : List ℕ)
-      → ((n : ℕ) → n < bound → start n ≡ true → test (get_or parts k d) n ≡ true)
-      → found ≡ numbers_where bound (λ n. start n && list_all (λ part. test part n) (take k parts))
-      → found ≡ numbers_where bound (λ n. start n && list_all (λ part. test part n) (take (k + 1) parts))
-  all_again start found had found_is =
-      found_is
-      ∙ numbers_where-agree bound (λ n. start n && list_all (λ part. test part n) (take k parts))
-      (λ n. start n && list_all (λ part. test part n) (take (k + 1) parts))
-      (λ n inside. kept (start n) (list_all (λ part. test part n) (take k parts)) (test (get_or parts k d) n) (had n inside) ∙ one_more start n)
-    where
-      kept : (a b c : Bool) → (a ≡ true → c ≡ true) → (a && b) ≡ ((a && b) && c)
-      kept true true c had = sym (had refl)
-      kept true false c had = refl
-      kept false b c had = refl
+    -- a conjunction, a part that is already known: if all numbers in `start` pass part `k`, then those that pass the
+    -- first `k` parts are those that pass the first `k + 1`
+    pub all_again : (start : ℕ → Bool) (found : List ℕ)
+        → ((n : ℕ) → n < bound → start n ≡ true → test (get_or parts k d) n ≡ true)
+        → found ≡ numbers_where bound (λ n. start n && list_all (λ part. test part n) (take k parts))
+        → found ≡ numbers_where bound (λ n. start n && list_all (λ part. test part n) (take (k + 1) parts))
+    all_again start found had found_is =
+        found_is
+        ∙ numbers_where-agree bound (λ n. start n && list_all (λ part. test part n) (take k parts))
+        (λ n. start n && list_all (λ part. test part n) (take (k + 1) parts))
+        (λ n inside. kept (start n) (list_all (λ part. test part n) (take k parts)) (test (get_or parts k d) n)
+        (had n inside) ∙ one_more start n)
+      where
+        kept : (a b c : Bool) → (a ≡ true → c ≡ true) → (a && b) ≡ ((a && b) && c)
+        kept true true c had = sym (had refl)
+        kept true false c had = refl
+        kept false b c had = refl
 
-  -- if `found` are the candidates that pass one of the first k parts, their union with the candidates that pass part k
-  -- are those that pass one of the first k + 1 parts
-  pub some_within : (may : ℕ → Bool) (count : ℕ) → count ≡ bound → (found next joined : List ℕ)
-      → found ≡ numbers_where bound (λ n. may n && list_any (λ part. test part n) (take k parts))
-      → next ≡ numbers_where bound (λ n. may n && test (get_or parts k d) n)
-      → joined ≡ all_items count found next
-      → joined ≡ numbers_where bound (λ n. may n && list_any (λ part. test part n) (take (k + 1) parts))
-  some_within may count counted found next joined found_is next_is joined_is =
-      joined_is
-      ∙ (λ i. all_items (counted i) (found_is i) (next_is i))
-      ∙ all_items-numbers_where bound (λ n. may n && list_any (λ part. test part n) (take k parts)) (λ n. may n && test (get_or parts k d) n)
-      ∙ (λ i. numbers_where bound (λ n. further n i))
-    where
-      apart : (a b c : Bool) → ((a && b) || (a && c)) ≡ (a && (b || c))
-      apart true b c = refl
-      apart false b c = refl
+    -- a disjunction, one part more: the union of the candidates that pass one of the first `k` parts and those that
+    -- pass part `k` has those that pass one of the first `k + 1` parts
+    pub some_within : (may : ℕ → Bool) (count : ℕ) → count ≡ bound → (found next joined : List ℕ)
+        → found ≡ numbers_where bound (λ n. may n && list_any (λ part. test part n) (take k parts))
+        → next ≡ numbers_where bound (λ n. may n && test (get_or parts k d) n)
+        → joined ≡ all_items count found next
+        → joined ≡ numbers_where bound (λ n. may n && list_any (λ part. test part n) (take (k + 1) parts))
+    some_within may count counted found next joined found_is next_is joined_is =
+        joined_is
+        ∙ (λ i. all_items (counted i) (found_is i) (next_is i))
+        ∙ all_items-numbers_where bound (λ n. may n && list_any (λ part. test part n) (take k parts))
+        (λ n. may n && test (get_or parts k d) n)
+        ∙ (λ i. numbers_where bound (λ n. further n i))
+      where
+        apart : (a b c : Bool) → ((a && b) || (a && c)) ≡ (a && (b || c))
+        apart true b c = refl
+        apart false b c = refl
 
-      further : (n : ℕ) → ((may n && list_any (λ part. test part n) (take k parts)) || (may n && test (get_or parts k d) n))
-          ≡ (may n && list_any (λ part. test part n) (take (k + 1) parts))
-      further n =
-          apart (may n) (list_any (λ part. test part n) (take k parts)) (test (get_or parts k d) n)
-          ∙ ap (λ (b : Bool). may n && b) (sym (any_take (λ part. test part n) parts k d within))
-          ∙ ap (λ (m : ℕ). may n && list_any (λ part. test part n) (take m parts)) (sym (next_place k))
+        further : (n : ℕ) → ((may n && list_any (λ part. test part n) (take k parts))
+            || (may n && test (get_or parts k d) n))
+            ≡ (may n && list_any (λ part. test part n) (take (k + 1) parts))
+        further n =
+            apart (may n) (list_any (λ part. test part n) (take k parts)) (test (get_or parts k d) n)
+            ∙ ap (λ (b : Bool). may n && b) (sym (any_take (λ part. test part n) parts k d within))
+            ∙ ap (λ (m : ℕ). may n && list_any (λ part. test part n) (take m parts)) (sym (next_place k))
 
--- no candidate passes one of no parts
-pub some_of_none : (bound : ℕ) (may : ℕ → Bool) (found : List ℕ) → found ≡ [] → found ≡ numbers_where bound (λ n. may n && false)
+-- a disjunction without parts finds no candidate
+pub some_of_none : (bound : ℕ) (may : ℕ → Bool) (found : List ℕ) → found ≡ []
+    → found ≡ numbers_where bound (λ n. may n && false)
 some_of_none bound may found is =
     is ∙ sym (numbers_where-none bound) ∙ (λ i. numbers_where bound (λ n. sym (and-false (may n)) i))
 
--- all that start pass each of no parts
+-- a conjunction without parts finds all numbers in `start`
 pub all_of_none : (bound : ℕ) (start : ℕ → Bool) (found : List ℕ) → found ≡ numbers_where bound start
     → found ≡ numbers_where bound (λ n. start n && true)
 all_of_none bound start found is = is ∙ (λ i. numbers_where bound (λ n. and_swap true (start n) i))
 
--- what is left of the candidates in `lead` after all parts is what is left of all candidates, if `lead` is one of the
--- parts
-pub all_done : (bound : ℕ) (may lead all : ℕ → Bool) (found : List ℕ) → ((n : ℕ) → n < bound → all n ≡ true → lead n ≡ true)
-    → found ≡ numbers_where bound (λ n. (may n && lead n) && all n) → found ≡ numbers_where bound (λ n. may n && all n)
-all_done bound may lead all found had found_is =
-    found_is ∙ numbers_where-agree bound (λ n. (may n && lead n) && all n) (λ n. may n && all n) (λ n within. dropped (may n) (lead n) (all n) (had n within))
+-- if `driving` is implied by all parts, then the candidates in `driving` that pass all parts are the candidates that
+-- pass all parts
+pub all_done : (bound : ℕ) (may driving all : ℕ → Bool) (found : List ℕ)
+    → ((n : ℕ) → n < bound → all n ≡ true → driving n ≡ true)
+    → found ≡ numbers_where bound (λ n. (may n && driving n) && all n)
+    → found ≡ numbers_where bound (λ n. may n && all n)
+all_done bound may driving all found had found_is =
+    found_is ∙ numbers_where-agree bound (λ n. (may n && driving n) && all n) (λ n. may n && all n)
+    (λ n within. dropped (may n) (driving n) (all n) (had n within))
   where
     dropped : (a b c : Bool) → (c ≡ true → b ≡ true) → ((a && b) && c) ≡ (a && c)
     dropped true true c had = refl
@@ -174,13 +191,15 @@ all_done bound may lead all found had found_is =
 
 -- ---- sets of concepts and of groups, restricted to candidates
 module _ (release : Release) (may : ℕ → Bool) where
-  -- the candidates that a filter keeps of a set of concepts are the numbers of the set within the candidates
-  pub kept_set : (set : ℕ → Bool) (some found : List ℕ) → some ≡ numbers_in release set → found ≡ filter may some → found ≡ numbers_within release may set
-  kept_set set some found some_is found_is = restricted_to (length release.concepts) may (λ n. set (get_or release.concepts n 0)) some found some_is found_is
+  -- filtering the numbers of a set of concepts by the candidates gives the numbers of the candidates in the set
+  pub kept_set : (set : ℕ → Bool) (some found : List ℕ) → some ≡ numbers_in release set → found ≡ filter may some
+      → found ≡ numbers_within release may set
+  kept_set set some found some_is found_is =
+      restricted_to (length release.concepts) may (λ n. set (get_or release.concepts n 0)) some found some_is found_is
 
-  -- the candidates that a filter keeps of a set of groups are the numbers of the groups of the set within the
-  -- candidates
-  pub kept_groups : (set : List Pair → Bool) (some found : List ℕ) → some ≡ groups_where release set → found ≡ filter may some
+  -- filtering the numbers of a set of groups by the candidates gives the numbers of the candidates in the set
+  pub kept_groups : (set : List Pair → Bool) (some found : List ℕ) → some ≡ groups_where release set
+      → found ≡ filter may some
       → found ≡ groups_within release may set
   kept_groups set some found some_is found_is =
       restricted_to (length (all_groups release)) may

@@ -3,5 +3,5 @@ pub mod Groups
 pub mod inside
 pub mod Numbers
 pub mod RowCounts
-pub mod Tallies
+pub mod RowEstimates
 pub mod Within

@@ -1,15 +1,15 @@
-//! The candidates: the concepts or groups that a node must test, and how much there is of them.
+//! The candidates: the concepts or groups that a node must test, with their statistics.
 //!
-//! Their extent tells which way is shorter; no answer depends on it.
+//! The statistics tell which way of executing a node reads fewer items. No answer depends on them.
 #![tactic(auto)]
 
 mod candidates;
+mod estimate;
 mod rows;
-mod tally;
 
 pub use crate::candidates::{
-    Candidates, Extent, ListExtent, extent_for, extent_of, extent_to_take, group_extent_of,
-    group_extent_to_take, none_left, restricted,
+    CandidateStats, Candidates, ListStats, group_stats_of, group_stats_to_take, none_left,
+    restricted, stats_for, stats_of, stats_to_take,
 };
+pub use crate::estimate::RowEstimate;
 pub use crate::rows::{are_read_before, look_ups, rows_of_value};
-pub use crate::tally::RowTally;

@@ -1,8 +1,8 @@
 //! How many rows concepts have, and which rows are faster to read.
 ghost use Rattle.std.specs.Prelude.{◌≡◌, ◌≤◌, ◌<◌, true, length};
-ghost use Rattle.candidates.specs.RowCounts.{extent_items, row_count_of};
+ghost use Rattle.candidates.specs.RowCounts.{stats_items, row_count_of};
 
-use crate::candidates::Extent;
+use crate::candidates::CandidateStats;
 use reading::Reader;
 
 /// Returns how many rows have `concept` as their value or, if `back`, as their source.
@@ -17,18 +17,19 @@ pub fn rows_of_value(reader: Reader<'_>, back: bool, concept: u32) -> u64
     }
 }
 
-/// Whether it is faster to look up the rows of the candidates than to read `rows` rows that stand side by side. It is
-/// not if all are candidates.
-pub fn are_read_before(candidates: Option<Extent>, rows: u64) -> bool
-    ensures { result ≡ true → extent_items candidates < rows }
+/// Returns whether looking up the rows of the candidates is faster than reading `rows` adjacent
+/// rows. It is not if all concepts or groups are candidates (`None`).
+pub fn are_read_before(candidates: Option<CandidateStats>, rows: u64) -> bool
+    ensures { result ≡ true → stats_items candidates < rows }
 {
     match candidates {
-        Some(extent) => look_ups(extent.items_and_rows()) < rows,
+        Some(stats) => look_ups(stats.items_and_rows()) < rows,
         None => false,
     }
 }
 
-/// About how many rows that stand side by side are read in the time that it takes to look up `rows` rows by number.
+/// Converts a cost: looking up `rows` rows by number takes about as long as reading the returned
+/// number of adjacent rows.
 pub fn look_ups(rows: u64) -> u64
     ensures { rows ≤ result }
 {

@@ -1,4 +1,4 @@
-//! The request that the words of a command line ask for.
+//! Reads the words of a command line as a request to the program.
 #![tactic(auto)]
 
 mod words;

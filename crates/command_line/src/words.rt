@@ -1,4 +1,4 @@
-//! The words of the command line.
+//! Reading the words of the command line with clap.
 ghost use Rattle.std.specs.Prelude.{ℕ, ◌≡◌, ◌≤◌, codes, IfErr, IfOk, IsOkAnd, MatchOption, false, length, map};
 ghost use Rattle.std.specs.Prelude.{string_bytes, unwrap_or};
 ghost use Rattle.clap.specs.Words.{app_of, first_of, found_of, kind_of, new_app, rows_of, rule_of, subcommand_rows_of};
@@ -19,59 +19,63 @@ use clap::error::ErrorKind;
 use clap::{Arg, ArgAction, ArgMatches, Command, Error};
 use std::alloc::{AllocError, Global};
 
-/// The task of a run of the program.
+/// What a run of the program does.
 #[derive(Clone, Copy, Debug, PartialEq, Eq)]
 pub enum Mode {
-    /// The program answers queries over the built-in release.
+    /// Answers queries over the built-in release.
     Sample,
-    /// The program answers queries over the release of folders.
+    /// Answers queries over the release in folders, without options.
     Query,
-    /// The program answers queries over the release of folders, under a limit or in a form of their own.
+    /// Answers queries over the release in folders, with a limit or in another form of answer.
     QueryWith(QueryOptions),
-    /// The program writes the plans of queries over the release of folders, and how much each visits at most.
+    /// Writes the plans of queries over the release in folders, and how many items each visits at
+    /// most.
     Explain,
-    /// The program writes what the release of folders has of concepts, by their identifiers.
+    /// Writes what the release in folders says of concepts, which the input names by identifiers.
     Describe,
-    /// The program answers requests over the release of folders: pages of answers, plans, and what it has of
-    /// concepts.
+    /// Answers requests of a program over the release in folders: pages of answers, plans, and
+    /// descriptions of concepts.
     Session,
-    /// The program reports what the release of folders has.
+    /// Reports how many rows the release in folders has, and reads no input.
     Check,
 }
 
 /// The options of the command `query`.
 #[derive(Clone, Copy, Debug, PartialEq, Eq)]
 pub struct QueryOptions {
-    /// How many items the plan of a constraint may visit at most. Without a limit it is `u64::MAX`, which no bound
-    /// exceeds.
+    /// How many items the plan of a constraint may visit at most. Without the option it is
+    /// `u64::MAX`, which no bound exceeds.
     pub limit: u64,
-    /// How many lines of concepts are written at most, from the first on; `None` writes all.
+    /// How many lines of concepts an answer has at most, from the first on; `None` writes all.
     pub first: Option<u64>,
-    /// Whether the line of a concept has its name.
+    /// Whether the line of a concept has the concept's name.
     pub names: bool,
 }
 
-/// A request, which the command line asks for.
+/// What the words of a command line ask the program to do.
 #[derive(Drop, Debug)]
 pub struct Request {
-    /// The task.
+    /// What the run does.
     pub mode: Mode,
-    /// The folders in the order of their words, from 1 to 9, each as its word stands. The built-in release has none.
+    /// The names of the folders, as the words give them and in their order: 1 to 9, or none for the
+    /// built-in release.
     pub folders: Vec<String>,
-    /// The code of the language whose names come first, `en` if none is given.
+    /// The code of the language whose names are preferred; `en` if the words give none.
     pub lang: String,
 }
 
 impl Request {
-    // Makes a request over the release of folders.
+    // Makes a request over the release in `folders`. Refuses an empty list, and more than 9
+    // folders.
     fn of_folders(
         alloc: Global,
         mode: Mode,
         folders: &[&str],
         lang: &str,
     ) -> Result<Request, WordFault>
-        ensures asked { IfOk result (λ request. (request.mode ≡ mode) × (folders_in request ≡ texts_of folders.now)
-            × AreOneToNine (texts_of folders.now) × (string_bytes request.lang ≡ lang.now)) }
+        ensures asked { IfOk result (λ request. (request.mode ≡ mode)
+            × (folders_in request ≡ texts_of folders.now) × AreOneToNine (texts_of folders.now)
+            × (string_bytes request.lang ≡ lang.now)) }
         ensures refused { IfErr result (IsFaultOfFolders (texts_of folders.now)) }
     {
         if folders.is_empty() {
@@ -88,7 +92,7 @@ impl Request {
     }
 }
 
-// Copies texts, in order.
+// Copies `texts` into owned strings, in order.
 fn copies(alloc: Global, texts: &[&str]) -> Result<Vec<String>, AllocError>
     ensures { IfOk result (λ copies. map string_bytes copies.items ≡ texts_of texts.now) }
 {
@@ -99,21 +103,21 @@ fn copies(alloc: Global, texts: &[&str]) -> Result<Vec<String>, AllocError>
     Ok(copies)
 }
 
-/// Why the words are no request.
+/// Why the words are not a request.
 #[derive(Drop, Debug)]
 pub enum WordFault {
-    /// The words are no command. The text tells the user why.
+    /// The words are wrong. The text explains why, for the user.
     Usage(String),
-    /// Help or the version was asked for. The text is what to tell the user.
+    /// The words ask for help or for the version. The text is what to show the user.
     Help(String),
-    /// A growth of memory was refused.
+    /// Memory was refused.
     Memory,
 }
 
 impl WordFault {
     ghost use Rattle.command_line.specs.CommandLine.{word_fault_number};
 
-    /// The number of the fault, from 1 to 3.
+    /// Returns the number of the fault, from 1 to 3 in the order above.
     pub fn number(&self) -> u8
         ensures { result ≡ word_fault_number self.now }
     {
@@ -127,13 +131,14 @@ impl WordFault {
 
 const DEFAULT_LANGUAGE: &str = "en";
 
-// How many folders a release is read from at most.
+// The greatest number of folders for a release.
 const MOST_FOLDERS: usize = 9;
 
-// The version of the program, which is written nowhere else.
+// The version of the program. It is written nowhere else.
 const VERSION: &str = "0.1.0";
 
-// The usage line of `query`. It names each option, because after one a word such as `-1` is taken for a flag.
+// The usage line of `query`. It lists each option, because clap takes a word such as `-1` after an
+// option for a flag, and then only this line of clap's text names the option.
 const QUERY_USAGE: &str =
     "hosecrag query <FOLDER>... [--lang <CODE>] [--limit <VISITS>] [--first <N>] [--no-names]";
 
@@ -154,10 +159,18 @@ It ends with a status:
   3  the files are no release
   4  memory was refused";
 
-/// Reads the words of a command line, of which the first is the program's name. They are no more words, `query
-/// FOLDER.. [--lang CODE] [--limit VISITS] [--first N] [--no-names]`, `explain FOLDER..`, `describe FOLDER.. [--lang
-/// CODE]`, `session FOLDER.. [--lang CODE]`, or `check FOLDER..`. Each command has 1 to 9 folders. VISITS and N are
-/// decimal numbers of 64 bits without a sign. `--help` and `--version` are answered as `Help`.
+/// Reads the words of a command line. The first word is the program's name. After it stands nothing
+/// (this asks for the built-in release), or one of:
+///
+/// - `query FOLDER.. [--lang CODE] [--limit VISITS] [--first N] [--no-names]`
+/// - `explain FOLDER..`
+/// - `describe FOLDER.. [--lang CODE]`
+/// - `session FOLDER.. [--lang CODE]`
+/// - `check FOLDER..`
+///
+/// Each command takes 1 to 9 folders. VISITS and N are decimal numbers of 64 bits without a sign.
+/// It returns `Help` for `--help` and `--version`, `Usage` for wrong words, and `Memory` if memory
+/// is refused. Without a second word it can only fail for want of memory.
 pub fn read_words<'a>(alloc: Global, words: &'a [&'a str]) -> Result<Request, WordFault>
     ensures asked { IfOk result (IsRequest (texts_of words.now)) }
     ensures refused { IfErr result (IsRefusal (texts_of words.now)) }
@@ -178,9 +191,10 @@ pub fn read_words<'a>(alloc: Global, words: &'a [&'a str]) -> Result<Request, Wo
     }
 }
 
-// Returns the request in the matches, and drops the matches.
+// Returns the request in clap's matches, and drops the matches.
 fn request_by(alloc: Global, matches: ArgMatches<'_>) -> Result<Request, WordFault>
-    ensures asked { IfOk result (λ request. CommandAsks request.mode (subcommand_rows_of matches.entry) request) }
+    ensures asked { IfOk result (λ request. CommandAsks request.mode
+        (subcommand_rows_of matches.entry) request) }
     ensures refused { IfErr result (IsNoRequest (subcommand_rows_of matches.entry)) }
 {
     let request = command_request(alloc, &matches);
@@ -188,7 +202,7 @@ fn request_by(alloc: Global, matches: ArgMatches<'_>) -> Result<Request, WordFau
     request
 }
 
-// Returns the fault of words that clap refuses, and drops clap's error.
+// Returns the fault for an error of clap, and drops the error.
 fn fault_by(alloc: Global, error: Error) -> WordFault
     ensures { IsFaultBy (kind_of error) result }
 {
@@ -197,7 +211,7 @@ fn fault_by(alloc: Global, error: Error) -> WordFault
     fault
 }
 
-// Returns what the program takes: its commands with their arguments.
+// Describes the program to clap: its commands with their arguments.
 fn command_line<'a>(alloc: Global) -> Result<Command<'a>, AllocError>
     ensures { IfOk result (λ command. app_of command ≡ program) }
 {
@@ -223,12 +237,13 @@ fn command_line<'a>(alloc: Global) -> Result<Command<'a>, AllocError>
     with(with_session, check_command(alloc))
 }
 
-// Adds a command to a program, unless memory for it was refused.
+// Adds `command` to `program`, or passes on that memory for the command was refused.
 fn with<'a>(
     program: Command<'a>,
     command: Result<Command<'a>, AllocError>,
 ) -> Result<Command<'a>, AllocError>
-    ensures { IfOk result (λ whole. IsOkAnd command.entry (λ own. HasOwnArguments own → app_of whole ≡ with_subcommand (app_of program.entry) (app_of own).top)) }
+    ensures { IfOk result (λ whole. IsOkAnd command.entry (λ own. HasOwnArguments own
+        → app_of whole ≡ with_subcommand (app_of program.entry) (app_of own).top)) }
 {
     match command {
         Ok(command) => program.subcommand(command),
@@ -239,7 +254,7 @@ fn with<'a>(
     }
 }
 
-// Makes the program without its commands.
+// Describes the program without its commands.
 fn bare_program<'a>(alloc: Global) -> Result<Command<'a>, AllocError>
     ensures { IfOk result (λ command. app_of command ≡ bare_program) }
 {
@@ -256,7 +271,7 @@ fn bare_program<'a>(alloc: Global) -> Result<Command<'a>, AllocError>
     )
 }
 
-// Makes the command `query` with its options.
+// Describes the command `query` with its options.
 fn query_command<'a>(alloc: Global) -> Result<Command<'a>, AllocError>
     ensures shape { IfOk result (λ command. app_of command ≡ query_command) }
     ensures own { IfOk result HasOwnArguments }
@@ -278,9 +293,10 @@ fn query_command<'a>(alloc: Global) -> Result<Command<'a>, AllocError>
     with_first.arg(no_names_argument(alloc))
 }
 
-// Makes the command `query` without its options.
+// Describes the command `query` with its folders, without its options.
 fn query_of_folders<'a>(alloc: Global) -> Result<Command<'a>, AllocError>
-    ensures shape { IfOk result (λ command. app_of command ≡ with_rule (new_app (codes "query")) folder_rule) }
+    ensures shape { IfOk result (λ command. app_of command
+        ≡ with_rule (new_app (codes "query")) folder_rule) }
     ensures own { IfOk result HasOwnArguments }
 {
     Command::new(alloc, "query")
@@ -289,7 +305,7 @@ fn query_of_folders<'a>(alloc: Global) -> Result<Command<'a>, AllocError>
         .arg(folder_argument(alloc))
 }
 
-// Makes the command `explain`.
+// Describes the command `explain`.
 fn explain_command<'a>(alloc: Global) -> Result<Command<'a>, AllocError>
     ensures shape { IfOk result (λ command. app_of command ≡ explain_command) }
     ensures own { IfOk result HasOwnArguments }
@@ -301,7 +317,7 @@ fn explain_command<'a>(alloc: Global) -> Result<Command<'a>, AllocError>
         .arg(folder_argument(alloc))
 }
 
-// Makes a command with folders and a language.
+// Describes a command that takes folders and a language.
 fn language_command<'a>(
     alloc: Global,
     name: &'a str,
@@ -314,13 +330,14 @@ fn language_command<'a>(
     with_folder.arg(lang_argument(alloc))
 }
 
-// Makes a command with folders.
+// Describes a command that takes folders.
 fn folders_command<'a>(
     alloc: Global,
     name: &'a str,
     about: &'a str,
 ) -> Result<Command<'a>, AllocError>
-    ensures shape { IfOk result (λ command. app_of command ≡ with_rule (new_app name.now) folder_rule) }
+    ensures shape { IfOk result (λ command. app_of command
+        ≡ with_rule (new_app name.now) folder_rule) }
     ensures own { IfOk result HasOwnArguments }
 {
     Command::new(alloc, name)
@@ -328,7 +345,7 @@ fn folders_command<'a>(
         .arg(folder_argument(alloc))
 }
 
-// Makes the command `check`.
+// Describes the command `check`.
 fn check_command<'a>(alloc: Global) -> Result<Command<'a>, AllocError>
     ensures shape { IfOk result (λ command. app_of command ≡ check_command) }
     ensures own { IfOk result HasOwnArguments }
@@ -338,7 +355,7 @@ fn check_command<'a>(alloc: Global) -> Result<Command<'a>, AllocError>
         .arg(folder_argument(alloc))
 }
 
-// Makes the argument for the folders of a command.
+// Describes the argument for the folders of a command, which may be repeated.
 fn folder_argument<'a>(alloc: Global) -> Arg<'a>
     ensures rule { rule_of result ≡ folder_rule }
     ensures own { result.global ≡ false }
@@ -351,7 +368,7 @@ fn folder_argument<'a>(alloc: Global) -> Arg<'a>
         )
 }
 
-// Makes the option `--lang`, the code of a language.
+// Describes the option `--lang`, which takes the code of a language.
 fn lang_argument<'a>(alloc: Global) -> Arg<'a>
     ensures rule { rule_of result ≡ lang_rule }
     ensures own { result.global ≡ false }
@@ -362,7 +379,7 @@ fn lang_argument<'a>(alloc: Global) -> Arg<'a>
         .help("the language whose names come first, en by default")
 }
 
-// Makes an option with a number, for `query`.
+// Describes an option of `query` that takes a number.
 fn number_argument<'a>(alloc: Global, name: &'a str, value: &'a str, help: &'a str) -> Arg<'a>
     ensures rule { rule_of result ≡ number_rule name.now }
     ensures own { result.global ≡ false }
@@ -374,7 +391,7 @@ fn number_argument<'a>(alloc: Global, name: &'a str, value: &'a str, help: &'a s
         .help(help)
 }
 
-// Makes the option that leaves out names.
+// Describes the option `--no-names`, which takes no value.
 fn no_names_argument<'a>(alloc: Global) -> Arg<'a>
     ensures rule { rule_of result ≡ no_names_rule }
     ensures own { result.global ≡ false }
@@ -385,9 +402,10 @@ fn no_names_argument<'a>(alloc: Global) -> Arg<'a>
         .help("writes identifiers alone")
 }
 
-// Returns the request of the command that was named.
+// Returns the request of the command that the words name.
 fn command_request(alloc: Global, matches: &ArgMatches<'_>) -> Result<Request, WordFault>
-    ensures asked { IfOk result (λ request. CommandAsks request.mode (subcommand_rows_of matches.now) request) }
+    ensures asked { IfOk result (λ request. CommandAsks request.mode
+        (subcommand_rows_of matches.now) request) }
     ensures refused { IfErr result (IsNoRequest (subcommand_rows_of matches.now)) }
 {
     let Some((name, arguments)) = matches.subcommand() else {
@@ -412,22 +430,24 @@ fn command_request(alloc: Global, matches: &ArgMatches<'_>) -> Result<Request, W
     Err(no_command(alloc))
 }
 
-// Returns the request, in a mode, of the arguments of a command with folders and a language.
+// Returns the request, in `mode`, of a command that takes folders and a language.
 fn language_request(
     alloc: Global,
     mode: Mode,
     arguments: &ArgMatches<'_>,
 ) -> Result<Request, WordFault>
-    ensures asked { IfOk result (λ request. (request.mode ≡ mode) × HasFoldersOf (rows_of (found_of arguments.now)) request
+    ensures asked { IfOk result (λ request. (request.mode ≡ mode)
+        × HasFoldersOf (rows_of (found_of arguments.now)) request
         × (unwrap_or (first_of (codes "lang") (rows_of (found_of arguments.now))) default_language
         ≡ string_bytes request.lang)) }
-    ensures refused { IfErr result (IsFaultOfFolders (folders_of (rows_of (found_of arguments.now)))) }
+    ensures refused { IfErr result (IsFaultOfFolders
+        (folders_of (rows_of (found_of arguments.now)))) }
 {
     let lang = arguments.get_str("lang").unwrap_or(DEFAULT_LANGUAGE);
     Request::of_folders(alloc, mode, folders_of(arguments), lang)
 }
 
-// Returns the request of the arguments of `query`.
+// Returns the request of the command `query`.
 fn query_request(alloc: Global, arguments: &ArgMatches<'_>) -> Result<Request, WordFault>
     ensures asked { IfOk result (IsQueryOf (rows_of (found_of arguments.now))) }
     ensures refused { IfErr result (IsFaultOfQuery (rows_of (found_of arguments.now))) }
@@ -440,7 +460,8 @@ fn query_request(alloc: Global, arguments: &ArgMatches<'_>) -> Result<Request, W
     Request::of_folders(alloc, mode, folders_of(arguments), lang)
 }
 
-// Returns the mode that the options of `query` ask for. Refuses an option whose text is no number.
+// Returns the mode that the options of `query` ask for. Refuses `--limit` and `--first` if their
+// text is no number.
 fn query_mode(alloc: Global, arguments: &ArgMatches<'_>) -> Result<Mode, WordFault>
     ensures asked { IfOk result (IsQueryMode (rows_of (found_of arguments.now))) }
     ensures refused { IfErr result (IsFaultOfNumbers (rows_of (found_of arguments.now))) }
@@ -451,7 +472,7 @@ fn query_mode(alloc: Global, arguments: &ArgMatches<'_>) -> Result<Mode, WordFau
     Ok(mode_of(limit, first, names))
 }
 
-// Returns the mode that the given options ask for.
+// Returns the mode for the values of the options: `Query` if none was given, otherwise `QueryWith`.
 fn mode_of(limit: Option<u64>, first: Option<u64>, names: bool) -> Mode
     ensures { result ≡ mode_of limit first names }
 {
@@ -465,14 +486,17 @@ fn mode_of(limit: Option<u64>, first: Option<u64>, names: bool) -> Mode
     })
 }
 
-// Returns the number of an option, if it is given.
+// Returns the number that the option `name` has, or `None` if the option was not given. Refuses a
+// text that is no number.
 fn number_given(
     alloc: Global,
     arguments: &ArgMatches<'_>,
     name: &str,
 ) -> Result<Option<u64>, WordFault>
-    ensures asked { IfOk result (GivesNumber (first_of name.now (rows_of (found_of arguments.now)))) }
-    ensures refused { IfErr result (IsFaultOfNumber (first_of name.now (rows_of (found_of arguments.now)))) }
+    ensures asked { IfOk result (GivesNumber
+        (first_of name.now (rows_of (found_of arguments.now)))) }
+    ensures refused { IfErr result (IsFaultOfNumber
+        (first_of name.now (rows_of (found_of arguments.now)))) }
 {
     let Some(text) = arguments.get_str(name) else {
         return Ok(None);
@@ -483,9 +507,11 @@ fn number_given(
     }
 }
 
-// Returns the number that a text writes, if it is digits alone and fits in 64 bits.
+// Reads a text as a decimal number of 64 bits. Returns `None` if it is empty, has a byte that is no
+// digit, or is too large.
 fn decimal_number(text: &str) -> Option<u64>
-    ensures { MatchOption result ((number : ℕ) → IsNumberText text.now number → ⊥) (IsNumberText text.now) }
+    ensures { MatchOption result ((number : ℕ) → IsNumberText text.now number → ⊥)
+        (IsNumberText text.now) }
 {
     let bytes = text.as_bytes();
     if bytes.is_empty() || bytes[0] == b'+' {
@@ -497,7 +523,7 @@ fn decimal_number(text: &str) -> Option<u64>
     }
 }
 
-// Whether an option without a value is given.
+// Returns whether the option `name`, which takes no value, was given.
 fn is_given(arguments: &ArgMatches<'_>, name: &str) -> bool
     ensures { result ≡ is_given name.now (rows_of (found_of arguments.now)) }
 {
@@ -507,7 +533,7 @@ fn is_given(arguments: &ArgMatches<'_>, name: &str) -> bool
     text == "true"
 }
 
-// Returns the fault of an option whose text is no number.
+// Returns the fault for the option `name` whose text is no number.
 fn no_number(alloc: Global, name: &str, text: &str) -> WordFault
     ensures { IsNoCall result }
 {
@@ -517,7 +543,7 @@ fn no_number(alloc: Global, name: &str, text: &str) -> WordFault
     }
 }
 
-// Returns the folders among the arguments of a command.
+// Returns the folders in the arguments of a command.
 fn folders_of<'a>(arguments: &'a ArgMatches<'_>) -> &'a [&'a str]
     ensures { texts_of result.now ≡ folders_of (rows_of (found_of arguments.now)) }
 {
@@ -527,7 +553,7 @@ fn folders_of<'a>(arguments: &'a ArgMatches<'_>) -> &'a [&'a str]
     folders
 }
 
-// Returns the fault of words that name no command.
+// Returns the fault for words that name no command.
 fn no_command(alloc: Global) -> WordFault
     ensures { IsFaultBy MissingSubcommand result }
 {
@@ -537,7 +563,7 @@ fn no_command(alloc: Global) -> WordFault
     }
 }
 
-// Returns the fault of words that name more than `MOST_FOLDERS` folders.
+// Returns the fault for more than `MOST_FOLDERS` folders.
 fn too_many_folders(alloc: Global) -> WordFault
     ensures { TellsTooMany result }
 {
@@ -547,7 +573,7 @@ fn too_many_folders(alloc: Global) -> WordFault
     }
 }
 
-// Returns the fault of words, with the text for the user.
+// Returns the fault for an error of clap, with clap's text for the user.
 fn word_fault(alloc: Global, error: &Error) -> WordFault
     ensures { IsFaultBy (kind_of error.now) result }
 {

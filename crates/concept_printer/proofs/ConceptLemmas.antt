@@ -13,20 +13,21 @@ use Rattle.held_release.specs.Numbering.{concept_number}
 use Rattle.held_release.proofs.NumberedLemmas.{concept_none}
 use Rattle.concept_printer.specs.ConceptText.{concept_text, concept_words, identifier_line, name_in_force, told_of}
 
--- if an identifier has a number, the number is below the count and its concept has the identifier
+-- if `concepts` numbers the identifier `id` with `number`, then `number` is below the count of concepts, and the
+-- concept with that number has the identifier `id`
 pub number_told : (concepts : List ℕ) (id number : ℕ) → concept_number concepts id ≡ Some number
     → (number < length concepts) × (get_or concepts number 0 ≡ id)
 number_told concepts id number is =
     let found = position-Some (λ other. id == other) concepts number 0 is in
     (found.0, sym (eqb-true id (get_or concepts number 0) found.1))
 
--- the concept with a number is in force
+-- for a number below the count of concepts, the concept with that number is in force
 pub in_force : (concepts : List ℕ) (number : ℕ) → number < length concepts
     → has concepts (get_or concepts number 0) ≡ true
 in_force concepts number below =
     had_contained concepts (get_or concepts number 0) (Contains-get_or concepts number 0 below)
 
--- the name of a concept in force is the name that the release gives it
+-- for a number below the count of concepts, `name_in_force` of its concept is the name that the release gives it
 pub name_by_number : (contents : Contents) (number : ℕ) → number < length contents.release.concepts
     → name_in_force contents (get_or contents.release.concepts number 0)
     ≡ name_of contents.release contents.language (get_or contents.release.concepts number 0)
@@ -34,7 +35,7 @@ name_by_number contents number below =
     λ i. cond (in_force contents.release.concepts number below i)
     (name_of contents.release contents.language (get_or contents.release.concepts number 0)) None
 
--- the line of a concept in force has the name that the release gives it
+-- for a number below the count of concepts, the line of its concept has the name that the release gives it
 pub line_by_number : (contents : Contents) (number : ℕ) → number < length contents.release.concepts
     → concept_line (name_in_force contents) (get_or contents.release.concepts number 0)
     ≡ concept_line (name_of contents.release contents.language) (get_or contents.release.concepts number 0)
@@ -42,7 +43,7 @@ line_by_number contents number below =
     ap (λ name. (decimal (get_or contents.release.concepts number 0) ++ name_text name) ++ 10 ∷ [])
     (name_by_number contents number below)
 
--- an identifier without a number is told without a name
+-- an identifier that has no number among the concepts is printed without a name
 pub words_without : (contents : Contents) (id : ℕ) → concept_number contents.release.concepts id ≡ None
     → concept_words (name_in_force contents) id ≡ decimal id
 words_without contents id none =
@@ -51,7 +52,7 @@ words_without contents id none =
     (name_of contents.release contents.language id) None))
     ∙ append-nil (decimal id)
 
--- the text of a concept in force is what is told of its identifier
+-- if the identifier `id` has a number, then `told_of` for `id` is the text of the concept with that number
 pub told_in_force : (contents : Contents) (id number : ℕ) → concept_number contents.release.concepts id ≡ Some number
     → concept_text contents (get_or contents.release.concepts number 0) ≡ told_of contents id
 told_in_force contents id number is =
@@ -63,7 +64,8 @@ told_in_force contents id number is =
     ∙ sym (λ i. cond (among i) (concept_text contents id)
     (cond (has contents.inactive id) (identifier_line (codes "INACTIVE") id) (identifier_line (codes "UNKNOWN") id)))
 
--- the line of a concept that is not in force is what is told of its identifier: inactive or unknown
+-- if the identifier `id` has no number, then `told_of` for `id` is the line `INACTIVE` or `UNKNOWN`, by whether it is
+-- among the inactive concepts
 pub told_otherwise : (contents : Contents) (id : ℕ) (inactive : Bool)
     → concept_number contents.release.concepts id ≡ None
     → has contents.inactive id ≡ inactive

@@ -1,4 +1,4 @@
--- Rows whose keys rise go group by group.
+-- Rows whose sort keys rise are sorted by group.
 use Rattle.std.proofs.Common.{◌≡◌, ◌∙◌, ℕ, zero, suc, ◌+◌, ◌*◌, ◌^◌, ◌%◌, ◌<◌, ◌≤◌, ◌==◌, Bool, true, false, cond}
 use Rattle.std.proofs.Common.{List, [], ◌∷◌, All, Some, length, map, refl, sym, ap, inl, inr, arith}
 use Rattle.std.specs.Bool.{⊤}
@@ -13,32 +13,32 @@ use Rattle.held_release.specs.AttributesBySource.{attributes_by_source}
 use Rattle.concept_printer.specs.ConceptText.{by_group, put_row}
 use Rattle.concept_printer.specs.inside.GroupKeys.{group_key, no_row, row_numbered, row_with_key}
 
--- the row that is read at a number is the row with that number
+-- if reading the rows by source at `number` gives `row`, then `row_numbered` gives it too
 pub row_read : (release : Release) (number : ℕ) (row : Attribute)
     → slice_get (attributes_by_source release) number ≡ Some row → row_numbered release number ≡ row
 row_read release number row is = get_or_from_slice_get (attributes_by_source release) number row no_row is
 
 -- ---- keys of rows whose numbers are below `bound`
 module _ (release : Release) (bound : ℕ) (small : bound ≤ 2 ^ 32) where
-  -- a key is that of a row whose number is between `lowest` and the bound
+  -- `key` is the sort key of a row whose number is at least `lowest` and below `bound`
   abbrev IsKeyFrom : ℕ → ℕ → Type 0
   IsKeyFrom lowest key = (number : ℕ) × (lowest ≤ number) × (number < bound) × (key ≡ group_key release number)
 
-  -- each key of a list is that of a row whose number is between `lowest` and the bound
+  -- each key of a list is the sort key of a row whose number is at least `lowest` and below `bound`
   abbrev AreKeysFrom : ℕ → List ℕ → Type 0
   AreKeysFrom lowest [] = ⊤
   AreKeysFrom lowest (key ∷ keys) = IsKeyFrom lowest key × AreKeysFrom lowest keys
 
-  -- a key modulo 2^32 is the number of its row
+  -- the sort key of a row, modulo 2^32, is the number of the row
   key_number : (number : ℕ) → number < bound → group_key release number % 2 ^ 32 ≡ number
   key_number number below = omega (arith)
 
-  -- the row with a key is the row from whose number the key is made
+  -- the row with the sort key of a row is this row
   row_of_key : (number : ℕ) → number < bound
       → row_with_key release (group_key release number) ≡ row_numbered release number
   row_of_key number below = ap (row_numbered release) (key_number number below)
 
-  -- a key put into a list of keys from `lowest` on gives keys from `lowest` on
+  -- inserting a key of a row from `lowest` on into keys of rows from `lowest` on gives keys of rows from `lowest` on
   put_from : (lowest key : ℕ) (keys : List ℕ) → IsKeyFrom lowest key → AreKeysFrom lowest keys
       → AreKeysFrom lowest (put key keys)
   put_from lowest key [] own none = (own, tt)
@@ -50,7 +50,8 @@ module _ (release : Release) (bound : ℕ) (small : bound ≤ 2 ^ 32) where
     ]
   ]
 
-  -- the sorted keys of rising numbers are keys from the least number on
+  -- if `numbers` rise, are at least `lowest` and below `bound`, then their sorted keys are keys of rows from `least`
+  -- on, for each `least` up to `lowest`
   keys_from : (lowest least : ℕ) (numbers : List ℕ) → least ≤ lowest → rises_within lowest bound numbers ≡ true
       → AreKeysFrom least (rising (map (group_key release) numbers))
   keys_from lowest least [] fits rises = tt
@@ -60,7 +61,8 @@ module _ (release : Release) (bound : ℕ) (small : bound ≤ 2 ^ 32) where
       (number, omega (arith, on.above), on.below, refl)
       (keys_from (suc number) least numbers (omega (arith, on.above)) on.rest)
 
-  -- putting the key of the least row into sorted keys puts its row before the rows of its own and greater groups
+  -- if the rows of `keys` have greater numbers than `number`, then inserting the key of `number` into `keys` inserts
+  -- its row before the rows of its own group and of greater groups
   put_key : (number : ℕ) (keys : List ℕ) → number < bound → AreKeysFrom (suc number) keys
       → map (row_with_key release) (put (group_key release number) keys)
       ≡ put_row (row_numbered release number) (map (row_with_key release) keys)
@@ -106,7 +108,8 @@ module _ (release : Release) (bound : ℕ) (small : bound ≤ 2 ^ 32) where
             (row_with_key release first ∷ put_row (row_numbered release number) rest))))
       ]
 
-  -- the rows of sorted keys go group by group
+  -- if `numbers` rise and are below `bound`, then sorting their keys and taking the rows of the keys sorts the rows
+  -- by group
   pub by_rising_keys : (lowest : ℕ) (numbers : List ℕ) → rises_within lowest bound numbers ≡ true
       → map (row_with_key release) (rising (map (group_key release) numbers))
       ≡ by_group (map (row_numbered release) numbers)
@@ -117,17 +120,17 @@ module _ (release : Release) (bound : ℕ) (small : bound ≤ 2 ^ 32) where
       (keys_from (suc number) (suc number) numbers (omega arith) on.rest)
       ∙ ap (put_row (row_numbered release number)) (by_rising_keys (suc number) numbers on.rest)
 
-  -- a key from 0 on has a number below the bound
+  -- the row number in a key is below `bound`
   own_found : (key : ℕ) → IsKeyFrom 0 key → key % 2 ^ 32 < bound
   own_found key is = omega (arith, is.3, key_number is.0 is.2, is.2)
 
-  -- each key of a list from 0 on has a number below the bound
+  -- the row number in each of the keys is below `bound`
   all_found : (keys : List ℕ) → AreKeysFrom 0 keys → All (λ key. key % 2 ^ 32 < bound) keys
   all_found [] are k d below = absurd (omega arith)
   all_found (key ∷ keys) are zero d below = own_found key are.0
   all_found (key ∷ keys) are (suc k) d below = all_found keys are.1 k d (omega arith)
 
-  -- each sorted key of rising numbers has a number below the bound
+  -- if `numbers` rise and are below `bound`, then each of their sorted keys has a number below `bound`
   pub numbers_found : (numbers : List ℕ) → rises_within 0 bound numbers ≡ true
       → All (λ key. key % 2 ^ 32 < bound) (rising (map (group_key release) numbers))
   numbers_found numbers rises =

@@ -1,4 +1,4 @@
-//! The attribute rows of a concept, group by group.
+//! The attribute rows of a concept, sorted by group number.
 ghost use Rattle.std.specs.Prelude.{◌≡◌, ◌<◌, ◌%◌, ◌^◌, ◌++◌, All, codes, IfOk, length, map, OnOk};
 ghost use Rattle.std.specs.List.{flat_map};
 ghost use Rattle.number_lists.specs.Rising.{IsRisingBelow};
@@ -14,12 +14,13 @@ use held_release::{NumberedValue, Snapshot};
 use sctid::SctId;
 use std::alloc::{AllocError, Global};
 
-// How many keys a group has. The key of a row is its group number times this, plus its own number, so rows in the
-// order of their keys go group by group.
+// The number of keys of one group. The key of a row is its group number times this, plus the row's
+// number. So rows sorted by key are sorted by group, and within a group by number.
 const KEYS_OF_GROUP: u64 = 1 << 32;
 
-/// Appends the count of attribute rows and a line for each. The lines go group by group, and within a group by the
-/// rows' numbers. `rows` are the numbers of the rows, and rise.
+/// Appends a line with the count of `rows`, and a line for each row, sorted by group number and
+/// within a group by row number. `rows` holds the numbers of attribute rows in the order of their
+/// sources, and rises. If memory is refused, a part of the text may be appended.
 pub fn append_attributes(
     alloc: Global,
     snapshot: &Snapshot,
@@ -36,7 +37,8 @@ pub fn append_attributes(
     append_rows(snapshot, keys.as_slice(), text)
 }
 
-// Returns the keys of rows in rising order, so that the rows go group by group. The numbers of the rows rise.
+// Returns the sort keys of `rows`, whose numbers rise, in rising order. The rows with these keys
+// are sorted by group.
 fn keys_by_group(alloc: Global, snapshot: &Snapshot, rows: &[u32]) -> Result<Vec<u64>, AllocError>
     requires { IsRisingBelow (length snapshot.now.release.attributes) rows.now }
     ensures order { IfOk result (λ keys. map (row_with_key snapshot.now.release) keys.items
@@ -44,13 +46,14 @@ fn keys_by_group(alloc: Global, snapshot: &Snapshot, rows: &[u32]) -> Result<Vec
     ensures found { IfOk result (λ keys.
         All (λ key. key % 2 ^ 32 < length snapshot.now.release.attributes) keys.items) }
 {
-    // called for its contract: the numbers of the rows have 31 bits
+    // Called for its contract, which tells the prover that the numbers of rows have at most 31
+    // bits.
     snapshot.attribute_count();
     let keys = group_keys(alloc, snapshot, rows)?;
     Ok(rising(keys))
 }
 
-// Returns the keys of rows.
+// Returns the sort keys of `rows`, in the order of `rows`.
 fn group_keys(alloc: Global, snapshot: &Snapshot, rows: &[u32]) -> Result<Vec<u64>, AllocError>
     requires { All (λ row. row < length snapshot.now.release.attributes) rows.now }
     ensures { IfOk result (λ keys. keys.items ≡ map (group_key snapshot.now.release) rows.now) }
@@ -62,7 +65,8 @@ fn group_keys(alloc: Global, snapshot: &Snapshot, rows: &[u32]) -> Result<Vec<u6
     Ok(keys)
 }
 
-// Returns the key of a row: the number of its group, and after it in 32 bits its own number.
+// Returns the sort key of a row: the group number in the upper 32 bits, the row's number in the
+// lower.
 #[tactic(auto, using(crate::proofs::GroupLemmas::row_read))]
 fn key_of_row(snapshot: &Snapshot, row: u32) -> u64
     requires { row < length snapshot.now.release.attributes }
@@ -72,7 +76,7 @@ fn key_of_row(snapshot: &Snapshot, row: u32) -> u64
     u64::from(group) * KEYS_OF_GROUP + u64::from(row)
 }
 
-// Returns keys in rising order, each once.
+// Sorts `keys` in rising order and drops repeated keys.
 fn rising(mut keys: Vec<u64>) -> Vec<u64>
     ensures { result.items ≡ rising_of keys.items }
 {
@@ -81,7 +85,7 @@ fn rising(mut keys: Vec<u64>) -> Vec<u64>
     keys
 }
 
-// Appends the lines of the attribute rows with `keys`.
+// Appends the lines of the attribute rows whose sort keys are `keys`, in their order.
 fn append_rows(snapshot: &Snapshot, keys: &[u64], text: &mut Vec<u8>) -> Result<(), AllocError>
     requires { All (λ key. key % 2 ^ 32 < length snapshot.now.release.attributes) keys.now }
     ensures { OnOk result (text.new.items ≡ text.old.items
@@ -94,7 +98,7 @@ fn append_rows(snapshot: &Snapshot, keys: &[u64], text: &mut Vec<u8>) -> Result<
     Ok(())
 }
 
-// Appends the line of an attribute row by its number.
+// Appends the line of the attribute row with the number `row`: its group, type and value.
 fn append_attribute(snapshot: &Snapshot, row: u32, text: &mut Vec<u8>) -> Result<(), AllocError>
     requires { row < length snapshot.now.release.attributes }
     ensures { OnOk result (text.new.items ≡ text.old.items
@@ -110,9 +114,10 @@ fn append_attribute(snapshot: &Snapshot, row: u32, text: &mut Vec<u8>) -> Result
     Ok(())
 }
 
-// Appends a type, with its name if it is a concept in force.
+// Appends the identifier `type_id`, and its name if it is a concept in force that has one.
 fn append_type(snapshot: &Snapshot, type_id: SctId, text: &mut Vec<u8>) -> Result<(), AllocError>
-    ensures { OnOk result (text.new.items ≡ text.old.items ++ concept_words (name_in_force snapshot.now) type_id) }
+    ensures { OnOk result (text.new.items ≡ text.old.items
+        ++ concept_words (name_in_force snapshot.now) type_id) }
 {
     match snapshot.index_of(type_id.number()) {
         Some(concept) => append_words(snapshot, concept, text),
@@ -120,14 +125,16 @@ fn append_type(snapshot: &Snapshot, type_id: SctId, text: &mut Vec<u8>) -> Resul
     }
 }
 
-// Appends a value.
+// Appends the value of a row: a concept with its name, a number as a constraint would write it, or
+// the text of its file.
 fn append_value(
     snapshot: &Snapshot,
     value: NumberedValue<'_>,
     text: &mut Vec<u8>,
 ) -> Result<(), AllocError>
     requires { IsNumberBelow (length snapshot.now.release.concepts) (numbered_lent value) }
-    ensures { OnOk result (text.new.items ≡ text.old.items ++ value_words (name_in_force snapshot.now)
+    ensures { OnOk result (text.new.items ≡ text.old.items
+        ++ value_words (name_in_force snapshot.now)
         (value_by_identifier snapshot.now.release.concepts (numbered_lent value.entry))) }
 {
     match value {

@@ -1,4 +1,4 @@
-//! The text for a concept in force.
+//! The text that describes a concept in force.
 ghost use Rattle.std.specs.Prelude.{◌≡◌, ◌<◌, ◌++◌, ◌∷◌, [], All, codes, decimal, length, map, OnOk, slice_index};
 ghost use Rattle.std.specs.List.{flat_map};
 ghost use Rattle.held_release.specs.Line.{concept_line};
@@ -13,8 +13,9 @@ use held_release::Snapshot;
 use postings::Indexes;
 use std::alloc::{AllocError, Global};
 
-/// Appends what a release has of a concept in force: the concept, its parents and children, its attribute rows, and
-/// the reference sets that it is in. `concept` is its number.
+/// Appends what the release says of a concept in force: the concept, its parents and children, its
+/// attribute rows, and the reference sets that it is in. `concept` is its number; `indexes` are
+/// those of the release. If memory is refused, a part of the text may be appended.
 pub fn append_concept(
     alloc: Global,
     snapshot: &Snapshot,
@@ -24,8 +25,8 @@ pub fn append_concept(
 ) -> Result<(), AllocError>
     requires indexes { IsIndexOf indexes.now snapshot.now.release }
     requires concept { concept < length snapshot.now.release.concepts }
-    ensures { OnOk result (text.new.items
-        ≡ text.old.items ++ concept_text snapshot.now (slice_index snapshot.now.release.concepts concept)) }
+    ensures { OnOk result (text.new.items ≡ text.old.items ++ concept_text snapshot.now
+        (slice_index snapshot.now.release.concepts concept)) }
 {
     text.extend_from_slice(b"CONCEPT ")?;
     append_line(snapshot, concept, text)?;
@@ -35,7 +36,7 @@ pub fn append_concept(
     append_reference_sets(alloc, snapshot, indexes, concept, text)
 }
 
-// Appends the count and the lines of the parents of a concept.
+// Appends the count of parents of `concept` and a line for each.
 fn append_parents(
     snapshot: &Snapshot,
     indexes: &Indexes,
@@ -52,7 +53,7 @@ fn append_parents(
     append_concepts(snapshot, b"PARENTS", hierarchy.parents(concept), text)
 }
 
-// Appends the count and the lines of the children of a concept.
+// Appends the count of children of `concept` and a line for each.
 fn append_children(
     snapshot: &Snapshot,
     indexes: &Indexes,
@@ -69,7 +70,7 @@ fn append_children(
     append_concepts(snapshot, b"CHILDREN", hierarchy.children(concept), text)
 }
 
-// Appends the count and the lines of the attribute rows of a concept.
+// Appends the count of attribute rows of `concept` and a line for each.
 fn append_rows_of(
     alloc: Global,
     snapshot: &Snapshot,
@@ -83,13 +84,14 @@ fn append_rows_of(
         ++ headed (codes "ATTRIBUTES") (attribute_line (name_in_force snapshot.now))
         (attributes_of snapshot.now.release (slice_index snapshot.now.release.concepts concept))) }
 {
-    // called for its contract: the concepts rise, and each row has its number by source
+    // Both are called for their contracts, which tell the prover that the identifiers of the
+    // concepts rise, and that there are as many rows by source as attribute rows.
     snapshot.concept_count();
     snapshot.attribute_count();
     append_attributes(alloc, snapshot, indexes.rows_of(concept), text)
 }
 
-// Appends the count and the lines of the reference sets that a concept is in.
+// Appends the count of reference sets with `concept` and a line for each.
 fn append_reference_sets(
     alloc: Global,
     snapshot: &Snapshot,
@@ -107,7 +109,7 @@ fn append_reference_sets(
     append_concepts(snapshot, b"MEMBER-OF", sets.as_slice(), text)
 }
 
-// Appends a word and the count of concepts, and then the lines of the concepts.
+// Appends a line with `word` and the count of `concepts`, and then a line for each of them.
 fn append_concepts(
     snapshot: &Snapshot,
     word: &[u8],
@@ -123,7 +125,7 @@ fn append_concepts(
     append_lines(snapshot, concepts, text)
 }
 
-// Appends the lines of concepts.
+// Appends a line for each of `concepts`.
 fn append_lines(snapshot: &Snapshot, concepts: &[u32], text: &mut Vec<u8>) -> Result<(), AllocError>
     requires { All (λ concept. concept < length snapshot.now.release.concepts) concepts.now }
     ensures { OnOk result (text.new.items ≡ text.old.items
@@ -136,19 +138,21 @@ fn append_lines(snapshot: &Snapshot, concepts: &[u32], text: &mut Vec<u8>) -> Re
     Ok(())
 }
 
-// Appends the line of a concept.
+// Appends the line of `concept`: its identifier, and its name if it has one.
 #[tactic(auto, using(crate::proofs::ConceptLemmas::line_by_number))]
 fn append_line(snapshot: &Snapshot, concept: u32, text: &mut Vec<u8>) -> Result<(), AllocError>
     requires { concept < length snapshot.now.release.concepts }
     ensures { OnOk result (text.new.items ≡ text.old.items
-        ++ concept_line (name_in_force snapshot.now) (slice_index snapshot.now.release.concepts concept)) }
+        ++ concept_line (name_in_force snapshot.now)
+        (slice_index snapshot.now.release.concepts concept)) }
 {
     text.extend_from_slice(snapshot.line(concept))
 }
 
-/// Appends a line of a word and a number.
+/// Appends a line with `word` and `count`.
 pub fn append_head(word: &[u8], count: usize, text: &mut Vec<u8>) -> Result<(), AllocError>
-    ensures { OnOk result (text.new.items ≡ text.old.items ++ (word.now ++ 32 ∷ decimal count ++ 10 ∷ [])) }
+    ensures { OnOk result (text.new.items ≡ text.old.items
+        ++ (word.now ++ 32 ∷ decimal count ++ 10 ∷ [])) }
 {
     text.extend_from_slice(word)?;
     text.push(b' ')?;
@@ -157,17 +161,19 @@ pub fn append_head(word: &[u8], count: usize, text: &mut Vec<u8>) -> Result<(), 
     Ok(())
 }
 
-/// Appends the identifier of a concept, and its name if it has one. `concept` is its number.
+/// Appends the identifier of a concept, and its name between bars if it has one. `concept` is its
+/// number.
 pub fn append_words(snapshot: &Snapshot, concept: u32, text: &mut Vec<u8>) -> Result<(), AllocError>
     requires { concept < length snapshot.now.release.concepts }
     ensures { OnOk result (text.new.items ≡ text.old.items
-        ++ concept_words (name_in_force snapshot.now) (slice_index snapshot.now.release.concepts concept)) }
+        ++ concept_words (name_in_force snapshot.now)
+        (slice_index snapshot.now.release.concepts concept)) }
 {
     let line = snapshot.line(concept);
     text.extend_from_slice(&line[..line.len() - 1])
 }
 
-/// Appends a number in decimal.
+/// Appends `number` in decimal.
 pub fn append_number(number: u64, text: &mut Vec<u8>) -> Result<(), AllocError>
     ensures { OnOk result (text.new.items ≡ text.old.items ++ decimal number) }
 {

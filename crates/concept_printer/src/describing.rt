@@ -1,4 +1,4 @@
-//! The text that describes the concept that a line names.
+//! The answer to a line of `describe`.
 ghost use Rattle.std.specs.Prelude.{◌≡◌, ◌++◌, codes, IfOk, OnOk};
 ghost use Rattle.postings.specs.Indexed.{IsIndexOf};
 ghost use Rattle.concept_printer.specs.ConceptText.{description_text, fault_line, identifier_line, told_of};
@@ -9,10 +9,11 @@ use held_release::Snapshot;
 use postings::Indexes;
 use std::alloc::{AllocError, Global};
 
-/// Returns what a release says of the concept that a line names. For a concept in force these are its parents and
-/// children, its attributes group by group, and the reference sets that it is in. Otherwise the text says that the
-/// concept is inactive or unknown, or why the line names none. Every line ends in LF. The indexes are those of the
-/// release. If memory is refused, it returns `AllocError`.
+/// Returns the answer to a line of `describe`, which names a concept by its identifier. For a
+/// concept in force, the text lists its parents and children, its attribute rows group by group,
+/// and the reference sets that it is in. Otherwise it says that the concept is inactive or unknown,
+/// or why `line` names no concept. Every line ends in LF. `indexes` must be those of the release in
+/// `snapshot`. If memory is refused, it returns `AllocError`.
 pub fn description(
     alloc: Global,
     snapshot: &Snapshot,
@@ -30,7 +31,7 @@ pub fn description(
     Ok(text)
 }
 
-// Appends what a release says of the concept with an identifier.
+// Appends what the release says of the concept with the identifier `id`.
 fn append_told(
     alloc: Global,
     snapshot: &Snapshot,
@@ -48,7 +49,7 @@ fn append_told(
     }
 }
 
-// Appends a line of a word and an identifier.
+// Appends a line with `word` and the identifier `id`.
 fn append_identifier(word: &[u8], id: u64, text: &mut Vec<u8>) -> Result<(), AllocError>
     ensures { OnOk result (text.new.items ≡ text.old.items ++ identifier_line word.now id) }
 {
@@ -59,7 +60,7 @@ fn append_identifier(word: &[u8], id: u64, text: &mut Vec<u8>) -> Result<(), All
     Ok(())
 }
 
-// Appends the line that tells why a line names no concept.
+// Appends the line that says why a line of `describe` names no concept.
 fn append_fault(fault: LineFault, text: &mut Vec<u8>) -> Result<(), AllocError>
     ensures { OnOk result (text.new.items ≡ text.old.items ++ fault_line fault) }
 {

@@ -1,5 +1,6 @@
-//! The text that describes one concept: its parents and children, its attributes group by group, and the reference
-//! sets that it is in; or that the concept is inactive, or unknown. `specs/` says which bytes are written.
+//! The text that describes one concept for `describe`: its parents and children, its attribute rows
+//! group by group, and the reference sets that it is in; or that the concept is inactive or
+//! unknown. `specs/` defines the bytes.
 #![tactic(auto)]
 
 mod attributes;

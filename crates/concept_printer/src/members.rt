@@ -1,4 +1,4 @@
-//! The reference sets that a concept is in.
+//! The reference sets with a given member.
 ghost use Rattle.std.specs.Prelude.{◌≡◌, ◌<◌, IfOk, length};
 ghost use Rattle.rf2_rows.specs.Release.{Release};
 ghost use Rattle.postings.specs.Indexed.{IsIndexOf};
@@ -10,16 +10,17 @@ use idset::has_number;
 use postings::Indexes;
 use std::alloc::{AllocError, Global};
 
-/// Returns the reference sets that a component is in, by their numbers in rising order. It looks for the component
-/// in each reference set with members (Release File Specification, "Simple reference set").
+/// Returns the numbers of the reference sets that have the concept `component` as a member, in
+/// rising order. It tests each reference set that has members (Release File Specification, "Simple
+/// reference set"), because no index leads from a component to its reference sets.
 pub fn reference_sets_with(
     alloc: Global,
     indexes: &Indexes,
     component: u32,
 ) -> Result<Vec<u32>, AllocError>
     requires { (release : Release) × IsIndexOf indexes.now release }
-    ensures { IfOk result (λ sets. sets.items
-        ≡ numbers_where (length indexes.now.members) (λ set. has (list_of indexes.now.members set) component)) }
+    ensures { IfOk result (λ sets. sets.items ≡ numbers_where (length indexes.now.members)
+        (λ set. has (list_of indexes.now.members set) component)) }
 {
     let mut sets = Vec::new(alloc);
     for set in indexes.reference_sets() {
@@ -30,13 +31,14 @@ pub fn reference_sets_with(
     Ok(sets)
 }
 
-// Whether a component is a member of a reference set.
+// Returns whether `component` is a member of the reference set `set`. Both are concept numbers.
 fn is_member(indexes: &Indexes, set: u32, component: u32) -> bool
     requires indexes { (release : Release) × IsIndexOf indexes.now release }
     requires set { set < length indexes.now.members }
     ensures { result ≡ has (list_of indexes.now.members set) component }
 {
-    // called for its contract: each concept has a list of members, and its number fits in 32 bits
+    // Both are called for their contracts, which tell the prover that each concept has a list of
+    // members, and that its number fits in 32 bits.
     indexes.stats();
     indexes.concept_count();
     has_number(indexes.members(set), component)

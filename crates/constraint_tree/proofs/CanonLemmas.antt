@@ -1,16 +1,18 @@
 -- A tree with a form is printable and has a canonical form. The symbols of the canonical form are those that the text
 -- of the tree spells, and its brackets are never deeper than those of any form of the tree.
-use Rattle.std.proofs.Common.{ℕ, ◌≡◌, ◌≤◌, ◌&&◌, ◌||◌, ◌==◌, Bool, true, false, List, [], ◌∷◌, ◌++◌, Some, map, if◌then◌else◌, refl, ap, ◌∙◌, sym, subst, arith}
+use Rattle.std.proofs.Common.{ℕ, ◌≡◌, ◌≤◌, ◌&&◌, ◌||◌, ◌==◌, Bool, true, false, List, [], ◌∷◌, ◌++◌, Some, map}
+use Rattle.std.proofs.Common.{if◌then◌else◌, refl, ap, ◌∙◌, sym, subst, arith}
 use Rattle.std.specs.Char.{to_ascii_lowercase}
 use Rattle.std.specs.List.{list_all}
 use Rattle.std.specs.Str.{bytes_eq}
 use Rattle.std.proofs.lemmas.Bool.{and_parts}
-use Rattle.ecl_lexer.specs.Pieces.{Piece, space, comment, symbol, word, digits as digits_piece, number as number_piece, term, is_plain, bytes_of, kind_in, symbols, words}
+use Rattle.ecl_lexer.specs.Lexemes.{Lexeme, space, comment, symbol, word, digits as digits_lexeme}
+use Rattle.ecl_lexer.specs.Lexemes.{number as number_lexeme, term, is_plain, bytes_of, kind_in, symbols, words}
 use Rattle.ecl_lexer.specs.Tokens.{AreRead, Spelled, spelled_tokens}
 use Rattle.ecl_lexer.specs.declared.token.TokenKind.{TokenKind}
 use Rattle.ecl_lexer.specs.declared.token.TokenKind.TheVariants.{Digits, Number}
 use Rattle.constraint_tree.specs.Grammar.{ConstraintForm, Symbol, symbol_of, constraint_tokens, constraint_tree}
-use Rattle.constraint_tree.specs.Refusal.{IsConstraint, is_deep, most_open, opens, open_behind}
+use Rattle.constraint_tree.specs.Refusal.{IsConstraint, is_deep, most_open, opens, open_after}
 use Rattle.constraint_tree.proofs.FitLemmas.{ArePlain, NumbersRead, constraint_fits}
 use Rattle.constraint_tree.proofs.FormLemmas.{forms_of}
 use Rattle.constraint_tree.proofs.LevelLemmas.{constraint_shallow, kind_of_symbol, levels, symbols_deep}
@@ -19,7 +21,7 @@ use Rattle.constraint_tree.proofs.Symbols.{IsPrintable, constraint_symbols}
 use Rattle.constraint_tree.proofs.TextLemmas.{no_more}
 use Rattle.constraint_tree.specs.Tree.{Tree}
 
--- the canonical form of a tree, with its properties
+-- the tree has a canonical form: a form with this tree, whose tokens are those of the tree's text
 pub record Canonical (tree : Tree) : Type 0 where
   -- the tree is printable
   pub printable : IsPrintable tree
@@ -34,7 +36,8 @@ pub record Canonical (tree : Tree) : Type 0 where
   -- the text of the tree has at most 64 brackets open at once
   pub few : levels tree ≤ 64
 
--- the tree of a form with plain digits and at most 64 open brackets has a canonical form, if numbers read back
+-- if no digits among the tokens of a form have a leading zero and at most 64 brackets are open at once in them, then
+-- the form's tree has a canonical form. It is assumed that numbers are read back from their printed text
 pub canonical : NumbersRead → (form : ConstraintForm) → ArePlain (constraint_tokens form [])
     → symbols_deep 0 (constraint_tokens form []) ≡ false → Canonical (constraint_tree form)
 canonical numbers form bare flat =
@@ -52,18 +55,21 @@ canonical numbers form bare flat =
     }
 
 -- the kind of a token's symbol is the kind of the token
-kind_of_symbol_of : (kind : TokenKind) (bytes : List ℕ) → kind_of_symbol (symbol_of (record { kind = kind; bytes = bytes })) ≡ kind
+kind_of_symbol_of : (kind : TokenKind) (bytes : List ℕ)
+    → kind_of_symbol (symbol_of (record { kind = kind; bytes = bytes })) ≡ kind
 kind_of_symbol_of Digits bytes = refl
 kind_of_symbol_of Number bytes = refl
 kind_of_symbol_of other bytes = refl
 
--- tokens are too deep exactly if their symbols are
-pub deep_symbols : (count : ℕ) (tokens : List Spelled) → is_deep count tokens ≡ symbols_deep count (map symbol_of tokens)
+-- more than 64 brackets are open at once in tokens exactly if that is so in their symbols
+pub deep_symbols : (count : ℕ) (tokens : List Spelled)
+    → is_deep count tokens ≡ symbols_deep count (map symbol_of tokens)
 deep_symbols count [] = refl
 deep_symbols count (token ∷ tokens) =
-    ap (λ (rest : Bool). (opens token.kind && (count == most_open)) || rest) (deep_symbols (open_behind count token.kind) tokens)
+    ap (λ (rest : Bool). (opens token.kind && (count == most_open)) || rest)
+    (deep_symbols (open_after count token.kind) tokens)
     ∙ ap (λ (kind : TokenKind). (opens kind && (count == most_open))
-    || symbols_deep (open_behind count kind) (map symbol_of tokens)) (sym (kind_of_symbol_of token.kind token.bytes))
+    || symbols_deep (open_after count kind) (map symbol_of tokens)) (sym (kind_of_symbol_of token.kind token.bytes))
 
 -- whether a kind of token is neither digits nor a number
 is_mark : TokenKind → Bool
@@ -93,34 +99,36 @@ mark_plain Digits bytes rest is bare = absurd (cc)
 mark_plain Number bytes rest is bare = bare
 mark_plain other bytes rest is bare = bare
 
--- the digits among the symbols of pieces that are read have no leading zero
-pub read_plain : (pieces : List Piece) (rest : List ℕ) → AreRead pieces rest → ArePlain (map symbol_of (spelled_tokens pieces))
+-- the digits among the symbols of lexemes that the lexer reads have no leading zero
+pub read_plain : (lexemes : List Lexeme) (rest : List ℕ) → AreRead lexemes rest
+    → ArePlain (map symbol_of (spelled_tokens lexemes))
 unfolding is_mark
 read_plain [] rest read = tt
-read_plain (space byte ∷ pieces) rest read = read_plain pieces rest read.1
-read_plain (comment inside ∷ pieces) rest read = read_plain pieces rest read.1
-read_plain (symbol bytes kind ∷ pieces) rest read =
-    mark_plain kind (bytes_of (symbol bytes kind)) (map symbol_of (spelled_tokens pieces))
-    (kind_in-mark symbols bytes kind refl read.0.stands.0) (read_plain pieces rest read.1)
-read_plain (word letters kind ∷ pieces) rest read =
-    mark_plain kind (bytes_of (word letters kind)) (map symbol_of (spelled_tokens pieces))
-    (kind_in-mark words (map to_ascii_lowercase letters) kind refl read.0.stands.1) (read_plain pieces rest read.1)
-read_plain (digits_piece run ∷ pieces) rest read =
+read_plain (space byte ∷ lexemes) rest read = read_plain lexemes rest read.1
+read_plain (comment inside ∷ lexemes) rest read = read_plain lexemes rest read.1
+read_plain (symbol bytes kind ∷ lexemes) rest read =
+    mark_plain kind (bytes_of (symbol bytes kind)) (map symbol_of (spelled_tokens lexemes))
+    (kind_in-mark symbols bytes kind refl read.0.stands.0) (read_plain lexemes rest read.1)
+read_plain (word letters kind ∷ lexemes) rest read =
+    mark_plain kind (bytes_of (word letters kind)) (map symbol_of (spelled_tokens lexemes))
+    (kind_in-mark words (map to_ascii_lowercase letters) kind refl read.0.stands.1) (read_plain lexemes rest read.1)
+read_plain (digits_lexeme run ∷ lexemes) rest read =
     let bare : is_plain (run ++ []) ≡ true = ap is_plain (sym (no_more run [] refl)) ∙ read.0.stands.1 in
-    (bare, read_plain pieces rest read.1)
-read_plain (number_piece sign whole fraction ∷ pieces) rest read = read_plain pieces rest read.1
-read_plain (term inside ∷ pieces) rest read = read_plain pieces rest read.1
+    (bare, read_plain lexemes rest read.1)
+read_plain (number_lexeme sign whole fraction ∷ lexemes) rest read = read_plain lexemes rest read.1
+read_plain (term inside ∷ lexemes) rest read = read_plain lexemes rest read.1
 
--- the tree of every constraint has a canonical form
+-- if a text is a constraint with the tree `tree`, then `tree` has a canonical form
 pub constraint_canonical : (text : List ℕ) (tree : Tree) → IsConstraint text tree → Canonical tree
 constraint_canonical text tree constraint =
-    let pieces = constraint.are_tokens.0 in
+    let lexemes = constraint.are_tokens.0 in
     let tokens = constraint.tokens in
     let form = constraint.is_tree.0 in
     let spelled : map symbol_of tokens ≡ constraint_tokens form [] = constraint.is_tree.1 in
-    let from_pieces : map symbol_of (spelled_tokens pieces) ≡ constraint_tokens form [] =
+    let from_lexemes : map symbol_of (spelled_tokens lexemes) ≡ constraint_tokens form [] =
     ap (λ (found : List Spelled). map symbol_of found) (sym constraint.are_tokens.2) ∙ spelled in
     let bare : ArePlain (constraint_tokens form []) =
-    subst (λ (found : List Symbol). ArePlain found) from_pieces (read_plain pieces [] constraint.are_tokens.1.each) in
-    let flat : symbols_deep 0 (constraint_tokens form []) ≡ false = ap (symbols_deep 0) (sym spelled) ∙ sym (deep_symbols 0 tokens) ∙ constraint.shallow in
+    subst (λ (found : List Symbol). ArePlain found) from_lexemes (read_plain lexemes [] constraint.are_tokens.1.each) in
+    let flat : symbols_deep 0 (constraint_tokens form []) ≡ false = ap (symbols_deep 0) (sym spelled)
+    ∙ sym (deep_symbols 0 tokens) ∙ constraint.shallow in
     subst (λ (found : Tree). Canonical found) (sym constraint.is_tree.2) (canonical numbers_read form bare flat)

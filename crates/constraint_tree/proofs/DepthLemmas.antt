@@ -1,4 +1,4 @@
--- The depth of a list of trees that grows at its end.
+-- The depth of a list of trees to which trees are appended.
 use Rattle.std.proofs.Common.{ℕ, ◌≡◌, List, [], ◌∷◌, ◌++◌, ◌+◌, ◌<◌, max, min, length, get_or, take, arith}
 use Rattle.std.proofs.lemmas.List.{take_more}
 
@@ -9,11 +9,14 @@ module _ {Part : Type 0} (depth : Part → ℕ) (deepest : List Part → ℕ) (n
   -- `deepest` of a list with one more part at its end is the greater of the list's and the part's depth
   deepest-push : (parts : List Part) (part : Part) → deepest (parts ++ part ∷ []) ≡ max (deepest parts) (depth part)
   deepest-push [] part = omega (arith, none, in_front part [])
-  deepest-push (first ∷ rest) part = omega (arith, deepest-push rest part, in_front first rest, in_front first (rest ++ part ∷ []))
+  deepest-push (first ∷ rest) part =
+      omega (arith, deepest-push rest part, in_front first rest, in_front first (rest ++ part ∷ []))
 
   -- loop step: if `so_far` is the depth of the deepest of the first `i` parts and `next` the depth of part `i`, the
   -- greater of the two is the depth of the deepest of the first `i + 1` parts, each cut off at `limit`
-  pub deepest_more : (parts : List Part) (i : ℕ) (part : Part) (so_far next limit : ℕ) → i < length parts → part ≡ get_or parts i part
-      → so_far ≡ min (deepest (take i parts)) limit → next ≡ min (depth part) limit → max so_far next ≡ min (deepest (take (i + 1) parts)) limit
+  pub deepest_more : (parts : List Part) (i : ℕ) (part : Part) (so_far next limit : ℕ) → i < length parts
+      → part ≡ get_or parts i part
+      → so_far ≡ min (deepest (take i parts)) limit → next ≡ min (depth part) limit
+      → max so_far next ≡ min (deepest (take (i + 1) parts)) limit
   deepest_more parts i part so_far next limit within is so_far_is next_is =
       rw (take_more parts i part within, ← is) (omega (arith, deepest-push (take i parts) part))

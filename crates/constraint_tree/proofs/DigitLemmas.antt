@@ -1,5 +1,7 @@
--- The numbers of a printed text as pieces.
-use Rattle.std.proofs.Common.{ℕ, ℤ, pos, negsuc, ◌≡◌, ◌==◌, ◌&&◌, ◌||◌, ◌/◌, ◌%◌, ◌^◌, ◌≤◌, ◌<◌, Bool, true, false, List, [], ◌∷◌, ◌++◌, Option, None, Some, length, map, drop, get_or, zero, suc, nat_le, decimal, refl, ap, ◌∙◌, sym, subst, arith}
+-- The numbers of a printed text as lexemes.
+use Rattle.std.proofs.Common.{ℕ, ℤ, pos, negsuc, ◌≡◌, ◌==◌, ◌&&◌, ◌||◌, ◌/◌, ◌%◌, ◌^◌, ◌≤◌, ◌<◌, Bool, true, false}
+use Rattle.std.proofs.Common.{List, [], ◌∷◌, ◌++◌, Option, None, Some, length, map, drop, get_or, zero, suc, nat_le}
+use Rattle.std.proofs.Common.{decimal, refl, ap, ◌∙◌, sym, subst, arith}
 use Rattle.std.specs.Prelude.{nat_lt}
 use Rattle.std.specs.Char.{is_ascii_alphabetic, is_ascii_digit}
 use Rattle.std.specs.List.{list_all}
@@ -12,17 +14,20 @@ use Rattle.std.proofs.lemmas.Str.{IsUtf8-append, IsUtf8-nil}
 use Rattle.std.proofs.lemmas.Str.Parse.{digits_value_short}
 use Rattle.numerals.proofs.DigitLemmas.{numerals}
 use Rattle.ecl_lexer.specs.Bytes.{begins, begins_with}
-use Rattle.ecl_lexer.specs.Pieces.{digits as digits_piece, number as number_piece, fraction_text as point_text, bytes_of, is_plain, Sign, unsigned, plus, minus, sign_text, Stands}
+use Rattle.ecl_lexer.specs.Lexemes.{digits as digits_lexeme, number as number_lexeme, fraction_text as point_text}
+use Rattle.ecl_lexer.specs.Lexemes.{bytes_of, is_plain, Sign, unsigned, plus, minus, sign_text, Stands}
 use Rattle.ecl_lexer.specs.Refusals.{IsRead, unsupported}
 use Rattle.ecl_lexer.proofs.ByteLemmas.{letter-not_digit}
-use Rattle.ecl_lexer.proofs.ReadLemmas.{piece_text-bytes}
+use Rattle.ecl_lexer.proofs.ReadLemmas.{lexeme_text-bytes}
 use Rattle.numerals.specs.Numbers.{is_number, number_of}
 use Rattle.numerals.specs.Decimals.{decimal_of}
 use Rattle.constraint_tree.specs.Grammar.{Symbol, symbol_of, digits, decimal as decimal_symbol}
-use Rattle.constraint_tree.specs.Text.{count_text, fraction_digits, fraction_text, most_text, number_text, range_text, unsigned_text}
+use Rattle.constraint_tree.specs.Text.{count_text, fraction_digits, fraction_text, most_text, number_text, range_text}
+use Rattle.constraint_tree.specs.Text.{unsigned_text}
 use Rattle.constraint_tree.proofs.FractionLemmas.{fraction_written}
 use Rattle.constraint_tree.proofs.NumberLemmas.{number_is_small, whole_written}
-use Rattle.constraint_tree.proofs.PieceLemmas.{Reads, along, bracket_close, bracket_open, dots, low_bytes, piece_then, wildcard}
+use Rattle.constraint_tree.proofs.LexemeLemmas.{Reads, along, bracket_close, bracket_open, dots, low_bytes, lexeme_then}
+use Rattle.constraint_tree.proofs.LexemeLemmas.{wildcard}
 use Rattle.constraint_tree.proofs.SymbolLemmas.{other_byte, swapped}
 use Rattle.constraint_tree.proofs.Symbols.{HasDigits, IsPrintableMost, count_symbols, most_symbols, range_symbols}
 
@@ -41,11 +46,13 @@ plain_from (byte ∷ run) first =
 -- the decimal digits of a number below 10^18 are plain: they have no leading zero
 decimal_plain : (number : ℕ) → number < 10 ^ 18 → is_plain (decimal number) ≡ true
 decimal_plain zero small = ap is_plain (decimal_digit 0 (omega arith))
-decimal_plain (suc number) small = plain_from (decimal (suc number)) (first_decimal (suc number) (omega arith) (omega arith))
+decimal_plain (suc number) small =
+    plain_from (decimal (suc number)) (first_decimal (suc number) (omega arith) (omega arith))
 
 -- no digit is a letter
 digit-not_letter : (byte : ℕ) → is_ascii_digit byte ≡ true → is_ascii_alphabetic byte ≡ false
-digit-not_letter byte is = false_from_ne_true (is_ascii_alphabetic byte) (λ letter. let none = letter-not_digit byte letter in absurd (cc))
+digit-not_letter byte is =
+    false_from_ne_true (is_ascii_alphabetic byte) (λ letter. let none = letter-not_digit byte letter in absurd (cc))
 
 -- no unsupported form begins with a digit
 digit_supported : (byte : ℕ) (rest : List ℕ) → is_ascii_digit byte ≡ true → unsupported (byte ∷ rest) ≡ None
@@ -57,22 +64,26 @@ digit_supported byte rest is =
     rw (no_letter, no_brace, no_caret, no_quote) refl
 
 -- no unsupported form begins with a digit run
-run_supported : (run rest : List ℕ) → 0 < length run → list_all is_ascii_digit run ≡ true → unsupported (run ++ rest) ≡ None
+run_supported : (run rest : List ℕ) → 0 < length run → list_all is_ascii_digit run ≡ true
+    → unsupported (run ++ rest) ≡ None
 run_supported [] rest some each = absurd (omega arith)
-run_supported (byte ∷ run) rest some each = digit_supported byte (run ++ rest) (and_parts (is_ascii_digit byte) (list_all is_ascii_digit run) each).0
+run_supported (byte ∷ run) rest some each =
+    digit_supported byte (run ++ rest) (and_parts (is_ascii_digit byte) (list_all is_ascii_digit run) each).0
 
 -- every digit is a byte below 128
 low_digit : (byte : ℕ) → is_ascii_digit byte ≡ true → nat_lt byte 128 ≡ true
-low_digit byte is = let high = leb-true byte 57 (and_parts (nat_le 48 byte) (nat_le byte 57) is).1 in lt-ltb byte 128 (omega arith)
+low_digit byte is = let high =
+    leb-true byte 57 (and_parts (nat_le 48 byte) (nat_le byte 57) is).1 in lt-ltb byte 128 (omega arith)
 
 -- every byte of a digit run is below 128
 low_digits : (run : List ℕ) → list_all is_ascii_digit run ≡ true → list_all (λ byte. nat_lt byte 128) run ≡ true
 low_digits [] each = refl
 low_digits (byte ∷ run) each =
     let parts = and_parts (is_ascii_digit byte) (list_all is_ascii_digit run) each in
-    and_from (nat_lt byte 128) (list_all (λ other. nat_lt other 128) run) (low_digit byte parts.0) (low_digits run parts.1)
+    and_from (nat_lt byte 128) (list_all (λ other. nat_lt other 128) run) (low_digit byte parts.0)
+    (low_digits run parts.1)
 
--- the decimal digits of `number` are fit to be read
+-- the decimal digits of `number` can be read as digits of a text: there are 1 to 18 of them, without a leading zero
 pub record WritesDigits (number : ℕ) : Type 0 where
   -- there is at least one digit
   pub some : 0 < length (decimal number)
@@ -83,7 +94,7 @@ pub record WritesDigits (number : ℕ) : Type 0 where
   -- the digits have no leading zero
   pub plain : is_plain (decimal number) ≡ true
 
--- the decimal digits of a number of at least one and at most 18 digits are fit to be read
+-- if `number` has `least` to 18 decimal digits, with `least` above 0, its digits can be read as digits of a text
 pub digits_written : (least number : ℕ) → 0 < least → HasDigits least 18 number → WritesDigits number
 digits_written least number some written =
     let tests = and_parts (nat_le least (length (decimal number)) && nat_le (length (decimal number)) 18)
@@ -95,18 +106,21 @@ digits_written least number some written =
     let below : number < 10 ^ 18 = subst (λ (n : ℕ). n < 10 ^ 18) written.value small in
     record { some = omega arith; few = few; each = tests.1; plain = decimal_plain number below }
 
--- the decimal digits of a number are read in front of a text that begins with no digit
+-- if the digits of `number` can be read, `rest` begins with no digit, and the lexer reads `rest` as `symbols`, then
+-- it reads the digits and `rest` as the symbol of the digits and `symbols`
 pub digits_read : (number : ℕ) (rest : List ℕ) (symbols : List Symbol) → WritesDigits number
-    → begins is_ascii_digit rest ≡ false → Reads rest symbols → Reads (decimal number ++ rest) (digits (decimal number) ∷ symbols)
+    → begins is_ascii_digit rest ≡ false → Reads rest symbols
+    → Reads (decimal number ++ rest) (digits (decimal number) ∷ symbols)
 digits_read number rest symbols written ends more =
-    let read : IsRead (digits_piece (decimal number)) rest = record {
+    let read : IsRead (digits_lexeme (decimal number)) rest = record {
       stands = (record { some = written.some; each = written.each; ended = ends }, written.plain);
       supported = run_supported (decimal number) rest written.some written.each;
       within = le-leb (length (decimal number)) 18 written.few;
     } in
-    piece_then (digits_piece (decimal number)) rest (λ found. digits (decimal number) ∷ found) symbols
+    lexeme_then (digits_lexeme (decimal number)) rest (λ found. digits (decimal number) ∷ found) symbols
     (λ tokens. ap (λ (run : List ℕ). digits run ∷ map symbol_of tokens) (append-nil (decimal number))) read
-    (subst IsUtf8 (sym (append-nil (decimal number))) (low_bytes (decimal number) (low_digits (decimal number) written.each))) more
+    (subst IsUtf8 (sym (append-nil (decimal number)))
+    (low_bytes (decimal number) (low_digits (decimal number) written.each))) more
 
 -- a text is a point and digits after it, or nothing
 record WritesPoint (text : List ℕ) : Type 0 where
@@ -136,7 +150,7 @@ point_written fraction small = by (fraction == 0) refl
           few = written.few;
         }
 
--- whether a byte must not follow a number: a digit, or a point, which a digit might follow
+-- whether a byte may not follow a number: a digit, or a point, because a digit might follow it
 abbrev pub number_byte : ℕ → Bool
 number_byte byte = is_ascii_digit byte || byte == 46
 
@@ -144,7 +158,7 @@ number_byte byte = is_ascii_digit byte || byte == 46
 abbrev pub EndsNumber : List ℕ → Type 0
 EndsNumber rest = begins number_byte rest ≡ false
 
--- a text that may follow a number begins with no digit
+-- if `rest` may follow a number, it begins with no digit
 pub ends_digits : (rest : List ℕ) → EndsNumber rest → begins is_ascii_digit rest ≡ false
 ends_digits [] ends = refl
 ends_digits (byte ∷ rest) ends = (or_parts (is_ascii_digit byte) (byte == 46) ends).0
@@ -162,12 +176,19 @@ after_whole (digit ∷ more) rest ends = refl
 -- a number may stand in front of a text that may follow a number
 number_stands : (sign : Sign) (whole fraction rest : List ℕ) → 0 < length whole
     → list_all is_ascii_digit whole ≡ true → is_plain whole ≡ true → list_all is_ascii_digit fraction ≡ true
-    → EndsNumber rest → Stands (number_piece sign whole fraction) rest
-number_stands sign whole [] rest some each plain behind ends =
+    → EndsNumber rest → Stands (number_lexeme sign whole fraction) rest
+number_stands sign whole [] rest some each plain following ends =
     let no_point = ends_point rest ends in
     (record { some = some; each = each; ended = ends_digits rest ends }, plain, rw no_point refl)
-number_stands sign whole (digit ∷ more) rest some each plain behind ends =
-    (record { some = some; each = each; ended = refl }, plain, record { some = omega arith; each = behind; ended = ends_digits rest ends })
+number_stands sign whole (digit ∷ more) rest some each plain following ends = (
+  record { some = some; each = each; ended = refl },
+  plain,
+  record {
+    some = omega arith;
+    each = following;
+    ended = ends_digits rest ends;
+  },
+)
 
 -- the bytes of a fraction are UTF-8
 point_utf8 : (fraction : List ℕ) → list_all is_ascii_digit fraction ≡ true → IsUtf8 (point_text fraction [])
@@ -184,10 +205,11 @@ sign_utf8 minus text utf8 = IsUtf8-append (45 ∷ []) text (low_bytes (45 ∷ []
 
 -- the bytes of a number are UTF-8
 number_utf8 : (sign : Sign) (whole fraction : List ℕ) → list_all is_ascii_digit whole ≡ true
-    → list_all is_ascii_digit fraction ≡ true → IsUtf8 (bytes_of (number_piece sign whole fraction))
-number_utf8 sign whole fraction each behind =
+    → list_all is_ascii_digit fraction ≡ true → IsUtf8 (bytes_of (number_lexeme sign whole fraction))
+number_utf8 sign whole fraction each following =
     let unsigned_utf8 : IsUtf8 (whole ++ point_text fraction []) =
-    IsUtf8-append whole (point_text fraction []) (low_bytes whole (low_digits whole each)) (point_utf8 fraction behind) in
+    IsUtf8-append whole (point_text fraction []) (low_bytes whole (low_digits whole each))
+    (point_utf8 fraction following) in
     IsUtf8-append (35 ∷ []) (sign_text sign (whole ++ point_text fraction [])) (low_bytes (35 ∷ []) refl)
     (sign_utf8 sign (whole ++ point_text fraction []) unsigned_utf8)
 
@@ -204,16 +226,17 @@ signed_reads sign number rest symbols small ends more =
     let plain = decimal_plain (number / 10 ^ 18) (omega arith) in
     let few : length whole ≤ 18 = number_few whole written.is in
     let point = point_written (number % 10 ^ 18) (omega arith) in
-    let same : bytes_of (number_piece sign whole point.fraction) ≡ text =
-    ap (λ (behind : List ℕ). 35 ∷ sign_text sign (whole ++ behind)) (sym (point.is []) ∙ append-nil part) in
-    let read : IsRead (number_piece sign whole point.fraction) rest = record {
+    let same : bytes_of (number_lexeme sign whole point.fraction) ≡ text =
+    ap (λ (following : List ℕ). 35 ∷ sign_text sign (whole ++ following)) (sym (point.is []) ∙ append-nil part) in
+    let read : IsRead (number_lexeme sign whole point.fraction) rest = record {
       stands = number_stands sign whole point.fraction rest written.some written.each plain point.each ends;
       supported = refl;
       within = and_from (nat_le (length whole) 18) (nat_le (length point.fraction) 18) (le-leb (length whole) 18 few)
           (le-leb (length point.fraction) 18 point.few);
     } in
-    along (decimal_symbol text ∷ symbols) (piece_text-bytes (number_piece sign whole point.fraction) rest ∙ ap (λ (front : List ℕ). front ++ rest) same)
-    (piece_then (number_piece sign whole point.fraction) rest (λ found. decimal_symbol text ∷ found) symbols
+    along (decimal_symbol text ∷ symbols) (lexeme_text-bytes (number_lexeme sign whole point.fraction) rest
+    ∙ ap (λ (front : List ℕ). front ++ rest) same)
+    (lexeme_then (number_lexeme sign whole point.fraction) rest (λ found. decimal_symbol text ∷ found) symbols
     (λ tokens. ap (λ (bytes : List ℕ). decimal_symbol bytes ∷ map symbol_of tokens) same) read
     (number_utf8 sign whole point.fraction written.each point.each) more)
   where
@@ -222,38 +245,48 @@ signed_reads sign number rest symbols small ends more =
         let tests = and_parts (nat_le 1 (length run) && nat_le (length run) 18) (list_all is_ascii_digit run) is in
         leb-true (length run) 18 (and_parts (nat_le 1 (length run)) (nat_le (length run) 18) tests.0).1
 
--- the text of a value is read in front of a text that may follow a number
+-- if `value` is read back from its printed text, `rest` may follow a number, and the lexer reads `rest` as `symbols`,
+-- then it reads the text of `value` and `rest` as the symbol of the number and `symbols`
 pub value_reads : (value : ℤ) (rest : List ℕ) (symbols : List Symbol)
     → decimal_of (drop 1 (number_text value)) ≡ Some value → EndsNumber rest → Reads rest symbols
     → Reads (number_text value ++ rest) (decimal_symbol (number_text value) ∷ symbols)
 value_reads (pos number) rest symbols written ends more =
-    signed_reads unsigned number rest symbols (number_is_small (drop 1 (number_text (pos number))) (pos number) written) ends more
+    signed_reads unsigned number rest symbols (number_is_small (drop 1 (number_text (pos number))) (pos number) written)
+    ends more
 value_reads (negsuc below) rest symbols written ends more =
-    signed_reads minus (suc below) rest symbols (number_is_small (drop 1 (number_text (negsuc below))) (negsuc below) written) ends more
+    signed_reads minus (suc below) rest symbols
+    (number_is_small (drop 1 (number_text (negsuc below))) (negsuc below) written) ends more
 
 -- the maximum of a cardinality is read in front of a text that begins with no digit
 most_reads : (most : Option ℕ) (rest : List ℕ) (symbols : List Symbol) → IsPrintableMost most
-    → begins is_ascii_digit rest ≡ false → Reads rest symbols → Reads (most_text most ++ rest) (most_symbols most symbols)
+    → begins is_ascii_digit rest ≡ false → Reads rest symbols
+    → Reads (most_text most ++ rest) (most_symbols most symbols)
 most_reads None rest symbols written ends more = wildcard rest symbols more
-most_reads (Some most) rest symbols written ends more = digits_read most rest symbols (digits_written 1 most (omega arith) written) ends more
+most_reads (Some most) rest symbols written ends more =
+    digits_read most rest symbols (digits_written 1 most (omega arith) written) ends more
 
 -- a cardinality that is written out is read in front of any text that is read
 range_reads : (least : ℕ) (most : Option ℕ) (rest : List ℕ) (symbols : List Symbol) → HasDigits 1 18 least
-    → IsPrintableMost most → Reads rest symbols → Reads (range_text least most ++ rest) (range_symbols least most symbols)
+    → IsPrintableMost most → Reads rest symbols
+    → Reads (range_text least most ++ rest) (range_symbols least most symbols)
 range_reads least most rest symbols written most_written more =
     let upper = most_reads most (93 ∷ rest) _ most_written refl (bracket_close rest symbols more) in
     let lower = digits_read least _ _ (digits_written 1 least (omega arith) written) refl (dots _ _ upper) in
     along (range_symbols least most symbols) (regroup (decimal least) (most_text most)) (bracket_open _ _ lower)
   where
-    regroup : (one other : List ℕ) → 91 ∷ one ++ (46 ∷ 46 ∷ other ++ 93 ∷ rest) ≡ 91 ∷ one ++ 46 ∷ 46 ∷ [] ++ other ++ 93 ∷ [] ++ rest
+    regroup : (one other : List ℕ) → 91 ∷ one ++ (46 ∷ 46 ∷ other ++ 93 ∷ rest) ≡ 91 ∷ one ++ 46 ∷ 46 ∷ [] ++ other
+        ++ 93 ∷ [] ++ rest
     regroup one other = simp append_assoc
 
--- the text of a cardinality, which leaves `[1..*]` out, is read in front of any text that is read
+-- if the bounds of a cardinality have 1 to 18 digits and the lexer reads `rest` as `symbols`, then it reads the text
+-- of the cardinality and `rest` as the cardinality's symbols and `symbols`. The text of `[1..*]` is empty
 pub count_reads : (least : ℕ) (most : Option ℕ) (rest : List ℕ) (symbols : List Symbol) → HasDigits 1 18 least
-    → IsPrintableMost most → Reads rest symbols → Reads (count_text least most ++ rest) (count_symbols least most symbols)
+    → IsPrintableMost most → Reads rest symbols
+    → Reads (count_text least most ++ rest) (count_symbols least most symbols)
 count_reads least None rest symbols written most_written more = by (least == 1) refl
   where
     by : (test : Bool) → (least == 1) ≡ test → Reads (count_text least None ++ rest) (count_symbols least None symbols)
     by true same = rw same more
     by false same = rw same (range_reads least None rest symbols written most_written more)
-count_reads least (Some most) rest symbols written most_written more = range_reads least (Some most) rest symbols written most_written more
+count_reads least (Some most) rest symbols written most_written more =
+    range_reads least (Some most) rest symbols written most_written more

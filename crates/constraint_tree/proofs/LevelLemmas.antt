@@ -1,32 +1,47 @@
--- How deep the brackets of a printed tree are: never deeper than those of a form of the tree, which may have more.
-use Rattle.std.proofs.Common.{ℕ, ◌≡◌, ◌==◌, ◌&&◌, ◌||◌, ◌+◌, ◌-◌, ◌≤◌, max, Bool, true, false, List, [], ◌∷◌, Option, None, Some, if◌then◌else◌, refl, ap, sym, ◌∙◌, arith}
+-- How many brackets are open at once in the printed text of a tree: at most as many as in the tokens of any form of
+-- the tree, which may have more brackets.
+use Rattle.std.proofs.Common.{ℕ, ◌≡◌, ◌==◌, ◌&&◌, ◌||◌, ◌+◌, ◌-◌, ◌≤◌, max, Bool, true, false, List, [], ◌∷◌, Option}
+use Rattle.std.proofs.Common.{None, Some, if◌then◌else◌, refl, ap, sym, ◌∙◌, arith}
 use Rattle.std.proofs.lemmas.Bool.{eqb-false}
 use Rattle.std.proofs.lemmas.Bool.Decides.{nat_tests}
 use Rattle.ecl_lexer.specs.declared.token.TokenKind.{TokenKind}
-use Rattle.ecl_lexer.specs.declared.token.TokenKind.TheVariants.{MemberOf, Wildcard, RoundOpen, RoundClose, BraceOpen, BraceClose, Colon, Dot, Equal as EqualSign, NotEqual as NotEqualSign, And, Or, Minus, Reverse, Digits, Number}
+use Rattle.ecl_lexer.specs.declared.token.TokenKind.TheVariants.{MemberOf, Wildcard, RoundOpen, RoundClose, BraceOpen}
+use Rattle.ecl_lexer.specs.declared.token.TokenKind.TheVariants.{BraceClose, Colon, Dot, Equal as EqualSign}
+use Rattle.ecl_lexer.specs.declared.token.TokenKind.TheVariants.{NotEqual as NotEqualSign, And, Or, Minus, Reverse}
+use Rattle.ecl_lexer.specs.declared.token.TokenKind.TheVariants.{Digits, Number}
 use Rattle.constraint_tree.specs.declared.operator.Compare.{Compare}
 use Rattle.constraint_tree.specs.declared.operator.Compare.TheVariants.{Equal}
 use Rattle.constraint_tree.specs.declared.operator.Operator.{Operator}
 use Rattle.constraint_tree.specs.declared.operator.Operator.TheVariants.{Descendants}
 use Rattle.constraint_tree.specs.Grammar.{Symbol, digits, decimal, mark, operator_kind, compare_kind, reverse_tokens}
-use Rattle.constraint_tree.specs.Refusal.{most_open, opens, open_behind}
+use Rattle.constraint_tree.specs.Refusal.{most_open, opens, open_after}
 use Rattle.constraint_tree.specs.Text.{is_focus, is_item, is_member_or_focus, is_part, is_sub}
-use Rattle.constraint_tree.specs.Tree.{Tree, concept_tree, any_tree, walk_tree, member_tree, and_tree, or_tree, minus_tree, dotted_tree, refined_tree, Trees, no_trees, tree_then, RefinementTree, one_refinement, group_refinement, and_refinement, or_refinement, RefinementTrees, no_refinements, refinement_then, AttributeSetTree, one_set, and_set, or_set, AttributeSetTrees, no_sets, set_then, AttributeTree, attribute_tree, TestTree, within_test, outside_test, number_test}
-use Rattle.constraint_tree.proofs.Symbols.{placed, constraint_symbols, joined_symbols, listed_symbols, refinement_symbols, joined_item_symbols, listed_item_symbols, set_symbols, joined_part_symbols, listed_part_symbols, attribute_symbols, test_symbols, count_symbols, range_symbols}
+use Rattle.constraint_tree.specs.Tree.{Tree, concept_tree, any_tree, walk_tree, member_tree, and_tree, or_tree}
+use Rattle.constraint_tree.specs.Tree.{minus_tree, dotted_tree, refined_tree, Trees, no_trees, tree_then}
+use Rattle.constraint_tree.specs.Tree.{RefinementTree, one_refinement, group_refinement, and_refinement, or_refinement}
+use Rattle.constraint_tree.specs.Tree.{RefinementTrees, no_refinements, refinement_then, AttributeSetTree, one_set}
+use Rattle.constraint_tree.specs.Tree.{and_set, or_set, AttributeSetTrees, no_sets, set_then, AttributeTree}
+use Rattle.constraint_tree.specs.Tree.{attribute_tree, TestTree, within_test, outside_test, number_test}
+use Rattle.constraint_tree.proofs.Symbols.{placed, constraint_symbols, joined_symbols, listed_symbols}
+use Rattle.constraint_tree.proofs.Symbols.{refinement_symbols, joined_item_symbols, listed_item_symbols, set_symbols}
+use Rattle.constraint_tree.proofs.Symbols.{joined_part_symbols, listed_part_symbols, attribute_symbols, test_symbols}
+use Rattle.constraint_tree.proofs.Symbols.{count_symbols, range_symbols}
 
--- the kind of token of a symbol
+-- the kind of token that a symbol stands for
 abbrev pub kind_of_symbol : Symbol → TokenKind
 kind_of_symbol (digits run) = Digits
 kind_of_symbol (decimal text) = Number
 kind_of_symbol (mark kind) = kind
 
--- whether more than `most_open` brackets are open at some place among symbols, if `count` are open in front of them
+-- whether more than `most_open` brackets are open at once somewhere among symbols, if `count` are open before them
 abbrev pub symbols_deep : ℕ → List Symbol → Bool
 symbols_deep count [] = false
 symbols_deep count (symbol ∷ rest) =
-    (opens (kind_of_symbol symbol) && (count == most_open)) || symbols_deep (open_behind count (kind_of_symbol symbol)) rest
+    (opens (kind_of_symbol symbol) && (count == most_open)) || symbols_deep (open_after count (kind_of_symbol symbol))
+    rest
 
--- the height of a text of height `height` with the brackets that it needs
+-- how many brackets are open at once in a text in brackets, or, if it needs no brackets, in the text alone; `height`
+-- are open at once in the text alone
 abbrev pub placed_levels : Bool → ℕ → ℕ
 placed_levels true height = height
 placed_levels false height = height + 1
@@ -43,7 +58,8 @@ abbrev mutual
   levels (minus_tree first second) =
       max (placed_levels (is_sub first) (levels first)) (placed_levels (is_sub second) (levels second))
   levels (dotted_tree start names) = max (placed_levels (is_sub start) (levels start)) (list_levels names)
-  levels (refined_tree focus refinement) = max (placed_levels (is_sub focus) (levels focus)) (refinement_levels refinement)
+  levels (refined_tree focus refinement) =
+      max (placed_levels (is_sub focus) (levels focus)) (refinement_levels refinement)
 
   -- how many brackets are open at once in the texts of the operands of a list
   pub list_levels : Trees → ℕ
@@ -60,7 +76,8 @@ abbrev mutual
   -- how many brackets are open at once in the texts of the items of a list
   pub item_levels : RefinementTrees → ℕ
   item_levels no_refinements = 0
-  item_levels (refinement_then first rest) = max (placed_levels (is_item first) (refinement_levels first)) (item_levels rest)
+  item_levels (refinement_then first rest) =
+      max (placed_levels (is_item first) (refinement_levels first)) (item_levels rest)
 
   -- how many brackets are open at once in the text of an attribute set
   pub set_levels : AttributeSetTree → ℕ
@@ -75,7 +92,8 @@ abbrev mutual
 
   -- how many brackets are open at once in the text of an attribute
   pub attribute_levels : AttributeTree → ℕ
-  attribute_levels (attribute_tree count reverse name test) = max (placed_levels (is_sub name) (levels name)) (test_levels test)
+  attribute_levels (attribute_tree count reverse name test) =
+      max (placed_levels (is_sub name) (levels name)) (test_levels test)
 
   -- how many brackets are open at once in the text of a value test
   pub test_levels : TestTree → ℕ
@@ -83,12 +101,14 @@ abbrev mutual
   test_levels (outside_test operand) = placed_levels (is_sub operand) (levels operand)
   test_levels (number_test compare value) = 0
 
--- two tokens that open and close a bracket
+-- `opening` and `closing` are tokens that open and close a bracket
 pub record Brackets (opening closing : TokenKind) : Type 0 where
-  -- `opening` opens one bracket more, unless 64 are open
-  pub opened : (count : ℕ) (rest : List Symbol) → symbols_deep count (mark opening ∷ rest) ≡ ((count == 64) || symbols_deep (count + 1) rest)
+  -- `opening` opens one bracket; with 64 open already, the symbols are too deep
+  pub opened : (count : ℕ) (rest : List Symbol)
+      → symbols_deep count (mark opening ∷ rest) ≡ ((count == 64) || symbols_deep (count + 1) rest)
   -- `closing` closes one of the open brackets
-  pub closed : (count : ℕ) (rest : List Symbol) → symbols_deep count (mark closing ∷ rest) ≡ symbols_deep (count - 1) rest
+  pub closed : (count : ℕ) (rest : List Symbol)
+      → symbols_deep count (mark closing ∷ rest) ≡ symbols_deep (count - 1) rest
 
 -- `(` and `)` open and close a bracket
 pub round_brackets : Brackets RoundOpen RoundClose
@@ -102,7 +122,7 @@ braces = record { opened = λ count rest. refl; closed = λ count rest. refl }
 abbrev pub IsFlat : TokenKind → Type 0
 IsFlat kind = (count : ℕ) (rest : List Symbol) → symbols_deep count (mark kind ∷ rest) ≡ symbols_deep count rest
 
--- the token of an operator neither opens nor closes a bracket
+-- the token of a hierarchy operator neither opens nor closes a bracket
 pub operator_flat : (operator : Operator) → IsFlat (operator_kind operator)
 operator_flat Descendants count rest = refl
 operator_flat other count rest = refl
@@ -118,20 +138,21 @@ or_parts true other is = absurd (cc)
 or_parts false other is = (refl, is)
 
 -- after a pair of brackets as many brackets are open as in front of it
-behind_brackets : {opening closing : TokenKind} → Brackets opening closing → (count : ℕ) (rest : List Symbol)
+after_brackets : {opening closing : TokenKind} → Brackets opening closing → (count : ℕ) (rest : List Symbol)
     → symbols_deep (count + 1) (mark closing ∷ rest) ≡ symbols_deep count rest
-behind_brackets brackets count rest =
+after_brackets brackets count rest =
     let same : count + 1 - 1 ≡ count = omega arith in
     brackets.closed (count + 1) rest ∙ ap (λ (left : ℕ). symbols_deep left rest) same
 
--- `front` has at most `height` brackets open at once and leaves as many open as it found: in front of symbols that
--- are not too deep it is not too deep
+-- in `front` at most `height` brackets are open at once, and all that it opens are closed: `front` and `rest` are not
+-- too deep if `rest` is not and `height` more brackets may be open
 pub record IsShallow (front : List Symbol → List Symbol) (height : ℕ) : Type 0 where
   -- if `height` more brackets may be open and `rest` is not too deep, then `front rest` is not too deep
-  pub flat : (count : ℕ) (rest : List Symbol) → count + height ≤ 64 → symbols_deep count rest ≡ false → symbols_deep count (front rest) ≡ false
+  pub flat : (count : ℕ) (rest : List Symbol) → count + height ≤ 64 → symbols_deep count rest ≡ false
+      → symbols_deep count (front rest) ≡ false
 
--- `front` has at least `height` brackets open at once: if it is not too deep in front of some symbols, then `height`
--- more brackets may be open, and those symbols are not too deep
+-- in `front` at least `height` brackets are open at once: if `front` and `rest` are not too deep, then `height` more
+-- brackets may be open, and `rest` is not too deep
 pub record IsWithin (front : List Symbol → List Symbol) (height : ℕ) : Type 0 where
   -- if `front rest` is not too deep, then `height` more brackets may be open, and `rest` is not too deep
   pub fits : (count : ℕ) (rest : List Symbol) → count ≤ 64 → symbols_deep count (front rest) ≡ false
@@ -142,53 +163,62 @@ nothing_shallow : IsShallow (λ rest. rest) 0
 nothing_shallow = record { flat = λ count rest within flat. flat }
 
 -- a flat token in front of symbols with at most `height` open brackets leaves that bound
-marked_shallow : {front : List Symbol → List Symbol} {height : ℕ} (kind : TokenKind) → IsFlat kind → IsShallow front height
+marked_shallow : {front : List Symbol → List Symbol} {height : ℕ} (kind : TokenKind) → IsFlat kind
+    → IsShallow front height
     → IsShallow (λ rest. mark kind ∷ front rest) height
 marked_shallow {front} kind flat_kind inside = record {
   flat = λ count rest within flat. flat_kind count (front rest) ∙ inside.flat count rest within flat;
 }
 
 -- symbols in front of others have at most the greater number of open brackets
-then_shallow : {one other : List Symbol → List Symbol} {height further : ℕ} → IsShallow one height → IsShallow other further
+then_shallow : {one other : List Symbol → List Symbol} {height further : ℕ} → IsShallow one height
+    → IsShallow other further
     → IsShallow (λ rest. one (other rest)) (max height further)
 then_shallow {other} first second = record {
-  flat = λ count rest within flat. first.flat count (other rest) (omega arith) (second.flat count rest (omega arith) flat);
+  flat = λ count rest within flat. first.flat count (other rest) (omega arith)
+      (second.flat count rest (omega arith) flat);
 }
 
 -- symbols in brackets have at most one open bracket more
-bracket_shallow : {front : List Symbol → List Symbol} {height : ℕ} {opening closing : TokenKind} → Brackets opening closing
+bracket_shallow : {front : List Symbol → List Symbol} {height : ℕ} {opening closing : TokenKind}
+    → Brackets opening closing
     → IsShallow front height → IsShallow (λ rest. mark opening ∷ front (mark closing ∷ rest)) (height + 1)
 bracket_shallow {front} {closing} brackets inside = record {
   flat = λ count rest within flat.
       let few : (count == 64) ≡ false = grind (arith, nat_tests) in
       brackets.opened count (front (mark closing ∷ rest))
       ∙ ap (λ (many : Bool). many || symbols_deep (count + 1) (front (mark closing ∷ rest))) few
-      ∙ inside.flat (count + 1) (mark closing ∷ rest) (omega arith) (behind_brackets brackets count rest ∙ flat);
+      ∙ inside.flat (count + 1) (mark closing ∷ rest) (omega arith) (after_brackets brackets count rest ∙ flat);
 }
 
--- an empty `front` has at least 0 brackets open at once
+-- in no symbols at least 0 brackets are open at once
 pub nothing_within : IsWithin (λ rest. rest) 0
 nothing_within = record { fits = λ count rest few flat. (omega arith, flat) }
 
--- a flat token in front of symbols with at least `height` open brackets leaves that bound
-pub marked_within : {front : List Symbol → List Symbol} {height : ℕ} (kind : TokenKind) → IsFlat kind → IsWithin front height
+-- if at least `height` brackets are open at once in `front`, that is so too after a token in front of it that opens
+-- and closes no bracket
+pub marked_within : {front : List Symbol → List Symbol} {height : ℕ} (kind : TokenKind) → IsFlat kind
+    → IsWithin front height
     → IsWithin (λ rest. mark kind ∷ front rest) height
 marked_within {front} kind flat_kind inside = record {
   fits = λ count rest few flat. inside.fits count rest few (sym (flat_kind count (front rest)) ∙ flat);
 }
 
--- symbols in front of others have at least the greater number of open brackets
-pub then_within : {one other : List Symbol → List Symbol} {height further : ℕ} → IsWithin one height → IsWithin other further
+-- if at least `height` brackets are open at once in `one`, and at least `further` in `other`, then in `one` followed
+-- by `other` at least the greater of these are
+pub then_within : {one other : List Symbol → List Symbol} {height further : ℕ} → IsWithin one height
+    → IsWithin other further
     → IsWithin (λ rest. one (other rest)) (max height further)
 then_within {other} first second = record {
   fits = λ count rest few flat.
       let front = first.fits count (other rest) few flat in
-      let behind = second.fits count rest few front.1 in
-      (omega (arith, front.0, behind.0), behind.1);
+      let following = second.fits count rest few front.1 in
+      (omega (arith, front.0, following.0), following.1);
 }
 
--- symbols in brackets have at least one open bracket more
-pub bracket_within : {front : List Symbol → List Symbol} {height : ℕ} {opening closing : TokenKind} → Brackets opening closing
+-- if at least `height` brackets are open at once in `front`, at least `height + 1` are in `front` in brackets
+pub bracket_within : {front : List Symbol → List Symbol} {height : ℕ} {opening closing : TokenKind}
+    → Brackets opening closing
     → IsWithin front height → IsWithin (λ rest. mark opening ∷ front (mark closing ∷ rest)) (height + 1)
 bracket_within {front} {closing} brackets inside = record {
   fits = λ count rest few flat.
@@ -196,11 +226,12 @@ bracket_within {front} {closing} brackets inside = record {
       (sym (brackets.opened count (front (mark closing ∷ rest))) ∙ flat) in
       let apart = eqb-false count 64 parts.0 in
       let found = inside.fits (count + 1) (mark closing ∷ rest) (omega arith) parts.1 in
-      (omega (arith, found.0), sym (behind_brackets brackets count rest) ∙ found.1);
+      (omega (arith, found.0), sym (after_brackets brackets count rest) ∙ found.1);
 }
 
--- symbols with at least `height` open brackets have at least `less`
-pub lower_within : {front : List Symbol → List Symbol} {height less : ℕ} → less ≤ height → IsWithin front height → IsWithin front less
+-- if at least `height` brackets are open at once in `front`, at least `less` are, for any `less` up to `height`
+pub lower_within : {front : List Symbol → List Symbol} {height less : ℕ} → less ≤ height → IsWithin front height
+    → IsWithin front less
 lower_within lower inside = record {
   fits = λ count rest few flat. let found = inside.fits count rest few flat in (omega (arith, found.0), found.1);
 }
@@ -212,7 +243,8 @@ placed_shallow true inside = inside
 placed_shallow false inside = bracket_shallow round_brackets inside
 
 -- a cardinality in front of symbols opens no round bracket and no brace
-counted_shallow : {front : List Symbol → List Symbol} {height : ℕ} (least : ℕ) (most : Option ℕ) → IsShallow front height
+counted_shallow : {front : List Symbol → List Symbol} {height : ℕ} (least : ℕ) (most : Option ℕ)
+    → IsShallow front height
     → IsShallow (λ rest. count_symbols least most (front rest)) height
 counted_shallow {front} least None inside = record {
   flat = λ count rest within flat. by (least == 1) count (front rest) (inside.flat count rest within flat);
@@ -222,7 +254,8 @@ counted_shallow {front} least None inside = record {
         → symbols_deep count (if unwritten then rest else range_symbols least None rest) ≡ false
     by true count rest flat = flat
     by false count rest flat = flat
-counted_shallow least (Some most) inside = record { flat = λ count rest within flat. inside.flat count rest within flat }
+counted_shallow least (Some most) inside =
+    record { flat = λ count rest within flat. inside.flat count rest within flat }
 
 -- `R` in front of symbols opens no bracket
 reversed_shallow : {front : List Symbol → List Symbol} {height : ℕ} (reverse : Bool) → IsShallow front height
@@ -232,12 +265,13 @@ reversed_shallow false inside = inside
 
 -- Each tree's symbols have at most as many brackets open at once as its levels.
 mutual
-  -- the symbols of a constraint have at most its `levels` open brackets
+  -- in the text of a constraint at most as many brackets are open at once as `levels` of its tree says
   pub constraint_shallow : (tree : Tree) → IsShallow (constraint_symbols tree) (levels tree)
   constraint_shallow (concept_tree id) = record { flat = λ count rest within flat. flat }
   constraint_shallow any_tree = marked_shallow Wildcard (λ count rest. refl) nothing_shallow
   constraint_shallow (walk_tree operator operand) =
-      marked_shallow (operator_kind operator) (operator_flat operator) (placed_shallow (is_member_or_focus operand) (constraint_shallow operand))
+      marked_shallow (operator_kind operator) (operator_flat operator)
+      (placed_shallow (is_member_or_focus operand) (constraint_shallow operand))
   constraint_shallow (member_tree operand) =
       marked_shallow MemberOf (λ count rest. refl) (placed_shallow (is_focus operand) (constraint_shallow operand))
   constraint_shallow (and_tree parts) = joined_shallow And (λ count rest. refl) parts
@@ -246,22 +280,26 @@ mutual
       then_shallow (placed_shallow (is_sub first) (constraint_shallow first))
       (marked_shallow Minus (λ count rest. refl) (placed_shallow (is_sub second) (constraint_shallow second)))
   constraint_shallow (dotted_tree start names) =
-      then_shallow (placed_shallow (is_sub start) (constraint_shallow start)) (listed_shallow Dot (λ count rest. refl) names)
+      then_shallow (placed_shallow (is_sub start) (constraint_shallow start))
+      (listed_shallow Dot (λ count rest. refl) names)
   constraint_shallow (refined_tree focus refinement) =
       then_shallow (placed_shallow (is_sub focus) (constraint_shallow focus))
       (marked_shallow Colon (λ count rest. refl) (refinement_shallow refinement))
 
   -- operands with a token between two of them have at most their `list_levels` open brackets
-  joined_shallow : (kind : TokenKind) → IsFlat kind → (trees : Trees) → IsShallow (joined_symbols kind trees) (list_levels trees)
+  joined_shallow : (kind : TokenKind) → IsFlat kind → (trees : Trees)
+      → IsShallow (joined_symbols kind trees) (list_levels trees)
   joined_shallow kind flat_kind no_trees = nothing_shallow
   joined_shallow kind flat_kind (tree_then first more) =
       then_shallow (placed_shallow (is_sub first) (constraint_shallow first)) (listed_shallow kind flat_kind more)
 
   -- operands, each after a token, have at most their `list_levels` open brackets
-  listed_shallow : (kind : TokenKind) → IsFlat kind → (trees : Trees) → IsShallow (listed_symbols kind trees) (list_levels trees)
+  listed_shallow : (kind : TokenKind) → IsFlat kind → (trees : Trees)
+      → IsShallow (listed_symbols kind trees) (list_levels trees)
   listed_shallow kind flat_kind no_trees = nothing_shallow
   listed_shallow kind flat_kind (tree_then first more) =
-      marked_shallow kind flat_kind (then_shallow (placed_shallow (is_sub first) (constraint_shallow first)) (listed_shallow kind flat_kind more))
+      marked_shallow kind flat_kind
+      (then_shallow (placed_shallow (is_sub first) (constraint_shallow first)) (listed_shallow kind flat_kind more))
 
   -- the symbols of a refinement have at most its `refinement_levels` open brackets
   refinement_shallow : (tree : RefinementTree) → IsShallow (refinement_symbols tree) (refinement_levels tree)
@@ -272,16 +310,21 @@ mutual
   refinement_shallow (or_refinement parts) = joined_items_shallow Or (λ count rest. refl) parts
 
   -- items with a token between two of them have at most their `item_levels` open brackets
-  joined_items_shallow : (kind : TokenKind) → IsFlat kind → (trees : RefinementTrees) → IsShallow (joined_item_symbols kind trees) (item_levels trees)
+  joined_items_shallow : (kind : TokenKind) → IsFlat kind → (trees : RefinementTrees)
+      → IsShallow (joined_item_symbols kind trees) (item_levels trees)
   joined_items_shallow kind flat_kind no_refinements = nothing_shallow
   joined_items_shallow kind flat_kind (refinement_then first more) =
-      then_shallow (placed_shallow (is_item first) (refinement_shallow first)) (listed_items_shallow kind flat_kind more)
+      then_shallow (placed_shallow (is_item first) (refinement_shallow first))
+      (listed_items_shallow kind flat_kind more)
 
   -- items, each after a token, have at most their `item_levels` open brackets
-  listed_items_shallow : (kind : TokenKind) → IsFlat kind → (trees : RefinementTrees) → IsShallow (listed_item_symbols kind trees) (item_levels trees)
+  listed_items_shallow : (kind : TokenKind) → IsFlat kind → (trees : RefinementTrees)
+      → IsShallow (listed_item_symbols kind trees) (item_levels trees)
   listed_items_shallow kind flat_kind no_refinements = nothing_shallow
   listed_items_shallow kind flat_kind (refinement_then first more) =
-      marked_shallow kind flat_kind (then_shallow (placed_shallow (is_item first) (refinement_shallow first)) (listed_items_shallow kind flat_kind more))
+      marked_shallow kind flat_kind
+      (then_shallow (placed_shallow (is_item first) (refinement_shallow first))
+      (listed_items_shallow kind flat_kind more))
 
   -- the symbols of an attribute set have at most its `set_levels` open brackets
   set_shallow : (tree : AttributeSetTree) → IsShallow (set_symbols tree) (set_levels tree)
@@ -290,26 +333,31 @@ mutual
   set_shallow (or_set parts) = joined_parts_shallow Or (λ count rest. refl) parts
 
   -- parts with a token between two of them have at most their `part_levels` open brackets
-  joined_parts_shallow : (kind : TokenKind) → IsFlat kind → (trees : AttributeSetTrees) → IsShallow (joined_part_symbols kind trees) (part_levels trees)
+  joined_parts_shallow : (kind : TokenKind) → IsFlat kind → (trees : AttributeSetTrees)
+      → IsShallow (joined_part_symbols kind trees) (part_levels trees)
   joined_parts_shallow kind flat_kind no_sets = nothing_shallow
   joined_parts_shallow kind flat_kind (set_then first more) =
       then_shallow (placed_shallow (is_part first) (set_shallow first)) (listed_parts_shallow kind flat_kind more)
 
   -- parts, each after a token, have at most their `part_levels` open brackets
-  listed_parts_shallow : (kind : TokenKind) → IsFlat kind → (trees : AttributeSetTrees) → IsShallow (listed_part_symbols kind trees) (part_levels trees)
+  listed_parts_shallow : (kind : TokenKind) → IsFlat kind → (trees : AttributeSetTrees)
+      → IsShallow (listed_part_symbols kind trees) (part_levels trees)
   listed_parts_shallow kind flat_kind no_sets = nothing_shallow
   listed_parts_shallow kind flat_kind (set_then first more) =
-      marked_shallow kind flat_kind (then_shallow (placed_shallow (is_part first) (set_shallow first)) (listed_parts_shallow kind flat_kind more))
+      marked_shallow kind flat_kind
+      (then_shallow (placed_shallow (is_part first) (set_shallow first)) (listed_parts_shallow kind flat_kind more))
 
   -- the symbols of an attribute have at most its `attribute_levels` open brackets
   attribute_shallow : (what : AttributeTree) → IsShallow (attribute_symbols what) (attribute_levels what)
   attribute_shallow (attribute_tree number reverse name test) =
       counted_shallow number.min number.max
-      (reversed_shallow reverse (then_shallow (placed_shallow (is_sub name) (constraint_shallow name)) (test_shallow test)))
+      (reversed_shallow reverse (then_shallow (placed_shallow (is_sub name) (constraint_shallow name))
+      (test_shallow test)))
 
   -- the symbols of a value test have at most its `test_levels` open brackets
   test_shallow : (test : TestTree) → IsShallow (test_symbols test) (test_levels test)
-  test_shallow (within_test operand) = marked_shallow EqualSign (λ count rest. refl) (placed_shallow (is_sub operand) (constraint_shallow operand))
+  test_shallow (within_test operand) =
+      marked_shallow EqualSign (λ count rest. refl) (placed_shallow (is_sub operand) (constraint_shallow operand))
   test_shallow (outside_test operand) =
       marked_shallow NotEqualSign (λ count rest. refl) (placed_shallow (is_sub operand) (constraint_shallow operand))
   test_shallow (number_test compare value) =

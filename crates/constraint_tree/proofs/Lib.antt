@@ -10,7 +10,7 @@ pub mod FractionLemmas
 pub mod DigitLemmas
 pub mod MostDeepLemmas
 pub mod NumberLemmas
-pub mod PieceLemmas
+pub mod LexemeLemmas
 pub mod PrintLemmas
 pub mod SymbolLemmas
 pub mod Symbols

@@ -1,19 +1,26 @@
 -- The depth of a tree is bounded by the brackets of its text: at most five nodes stand between two of them.
 use Rattle.std.proofs.Common.{ℕ, ◌≡◌, ◌*◌, ◌+◌, ◌≤◌, false, List, refl, arith}
-use Rattle.constraint_tree.specs.Depth.{depth_of, trees_depth, refinement_depth, refinements_depth, set_depth, sets_depth, attribute_depth, test_depth, most_deep}
+use Rattle.constraint_tree.specs.Depth.{depth_of, trees_depth, refinement_depth, refinements_depth, set_depth}
+use Rattle.constraint_tree.specs.Depth.{sets_depth, attribute_depth, test_depth, most_deep}
 use Rattle.constraint_tree.specs.Refusal.{IsConstraint}
 use Rattle.constraint_tree.specs.Text.{is_focus, is_item, is_member_or_focus, is_part, is_sub}
-use Rattle.constraint_tree.specs.Tree.{Tree, concept_tree, any_tree, walk_tree, member_tree, and_tree, or_tree, minus_tree, dotted_tree, refined_tree, Trees, no_trees, tree_then, RefinementTree, one_refinement, group_refinement, and_refinement, or_refinement, RefinementTrees, no_refinements, refinement_then, AttributeSetTree, one_set, and_set, or_set, AttributeSetTrees, no_sets, set_then, AttributeTree, attribute_tree, TestTree, within_test, outside_test, number_test}
+use Rattle.constraint_tree.specs.Tree.{Tree, concept_tree, any_tree, walk_tree, member_tree, and_tree, or_tree}
+use Rattle.constraint_tree.specs.Tree.{minus_tree, dotted_tree, refined_tree, Trees, no_trees, tree_then}
+use Rattle.constraint_tree.specs.Tree.{RefinementTree, one_refinement, group_refinement, and_refinement, or_refinement}
+use Rattle.constraint_tree.specs.Tree.{RefinementTrees, no_refinements, refinement_then, AttributeSetTree, one_set}
+use Rattle.constraint_tree.specs.Tree.{and_set, or_set, AttributeSetTrees, no_sets, set_then, AttributeTree}
+use Rattle.constraint_tree.specs.Tree.{attribute_tree, TestTree, within_test, outside_test, number_test}
 use Rattle.constraint_tree.proofs.CanonLemmas.{constraint_canonical}
-use Rattle.constraint_tree.proofs.LevelLemmas.{placed_levels, levels, list_levels, refinement_levels, item_levels, set_levels, part_levels, attribute_levels, test_levels}
+use Rattle.constraint_tree.proofs.LevelLemmas.{placed_levels, levels, list_levels, refinement_levels, item_levels}
+use Rattle.constraint_tree.proofs.LevelLemmas.{set_levels, part_levels, attribute_levels, test_levels}
 
 -- the depth of a constraint is bounded by the brackets of its text: alone, as an operand, after an operator and after
 -- `^`
 record Depths (tree : Tree) : Type 0 where
   alone : depth_of tree ≤ 5 * levels tree + 6
   operand : depth_of tree ≤ 5 * placed_levels (is_sub tree) (levels tree) + 3
-  behind_operator : depth_of tree ≤ 5 * placed_levels (is_member_or_focus tree) (levels tree) + 2
-  behind_caret : depth_of tree ≤ 5 * placed_levels (is_focus tree) (levels tree) + 1
+  after_operator : depth_of tree ≤ 5 * placed_levels (is_member_or_focus tree) (levels tree) + 2
+  after_caret : depth_of tree ≤ 5 * placed_levels (is_focus tree) (levels tree) + 1
 
 -- the depth of a refinement is bounded by the brackets of its text: alone and as an item
 record RefinementDepths (tree : RefinementTree) : Type 0 where
@@ -31,37 +38,38 @@ in_brackets : (tree : Tree) → is_sub tree ≡ false → is_member_or_focus tre
 in_brackets tree sub marked focus alone = record {
   alone = alone;
   operand = rw sub (omega (arith, alone));
-  behind_operator = rw marked (omega (arith, alone));
-  behind_caret = rw focus (omega (arith, alone));
+  after_operator = rw marked (omega (arith, alone));
+  after_caret = rw focus (omega (arith, alone));
 }
 
 mutual
   -- the depth of every constraint is bounded by the brackets of its text
   depths : (tree : Tree) → Depths tree
   depths (concept_tree number) =
-      record { alone = omega arith; operand = omega arith; behind_operator = omega arith; behind_caret = omega arith }
+      record { alone = omega arith; operand = omega arith; after_operator = omega arith; after_caret = omega arith }
   depths any_tree =
-      record { alone = omega arith; operand = omega arith; behind_operator = omega arith; behind_caret = omega arith }
+      record { alone = omega arith; operand = omega arith; after_operator = omega arith; after_caret = omega arith }
   depths (walk_tree operator operand) =
-      let below = (depths operand).behind_operator in
+      let below = (depths operand).after_operator in
       record {
         alone = omega (arith, below);
         operand = omega (arith, below);
-        behind_operator = omega (arith, below);
-        behind_caret = omega (arith, below);
+        after_operator = omega (arith, below);
+        after_caret = omega (arith, below);
       }
   depths (member_tree operand) =
-      let below = (depths operand).behind_caret in
+      let below = (depths operand).after_caret in
       record {
         alone = omega (arith, below);
         operand = omega (arith, below);
-        behind_operator = omega (arith, below);
-        behind_caret = omega (arith, below);
+        after_operator = omega (arith, below);
+        after_caret = omega (arith, below);
       }
   depths (and_tree parts) = in_brackets (and_tree parts) refl refl refl (omega (arith, list_depths parts))
   depths (or_tree parts) = in_brackets (or_tree parts) refl refl refl (omega (arith, list_depths parts))
   depths (minus_tree first second) =
-      in_brackets (minus_tree first second) refl refl refl (omega (arith, (depths first).operand, (depths second).operand))
+      in_brackets (minus_tree first second) refl refl refl
+      (omega (arith, (depths first).operand, (depths second).operand))
   depths (dotted_tree start names) =
       in_brackets (dotted_tree start names) refl refl refl (omega (arith, (depths start).operand, list_depths names))
   depths (refined_tree focus refinement) =
@@ -113,6 +121,7 @@ mutual
   test_depths (outside_test operand) = (depths operand).operand
   test_depths (number_test compare value) = omega arith
 
--- the tree of a constraint has at most depth `most_deep`, because at most 64 brackets are open at once
+-- if a text is a constraint with the tree `tree`, the depth of `tree` is at most `most_deep`, because at most 64
+-- brackets of the text are open at once
 pub most_deep_of : (text : List ℕ) (tree : Tree) → IsConstraint text tree → depth_of tree ≤ most_deep
 most_deep_of text tree constraint = omega (arith, (depths tree).alone, (constraint_canonical text tree constraint).few)

@@ -1,5 +1,7 @@
 -- The text of a number reads back as that number.
-use Rattle.std.proofs.Common.{ℕ, ℤ, pos, negsuc, neg_ℤ, ◌≡◌, ◌==◌, ◌&&◌, ◌+◌, ◌*◌, ◌/◌, ◌%◌, ◌^◌, ◌≤◌, ◌<◌, Bool, true, false, if◌then◌else◌, List, [], ◌∷◌, ◌++◌, Option, None, Some, length, drop, zero, suc, nat_eq, nat_le, decimal, refl, ap, ◌∙◌, sym, subst, arith}
+use Rattle.std.proofs.Common.{ℕ, ℤ, pos, negsuc, neg_ℤ, ◌≡◌, ◌==◌, ◌&&◌, ◌+◌, ◌*◌, ◌/◌, ◌%◌, ◌^◌, ◌≤◌, ◌<◌, Bool, true}
+use Rattle.std.proofs.Common.{false, if◌then◌else◌, List, [], ◌∷◌, ◌++◌, Option, None, Some, length, drop, zero, suc}
+use Rattle.std.proofs.Common.{nat_eq, nat_le, decimal, refl, ap, ◌∙◌, sym, subst, arith}
 use Rattle.std.specs.Char.{is_ascii_digit}
 use Rattle.std.specs.List.{list_all, onto_first, starts_with}
 use Rattle.std.specs.Option.{option_map}
@@ -35,19 +37,23 @@ one_part (byte ∷ run) each =
     parts_onto 46 byte run (digit_other byte 46 tests.0 (omega arith)) ∙ ap (onto_first byte) (one_part run tests.1)
 
 -- a digit run, a point and more text are cut at the point
-parts_behind : (run more : List ℕ) → list_all is_ascii_digit run ≡ true → parts_at 46 (run ++ 46 ∷ more) ≡ run ∷ parts_at 46 more
-parts_behind [] more each = refl
-parts_behind (byte ∷ run) more each =
+parts_following : (run more : List ℕ) → list_all is_ascii_digit run ≡ true
+    → parts_at 46 (run ++ 46 ∷ more) ≡ run ∷ parts_at 46 more
+parts_following [] more each = refl
+parts_following (byte ∷ run) more each =
     let tests = and_parts (is_ascii_digit byte) (list_all is_ascii_digit run) each in
-    parts_onto 46 byte (run ++ 46 ∷ more) (digit_other byte 46 tests.0 (omega arith)) ∙ ap (onto_first byte) (parts_behind run more tests.1)
+    parts_onto 46 byte (run ++ 46 ∷ more) (digit_other byte 46 tests.0 (omega arith))
+    ∙ ap (onto_first byte) (parts_following run more tests.1)
 
 -- 1 to 18 digits are a number
-is_number_from : (text : List ℕ) → 0 < length text → length text ≤ 18 → list_all is_ascii_digit text ≡ true → is_number 1 18 text ≡ true
+is_number_from : (text : List ℕ) → 0 < length text → length text ≤ 18 → list_all is_ascii_digit text ≡ true
+    → is_number 1 18 text ≡ true
 is_number_from text some few each =
     and_from (nat_le 1 (length text) && nat_le (length text) 18) (list_all is_ascii_digit text)
-    (and_from (nat_le 1 (length text)) (nat_le (length text) 18) (le-leb 1 (length text) (omega arith)) (le-leb (length text) 18 few)) each
+    (and_from (nat_le 1 (length text)) (nat_le (length text) 18) (le-leb 1 (length text) (omega arith))
+    (le-leb (length text) 18 few)) each
 
--- the decimal digits of `number` are a number that reads back
+-- the decimal digits of `number` are 1 to 18 digits that spell `number`
 pub record WritesWhole (number : ℕ) : Type 0 where
   -- every byte is a digit
   pub each : list_all is_ascii_digit (decimal number) ≡ true
@@ -55,10 +61,10 @@ pub record WritesWhole (number : ℕ) : Type 0 where
   pub some : 0 < length (decimal number)
   -- the digits are a number of 1 to 18 digits
   pub is : is_number 1 18 (decimal number) ≡ true
-  -- the number of the digits is `number`
+  -- the digits spell `number`
   pub value : number_of (decimal number) ≡ number
 
--- the decimal digits of a number below 10^18 are a number that reads back
+-- if `number` is below 10^18, its decimal digits are 1 to 18 digits that spell it
 pub whole_written : (number : ℕ) → number < 10 ^ 18 → WritesWhole number
 whole_written number small =
     let numeral = decimal_is_IsNumeral number (omega arith) in
@@ -78,22 +84,25 @@ whole_reads whole written =
 fraction_reads : (whole fraction : ℕ) → WritesWhole whole → (fraction ≡ 0 → ⊥) → fraction < 10 ^ 18
     → unsigned_of (decimal whole ++ 46 ∷ fraction_digits 18 fraction) ≡ Some (whole * 10 ^ 18 + fraction)
 fraction_reads whole fraction written other small =
-    let behind = fraction_written 18 fraction small in
-    let is : is_number 1 18 (fraction_digits 18 fraction) ≡ true = is_number_from (fraction_digits 18 fraction) (behind.some other) behind.few behind.each in
-    ap number_in (parts_behind (decimal whole) (fraction_digits 18 fraction) written.each)
+    let following = fraction_written 18 fraction small in
+    let is : is_number 1 18 (fraction_digits 18 fraction) ≡ true =
+    is_number_from (fraction_digits 18 fraction) (following.some other) following.few following.each in
+    ap number_in (parts_following (decimal whole) (fraction_digits 18 fraction) written.each)
     ∙ number_with_fraction (decimal whole) (fraction_digits 18 fraction) written.is is
     ∙ ap (λ (number : ℕ). Some (number * 10 ^ 18 + fraction_of (fraction_digits 18 fraction))) written.value
-    ∙ ap (λ (number : ℕ). Some (whole * 10 ^ 18 + number)) behind.value
+    ∙ ap (λ (number : ℕ). Some (whole * 10 ^ 18 + number)) following.value
 
 -- the text of a whole number and its fraction reads as their sum
 parts_read : (whole fraction : ℕ) → whole < 10 ^ 18 → fraction < 10 ^ 18
     → unsigned_of (decimal whole ++ fraction_text fraction) ≡ Some (whole * 10 ^ 18 + fraction)
 parts_read whole fraction small below = by (fraction == 0) refl
   where
-    by : (test : Bool) → (fraction == 0) ≡ test → unsigned_of (decimal whole ++ fraction_text fraction) ≡ Some (whole * 10 ^ 18 + fraction)
+    by : (test : Bool) → (fraction == 0) ≡ test → unsigned_of (decimal whole ++ fraction_text fraction)
+        ≡ Some (whole * 10 ^ 18 + fraction)
     by true test =
         let none : fraction ≡ 0 = eqb-true fraction 0 test in
-        let nothing : fraction_text fraction ≡ [] = ap (λ (empty : Bool). if empty then [] else 46 ∷ fraction_digits 18 fraction) test in
+        let nothing : fraction_text fraction ≡ [] =
+        ap (λ (empty : Bool). if empty then [] else 46 ∷ fraction_digits 18 fraction) test in
         let sum : whole * 10 ^ 18 ≡ whole * 10 ^ 18 + fraction = omega (arith, none) in
         ap unsigned_of (sym (no_more (decimal whole) (fraction_text fraction) nothing))
         ∙ whole_reads whole (whole_written whole small) ∙ ap (λ (number : ℕ). Some number) sum
@@ -101,7 +110,8 @@ parts_read whole fraction small below = by (fraction == 0) refl
         let other : (fraction ≡ 0) → ⊥ = λ none. grind (arith, nat_tests, test) in
         let something : fraction_text fraction ≡ 46 ∷ fraction_digits 18 fraction =
         ap (λ (empty : Bool). if empty then [] else 46 ∷ fraction_digits 18 fraction) test in
-        ap (λ (text : List ℕ). unsigned_of (decimal whole ++ text)) something ∙ fraction_reads whole fraction (whole_written whole small) other below
+        ap (λ (text : List ℕ). unsigned_of (decimal whole ++ text)) something
+        ∙ fraction_reads whole fraction (whole_written whole small) other below
 
 -- the text of a number below 10^36 reads back as that number
 unsigned_reads : (number : ℕ) → number < 10 ^ 36 → unsigned_of (unsigned_text number) ≡ Some number
@@ -112,7 +122,8 @@ unsigned_reads number small =
     parts_read (number / 10 ^ 18) (number % 10 ^ 18) whole below ∙ ap (λ (read : ℕ). Some read) sum
 
 -- a text that begins with a digit has no sign
-positive_of : (run rest : List ℕ) → 0 < length run → list_all is_ascii_digit run ≡ true → decimal_of (run ++ rest) ≡ option_map pos (unsigned_of (run ++ rest))
+positive_of : (run rest : List ℕ) → 0 < length run → list_all is_ascii_digit run ≡ true
+    → decimal_of (run ++ rest) ≡ option_map pos (unsigned_of (run ++ rest))
 positive_of [] rest some each = absurd (omega arith)
 positive_of (byte ∷ run) rest some each =
     let digit = (and_parts (is_ascii_digit byte) (list_all is_ascii_digit run) each).0 in
@@ -134,7 +145,8 @@ digits_small text is =
     digits_value_short numerals text 18 tests.1 (leb-true (length text) 18 lengths.1)
 
 -- a number that passes a test is small, if passing makes it small
-tested_small : (test : Bool) (number found : ℕ) → (test ≡ true → number < 10 ^ 36) → (if test then Some number else None) ≡ Some found → found < 10 ^ 36
+tested_small : (test : Bool) (number found : ℕ) → (test ≡ true → number < 10 ^ 36)
+    → (if test then Some number else None) ≡ Some found → found < 10 ^ 36
 tested_small true number found small is =
     let same : number ≡ found = cc in
     subst (λ (n : ℕ). n < 10 ^ 36) same (small refl)
@@ -143,17 +155,19 @@ tested_small false number found small is = absurd (cc)
 -- a number that is read from its parts is below 10^36
 number_small : (parts : List (List ℕ)) (found : ℕ) → number_in parts ≡ Some found → found < 10 ^ 36
 number_small [] found is = absurd (cc)
-number_small (whole ∷ []) found is = tested_small (is_number 1 18 whole) (whole_of whole) found (λ test. omega (arith, digits_small whole test)) is
-number_small (whole ∷ behind ∷ []) found is =
-    tested_small (is_number 1 18 whole && is_number 1 18 behind) (whole_of whole + fraction_of behind) found (λ test. both test) is
+number_small (whole ∷ []) found is =
+    tested_small (is_number 1 18 whole) (whole_of whole) found (λ test. omega (arith, digits_small whole test)) is
+number_small (whole ∷ following ∷ []) found is =
+    tested_small (is_number 1 18 whole && is_number 1 18 following) (whole_of whole + fraction_of following) found
+    (λ test. both test) is
   where
-    both : (is_number 1 18 whole && is_number 1 18 behind) ≡ true → whole_of whole + fraction_of behind < 10 ^ 36
+    both : (is_number 1 18 whole && is_number 1 18 following) ≡ true → whole_of whole + fraction_of following < 10 ^ 36
     both test =
-        let tests = and_parts (is_number 1 18 whole) (is_number 1 18 behind) test in
-        omega (arith, digits_small whole tests.0, fraction_small behind tests.1)
-number_small (whole ∷ behind ∷ another ∷ others) found is = absurd (cc)
+        let tests = and_parts (is_number 1 18 whole) (is_number 1 18 following) test in
+        omega (arith, digits_small whole tests.0, fraction_small following tests.1)
+number_small (whole ∷ following ∷ another ∷ others) found is = absurd (cc)
 
--- a number is below 10^36, apart from its sign
+-- the absolute value of a number is below 10^36
 abbrev pub IsSmall : ℤ → Type 0
 IsSmall (pos number) = number < 10 ^ 36
 IsSmall (negsuc below) = suc below < 10 ^ 36
@@ -164,7 +178,8 @@ negated_small zero small = small
 negated_small (suc below) small = small
 
 -- a number below 10^36 that is read as positive is small
-positive_small : (found : Option ℕ) (value : ℤ) → ((number : ℕ) → found ≡ Some number → number < 10 ^ 36) → option_map pos found ≡ Some value → IsSmall value
+positive_small : (found : Option ℕ) (value : ℤ) → ((number : ℕ) → found ≡ Some number → number < 10 ^ 36)
+    → option_map pos found ≡ Some value → IsSmall value
 positive_small None value small is = absurd (cc)
 positive_small (Some number) value small is =
     let same : pos number ≡ value = cc in
@@ -183,8 +198,10 @@ signed_small : (minus plus : Bool) (text : List ℕ) (value : ℤ)
     → (if minus then option_map (λ number. neg_ℤ (pos number))
     (unsigned_of (drop 1 text)) else if plus then option_map pos (unsigned_of (drop 1 text)) else option_map pos
     (unsigned_of text)) ≡ Some value → IsSmall value
-signed_small true plus text value is = negative_small (unsigned_of (drop 1 text)) value (number_small (parts_at point (drop 1 text))) is
-signed_small false true text value is = positive_small (unsigned_of (drop 1 text)) value (number_small (parts_at point (drop 1 text))) is
+signed_small true plus text value is =
+    negative_small (unsigned_of (drop 1 text)) value (number_small (parts_at point (drop 1 text))) is
+signed_small false true text value is =
+    positive_small (unsigned_of (drop 1 text)) value (number_small (parts_at point (drop 1 text))) is
 signed_small false false text value is = positive_small (unsigned_of text) value (number_small (parts_at point text)) is
 
 -- the text of a small number reads back as that number
@@ -197,10 +214,11 @@ value_reads (negsuc below) small =
     negative_of (45 ∷ unsigned_text (suc below)) (omega arith) refl
     ∙ ap (option_map (λ number. neg_ℤ (pos number))) (unsigned_reads (suc below) small)
 
--- every number that is read from a text is small
+-- if a text is read as the number `value`, the absolute value of `value` is below 10^36
 pub number_is_small : (text : List ℕ) (value : ℤ) → decimal_of text ≡ Some value → IsSmall value
-number_is_small text value is = signed_small (starts_with nat_eq text (45 ∷ [])) (starts_with nat_eq text (43 ∷ [])) text value is
+number_is_small text value is =
+    signed_small (starts_with nat_eq text (45 ∷ [])) (starts_with nat_eq text (43 ∷ [])) text value is
 
--- every number that is read from a text is read back from the text that it is printed as
+-- each number that a text is read as is also read from its own printed text
 pub numbers_read : NumbersRead
 numbers_read text value is = value_reads value (number_is_small text value is)

@@ -6,16 +6,17 @@ use Rattle.number_lists.proofs.ListLemmas.{passing_item, some_item_passes}
 use Rattle.hierarchy.proofs.HierarchyLemmas.{tells_reaches}
 use Rattle.constraint_tree.specs.Walks.{TellsInForce, TellsBelow, TellsAbove, TellsChild}
 
--- `has_concept` holds exactly for the concepts of the release
+-- `has_concept` is true exactly for the concepts of the release
 pub tells_in_force : TellsInForce
 tells_in_force release concept = (
   λ holds.
       let found = passing_item (λ item. item == concept) release.concepts holds in
       subst (Contains release.concepts) (eqb-true found.0 concept found.2) found.1,
-  λ contained. some_item_passes (λ item. item == concept) release.concepts concept contained (eq-eqb concept concept refl),
+  λ contained. some_item_passes (λ item. item == concept) release.concepts concept contained
+      (eq-eqb concept concept refl),
 )
 
--- `is_child` holds exactly for the pairs of the is-a rows
+-- `is_child` is true exactly for the pairs of concepts that an is-a row has, child first
 pub tells_child : TellsChild
 tells_child release child parent = (
   λ holds.
@@ -29,7 +30,8 @@ tells_child release child parent = (
       (and_from _ _ (eq-eqb child child refl) (eq-eqb parent parent refl)),
 )
 
--- `is_below` holds exactly for concepts from which a chain of is-a rows leads to a member of the set in force
+-- `is_below` is true exactly for the concepts from which a chain of is-a rows leads up to a member of the set that is
+-- in force
 pub tells_below : TellsBelow
 tells_below release set concept = (
   λ holds.
@@ -41,7 +43,8 @@ tells_below release set concept = (
       (and_from _ _ below.2 ((tells_reaches release.isa concept below.0).1 below.3)),
 )
 
--- `is_above` holds exactly for concepts to which a chain of is-a rows leads from a member of the set in force
+-- `is_above` is true exactly for the concepts to which a chain of is-a rows leads up from a member of the set that is
+-- in force
 pub tells_above : TellsAbove
 tells_above release set concept = (
   λ holds.

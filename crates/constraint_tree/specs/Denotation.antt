@@ -1,21 +1,28 @@
--- The meaning of a constraint over a release: a set of concepts in force (Expression Constraint Language, all of its
--- sections on constraints). The definitions are tests that compute.
-use Rattle.std.specs.Prelude.{ℕ, Bool, true, false, not, ◌==◌, ◌&&◌, ◌||◌, if◌then◌else◌, IsTrue, List, Contains, filter, count_by}
+-- The set of concepts in force that a constraint denotes over a release (Expression Constraint
+-- Language, all of its sections on constraints). The definitions are tests that compute.
+use Rattle.std.specs.Prelude.{ℕ, Bool, true, false, not, ◌==◌, ◌&&◌, ◌||◌, if◌then◌else◌, IsTrue, List, Contains}
+use Rattle.std.specs.Prelude.{filter, count_by}
 use Rattle.std.specs.List.{list_any}
 use Rattle.rf2_rows.specs.Release.{Release, Value, concept_value}
 use Rattle.rf2_rows.specs.Pairs.{Pair, value_eq, out_pairs, in_pairs}
 use Rattle.rf2_rows.specs.Groups.{groups_of}
 use Rattle.constraint_tree.specs.Passing.{is_within, is_outside, is_number_that, lies_in}
-use Rattle.constraint_tree.specs.Tree.{Tree, concept_tree, any_tree, walk_tree, member_tree, and_tree, or_tree, minus_tree, dotted_tree, refined_tree, Trees, no_trees, tree_then, RefinementTree, one_refinement, group_refinement, and_refinement, or_refinement, RefinementTrees, no_refinements, refinement_then, AttributeSetTree, one_set, and_set, or_set, AttributeSetTrees, no_sets, set_then, AttributeTree, attribute_tree, TestTree, within_test, outside_test, number_test}
+use Rattle.constraint_tree.specs.Tree.{Tree, concept_tree, any_tree, walk_tree, member_tree, and_tree, or_tree}
+use Rattle.constraint_tree.specs.Tree.{minus_tree, dotted_tree, refined_tree, Trees, no_trees, tree_then}
+use Rattle.constraint_tree.specs.Tree.{RefinementTree, one_refinement, group_refinement, and_refinement, or_refinement}
+use Rattle.constraint_tree.specs.Tree.{RefinementTrees, no_refinements, refinement_then, AttributeSetTree, one_set}
+use Rattle.constraint_tree.specs.Tree.{and_set, or_set, AttributeSetTrees, no_sets, set_then, AttributeTree}
+use Rattle.constraint_tree.specs.Tree.{attribute_tree, TestTree, within_test, outside_test, number_test}
 use Rattle.constraint_tree.specs.Walks.{has_concept, walks}
 
--- whether a concept in force is a component of a reference set in `set` ("Simple Expression Constraints", memberOf)
+-- whether a concept in force is a member of a reference set in `set` ("Simple Expression
+-- Constraints", memberOf)
 abbrev pub is_component : Release → (ℕ → Bool) → ℕ → Bool
 is_component release set concept =
     has_concept release concept && list_any (λ row. set row.0 && (row.1 == concept)) release.members
 
--- whether a concept in force is the value of an attribute row whose source is in `sources` and whose type is in
--- `types` ("Refinements", dotted attributes)
+-- whether a concept in force is the value of an attribute row whose source is in `sources` and
+-- whose type is in `types` ("Refinements", dotted attributes)
 abbrev pub is_value : Release → (ℕ → Bool) → (ℕ → Bool) → ℕ → Bool
 is_value release sources types concept =
     has_concept release concept
@@ -23,8 +30,8 @@ is_value release sources types concept =
     (λ row. (sources row.source && types row.type_id) && value_eq row.value (concept_value concept))
     release.attributes
 
--- the pairs that an attribute outside braces counts: the concept's own pairs, or with `R` the pairs of the rows whose
--- value is the concept
+-- the pairs that an attribute outside braces counts for a concept: type and value of its own rows,
+-- or, with `R`, type and source of the rows whose value it is
 abbrev pub counted_pairs : Release → AttributeTree → ℕ → List Pair
 counted_pairs release (attribute_tree count reverse name test) concept =
     if reverse then in_pairs release concept else out_pairs release concept
@@ -60,8 +67,8 @@ abbrev mutual
   some_denotes release (tree_then first rest) concept =
       denotes release first concept || some_denotes release rest concept
 
-  -- whether `concept` is reached from `set` along the names: each step goes from a set to the values of its members'
-  -- attributes with that name
+  -- whether `concept` is in the set that the names lead to from `set`: each step takes the values
+  -- of the members' attributes whose type the next name denotes
   pub follows : Release → (ℕ → Bool) → Trees → ℕ → Bool
   follows release set no_trees concept = set concept
   follows release set (tree_then name names) concept =
@@ -88,8 +95,8 @@ abbrev mutual
   satisfies_some release (refinement_then first rest) concept =
       satisfies release first concept || satisfies_some release rest concept
 
-  -- whether a group, given as a list of distinct pairs, satisfies an attribute set. No attribute of a set is read
-  -- backwards
+  -- whether a group, given as the list of its distinct pairs, satisfies an attribute set. No
+  -- attribute of a set is read backwards
   pub has_set : Release → AttributeSetTree → List Pair → Bool
   has_set release (one_set attribute) pairs = has_attribute release attribute pairs
   has_set release (and_set parts) pairs = has_all release parts pairs
@@ -98,21 +105,23 @@ abbrev mutual
   -- whether a group satisfies every attribute set of a list
   pub has_all : Release → AttributeSetTrees → List Pair → Bool
   has_all release no_sets pairs = true
-  has_all release (set_then first rest) pairs = has_set release first pairs && has_all release rest pairs
+  has_all release (set_then first rest) pairs =
+      has_set release first pairs && has_all release rest pairs
 
   -- whether a group satisfies at least one attribute set of a list
   pub has_some : Release → AttributeSetTrees → List Pair → Bool
   has_some release no_sets pairs = false
-  has_some release (set_then first rest) pairs = has_set release first pairs || has_some release rest pairs
+  has_some release (set_then first rest) pairs =
+      has_set release first pairs || has_some release rest pairs
 
-  -- whether the number of pairs that pass lies in the cardinality. A pair passes if `name` denotes its type and its
-  -- value passes the test
+  -- whether the number of matching pairs lies in the cardinality of the attribute. A pair matches
+  -- if `name` denotes its type and its value passes the test
   pub has_attribute : Release → AttributeTree → List Pair → Bool
   has_attribute release (attribute_tree count reverse name test) pairs =
       lies_in count
       (count_by (λ pair. denotes release name pair.type_id && passes release test pair.value) pairs)
 
-  -- whether a value passes a test
+  -- whether a value passes the test of an attribute
   pub passes : Release → TestTree → Value → Bool
   passes release (within_test operand) value = is_within (denotes release operand) value
   passes release (outside_test operand) value = is_outside (denotes release operand) value

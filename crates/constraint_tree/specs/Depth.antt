@@ -1,8 +1,13 @@
--- How deep a tree is: the number of nodes on the longest path from the root. Constraints, refinements and attribute
--- sets are nodes; attributes are not.
+-- The depth of a tree: the number of nodes on the longest path from the root. Constraints,
+-- refinements and attribute sets are nodes; attributes are not.
 use Rattle.std.specs.Prelude.{ℕ, ◌*◌, ◌+◌, suc, max}
 use Rattle.constraint_tree.specs.Refusal.{most_open}
-use Rattle.constraint_tree.specs.Tree.{Tree, concept_tree, any_tree, walk_tree, member_tree, and_tree, or_tree, minus_tree, dotted_tree, refined_tree, Trees, no_trees, tree_then, RefinementTree, one_refinement, group_refinement, and_refinement, or_refinement, RefinementTrees, no_refinements, refinement_then, AttributeSetTree, one_set, and_set, or_set, AttributeSetTrees, no_sets, set_then, AttributeTree, attribute_tree, TestTree, within_test, outside_test, number_test}
+use Rattle.constraint_tree.specs.Tree.{Tree, concept_tree, any_tree, walk_tree, member_tree, and_tree, or_tree}
+use Rattle.constraint_tree.specs.Tree.{minus_tree, dotted_tree, refined_tree, Trees, no_trees, tree_then}
+use Rattle.constraint_tree.specs.Tree.{RefinementTree, one_refinement, group_refinement, and_refinement, or_refinement}
+use Rattle.constraint_tree.specs.Tree.{RefinementTrees, no_refinements, refinement_then, AttributeSetTree, one_set}
+use Rattle.constraint_tree.specs.Tree.{and_set, or_set, AttributeSetTrees, no_sets, set_then, AttributeTree}
+use Rattle.constraint_tree.specs.Tree.{attribute_tree, TestTree, within_test, outside_test, number_test}
 
 abbrev mutual
   -- the depth of a constraint
@@ -15,7 +20,8 @@ abbrev mutual
   depth_of (or_tree parts) = suc (trees_depth parts)
   depth_of (minus_tree first second) = suc (max (depth_of first) (depth_of second))
   depth_of (dotted_tree start names) = suc (max (depth_of start) (trees_depth names))
-  depth_of (refined_tree focus refinement) = suc (max (depth_of focus) (refinement_depth refinement))
+  depth_of (refined_tree focus refinement) =
+      suc (max (depth_of focus) (refinement_depth refinement))
 
   -- the depth of the deepest constraint of a list, or 0 if the list is empty
   pub trees_depth : Trees → ℕ
@@ -32,7 +38,8 @@ abbrev mutual
   -- the depth of the deepest refinement of a list, or 0 if the list is empty
   pub refinements_depth : RefinementTrees → ℕ
   refinements_depth no_refinements = 0
-  refinements_depth (refinement_then first rest) = max (refinement_depth first) (refinements_depth rest)
+  refinements_depth (refinement_then first rest) =
+      max (refinement_depth first) (refinements_depth rest)
 
   -- the depth of an attribute set
   pub set_depth : AttributeSetTree → ℕ
@@ -55,7 +62,8 @@ abbrev mutual
   test_depth (outside_test operand) = depth_of operand
   test_depth (number_test compare value) = 0
 
--- the greatest depth of a constraint's tree. At most five nodes lie between two open brackets: a refined constraint,
--- AND, an attribute, an operator and `^`. At most six lie inside the innermost bracket
+-- the greatest depth of the tree of a text. At most five nodes lie between two open brackets: a
+-- refined constraint, AND, an attribute, an operator and `^`. At most six lie inside the innermost
+-- bracket
 abbrev pub most_deep : ℕ
 most_deep = 5 * most_open + 6

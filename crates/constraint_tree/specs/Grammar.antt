@@ -1,27 +1,45 @@
--- The grammar of expression constraints over tokens (Expression Constraint Language 2.2, 5.1 "Brief syntax"), and the
--- tree of a list of tokens. A form is a derivation by the rules of the grammar, with one constructor for each
--- alternative of a rule. A form has the tokens that it derives, and a tree, in which brackets and terms leave no
--- trace. The functions on tokens put a form's tokens in front of the tokens that follow.
--- The lexer refuses some parts of the brief syntax, which have no form here: filters and history supplements, fields
--- of reference sets, alternate identifiers, and strings and truth values as values. The parser refuses `R` in front
--- of an attribute inside braces, which the standard has.
+-- The grammar of expression constraints over tokens (Expression Constraint Language 2.2, 5.1 "Brief
+-- syntax"), and the tree of a list of tokens. A form is a derivation by the rules of the grammar,
+-- with one constructor for each alternative of a rule. A form has the tokens that it derives, and a
+-- tree, which does not show brackets and terms. The functions on tokens put a form's tokens in
+-- front of the tokens that follow. The lexer refuses some parts of the brief syntax, which have no
+-- form here: filters and history supplements, fields of reference sets, alternate identifiers, and
+-- strings and truth values as values. The parser refuses `R` in front of an attribute inside
+-- braces, which the standard has.
 use Rattle.std.specs.Prelude.{◌≡◌, ℕ, ℤ, Bool, true, false, List, [], ◌∷◌, map, drop, Option, None, Some, IsTrue}
 use Rattle.ecl_lexer.specs.Tokens.{Spelled}
 use Rattle.ecl_lexer.specs.declared.token.TokenKind.{TokenKind}
-use Rattle.ecl_lexer.specs.declared.token.TokenKind.TheVariants.{DescendantOf, DescendantOrSelfOf, ChildOf, ChildOrSelfOf, AncestorOf, AncestorOrSelfOf, ParentOf, ParentOrSelfOf, Top as TopOf, Bottom as BottomOf, MemberOf, Wildcard, RoundOpen, RoundClose, BraceOpen, BraceClose, BracketOpen, BracketClose, Colon, Dot, Dots, Equal as EqualSign, NotEqual as NotEqualSign, LessOrEqual as LessOrEqualSign, GreaterOrEqual as GreaterOrEqualSign, And, Or, Minus, Reverse, Digits, Number, Term}
+use Rattle.ecl_lexer.specs.declared.token.TokenKind.TheVariants.{DescendantOf, DescendantOrSelfOf, ChildOf}
+use Rattle.ecl_lexer.specs.declared.token.TokenKind.TheVariants.{ChildOrSelfOf, AncestorOf, AncestorOrSelfOf, ParentOf}
+use Rattle.ecl_lexer.specs.declared.token.TokenKind.TheVariants.{ParentOrSelfOf, Top as TopOf, Bottom as BottomOf}
+use Rattle.ecl_lexer.specs.declared.token.TokenKind.TheVariants.{MemberOf, Wildcard, RoundOpen, RoundClose, BraceOpen}
+use Rattle.ecl_lexer.specs.declared.token.TokenKind.TheVariants.{BraceClose, BracketOpen, BracketClose, Colon, Dot}
+use Rattle.ecl_lexer.specs.declared.token.TokenKind.TheVariants.{Dots, Equal as EqualSign, NotEqual as NotEqualSign}
+use Rattle.ecl_lexer.specs.declared.token.TokenKind.TheVariants.{LessOrEqual as LessOrEqualSign}
+use Rattle.ecl_lexer.specs.declared.token.TokenKind.TheVariants.{GreaterOrEqual as GreaterOrEqualSign, And, Or, Minus}
+use Rattle.ecl_lexer.specs.declared.token.TokenKind.TheVariants.{Reverse, Digits, Number, Term}
 use Rattle.numerals.specs.Numbers.{is_number, number_of}
 use Rattle.numerals.specs.Decimals.{decimal_of}
 use Rattle.constraint_tree.specs.declared.operator.Cardinality.{Cardinality}
 use Rattle.constraint_tree.specs.declared.operator.Compare.{Compare}
-use Rattle.constraint_tree.specs.declared.operator.Compare.TheVariants.{Equal, NotEqual, Less, LessOrEqual, Greater, GreaterOrEqual}
+use Rattle.constraint_tree.specs.declared.operator.Compare.TheVariants.{Equal, NotEqual, Less, LessOrEqual, Greater}
+use Rattle.constraint_tree.specs.declared.operator.Compare.TheVariants.{GreaterOrEqual}
 use Rattle.constraint_tree.specs.declared.operator.Operator.{Operator}
-use Rattle.constraint_tree.specs.declared.operator.Operator.TheVariants.{Descendants, DescendantsOrSelf, Children, ChildrenOrSelf, Ancestors, AncestorsOrSelf, Parents, ParentsOrSelf, Top, Bottom}
-use Rattle.constraint_tree.specs.Tree.{Tree, concept_tree, any_tree, walk_tree, member_tree, and_tree, or_tree, minus_tree, dotted_tree, refined_tree, Trees, no_trees, tree_then, RefinementTree, one_refinement, group_refinement, and_refinement, or_refinement, RefinementTrees, no_refinements, refinement_then, AttributeSetTree, one_set, and_set, or_set, AttributeSetTrees, no_sets, set_then, AttributeTree, attribute_tree, within_test, outside_test, number_test}
+use Rattle.constraint_tree.specs.declared.operator.Operator.TheVariants.{Descendants, DescendantsOrSelf, Children}
+use Rattle.constraint_tree.specs.declared.operator.Operator.TheVariants.{ChildrenOrSelf, Ancestors, AncestorsOrSelf}
+use Rattle.constraint_tree.specs.declared.operator.Operator.TheVariants.{Parents, ParentsOrSelf, Top, Bottom}
+use Rattle.constraint_tree.specs.Tree.{Tree, concept_tree, any_tree, walk_tree, member_tree, and_tree, or_tree}
+use Rattle.constraint_tree.specs.Tree.{minus_tree, dotted_tree, refined_tree, Trees, no_trees, tree_then}
+use Rattle.constraint_tree.specs.Tree.{RefinementTree, one_refinement, group_refinement, and_refinement, or_refinement}
+use Rattle.constraint_tree.specs.Tree.{RefinementTrees, no_refinements, refinement_then, AttributeSetTree, one_set}
+use Rattle.constraint_tree.specs.Tree.{and_set, or_set, AttributeSetTrees, no_sets, set_then, AttributeTree}
+use Rattle.constraint_tree.specs.Tree.{attribute_tree, within_test, outside_test, number_test}
 
--- a cardinality: the digits of its minimum, and the digits of its maximum or `*`
+-- a derivation of a cardinality: the digits of its minimum, and the digits of its maximum or `*`
 pub data CountForm : Type 0 where
   at_least : (least : List ℕ) → IsTrue (is_number 1 18 least) → CountForm
-  between : (least most : List ℕ) → IsTrue (is_number 1 18 least) → IsTrue (is_number 1 18 most) → CountForm
+  between : (least most : List ℕ) → IsTrue (is_number 1 18 least) → IsTrue (is_number 1 18 most)
+      → CountForm
 
 mutual
   -- a derivation of a constraint
@@ -106,15 +124,17 @@ mutual
     within : SubForm → SubForm → PairForm
     outside : SubForm → SubForm → PairForm
     -- Sub Comparison Number
-    number : SubForm → Compare → (text : List ℕ) → (value : ℤ) → decimal_of (drop 1 text) ≡ Some value → PairForm
+    number : SubForm → Compare → (text : List ℕ) → (value : ℤ)
+        → decimal_of (drop 1 text) ≡ Some value → PairForm
 
--- a token as the grammar sees it: digits and numbers by their bytes, every other token by its kind alone
+-- a token as the grammar sees it: digits and numbers by their bytes, every other token by its kind
+-- alone
 pub data Symbol : Type 0 where
   digits : List ℕ → Symbol
   decimal : List ℕ → Symbol
   mark : TokenKind → Symbol
 
--- the symbol of a token of the lexer
+-- the token of the lexer as the grammar sees it
 abbrev pub symbol_of : Spelled → Symbol
 symbol_of token = by token.kind
   where
@@ -123,7 +143,7 @@ symbol_of token = by token.kind
     by Number = decimal token.bytes
     by other = mark token.kind
 
--- the kind of the token that writes an operator
+-- the kind of the token that spells a hierarchy operator
 abbrev pub operator_kind : Operator → TokenKind
 operator_kind Descendants = DescendantOf
 operator_kind DescendantsOrSelf = DescendantOrSelfOf
@@ -136,7 +156,8 @@ operator_kind ParentsOrSelf = ParentOrSelfOf
 operator_kind Top = TopOf
 operator_kind Bottom = BottomOf
 
--- the kind of the token that writes a comparison; `<` and `>` share their tokens with operators
+-- the kind of the token that spells a comparison; `<` and `>` share their tokens with hierarchy
+-- operators
 abbrev pub compare_kind : Compare → TokenKind
 compare_kind Equal = EqualSign
 compare_kind NotEqual = NotEqualSign
@@ -167,32 +188,38 @@ abbrev mutual
   -- the tokens of a constraint, in front of `rest`
   pub constraint_tokens : ConstraintForm → List Symbol → List Symbol
   constraint_tokens (alone sub) rest = sub_tokens sub rest
-  constraint_tokens (refined focus refinement) rest = sub_tokens focus (mark Colon ∷ refinement_tokens refinement rest)
+  constraint_tokens (refined focus refinement) rest =
+      sub_tokens focus (mark Colon ∷ refinement_tokens refinement rest)
   constraint_tokens (conjunction first second more) rest =
       sub_tokens first (mark And ∷ sub_tokens second (subs_tokens And more rest))
   constraint_tokens (disjunction first second more) rest =
       sub_tokens first (mark Or ∷ sub_tokens second (subs_tokens Or more rest))
-  constraint_tokens (exclusion first second) rest = sub_tokens first (mark Minus ∷ sub_tokens second rest)
-  constraint_tokens (dotted start name more) rest = sub_tokens start (mark Dot ∷ sub_tokens name (subs_tokens Dot more rest))
+  constraint_tokens (exclusion first second) rest =
+      sub_tokens first (mark Minus ∷ sub_tokens second rest)
+  constraint_tokens (dotted start name more) rest =
+      sub_tokens start (mark Dot ∷ sub_tokens name (subs_tokens Dot more rest))
 
   -- the tokens of further operands, each after a token of `kind`, in front of `rest`
   pub subs_tokens : TokenKind → SubForms → List Symbol → List Symbol
   subs_tokens kind no_subs rest = rest
-  subs_tokens kind (sub_then sub more) rest = mark kind ∷ sub_tokens sub (subs_tokens kind more rest)
+  subs_tokens kind (sub_then sub more) rest =
+      mark kind ∷ sub_tokens sub (subs_tokens kind more rest)
 
   -- the tokens of an operand, in front of `rest`
   pub sub_tokens : SubForm → List Symbol → List Symbol
   sub_tokens (plain focus) rest = focus_tokens focus rest
   sub_tokens (member focus) rest = mark MemberOf ∷ focus_tokens focus rest
   sub_tokens (walk operator focus) rest = mark (operator_kind operator) ∷ focus_tokens focus rest
-  sub_tokens (walk_member operator focus) rest = mark (operator_kind operator) ∷ mark MemberOf ∷ focus_tokens focus rest
+  sub_tokens (walk_member operator focus) rest =
+      mark (operator_kind operator) ∷ mark MemberOf ∷ focus_tokens focus rest
 
   -- the tokens of a focus, in front of `rest`
   pub focus_tokens : FocusForm → List Symbol → List Symbol
   focus_tokens (concept run is) rest = digits run ∷ rest
   focus_tokens (concept_term run is) rest = digits run ∷ mark Term ∷ rest
   focus_tokens any rest = mark Wildcard ∷ rest
-  focus_tokens (round constraint) rest = mark RoundOpen ∷ constraint_tokens constraint (mark RoundClose ∷ rest)
+  focus_tokens (round constraint) rest =
+      mark RoundOpen ∷ constraint_tokens constraint (mark RoundClose ∷ rest)
 
   -- the tokens of a refinement, in front of `rest`
   pub refinement_tokens : RefinementForm → List Symbol → List Symbol
@@ -205,24 +232,31 @@ abbrev mutual
   -- the tokens of further items, each after a token of `kind`, in front of `rest`
   pub items_tokens : TokenKind → ItemForms → List Symbol → List Symbol
   items_tokens kind no_items rest = rest
-  items_tokens kind (item_then item more) rest = mark kind ∷ item_tokens item (items_tokens kind more rest)
+  items_tokens kind (item_then item more) rest =
+      mark kind ∷ item_tokens item (items_tokens kind more rest)
 
   -- the tokens of an item, in front of `rest`
   pub item_tokens : ItemForm → List Symbol → List Symbol
-  item_tokens (attribute count reverse pair) rest = counted_tokens count (reverse_tokens reverse (pair_tokens pair rest))
-  item_tokens (group count set) rest = counted_tokens count (mark BraceOpen ∷ set_tokens set (mark BraceClose ∷ rest))
-  item_tokens (round_refinement refinement) rest = mark RoundOpen ∷ refinement_tokens refinement (mark RoundClose ∷ rest)
+  item_tokens (attribute count reverse pair) rest =
+      counted_tokens count (reverse_tokens reverse (pair_tokens pair rest))
+  item_tokens (group count set) rest =
+      counted_tokens count (mark BraceOpen ∷ set_tokens set (mark BraceClose ∷ rest))
+  item_tokens (round_refinement refinement) rest =
+      mark RoundOpen ∷ refinement_tokens refinement (mark RoundClose ∷ rest)
 
   -- the tokens of an attribute set, in front of `rest`
   pub set_tokens : SetForm → List Symbol → List Symbol
   set_tokens (one_part part) rest = part_tokens part rest
-  set_tokens (all_parts first second more) rest = part_tokens first (mark And ∷ part_tokens second (parts_tokens And more rest))
-  set_tokens (some_parts first second more) rest = part_tokens first (mark Or ∷ part_tokens second (parts_tokens Or more rest))
+  set_tokens (all_parts first second more) rest =
+      part_tokens first (mark And ∷ part_tokens second (parts_tokens And more rest))
+  set_tokens (some_parts first second more) rest =
+      part_tokens first (mark Or ∷ part_tokens second (parts_tokens Or more rest))
 
   -- the tokens of further parts, each after a token of `kind`, in front of `rest`
   pub parts_tokens : TokenKind → PartForms → List Symbol → List Symbol
   parts_tokens kind no_parts rest = rest
-  parts_tokens kind (part_then part more) rest = mark kind ∷ part_tokens part (parts_tokens kind more rest)
+  parts_tokens kind (part_then part more) rest =
+      mark kind ∷ part_tokens part (parts_tokens kind more rest)
 
   -- the tokens of a part of an attribute set, in front of `rest`
   pub part_tokens : PartForm → List Symbol → List Symbol
@@ -232,40 +266,47 @@ abbrev mutual
   -- the tokens of a name, its comparison and its value, in front of `rest`
   pub pair_tokens : PairForm → List Symbol → List Symbol
   pair_tokens (within name value) rest = sub_tokens name (mark EqualSign ∷ sub_tokens value rest)
-  pair_tokens (outside name value) rest = sub_tokens name (mark NotEqualSign ∷ sub_tokens value rest)
+  pair_tokens (outside name value) rest =
+      sub_tokens name (mark NotEqualSign ∷ sub_tokens value rest)
   pair_tokens (number name compare text value is) rest =
       sub_tokens name (mark (compare_kind compare) ∷ decimal text ∷ rest)
 
--- the cardinality that a form writes, or `[1..*]` if it writes none
+-- the cardinality that a form derives, or `[1..*]` if there is no form
 abbrev pub cardinality_of : Option CountForm → Cardinality
 cardinality_of None = record { min = 1; max = None }
 cardinality_of (Some (at_least least is)) = record { min = number_of least; max = None }
-cardinality_of (Some (between least most is also)) = record { min = number_of least; max = Some (number_of most) }
+cardinality_of (Some (between least most is also)) =
+    record { min = number_of least; max = Some (number_of most) }
 
 -- the trees of forms
 abbrev mutual
   -- the tree of a constraint form
   pub constraint_tree : ConstraintForm → Tree
   constraint_tree (alone sub) = sub_tree sub
-  constraint_tree (refined focus refinement) = refined_tree (sub_tree focus) (refinement_tree refinement)
-  constraint_tree (conjunction first second more) = and_tree (tree_then (sub_tree first) (tree_then (sub_tree second) (sub_trees more)))
-  constraint_tree (disjunction first second more) = or_tree (tree_then (sub_tree first) (tree_then (sub_tree second) (sub_trees more)))
+  constraint_tree (refined focus refinement) =
+      refined_tree (sub_tree focus) (refinement_tree refinement)
+  constraint_tree (conjunction first second more) =
+      and_tree (tree_then (sub_tree first) (tree_then (sub_tree second) (sub_trees more)))
+  constraint_tree (disjunction first second more) =
+      or_tree (tree_then (sub_tree first) (tree_then (sub_tree second) (sub_trees more)))
   constraint_tree (exclusion first second) = minus_tree (sub_tree first) (sub_tree second)
-  constraint_tree (dotted start name more) = dotted_tree (sub_tree start) (tree_then (sub_tree name) (sub_trees more))
+  constraint_tree (dotted start name more) =
+      dotted_tree (sub_tree start) (tree_then (sub_tree name) (sub_trees more))
 
   -- the trees of further operands, in their order
   pub sub_trees : SubForms → Trees
   sub_trees no_subs = no_trees
   sub_trees (sub_then sub more) = tree_then (sub_tree sub) (sub_trees more)
 
-  -- the tree of an operand; an operator in front of `^` applies to the members of the reference sets
+  -- the tree of an operand; a hierarchy operator in front of `^` applies to the members of the
+  -- reference sets
   pub sub_tree : SubForm → Tree
   sub_tree (plain focus) = focus_tree focus
   sub_tree (member focus) = member_tree (focus_tree focus)
   sub_tree (walk operator focus) = walk_tree operator (focus_tree focus)
   sub_tree (walk_member operator focus) = walk_tree operator (member_tree (focus_tree focus))
 
-  -- the tree of a focus; the term of a concept and round brackets leave no trace
+  -- the tree of a focus, which does not show the term of a concept or round brackets
   pub focus_tree : FocusForm → Tree
   focus_tree (concept run is) = concept_tree (number_of run)
   focus_tree (concept_term run is) = concept_tree (number_of run)
@@ -276,9 +317,11 @@ abbrev mutual
   pub refinement_tree : RefinementForm → RefinementTree
   refinement_tree (one_item item) = item_tree item
   refinement_tree (all_items first second more) =
-      and_refinement (refinement_then (item_tree first) (refinement_then (item_tree second) (item_trees more)))
+      and_refinement (refinement_then (item_tree first)
+      (refinement_then (item_tree second) (item_trees more)))
   refinement_tree (some_items first second more) =
-      or_refinement (refinement_then (item_tree first) (refinement_then (item_tree second) (item_trees more)))
+      or_refinement (refinement_then (item_tree first)
+      (refinement_then (item_tree second) (item_trees more)))
 
   -- the trees of further items, in their order
   pub item_trees : ItemForms → RefinementTrees
@@ -294,8 +337,10 @@ abbrev mutual
   -- the tree of an attribute set form
   pub set_tree : SetForm → AttributeSetTree
   set_tree (one_part part) = part_tree part
-  set_tree (all_parts first second more) = and_set (set_then (part_tree first) (set_then (part_tree second) (part_trees more)))
-  set_tree (some_parts first second more) = or_set (set_then (part_tree first) (set_then (part_tree second) (part_trees more)))
+  set_tree (all_parts first second more) =
+      and_set (set_then (part_tree first) (set_then (part_tree second) (part_trees more)))
+  set_tree (some_parts first second more) =
+      or_set (set_then (part_tree first) (set_then (part_tree second) (part_trees more)))
 
   -- the trees of further parts, in their order
   pub part_trees : PartForms → AttributeSetTrees
@@ -307,7 +352,8 @@ abbrev mutual
   part_tree (counted_part count pair) = one_set (pair_tree count false pair)
   part_tree (round_set set) = set_tree set
 
-  -- the tree of an attribute, from its cardinality, whether it is read backwards, and its name and test
+  -- the tree of an attribute, from its cardinality, whether it is read backwards, and its name and
+  -- test
   pub pair_tree : Option CountForm → Bool → PairForm → AttributeTree
   pair_tree count reverse (within name value) =
       attribute_tree (cardinality_of count) reverse (sub_tree name) (within_test (sub_tree value))
@@ -319,8 +365,10 @@ abbrev mutual
 -- some form derives the tokens, and its tree is `tree`
 abbrev pub IsTreeOf : List Spelled → Tree → Type 0
 IsTreeOf tokens tree =
-    (form : ConstraintForm) × (map symbol_of tokens ≡ constraint_tokens form []) × (tree ≡ constraint_tree form)
+    (form : ConstraintForm) × (map symbol_of tokens ≡ constraint_tokens form [])
+    × (tree ≡ constraint_tree form)
 
 -- no list of tokens derives from forms with two different trees
 abbrev pub HaveOneTree : Type 0
-HaveOneTree = (tokens : List Spelled) (one other : Tree) → IsTreeOf tokens one → IsTreeOf tokens other → one ≡ other
+HaveOneTree = (tokens : List Spelled) (one other : Tree) → IsTreeOf tokens one
+    → IsTreeOf tokens other → one ≡ other

@@ -1,25 +1,27 @@
--- Which values pass the test of an attribute, and how many pairs may pass (Expression Constraint Language,
--- "Refinements" and "Cardinality"). A set is given as the test whether a concept is in it.
+-- Which values pass the test of an attribute, and which counts lie in a cardinality (Expression
+-- Constraint Language, "Refinements" and "Cardinality"). A set is given as the test whether a
+-- concept is in it.
 use Rattle.std.specs.Prelude.{ℕ, ℤ, Bool, true, false, not, ◌&&◌, Option, Some, None, nat_le, int_lt, int_le}
 use Rattle.std.specs.Ordering.{int_eq}
 use Rattle.rf2_rows.specs.Release.{Value, concept_value, number_value}
 use Rattle.constraint_tree.specs.declared.operator.Cardinality.{Cardinality}
 use Rattle.constraint_tree.specs.declared.operator.Compare.{Compare}
-use Rattle.constraint_tree.specs.declared.operator.Compare.TheVariants.{Equal, NotEqual, Less, LessOrEqual, Greater, GreaterOrEqual}
+use Rattle.constraint_tree.specs.declared.operator.Compare.TheVariants.{Equal, NotEqual, Less, LessOrEqual, Greater}
+use Rattle.constraint_tree.specs.declared.operator.Compare.TheVariants.{GreaterOrEqual}
 
--- `=` before a constraint: the value is a concept in the set. A number or a string is no concept, so it passes
--- neither `=` nor `!=` before a constraint (this project's choice)
+-- `=` before a constraint: the value is a concept in the set. A number or a string is no concept,
+-- so it passes neither `=` nor `!=` before a constraint (this project's choice)
 abbrev pub is_within : (ℕ → Bool) → Value → Bool
 is_within set (concept_value concept) = set concept
 is_within set other = false
 
--- `!=` before a constraint: the value is a concept outside the set. It requires a value, so it is not the negation of
--- `=`
+-- `!=` before a constraint: the value is a concept outside the set. A concept without such an
+-- attribute has no value that passes, so `!=` is not the negation of `=`
 abbrev pub is_outside : (ℕ → Bool) → Value → Bool
 is_outside set (concept_value concept) = not (set concept)
 is_outside set other = false
 
--- whether `first` stands to `second` as the comparison says
+-- whether the comparison of `first` with `second` holds
 abbrev pub compares : Compare → ℤ → ℤ → Bool
 compares Equal first second = int_eq first second
 compares NotEqual first second = not (int_eq first second)
@@ -28,7 +30,7 @@ compares LessOrEqual first second = int_le first second
 compares Greater first second = int_lt second first
 compares GreaterOrEqual first second = int_le second first
 
--- whether a value is a number that compares with `number` as the comparison says
+-- whether a value is a number whose comparison with `number` holds
 abbrev pub is_number_that : Compare → ℤ → Value → Bool
 is_number_that compare number (number_value found) = compares compare found number
 is_number_that compare number other = false

@@ -1,5 +1,5 @@
--- Which texts are constraints, and why others are refused (Expression Constraint Language 2.2, 5.1 "Brief syntax"; the
--- limits are this project's).
+-- Which texts are constraints, and why others are refused (Expression Constraint Language 2.2, 5.1
+-- "Brief syntax"; the limits are this project's).
 use Rattle.std.specs.Prelude.{◌≡◌, ℕ, ◌+◌, ◌-◌, ◌==◌, ◌&&◌, ◌||◌, Bool, true, false, List, [], ◌∷◌}
 use Rattle.ecl_lexer.specs.Tokens.{AreTokensOf, IsFaultOf, IsReadable, Spelled}
 use Rattle.ecl_lexer.specs.declared.fault.QueryFault.{QueryFault}
@@ -9,7 +9,7 @@ use Rattle.ecl_lexer.specs.declared.token.TokenKind.TheVariants.{RoundOpen, Roun
 use Rattle.constraint_tree.specs.Grammar.{IsTreeOf}
 use Rattle.constraint_tree.specs.Tree.{Tree}
 
--- how many brackets may be open at once
+-- the most brackets that may be open at once
 abbrev pub most_open : ℕ
 most_open = 64
 
@@ -19,23 +19,24 @@ opens RoundOpen = true
 opens BraceOpen = true
 opens other = false
 
--- how many brackets are open after a token. A closing bracket closes one if any is open, whether it is round or a
--- brace
-abbrev pub open_behind : ℕ → TokenKind → ℕ
-open_behind count RoundOpen = count + 1
-open_behind count BraceOpen = count + 1
-open_behind count RoundClose = count - 1
-open_behind count BraceClose = count - 1
-open_behind count other = count
+-- how many brackets are open after a token, if `count` are open before it. A closing bracket closes
+-- one if any is open, whether it is round or a brace
+abbrev pub open_after : ℕ → TokenKind → ℕ
+open_after count RoundOpen = count + 1
+open_after count BraceOpen = count + 1
+open_after count RoundClose = count - 1
+open_after count BraceClose = count - 1
+open_after count other = count
 
--- whether more than `most_open` brackets are open at once, if `count` are open before the tokens
+-- whether more than `most_open` brackets are open at once somewhere in the tokens, if `count` are
+-- open before them
 abbrev pub is_deep : ℕ → List Spelled → Bool
 is_deep count [] = false
 is_deep count (token ∷ tokens) =
-    (opens token.kind && (count == most_open)) || is_deep (open_behind count token.kind) tokens
+    (opens token.kind && (count == most_open)) || is_deep (open_after count token.kind) tokens
 
--- `text` is a constraint with this tree: the lexer cuts it into tokens, its brackets are not too deep, and the tokens
--- derive from a form with this tree
+-- `text` is a constraint with the tree `tree`: the lexer cuts it into tokens, at most `most_open`
+-- brackets are open at once, and the tokens derive from a form with this tree
 pub record IsConstraint (text : List ℕ) (tree : Tree) : Type 0 where
   -- the lexer can read the text
   pub readable : IsReadable text
@@ -43,24 +44,25 @@ pub record IsConstraint (text : List ℕ) (tree : Tree) : Type 0 where
   pub tokens : List Spelled
   -- the text is cut into exactly `tokens`
   pub are_tokens : AreTokensOf text tokens
-  -- at no place are more than `most_open` brackets open
+  -- at most `most_open` brackets are open at once
   pub shallow : is_deep 0 tokens ≡ false
   -- some form derives `tokens`, and its tree is `tree`
   pub is_tree : IsTreeOf tokens tree
 
--- a text is refused for the depth of its brackets: the lexer cuts it into tokens, and more than `most_open` brackets
+-- `text` is refused with `Depth`: the lexer cuts it into tokens, and more than `most_open` brackets
 -- are open at once
 abbrev pub IsTooDeep : List ℕ → Type 0
-IsTooDeep text = IsReadable text × (tokens : List Spelled) × AreTokensOf text tokens × (is_deep 0 tokens ≡ true)
+IsTooDeep text = IsReadable text × (tokens : List Spelled) × AreTokensOf text tokens
+    × (is_deep 0 tokens ≡ true)
 
--- a text is refused for its syntax: the lexer cuts it into tokens, its brackets are not too deep, and the tokens have
--- no tree
+-- `text` is refused with `Syntax`: the lexer cuts it into tokens, at most `most_open` brackets are
+-- open at once, and no form derives the tokens
 abbrev pub HasNoTree : List ℕ → Type 0
 HasNoTree text =
     IsReadable text × (tokens : List Spelled) × AreTokensOf text tokens × (is_deep 0 tokens ≡ false)
     × ((tree : Tree) → ¬ IsTreeOf tokens tree)
 
--- `text` is refused for this reason: the depth of its brackets, its syntax, or a fault that the lexer finds
+-- `text` is refused with the given fault: `Depth`, `Syntax`, or a fault that the lexer finds
 abbrev pub IsRefusalOf : List ℕ → QueryFault → Type 0
 IsRefusalOf text Depth = IsTooDeep text
 IsRefusalOf text Syntax = HasNoTree text

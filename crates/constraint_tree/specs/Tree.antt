@@ -1,21 +1,26 @@
--- Constraints as data without pointers, and the data of a value of the code. Definitions and contracts speak of this
--- data, because two equal constraints of the code may lie at different places in memory.
+-- Constraints as data without pointers, and the data of a constraint in the code. Definitions and
+-- contracts speak of this data, because two equal constraints in the code may lie at different
+-- places in memory.
 use Rattle.std.specs.Prelude.{ℕ, ℤ, Bool, List, [], ◌∷◌, map}
 use Rattle.constraint_tree.specs.declared.operator.Operator.{Operator}
 use Rattle.constraint_tree.specs.declared.operator.Compare.{Compare}
 use Rattle.constraint_tree.specs.declared.operator.Cardinality.{Cardinality}
-use Rattle.constraint_tree.specs.declared.tree.Constraint.{Constraint, Row_of-Constraint, end_of-Constraint, more_of-Constraint}
+use Rattle.constraint_tree.specs.declared.tree.Constraint.{Constraint, Row_of-Constraint, end_of-Constraint}
+use Rattle.constraint_tree.specs.declared.tree.Constraint.{more_of-Constraint}
 use Rattle.constraint_tree.specs.declared.tree.Constraint.TheVariants as constraint
-use Rattle.constraint_tree.specs.declared.tree.Refinement.{Refinement, Row_of-Refinement, end_of-Refinement, more_of-Refinement}
+use Rattle.constraint_tree.specs.declared.tree.Refinement.{Refinement, Row_of-Refinement, end_of-Refinement}
+use Rattle.constraint_tree.specs.declared.tree.Refinement.{more_of-Refinement}
 use Rattle.constraint_tree.specs.declared.tree.Refinement.TheVariants as refinement
-use Rattle.constraint_tree.specs.declared.tree.AttributeSet.{AttributeSet, Row_of-AttributeSet, end_of-AttributeSet, more_of-AttributeSet}
+use Rattle.constraint_tree.specs.declared.tree.AttributeSet.{AttributeSet, Row_of-AttributeSet, end_of-AttributeSet}
+use Rattle.constraint_tree.specs.declared.tree.AttributeSet.{more_of-AttributeSet}
 use Rattle.constraint_tree.specs.declared.tree.AttributeSet.TheVariants as attribute_set
 use Rattle.constraint_tree.specs.declared.tree.Attribute.{Attribute}
 use Rattle.constraint_tree.specs.declared.tree.Test.{Test}
 use Rattle.constraint_tree.specs.declared.tree.Test.TheVariants as test
 
 mutual
-  -- a constraint without pointers
+  -- a constraint without pointers, with the variants of `Constraint`. `concept_tree` has an
+  -- identifier
   pub data Tree : Type 0 where
     concept_tree : ℕ → Tree
     any_tree : Tree
@@ -32,7 +37,7 @@ mutual
     no_trees : Trees
     tree_then : Tree → Trees → Trees
 
-  -- a refinement without pointers
+  -- a refinement without pointers, with the variants of `Refinement`
   pub data RefinementTree : Type 0 where
     one_refinement : AttributeTree → RefinementTree
     group_refinement : Cardinality → AttributeSetTree → RefinementTree
@@ -44,7 +49,7 @@ mutual
     no_refinements : RefinementTrees
     refinement_then : RefinementTree → RefinementTrees → RefinementTrees
 
-  -- an attribute set without pointers
+  -- an attribute set without pointers, with the variants of `AttributeSet`
   pub data AttributeSetTree : Type 0 where
     one_set : AttributeTree → AttributeSetTree
     and_set : AttributeSetTrees → AttributeSetTree
@@ -59,7 +64,7 @@ mutual
   pub data AttributeTree : Type 0 where
     attribute_tree : Cardinality → Bool → Tree → TestTree → AttributeTree
 
-  -- the test of an attribute's value
+  -- the test of an attribute's value, with the variants of `Test`
   pub data TestTree : Type 0 where
     within_test : Tree → TestTree
     outside_test : Tree → TestTree
@@ -90,11 +95,15 @@ abbrev mutual
   tree_of (constraint.MemberOf' pointer operand) = member_tree (tree_of operand)
   tree_of (constraint.And' shape parts) = and_tree (row_of_trees parts)
   tree_of (constraint.Or' shape parts) = or_tree (row_of_trees parts)
-  tree_of (constraint.Minus' pointer first other second) = minus_tree (tree_of first) (tree_of second)
-  tree_of (constraint.Dotted' pointer start shape names) = dotted_tree (tree_of start) (row_of_trees names)
-  tree_of (constraint.Refined' pointer focus other what) = refined_tree (tree_of focus) (refinement_tree_of what)
+  tree_of (constraint.Minus' pointer first other second) =
+      minus_tree (tree_of first) (tree_of second)
+  tree_of (constraint.Dotted' pointer start shape names) =
+      dotted_tree (tree_of start) (row_of_trees names)
+  tree_of (constraint.Refined' pointer focus other what) =
+      refined_tree (tree_of focus) (refinement_tree_of what)
 
-  -- the data of the constraints in the row of a `Vec`
+  -- the data of the constraints in a `Row_of-Constraint`, the form in which the toolchain hides the
+  -- items of a `Vec`
   pub row_of_trees : {size : _} → Row_of-Constraint size → Trees
   row_of_trees end_of-Constraint = no_trees
   row_of_trees (more_of-Constraint first rest) = tree_then (tree_of first) (row_of_trees rest)
@@ -107,7 +116,8 @@ abbrev mutual
   refinement_tree_of (refinement.And' shape parts) = and_refinement (row_of_refinements parts)
   refinement_tree_of (refinement.Or' shape parts) = or_refinement (row_of_refinements parts)
 
-  -- the data of the refinements in the row of a `Vec`
+  -- the data of the refinements in a `Row_of-Refinement`, the form in which the toolchain hides the
+  -- items of a `Vec`
   pub row_of_refinements : {size : _} → Row_of-Refinement size → RefinementTrees
   row_of_refinements end_of-Refinement = no_refinements
   row_of_refinements (more_of-Refinement first rest) =
@@ -120,7 +130,8 @@ abbrev mutual
   set_tree_of (attribute_set.And' shape parts) = and_set (row_of_sets parts)
   set_tree_of (attribute_set.Or' shape parts) = or_set (row_of_sets parts)
 
-  -- the data of the attribute sets in the row of a `Vec`
+  -- the data of the attribute sets in a `Row_of-AttributeSet`, the form in which the toolchain
+  -- hides the items of a `Vec`
   pub row_of_sets : {size : _} → Row_of-AttributeSet size → AttributeSetTrees
   row_of_sets end_of-AttributeSet = no_sets
   row_of_sets (more_of-AttributeSet first rest) = set_then (set_tree_of first) (row_of_sets rest)
@@ -145,4 +156,5 @@ set_trees_of parts = sets_from (map set_tree_of parts)
 
 -- the data of an attribute of the code
 abbrev pub attribute_tree_of : Attribute → AttributeTree
-attribute_tree_of part = attribute_tree part.count part.reverse (tree_of part.name) (test_tree_of part.test)
+attribute_tree_of part =
+    attribute_tree part.count part.reverse (tree_of part.name) (test_tree_of part.test)

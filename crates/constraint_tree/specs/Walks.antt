@@ -1,13 +1,15 @@
--- Which concepts an operator reaches from a set of concepts (Expression Constraint Language, "Simple Expression
--- Constraints"). A set is given as the test whether a concept is in it.
+-- Which concepts a hierarchy operator finds for a set of concepts (Expression Constraint Language,
+-- "Simple Expression Constraints"). A set is given as the test whether a concept is in it.
 use Rattle.std.specs.Prelude.{ℕ, ◌↔◌, ◌==◌, ◌&&◌, ◌||◌, Bool, not, IsTrue, Contains}
 use Rattle.std.specs.List.{list_any}
 use Rattle.rf2_rows.specs.Release.{Release}
 use Rattle.hierarchy.specs.Hierarchy.{Reaches, reaches}
 use Rattle.constraint_tree.specs.declared.operator.Operator.{Operator}
-use Rattle.constraint_tree.specs.declared.operator.Operator.TheVariants.{Descendants, DescendantsOrSelf, Children, ChildrenOrSelf, Ancestors, AncestorsOrSelf, Parents, ParentsOrSelf, Top, Bottom}
+use Rattle.constraint_tree.specs.declared.operator.Operator.TheVariants.{Descendants, DescendantsOrSelf, Children}
+use Rattle.constraint_tree.specs.declared.operator.Operator.TheVariants.{ChildrenOrSelf, Ancestors, AncestorsOrSelf}
+use Rattle.constraint_tree.specs.declared.operator.Operator.TheVariants.{Parents, ParentsOrSelf, Top, Bottom}
 
--- whether the release has `concept` in force
+-- whether `concept` is in force in the release
 abbrev pub has_concept : Release → ℕ → Bool
 has_concept release concept = list_any (λ found. found == concept) release.concepts
 
@@ -19,24 +21,29 @@ is_child release child parent = list_any (λ row. (row.0 == child) && (row.1 == 
 abbrev pub some_member : Release → (ℕ → Bool) → (ℕ → Bool) → Bool
 some_member release set test = list_any (λ member. set member && test member) release.concepts
 
--- whether a chain of is-a rows leads from `concept` to a member of the set
+-- whether a chain of is-a rows leads from `concept` up to a member of the set
 abbrev pub is_below : Release → (ℕ → Bool) → ℕ → Bool
-is_below release set concept = some_member release set (λ member. reaches release.isa concept member)
+is_below release set concept =
+    some_member release set (λ member. reaches release.isa concept member)
 
--- whether a chain of is-a rows leads from a member of the set to `concept`
+-- whether a chain of is-a rows leads from a member of the set up to `concept`
 abbrev pub is_above : Release → (ℕ → Bool) → ℕ → Bool
-is_above release set concept = some_member release set (λ member. reaches release.isa member concept)
+is_above release set concept =
+    some_member release set (λ member. reaches release.isa member concept)
 
--- whether an is-a row leads from `concept` to a member of the set
+-- whether `concept` is a child of a member of the set
 abbrev pub is_just_below : Release → (ℕ → Bool) → ℕ → Bool
-is_just_below release set concept = some_member release set (λ member. is_child release concept member)
+is_just_below release set concept =
+    some_member release set (λ member. is_child release concept member)
 
--- whether an is-a row leads from a member of the set to `concept`
+-- whether `concept` is a parent of a member of the set
 abbrev pub is_just_above : Release → (ℕ → Bool) → ℕ → Bool
-is_just_above release set concept = some_member release set (λ member. is_child release member concept)
+is_just_above release set concept =
+    some_member release set (λ member. is_child release member concept)
 
--- whether the operator leads from the set to `concept`. `!!>` gives the members that are below no member, and `!!<`
--- the members that are above no member, however many is-a rows lie between (this project's choice)
+-- whether the hierarchy operator finds `concept` for the set. `!!>` finds the members that are
+-- below no member, and `!!<` those that are above no member, however many is-a rows lie between
+-- (this project's choice)
 abbrev pub walks : Release → Operator → (ℕ → Bool) → ℕ → Bool
 walks release Descendants set concept = is_below release set concept
 walks release DescendantsOrSelf set concept = set concept || is_below release set concept
@@ -51,22 +58,29 @@ walks release Bottom set concept = set concept && not (is_above release set conc
 
 -- `has_concept` holds exactly for the concepts of the release
 abbrev pub TellsInForce : Type 0
-TellsInForce = (release : Release) (concept : ℕ) → IsTrue (has_concept release concept) ↔ Contains release.concepts concept
+TellsInForce = (release : Release) (concept : ℕ)
+    → IsTrue (has_concept release concept) ↔ Contains release.concepts concept
 
--- `is_below` holds exactly for the concepts from which a chain of is-a rows leads to a member of the set in force
+-- `is_below` holds exactly for the concepts from which a chain of is-a rows leads up to a member of
+-- the set that is in force
 abbrev pub TellsBelow : Type 0
 TellsBelow =
     (release : Release) (set : ℕ → Bool) (concept : ℕ) →
     IsTrue (is_below release set concept)
-    ↔ ((member : ℕ) × Contains release.concepts member × IsTrue (set member) × Reaches release.isa concept member)
+    ↔ ((member : ℕ) × Contains release.concepts member × IsTrue (set member)
+    × Reaches release.isa concept member)
 
--- `is_above` holds exactly for the concepts to which a chain of is-a rows leads from a member of the set in force
+-- `is_above` holds exactly for the concepts to which a chain of is-a rows leads up from a member of
+-- the set that is in force
 abbrev pub TellsAbove : Type 0
 TellsAbove =
     (release : Release) (set : ℕ → Bool) (concept : ℕ) →
     IsTrue (is_above release set concept)
-    ↔ ((member : ℕ) × Contains release.concepts member × IsTrue (set member) × Reaches release.isa member concept)
+    ↔ ((member : ℕ) × Contains release.concepts member × IsTrue (set member)
+    × Reaches release.isa member concept)
 
--- `is_child` holds exactly for the pairs of the is-a rows
+-- `is_child` holds of two concepts exactly if the release has the is-a row from the first to the
+-- second
 abbrev pub TellsChild : Type 0
-TellsChild = (release : Release) (child parent : ℕ) → IsTrue (is_child release child parent) ↔ Contains release.isa (child, parent)
+TellsChild = (release : Release) (child parent : ℕ)
+    → IsTrue (is_child release child parent) ↔ Contains release.isa (child, parent)

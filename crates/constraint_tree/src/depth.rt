@@ -1,4 +1,4 @@
-//! How deep a tree is.
+//! The depth of a tree.
 ghost use Rattle.std.specs.Prelude.{◌≡◌, ◌-◌, ◌^◌, min};
 ghost use Rattle.constraint_tree.specs.Depth.{depth_of, trees_depth, refinement_depth, refinements_depth, set_depth, sets_depth, attribute_depth, test_depth};
 ghost use Rattle.constraint_tree.specs.Tree.{tree_of, trees_of, refinement_tree_of, refinement_trees_of, set_tree_of, set_trees_of, attribute_tree_of, test_tree_of};
@@ -6,9 +6,9 @@ ghost use Rattle.constraint_tree.specs.Tree.{tree_of, trees_of, refinement_tree_
 use crate::tree::{Attribute, AttributeSet, Constraint, Refinement, Test};
 
 impl Constraint {
-    /// The number of nodes on the longest path from the root. Constraints, refinements and attribute sets are
-    /// nodes: `*` has 1, `<<100005` has 2. A number above `u64::MAX` is returned as `u64::MAX`. The function
-    /// allocates nothing.
+    /// Returns the number of nodes on the longest path from the root. Constraints, refinements and
+    /// attribute sets are nodes: `*` has depth 1, `<<100005` has depth 2. A depth above `u64::MAX`
+    /// is returned as `u64::MAX`. The function allocates nothing.
     #[cycle(depth)]
     #[tactic(auto, using(crate::proofs::TreeLemmas::trees_of_items))]
     pub fn depth(&self) -> u64
@@ -36,6 +36,7 @@ impl Constraint {
 }
 
 impl Refinement {
+    // Returns the depth of the refinement, as `Constraint::depth` counts it.
     #[cycle(depth)]
     #[tactic(auto, using(crate::proofs::TreeLemmas::trees_of_items))]
     fn depth(&self) -> u64
@@ -52,6 +53,7 @@ impl Refinement {
 }
 
 impl AttributeSet {
+    // Returns the depth of the attribute set, as `Constraint::depth` counts it.
     #[cycle(depth)]
     #[tactic(auto, using(crate::proofs::TreeLemmas::trees_of_items))]
     fn depth(&self) -> u64
@@ -67,7 +69,8 @@ impl AttributeSet {
 }
 
 impl Attribute {
-    // An attribute is no node: it is as deep as the deeper of its name and its test.
+    // Returns the depth of the attribute. An attribute is no node: it is as deep as the deeper of
+    // its name and its test.
     #[cycle(depth)]
     fn depth(&self) -> u64
         ensures { result ≡ min (attribute_depth (attribute_tree_of self.now)) (2 ^ 64 - 1) }
@@ -77,6 +80,7 @@ impl Attribute {
 }
 
 impl Test {
+    // Returns the depth of the test's constraint, or 0 for a number. A test is no node.
     #[cycle(depth)]
     fn depth(&self) -> u64
         ensures { result ≡ min (test_depth (test_tree_of self.now)) (2 ^ 64 - 1) }
@@ -100,6 +104,7 @@ fn deepest_constraint(parts: &[Constraint]) -> u64
     deepest
 }
 
+// Returns the depth of the deepest refinement in `parts`, or 0 if `parts` is empty.
 #[cycle(depth)]
 fn deepest_refinement(parts: &[Refinement]) -> u64
     ensures { result ≡ min (refinements_depth (refinement_trees_of parts.now)) (2 ^ 64 - 1) }
@@ -111,6 +116,7 @@ fn deepest_refinement(parts: &[Refinement]) -> u64
     deepest
 }
 
+// Returns the depth of the deepest attribute set in `parts`, or 0 if `parts` is empty.
 #[cycle(depth)]
 fn deepest_set(parts: &[AttributeSet]) -> u64
     ensures { result ≡ min (sets_depth (set_trees_of parts.now)) (2 ^ 64 - 1) }

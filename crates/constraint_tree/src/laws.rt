@@ -1,4 +1,5 @@
-//! Laws about the definitions of this crate: functions that do nothing, each with laws as its contract.
+//! Laws about the definitions of this crate: functions that do nothing, whose contracts are the
+//! laws.
 ghost use Rattle.std.specs.Prelude.{ℕ, ◌≤◌, List, length};
 ghost use Rattle.ecl_lexer.specs.Tokens.{most_bytes};
 ghost use Rattle.constraint_tree.specs.Denotation.{DenotesConceptsInForce};
@@ -9,8 +10,9 @@ ghost use Rattle.constraint_tree.specs.Tree.{Tree};
 ghost use Rattle.constraint_tree.specs.Walks.{TellsInForce, TellsChild, TellsBelow, TellsAbove};
 ghost use Rattle.constraint_tree.specs.WrongReadings.{MisreadsSplitBraces, MisreadsNotEqual, MisreadsNoneInBraces, MisreadsGroupZero, MisreadsRows, MisreadsTop, MisreadsDepth, MisreadsSecondParent, MisreadsWalkOfAnd};
 
-/// The tests that define the operators mean what their names say: a concept is one of the release's, an is-a
-/// row exists, and a chain of is-a rows leads to a member of the set or from one.
+/// The tests that define the hierarchy operators mean what their names say: that a concept is one
+/// of the release's, that an is-a row exists, and that a chain of is-a rows leads from a concept up
+/// to a member of a set, or from a member up to it.
 pub fn walks_tell_chains()
     ensures in_force { TellsInForce }
     ensures child { TellsChild }
@@ -18,23 +20,25 @@ pub fn walks_tell_chains()
     ensures above { TellsAbove }
 {}
 
-/// A constraint denotes only concepts in force, for every release and every constraint.
+/// For every release, a constraint denotes only concepts in force.
 pub fn constraints_denote_concepts_in_force()
     ensures { DenotesConceptsInForce }
 {}
 
-/// The printed text of a constraint is a constraint with the same tree, unless it is longer than `most_bytes`.
+/// The printed text of a constraint is a constraint with the same tree, if it has at most
+/// `most_bytes` bytes.
 pub fn print_is_read()
-    ensures { (text : List ℕ) (tree : Tree) → IsConstraint text tree → length (constraint_text tree) ≤ most_bytes
-        → IsConstraint (constraint_text tree) tree }
+    ensures { (text : List ℕ) (tree : Tree) → IsConstraint text tree
+        → length (constraint_text tree) ≤ most_bytes → IsConstraint (constraint_text tree) tree }
 {}
 
-/// No constraint has a tree deeper than 326, because at most 64 of its brackets are open at once.
+/// No text has a tree deeper than 326, because at most 64 brackets of a text are open at once.
 pub fn constraints_are_not_deep()
     ensures { (text : List ℕ) (tree : Tree) → IsConstraint text tree → depth_of tree ≤ most_deep }
 {}
 
-/// Each wrong reading gives on the sample release another answer to its query than the definition gives.
+/// Each wrong reading of a query finds on the sample release other concepts than the query denotes
+/// there.
 pub fn wrong_readings_differ()
     ensures split_braces { MisreadsSplitBraces }
     ensures not_equal { MisreadsNotEqual }

@@ -1,4 +1,5 @@
-//! Expression constraints as trees, and what they mean over a release (Expression Constraint Language 2.2).
+//! Expression constraints as trees, and the concepts that they denote over a release (Expression
+//! Constraint Language 2.2).
 #![tactic(auto)]
 
 mod depth;

@@ -1,6 +1,6 @@
 //! The operators, comparisons and cardinalities of a constraint.
 
-/// A hierarchy operator (Expression Constraint Language, "Simple Expression Constraints").
+/// A hierarchy operator of ECL (Expression Constraint Language, "Simple Expression Constraints").
 #[derive(Clone, Copy, Debug, PartialEq, Eq)]
 pub enum Operator {
     /// `<`
@@ -25,7 +25,8 @@ pub enum Operator {
     Bottom,
 }
 
-/// A comparison with a number (Expression Constraint Language, "Refinements", concrete values).
+/// A comparison of an attribute's value with a number (Expression Constraint Language,
+/// "Refinements", concrete values).
 #[derive(Clone, Copy, Debug, PartialEq, Eq)]
 pub enum Compare {
     /// `=`
@@ -42,8 +43,8 @@ pub enum Compare {
     GreaterOrEqual,
 }
 
-/// How many pairs or groups there may be (Expression Constraint Language, "Cardinality"). A minimum above the
-/// maximum is never satisfied.
+/// How many pairs or groups a concept, or how many pairs a group, must have (Expression Constraint
+/// Language, "Cardinality"). If `min` is above `max`, no count is allowed.
 #[derive(Clone, Copy, Debug, PartialEq, Eq)]
 pub struct Cardinality {
     /// The least count.

@@ -1,4 +1,4 @@
-//! The text of a tree.
+//! Prints the text of a tree.
 ghost use Rattle.std.specs.Prelude.{◌≡◌, ◌+◌, ◌/◌, ◌%◌, ◌<◌, ◌≤◌, ◌^◌, ◌++◌, [], OnErr, OnOk, decimal, if◌then◌else◌};
 ghost use Rattle.constraint_tree.specs.Text.{attribute_text, cardinality_text, closing, compare_text, constraint_text, fraction_digits, fraction_text, is_focus, is_item, is_member_or_focus, is_part, is_sub, joined_items, joined_parts, joined_text, listed_text, most_text, number_text, opening, operator_text, placed_text, range_text, refinement_text, reverse_text, set_text, test_text, unsigned_text};
 ghost use Rattle.constraint_tree.specs.Tree.{group_refinement, tree_of, trees_of, refinement_tree_of, refinement_trees_of, set_tree_of, set_trees_of, attribute_tree_of, test_tree_of};
@@ -8,16 +8,18 @@ use crate::tree::{Attribute, AttributeSet, Constraint, Refinement, Test};
 use numerals::Decimal;
 use std::alloc::{AllocError, Global};
 
-/// How many units of 10^-18 make 1.
+/// The number 1 in the unit of `Decimal`, 10^-18.
 const ONE: u128 = 1_000_000_000_000_000_000;
 
 impl Constraint {
-    /// Appends the constraint in the brief syntax (Expression Constraint Language, 5.1). It writes round
-    /// brackets only if the grammar needs them, and blanks only around `OR` and `MINUS` and after `R`. If
-    /// memory is refused, `output` is unchanged. An empty list of parts, which no text has, is written as
-    /// nothing, and a list of one part as that part.
+    /// Appends the text of the constraint in the brief syntax (Expression Constraint Language, 5.1)
+    /// to `output`. It writes round brackets only if the grammar needs them, and blanks only around
+    /// `OR` and `MINUS` and after `R`. Returns `AllocError` and leaves `output` as it was if memory
+    /// runs out. An empty list of parts, which no text has, is written as nothing, and a list of
+    /// one part as that part.
     pub fn print(&self, alloc: Global, output: &mut Vec<u8>) -> Result<(), AllocError>
-        ensures ok { OnOk result (output.new.items ≡ output.old.items ++ constraint_text (tree_of self.now)) }
+        ensures ok { OnOk result (output.new.items ≡ output.old.items
+            ++ constraint_text (tree_of self.now)) }
         ensures err { OnErr result (output.new.items ≡ output.old.items) }
     {
         let mut text = Vec::new(alloc);
@@ -25,21 +27,23 @@ impl Constraint {
         output.extend_from_slice(text.as_slice())
     }
 
+    // Appends the text of the constraint.
     #[cycle(print)]
     #[tactic(auto, using(crate::proofs::TreeLemmas::trees_of_items))]
     fn write(&self, output: &mut Vec<u8>) -> Result<(), AllocError>
-        ensures { OnOk result (output.new.items ≡ output.old.items ++ constraint_text (tree_of self.now)) }
+        ensures { OnOk result (output.new.items ≡ output.old.items
+            ++ constraint_text (tree_of self.now)) }
     {
         match self {
             Constraint::Concept(number) => write_number(*number, output),
             Constraint::Any => output.extend_from_slice(b"*"),
             Constraint::Walk(operator, operand) => {
                 output.extend_from_slice(operator_sign(*operator))?;
-                operand.write_placed(operand.stands_behind_operator(), output)
+                operand.write_placed(operand.stands_after_operator(), output)
             }
             Constraint::MemberOf(operand) => {
                 output.extend_from_slice(b"^")?;
-                operand.write_placed(operand.stands_behind_caret(), output)
+                operand.write_placed(operand.stands_after_caret(), output)
             }
             Constraint::And(parts) => write_operands(false, b",", parts, output),
             Constraint::Or(parts) => write_operands(false, b" OR ", parts, output),
@@ -60,24 +64,28 @@ impl Constraint {
         }
     }
 
-    // Appends the constraint as an operand, in brackets unless it stands without them.
+    // Appends the text of the constraint, in brackets unless it may be an operand without them.
     #[cycle(print)]
     fn write_operand(&self, output: &mut Vec<u8>) -> Result<(), AllocError>
-        ensures { let tree = tree_of self.now in OnOk result (output.new.items ≡ output.old.items ++ placed_text (is_sub tree) (constraint_text tree)) }
+        ensures { let tree = tree_of self.now in OnOk result
+            (output.new.items ≡ output.old.items ++ placed_text (is_sub tree)
+            (constraint_text tree)) }
     {
         self.write_placed(self.stands_as_operand(), output)
     }
 
-    // Appends the constraint, in brackets unless `stands` is set.
+    // Appends the text of the constraint, in brackets unless `stands` is set.
     #[cycle(print)]
     fn write_placed(&self, stands: bool, output: &mut Vec<u8>) -> Result<(), AllocError>
-        ensures { OnOk result (output.new.items ≡ output.old.items ++ placed_text stands (constraint_text (tree_of self.now))) }
+        ensures { OnOk result (output.new.items ≡ output.old.items
+            ++ placed_text stands (constraint_text (tree_of self.now))) }
     {
         open(stands, output)?;
         self.write(output)?;
         close(stands, output)
     }
 
+    // Whether the constraint may be an operand without brackets (the rule Sub of the grammar).
     fn stands_as_operand(&self) -> bool
         ensures { result ≡ is_sub (tree_of self.now) }
     {
@@ -89,7 +97,8 @@ impl Constraint {
         }
     }
 
-    fn stands_behind_operator(&self) -> bool
+    // Whether the constraint may follow a hierarchy operator without brackets.
+    fn stands_after_operator(&self) -> bool
         ensures { result ≡ is_member_or_focus (tree_of self.now) }
     {
         match self {
@@ -99,7 +108,8 @@ impl Constraint {
         }
     }
 
-    fn stands_behind_caret(&self) -> bool
+    // Whether the constraint may follow `^` without brackets (the rule Focus of the grammar).
+    fn stands_after_caret(&self) -> bool
         ensures { result ≡ is_focus (tree_of self.now) }
     {
         match self {
@@ -112,10 +122,12 @@ impl Constraint {
 }
 
 impl Refinement {
+    // Appends the text of the refinement.
     #[cycle(print)]
     #[tactic(auto, using(crate::proofs::TreeLemmas::trees_of_items))]
     fn write(&self, output: &mut Vec<u8>) -> Result<(), AllocError>
-        ensures { OnOk result (output.new.items ≡ output.old.items ++ refinement_text (refinement_tree_of self.now)) }
+        ensures { OnOk result (output.new.items ≡ output.old.items
+            ++ refinement_text (refinement_tree_of self.now)) }
     {
         match self {
             Refinement::One(attribute) => attribute.write(output),
@@ -125,6 +137,7 @@ impl Refinement {
         }
     }
 
+    // Whether the refinement may be a part of `And` or `Or` without brackets.
     fn stands_as_item(&self) -> bool
         ensures { result ≡ is_item (refinement_tree_of self.now) }
     {
@@ -136,10 +149,12 @@ impl Refinement {
 }
 
 impl AttributeSet {
+    // Appends the text of the attribute set.
     #[cycle(print)]
     #[tactic(auto, using(crate::proofs::TreeLemmas::trees_of_items))]
     fn write(&self, output: &mut Vec<u8>) -> Result<(), AllocError>
-        ensures { OnOk result (output.new.items ≡ output.old.items ++ set_text (set_tree_of self.now)) }
+        ensures { OnOk result (output.new.items ≡ output.old.items
+            ++ set_text (set_tree_of self.now)) }
     {
         match self {
             AttributeSet::One(attribute) => attribute.write(output),
@@ -148,6 +163,7 @@ impl AttributeSet {
         }
     }
 
+    // Whether the attribute set may be a part of `And` or `Or` without brackets.
     fn stands_as_part(&self) -> bool
         ensures { result ≡ is_part (set_tree_of self.now) }
     {
@@ -159,9 +175,11 @@ impl AttributeSet {
 }
 
 impl Attribute {
+    // Appends the cardinality, `R`, the name and the test of the attribute.
     #[cycle(print)]
     fn write(&self, output: &mut Vec<u8>) -> Result<(), AllocError>
-        ensures { OnOk result (output.new.items ≡ output.old.items ++ attribute_text (attribute_tree_of self.now)) }
+        ensures { OnOk result (output.new.items ≡ output.old.items
+            ++ attribute_text (attribute_tree_of self.now)) }
     {
         write_count(self.count, output)?;
         write_reverse(self.reverse, output)?;
@@ -171,9 +189,11 @@ impl Attribute {
 }
 
 impl Test {
+    // Appends the comparison and the value of the test.
     #[cycle(print)]
     fn write(&self, output: &mut Vec<u8>) -> Result<(), AllocError>
-        ensures { OnOk result (output.new.items ≡ output.old.items ++ test_text (test_tree_of self.now)) }
+        ensures { OnOk result (output.new.items ≡ output.old.items
+            ++ test_text (test_tree_of self.now)) }
     {
         match self {
             Test::Within(operand) => {
@@ -192,14 +212,15 @@ impl Test {
     }
 }
 
-// Appends the cardinality and the attribute set in braces.
+// Appends the cardinality `count` and, in braces, the attribute set `set`.
 #[cycle(print)]
 fn write_group(
     count: Cardinality,
     set: &AttributeSet,
     output: &mut Vec<u8>,
 ) -> Result<(), AllocError>
-    ensures { OnOk result (output.new.items ≡ output.old.items ++ refinement_text (group_refinement count (set_tree_of set.now))) }
+    ensures { OnOk result (output.new.items ≡ output.old.items
+        ++ refinement_text (group_refinement count (set_tree_of set.now))) }
 {
     write_count(count, output)?;
     output.extend_from_slice(b"{")?;
@@ -207,18 +228,20 @@ fn write_group(
     output.extend_from_slice(b"}")
 }
 
-// Appends the operands of `parts` with `between` between two of them, and also before the first if `behind` is
-// set.
+// Appends `parts` as operands, with `between` between two of them. If `following` is set, `between`
+// also stands before the first.
 #[cycle(print)]
 fn write_operands(
-    behind: bool,
+    following: bool,
     between: &[u8],
     parts: &[Constraint],
     output: &mut Vec<u8>,
 ) -> Result<(), AllocError>
-    ensures { OnOk result (output.new.items ≡ output.old.items ++ (if behind then listed_text between.now (trees_of parts.now) else joined_text between.now (trees_of parts.now))) }
+    ensures { OnOk result (output.new.items ≡ output.old.items
+        ++ (if following then listed_text between.now (trees_of parts.now) else joined_text
+        between.now (trees_of parts.now))) }
 {
-    let mut has_front = behind;
+    let mut has_front = following;
     for part in parts {
         separate(has_front, between, output)?;
         part.write_operand(output)?;
@@ -227,9 +250,12 @@ fn write_operands(
     Ok(())
 }
 
+// Appends the refinements `parts`, in brackets if they need them, with `between` between two of
+// them.
 #[cycle(print)]
 fn write_items(between: &[u8], parts: &[Refinement], output: &mut Vec<u8>) -> Result<(), AllocError>
-    ensures { OnOk result (output.new.items ≡ output.old.items ++ joined_items between.now (refinement_trees_of parts.now)) }
+    ensures { OnOk result (output.new.items ≡ output.old.items
+        ++ joined_items between.now (refinement_trees_of parts.now)) }
 {
     let mut has_front = false;
     for part in parts {
@@ -242,13 +268,15 @@ fn write_items(between: &[u8], parts: &[Refinement], output: &mut Vec<u8>) -> Re
     Ok(())
 }
 
+// Appends the attribute sets `parts`, in brackets if they need them, with `between` between two.
 #[cycle(print)]
 fn write_parts(
     between: &[u8],
     parts: &[AttributeSet],
     output: &mut Vec<u8>,
 ) -> Result<(), AllocError>
-    ensures { OnOk result (output.new.items ≡ output.old.items ++ joined_parts between.now (set_trees_of parts.now)) }
+    ensures { OnOk result (output.new.items ≡ output.old.items
+        ++ joined_parts between.now (set_trees_of parts.now)) }
 {
     let mut has_front = false;
     for part in parts {
@@ -261,8 +289,10 @@ fn write_parts(
     Ok(())
 }
 
+// Appends `between` if `has_front` is set: if something stands before the next part.
 fn separate(has_front: bool, between: &[u8], output: &mut Vec<u8>) -> Result<(), AllocError>
-    ensures { OnOk result (output.new.items ≡ output.old.items ++ (if has_front then between.now else [])) }
+    ensures { OnOk result (output.new.items ≡ output.old.items
+        ++ (if has_front then between.now else [])) }
 {
     if has_front {
         output.extend_from_slice(between)
@@ -271,7 +301,7 @@ fn separate(has_front: bool, between: &[u8], output: &mut Vec<u8>) -> Result<(),
     }
 }
 
-// Appends the opening bracket of a text that does not stand without brackets.
+// Appends `(` unless `stands` is set.
 fn open(stands: bool, output: &mut Vec<u8>) -> Result<(), AllocError>
     ensures { OnOk result (output.new.items ≡ output.old.items ++ opening stands) }
 {
@@ -282,6 +312,7 @@ fn open(stands: bool, output: &mut Vec<u8>) -> Result<(), AllocError>
     }
 }
 
+// Appends `)` unless `stands` is set.
 fn close(stands: bool, output: &mut Vec<u8>) -> Result<(), AllocError>
     ensures { OnOk result (output.new.items ≡ output.old.items ++ closing stands) }
 {
@@ -292,6 +323,7 @@ fn close(stands: bool, output: &mut Vec<u8>) -> Result<(), AllocError>
     }
 }
 
+// Appends `R` and a blank if `reverse` is set.
 fn write_reverse(reverse: bool, output: &mut Vec<u8>) -> Result<(), AllocError>
     ensures { OnOk result (output.new.items ≡ output.old.items ++ reverse_text reverse) }
 {
@@ -302,6 +334,7 @@ fn write_reverse(reverse: bool, output: &mut Vec<u8>) -> Result<(), AllocError>
     }
 }
 
+// Appends the cardinality `count`, or nothing if it is the default, `[1..*]`.
 fn write_count(count: Cardinality, output: &mut Vec<u8>) -> Result<(), AllocError>
     ensures { OnOk result (output.new.items ≡ output.old.items ++ cardinality_text count) }
 {
@@ -311,6 +344,7 @@ fn write_count(count: Cardinality, output: &mut Vec<u8>) -> Result<(), AllocErro
     }
 }
 
+// Appends `[least..most]`, with `*` if there is no maximum.
 fn write_range(least: u64, most: Option<u64>, output: &mut Vec<u8>) -> Result<(), AllocError>
     ensures { OnOk result (output.new.items ≡ output.old.items ++ range_text least most) }
 {
@@ -321,6 +355,7 @@ fn write_range(least: u64, most: Option<u64>, output: &mut Vec<u8>) -> Result<()
     output.extend_from_slice(b"]")
 }
 
+// Appends the maximum of a cardinality, or `*` if there is none.
 fn write_most(most: Option<u64>, output: &mut Vec<u8>) -> Result<(), AllocError>
     ensures { OnOk result (output.new.items ≡ output.old.items ++ most_text most) }
 {
@@ -330,6 +365,7 @@ fn write_most(most: Option<u64>, output: &mut Vec<u8>) -> Result<(), AllocError>
     }
 }
 
+// Appends `number` in decimal digits.
 fn write_number(number: u64, output: &mut Vec<u8>) -> Result<(), AllocError>
     ensures { OnOk result (output.new.items ≡ output.old.items ++ decimal number) }
 {
@@ -337,9 +373,10 @@ fn write_number(number: u64, output: &mut Vec<u8>) -> Result<(), AllocError>
     output.extend_from_slice(digits.format(number).as_bytes())
 }
 
-/// Appends a number of 10^-18 as a constraint writes it: `#`, the sign of a negative number, and the digits
-/// without trailing zeros (Expression Constraint Language 2.2, "5.1 Brief syntax", numericValue). Returns
-/// `AllocError` if memory is refused.
+/// Appends `value` to `output` as a constraint writes it: `#`, `-` if it is negative, and the
+/// digits without trailing zeros (Expression Constraint Language 2.2, "5.1 Brief syntax",
+/// numericValue). Returns `AllocError` if memory runs out; `output` may then hold a part of the
+/// text.
 pub fn print_decimal(value: Decimal, output: &mut Vec<u8>) -> Result<(), AllocError>
     ensures { OnOk result (output.new.items ≡ output.old.items ++ number_text value.0) }
 {
@@ -351,6 +388,7 @@ pub fn print_decimal(value: Decimal, output: &mut Vec<u8>) -> Result<(), AllocEr
     write_unsigned(value.0.unsigned_abs(), output)
 }
 
+// Appends `number`, which counts 10^-18, as a decimal number without a sign.
 fn write_unsigned(number: u128, output: &mut Vec<u8>) -> Result<(), AllocError>
     ensures { OnOk result (output.new.items ≡ output.old.items ++ unsigned_text number) }
 {
@@ -359,6 +397,7 @@ fn write_unsigned(number: u128, output: &mut Vec<u8>) -> Result<(), AllocError>
     write_fraction((number % ONE) as u64, output)
 }
 
+// Appends `.` and the digits of `fraction`, which counts 10^-18, or nothing if it is 0.
 fn write_fraction(fraction: u64, output: &mut Vec<u8>) -> Result<(), AllocError>
     requires { fraction < 10 ^ 18 }
     ensures { OnOk result (output.new.items ≡ output.old.items ++ fraction_text fraction) }
@@ -372,7 +411,7 @@ fn write_fraction(fraction: u64, output: &mut Vec<u8>) -> Result<(), AllocError>
     }
 }
 
-// Appends the digits of a fraction with `places` decimal places, without trailing zeros.
+// Appends the digits of `fraction`, which counts 10^-`places`, without trailing zeros.
 fn write_places(places: u32, fraction: u64, output: &mut Vec<u8>) -> Result<(), AllocError>
     requires few { places ≤ 18 }
     requires fits { fraction < 10 ^ places }
@@ -386,6 +425,7 @@ fn write_places(places: u32, fraction: u64, output: &mut Vec<u8>) -> Result<(), 
     write_places(places - 1, fraction % unit, output)
 }
 
+// Returns the symbol of the hierarchy operator.
 fn operator_sign(operator: Operator) -> &'static [u8]
     ensures { result.now ≡ operator_text operator }
 {
@@ -403,6 +443,7 @@ fn operator_sign(operator: Operator) -> &'static [u8]
     }
 }
 
+// Returns the symbol of the comparison.
 fn compare_sign(compare: Compare) -> &'static [u8]
     ensures { result.now ≡ compare_text compare }
 {

@@ -2,38 +2,42 @@
 use crate::operator::{Cardinality, Compare, Operator};
 use numerals::Decimal;
 
-/// A constraint: it denotes a set of concepts in force (Expression Constraint Language, "Brief Syntax",
-/// expressionConstraint).
+/// A constraint, which denotes a set of concepts in force (Expression Constraint Language, "Brief
+/// Syntax", expressionConstraint).
 #[cycle(tree)]
 #[derive(Drop, Debug, PartialEq)]
 pub enum Constraint {
-    /// The concept with this number.
+    /// The concept with this identifier (SCTID).
     Concept(u64),
-    /// `*`: each concept.
+    /// `*`: each concept in force.
     Any,
-    /// The concepts that the operator reaches from the members of the operand.
+    /// The concepts that the hierarchy operator finds for the operand's set, as the descendants of
+    /// its members.
     Walk(Operator, Box<Constraint>),
-    /// `^`: the components of the reference sets in the operand.
+    /// `^`: the concepts that are members of a reference set in the operand.
     MemberOf(Box<Constraint>),
     /// The concepts in all parts.
     And(Vec<Constraint>),
     /// The concepts in at least one part.
     Or(Vec<Constraint>),
-    /// The concepts in the first and not in the second.
+    /// The concepts in the first part and not in the second.
     Minus(Box<Constraint>, Box<Constraint>),
-    /// `A . b . c`: the values of the attributes b of A, then the values of the attributes c of those values.
+    /// `A . b . c`: the values of the attributes b of A, then the values of the attributes c of
+    /// those values.
     Dotted(Box<Constraint>, Vec<Constraint>),
     /// `A : r`: the members of A that satisfy r.
     Refined(Box<Constraint>, Box<Refinement>),
 }
 
-/// The condition that a concept must satisfy (Expression Constraint Language, "Refinements", eclRefinement).
+/// A condition that a concept must satisfy (Expression Constraint Language, "Refinements",
+/// eclRefinement).
 #[cycle(tree)]
 #[derive(Drop, Debug, PartialEq)]
 pub enum Refinement {
-    /// An attribute of the whole concept.
+    /// The concept satisfies the attribute with all its pairs, in whatever group they are.
     One(Attribute),
-    /// `{ .. }`: the number of groups that satisfy the set lies in the cardinality.
+    /// `{ .. }`: the number of the concept's groups that satisfy the attribute set lies in the
+    /// cardinality.
     Group(Cardinality, AttributeSet),
     /// All parts hold.
     And(Vec<Refinement>),
@@ -41,12 +45,12 @@ pub enum Refinement {
     Or(Vec<Refinement>),
 }
 
-/// The condition that a group of a concept must satisfy (Expression Constraint Language, "Refinements",
-/// eclAttributeSet).
+/// A condition that a group of a concept must satisfy (Expression Constraint Language,
+/// "Refinements", eclAttributeSet).
 #[cycle(tree)]
 #[derive(Drop, Debug, PartialEq)]
 pub enum AttributeSet {
-    /// An attribute of the group.
+    /// The group satisfies the attribute with its own pairs.
     One(Attribute),
     /// All parts hold.
     And(Vec<AttributeSet>),
@@ -54,29 +58,29 @@ pub enum AttributeSet {
     Or(Vec<AttributeSet>),
 }
 
-/// A condition on pairs: the number of pairs with a type in `name` and a value that passes `test` lies in
-/// `count` (Expression Constraint Language, "Refinements", eclAttribute).
+/// A condition on pairs: the number of pairs with a type in `name` and a value that passes `test`
+/// lies in `count` (Expression Constraint Language, "Refinements", eclAttribute).
 #[cycle(tree)]
 #[derive(Drop, Debug, PartialEq)]
 pub struct Attribute {
-    /// How many pairs must pass. A text without a cardinality has `[1..*]`.
+    /// How many pairs must match. A text without a cardinality has `[1..*]`.
     pub count: Cardinality,
     /// `R`: the rows are read backwards, from value to source. Never inside braces.
     pub reverse: bool,
-    /// The concepts that the type may be.
+    /// The constraint that denotes the types of matching pairs.
     pub name: Constraint,
-    /// The test that the value must pass.
+    /// The test that the value of a matching pair passes.
     pub test: Test,
 }
 
-/// The test that the value of an attribute must pass.
+/// A test of the value of a pair.
 #[cycle(tree)]
 #[derive(Drop, Debug, PartialEq)]
 pub enum Test {
-    /// `=`: a concept in the constraint.
+    /// `=`: the value is a concept that the constraint denotes.
     Within(Box<Constraint>),
-    /// `!=`: a concept that is not in the constraint.
+    /// `!=`: the value is a concept that the constraint does not denote.
     Outside(Box<Constraint>),
-    /// A number that compares with this one as the comparison says.
+    /// The value is a number, and the comparison of it with this number holds.
     Number(Compare, Decimal),
 }

@@ -26,7 +26,7 @@ letter-not_digit byte is = false_from_ne_true (is_ascii_digit byte) (λ digit.
     let high = digit_range byte digit in
     omega (arith, high.1))
 
--- a digit is not a byte below `0`
+-- a digit differs from each byte below 48, the code of `0`
 pub digit-not : (byte other : ℕ) → is_ascii_digit byte ≡ true → other < 48 → (byte == other) ≡ false
 digit-not byte other is low = false_from_ne_true (byte == other) (λ same.
     let high = digit_range byte is in

@@ -1,11 +1,14 @@
 -- Runs at the front of a text.
-use Rattle.std.proofs.Common.{ℕ, zero, suc, ◌≡◌, ◌+◌, ◌≤◌, ◌++◌, inl, inr, List, [], ◌∷◌, Bool, true, false, length, take, drop, refl, arith}
+use Rattle.std.proofs.Common.{ℕ, zero, suc, ◌≡◌, ◌+◌, ◌≤◌, ◌++◌, inl, inr, List, [], ◌∷◌, Bool, true, false, length}
+use Rattle.std.proofs.Common.{take, drop, refl, arith}
 use Rattle.std.specs.List.{list_all, prefix_len}
 use Rattle.std.proofs.lemmas.Bool.{cases_Bool, and_from, and_parts}
 use Rattle.ecl_lexer.specs.Bytes.{begins}
 
--- `prefix_len` counts the bytes of a run that passes a test, if the rest does not begin with another such byte
-pub prefix_len-run : (test : ℕ → Bool) (run rest : List ℕ) → list_all test run ≡ true → begins test rest ≡ false → prefix_len test (run ++ rest) ≡ length run
+-- if each byte of `run` passes `test` and the first byte of `rest` does not, `prefix_len` of `run` and `rest` is the
+-- length of `run`
+pub prefix_len-run : (test : ℕ → Bool) (run rest : List ℕ) → list_all test run ≡ true → begins test rest ≡ false
+    → prefix_len test (run ++ rest) ≡ length run
 prefix_len-run test [] [] each ended = refl
 prefix_len-run test [] (x ∷ rest) each ended = rw ended refl
 prefix_len-run test (x ∷ run) rest each ended =
@@ -20,11 +23,12 @@ prefix_len-each test [] = refl
 prefix_len-each test (x ∷ text) = elim (cases_Bool (test x)) [
   | inl passes ↦
       let more : 1 + prefix_len test text ≡ suc (prefix_len test text) = omega arith in
-      rw (passes, more) (and_from (test x) (list_all test (take (prefix_len test text) text)) passes (prefix_len-each test text))
+      rw (passes, more) (and_from (test x) (list_all test (take (prefix_len test text) text)) passes
+      (prefix_len-each test text))
   | inr fails ↦ rw fails refl
 ]
 
--- the text after the bytes that `prefix_len` counts does not begin with a byte that passes the test
+-- the text after the bytes that `prefix_len` counts does not begin with a byte that passes `test`
 pub prefix_len-ended : (test : ℕ → Bool) (text : List ℕ) → begins test (drop (prefix_len test text) text) ≡ false
 prefix_len-ended test [] = refl
 prefix_len-ended test (x ∷ text) = elim (cases_Bool (test x)) [
@@ -34,8 +38,10 @@ prefix_len-ended test (x ∷ text) = elim (cases_Bool (test x)) [
   | inr fails ↦ rw fails fails
 ]
 
--- dropping the first `n` bytes of a run shortens the run by `n`
-pub prefix_len-drop : (test : ℕ → Bool) (n : ℕ) (text : List ℕ) → n ≤ prefix_len test text → prefix_len test (drop n text) + n ≡ prefix_len test text
+-- if at least `n` bytes at the front of `text` pass `test`, `prefix_len` falls by `n` when the first `n` bytes are
+-- dropped
+pub prefix_len-drop : (test : ℕ → Bool) (n : ℕ) (text : List ℕ) → n ≤ prefix_len test text
+    → prefix_len test (drop n text) + n ≡ prefix_len test text
 prefix_len-drop test zero text within = omega arith
 prefix_len-drop test (suc n) [] within = absurd (omega arith)
 prefix_len-drop test (suc n) (x ∷ text) within = elim (cases_Bool (test x)) [

@@ -1,5 +1,5 @@
 pub mod Bytes
-pub mod Pieces
+pub mod Lexemes
 pub mod Reading
 pub mod Refusals
 pub mod Tokens

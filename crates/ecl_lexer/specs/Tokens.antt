@@ -1,30 +1,32 @@
--- The tokens of a text, and its refusals before the grammar is looked at (Expression Constraint Language 2.2, 5.1
--- "Brief syntax").
+-- The tokens of a text, and its refusals before the grammar is looked at (Expression Constraint
+-- Language 2.2, 5.1 "Brief syntax").
 use Rattle.std.specs.Prelude.{◌≡◌, ℕ, ◌+◌, ◌<◌, ◌≤◌, List, [], ◌∷◌, length, take, drop, ◌-◌, Option, None, Some}
 use Rattle.std.specs.Str.{IsUtf8}
 use Rattle.ecl_lexer.specs.declared.fault.QueryFault.{QueryFault}
-use Rattle.ecl_lexer.specs.declared.fault.QueryFault.TheVariants.{Long, Utf8, Token as NoToken, Unsupported, Limit, Depth, Syntax, Memory}
+use Rattle.ecl_lexer.specs.declared.fault.QueryFault.TheVariants.{Long, Utf8, Token as NoToken, Unsupported, Limit}
+use Rattle.ecl_lexer.specs.declared.fault.QueryFault.TheVariants.{Depth, Syntax, Memory}
 use Rattle.ecl_lexer.specs.declared.token.Token.{Token}
 use Rattle.ecl_lexer.specs.declared.token.TokenKind.{TokenKind}
-use Rattle.ecl_lexer.specs.Pieces.{Piece, piece_text, bytes_of, kind_of}
+use Rattle.ecl_lexer.specs.Lexemes.{Lexeme, lexeme_text, bytes_of, kind_of}
 use Rattle.ecl_lexer.specs.Refusals.{Cause, form, nothing, limit, IsRead, Refuses}
 
--- the bytes of the pieces, one piece after another, and then `rest`
-abbrev pub pieces_text : List Piece → List ℕ → List ℕ
-pieces_text [] rest = rest
-pieces_text (piece ∷ pieces) rest = piece_text piece (pieces_text pieces rest)
+-- the bytes of the lexemes, one lexeme after another, followed by `rest`
+abbrev pub lexemes_text : List Lexeme → List ℕ → List ℕ
+lexemes_text [] rest = rest
+lexemes_text (lexeme ∷ lexemes) rest = lexeme_text lexeme (lexemes_text lexemes rest)
 
--- each of the pieces is read before the text that follows it
-abbrev pub AreRead : List Piece → List ℕ → Type 0
+-- the lexer reads each of the lexemes before the text that follows it, which ends with `rest`
+abbrev pub AreRead : List Lexeme → List ℕ → Type 0
 AreRead [] rest = Unit {0}
-AreRead (piece ∷ pieces) rest = IsRead piece (pieces_text pieces rest) × AreRead pieces rest
+AreRead (lexeme ∷ lexemes) rest = IsRead lexeme (lexemes_text lexemes rest) × AreRead lexemes rest
 
--- a text is cut without gaps into pieces and a rest, and each piece is the longest that stands at its place
-pub record IsCut (text : List ℕ) (pieces : List Piece) (rest : List ℕ) : Type 0 where
-  -- the text is the bytes of the pieces and then the rest
-  pub whole : text ≡ pieces_text pieces rest
-  -- each of the pieces is read before the text that follows it
-  pub each : AreRead pieces rest
+-- `text` is `lexemes`, without gaps, and then `rest`, and each lexeme is the longest that begins at
+-- its offset
+pub record IsCut (text : List ℕ) (lexemes : List Lexeme) (rest : List ℕ) : Type 0 where
+  -- the text is the bytes of the lexemes, followed by `rest`
+  pub whole : text ≡ lexemes_text lexemes rest
+  -- the lexer reads each of the lexemes before the text that follows it
+  pub each : AreRead lexemes rest
 
 -- a token as the grammar sees it: its kind and the bytes that spell it
 pub record Spelled : Type 0 where
@@ -33,7 +35,7 @@ pub record Spelled : Type 0 where
   -- the bytes that spell the token
   pub bytes : List ℕ
 
--- a token and its place in the text
+-- a token and its offsets in the text
 pub record Placed : Type 0 where
   -- the token without its place
   pub token : Spelled
@@ -42,75 +44,89 @@ pub record Placed : Type 0 where
   -- the offset after the last byte of the token
   pub end : ℕ
 
--- the token of the kind `kind` before `tokens`, or only `tokens` if there is no kind
+-- the token with these bytes in front of `tokens`, or only `tokens` if there is no kind, because
+-- the bytes are a blank
 abbrev pub with_spelled : Option TokenKind → List ℕ → List Spelled → List Spelled
 with_spelled None bytes tokens = tokens
 with_spelled (Some kind) bytes tokens = record { kind = kind; bytes = bytes } ∷ tokens
 
--- the token of the kind `kind` with its place before `tokens`, or only `tokens` if there is no kind
+-- the token with these bytes and its offsets in front of `tokens`, or only `tokens` if there is no
+-- kind, because the bytes are a blank
 abbrev pub with_placed : Option TokenKind → List ℕ → ℕ → List Placed → List Placed
 with_placed None bytes start tokens = tokens
 with_placed (Some kind) bytes start tokens =
-    record { token = record { kind = kind; bytes = bytes }; start = start; end = start + length bytes } ∷ tokens
+    record {
+      token = record { kind = kind; bytes = bytes };
+      start = start;
+      end = start + length bytes;
+    } ∷ tokens
 
--- the tokens among the pieces
-abbrev pub spelled_tokens : List Piece → List Spelled
+-- the tokens among the lexemes
+abbrev pub spelled_tokens : List Lexeme → List Spelled
 spelled_tokens [] = []
-spelled_tokens (piece ∷ pieces) = with_spelled (kind_of piece) (bytes_of piece) (spelled_tokens pieces)
+spelled_tokens (lexeme ∷ lexemes) =
+    with_spelled (kind_of lexeme) (bytes_of lexeme) (spelled_tokens lexemes)
 
--- the tokens among the pieces, with their places. The first piece begins at `start`
-abbrev pub placed_tokens : ℕ → List Piece → List Placed
+-- the tokens among the lexemes, with their offsets. The first lexeme begins at the offset `start`
+abbrev pub placed_tokens : ℕ → List Lexeme → List Placed
 placed_tokens start [] = []
-placed_tokens start (piece ∷ pieces) =
-    with_placed (kind_of piece) (bytes_of piece) start (placed_tokens (start + length (bytes_of piece)) pieces)
+placed_tokens start (lexeme ∷ lexemes) =
+    with_placed (kind_of lexeme) (bytes_of lexeme) start
+    (placed_tokens (start + length (bytes_of lexeme)) lexemes)
 
--- a text is cut into pieces with nothing left, and `tokens` are the tokens among them
+-- `text` is cut into lexemes with nothing left, and `tokens` are the tokens among them
 abbrev pub AreTokensOf : List ℕ → List Spelled → Type 0
-AreTokensOf text tokens = (pieces : List Piece) × IsCut text pieces [] × (tokens ≡ spelled_tokens pieces)
+AreTokensOf text tokens = (lexemes : List Lexeme) × IsCut text lexemes []
+    × (tokens ≡ spelled_tokens lexemes)
 
--- a text is cut into pieces with nothing left, and `tokens` are the tokens among them with their places
+-- `text` is cut into lexemes with nothing left, and `tokens` are the tokens among them, with their
+-- offsets
 abbrev pub ArePlacedIn : List ℕ → List Placed → Type 0
-ArePlacedIn text tokens = (pieces : List Piece) × IsCut text pieces [] × (tokens ≡ placed_tokens 0 pieces)
+ArePlacedIn text tokens = (lexemes : List Lexeme) × IsCut text lexemes []
+    × (tokens ≡ placed_tokens 0 lexemes)
 
 -- a token of the code as the grammar sees it
 abbrev pub spelled : Token → Spelled
 spelled token = record { kind = token.kind; bytes = token.text.now }
 
--- a token of the code as the grammar sees it, and its place
+-- a token of the code as the grammar sees it, and its offsets
 abbrev pub placed : Token → Placed
 placed token = record { token = spelled token; start = token.span.0; end = token.span.1 }
 
--- the text is cut into pieces up to the offset, and nothing is read there, for the cause `cause`
+-- `text` is cut into lexemes up to `offset`, and there the lexer reads nothing, for the cause
+-- `cause`
 abbrev pub IsRefusedAt : List ℕ → ℕ → Cause → Type 0
 IsRefusedAt text offset cause =
-    (pieces : List Piece) × (rest : List ℕ)
-    × IsCut text pieces rest × (offset + length rest ≡ length text) × Refuses rest cause
+    (lexemes : List Lexeme) × (rest : List ℕ)
+    × IsCut text lexemes rest × (offset + length rest ≡ length text) × Refuses rest cause
 
--- the length of the longest text that is read, in bytes
+-- the most bytes that a text may have
 abbrev pub most_bytes : ℕ
 most_bytes = 65535
 
--- a text is at most `most_bytes` long and UTF-8
+-- `text` has at most `most_bytes` bytes and is UTF-8
 abbrev pub IsReadable : List ℕ → Type 0
 IsReadable text = (length text ≤ most_bytes) × IsUtf8 text
 
--- `fault` is the refusal of a text before its grammar is looked at
+-- the fault is the lexer's refusal of `text`, before its grammar is looked at
 abbrev pub IsFaultOf : List ℕ → QueryFault → Type 0
 IsFaultOf text Long = most_bytes < length text
 IsFaultOf text Utf8 = (length text ≤ most_bytes) × (¬ (IsUtf8 text))
 IsFaultOf text (NoToken offset) = IsReadable text × IsRefusedAt text offset nothing
-IsFaultOf text (Unsupported offset feature) = IsReadable text × IsRefusedAt text offset (form feature)
+IsFaultOf text (Unsupported offset feature) =
+    IsReadable text × IsRefusedAt text offset (form feature)
 IsFaultOf text (Limit offset) = IsReadable text × IsRefusedAt text offset limit
 IsFaultOf text Depth = ⊥
 IsFaultOf text Syntax = ⊥
 IsFaultOf text Memory = ⊥
 
--- a text is cut into pieces and a rest, and at least one of the pieces is a token
+-- some lexemes at the front of `text` can be read, and at least one of them is a token
 abbrev pub BeginsWithToken : List ℕ → Type 0
-BeginsWithToken text = (pieces : List Piece) × (rest : List ℕ) × IsCut text pieces rest × (0 < length (spelled_tokens pieces))
+BeginsWithToken text = (lexemes : List Lexeme) × (rest : List ℕ) × IsCut text lexemes rest
+    × (0 < length (spelled_tokens lexemes))
 
--- the tokens begin at `from` or later. Each has at least one byte, begins where the token before it ends or later,
--- and has the bytes of the text at its place
+-- the tokens follow one another in `text` from the offset `from` on: each begins at the end of the
+-- one before it or later, has at least one byte, and has the bytes of the text between its offsets
 abbrev pub FollowOn : List ℕ → ℕ → List Placed → Type 0
 FollowOn text from [] = Unit {0}
 FollowOn text from (first ∷ tokens) =

@@ -1,13 +1,14 @@
-//! The faults of a text that is not an expression constraint.
+//! Refusals: why a text is not read as an expression constraint.
 ghost use Rattle.std.specs.Prelude.{◌≡◌, codes};
 
 use std::alloc::{AllocError, AllocFailed};
 use thiserror::Error;
 
-/// A form of the language (Expression Constraint Language 2.2) that is not read.
+/// A form of the Expression Constraint Language 2.2 that this engine does not support.
 #[derive(Clone, Copy, Debug, PartialEq, Eq)]
 pub enum Feature {
-    /// A filter, as `{{ C active = 1 }}` ("Description Filters", "Concept Filters", "Member Filters").
+    /// A filter, as `{{ C active = 1 }}` ("Description Filters", "Concept Filters", "Member
+    /// Filters").
     Filter,
     /// A history supplement, as `{{ +HISTORY-MIN }}` ("History Supplements").
     History,
@@ -24,7 +25,7 @@ pub enum Feature {
 impl Feature {
     ghost use Rattle.ecl_lexer.specs.Refusals.{feature_name};
 
-    /// The name of the form, in lower case.
+    /// Returns the name of the form, in lower case, as a refusal line prints it.
     pub fn name(self) -> &'static str
         ensures { result.now ≡ feature_name self }
     {
@@ -39,20 +40,20 @@ impl Feature {
     }
 }
 
-/// The first refusal of a text, in the order of the numbers. Among the faults with number 3 the one at the least
-/// offset is first. An offset counts bytes, from 0.
+/// Why a text is refused. A text with several faults gets the one with the least `number`, and
+/// among the faults with number 3 the one at the least offset. An offset counts bytes, from 0.
 #[derive(Clone, Copy, Debug, PartialEq, Eq, Error)]
 pub enum QueryFault {
-    /// More than 65,535 bytes.
+    /// The text has more than 65,535 bytes.
     #[error("the text has more than 65,535 bytes")]
     Long,
-    /// Not UTF-8.
+    /// The text is not UTF-8.
     #[error("the text is not UTF-8")]
     Utf8,
-    /// No token begins at the offset.
+    /// Neither a token nor a blank begins at the offset.
     #[error("no token begins at byte {0}")]
     Token(usize),
-    /// A form of the language that is not read begins at the offset.
+    /// An unsupported form of the language begins at the offset.
     #[error("at byte {0} a form begins that is not read: {name}", name = .1.name())]
     Unsupported(usize, Feature),
     /// Digits or a number with a run of more than 18 digits begin at the offset.
@@ -72,7 +73,8 @@ pub enum QueryFault {
 impl QueryFault {
     ghost use Rattle.ecl_lexer.specs.Refusals.{fault_number};
 
-    /// The number of the fault, from 1 in the order in which faults are looked for.
+    /// Returns the number of the fault, from 1, in the order in which the reader looks for faults.
+    /// `Memory` has the last number, though memory may run out at any step.
     pub fn number(self) -> u8
         ensures { result ≡ fault_number self }
     {

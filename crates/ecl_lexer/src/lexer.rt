@@ -8,20 +8,21 @@ ghost use Rattle.ecl_lexer.specs.declared.fault.QueryFault.{QueryFault};
 ghost use Rattle.ecl_lexer.specs.declared.fault.QueryFault.TheVariants.{Long, Utf8, Memory};
 
 use crate::fault::QueryFault;
-use crate::pieces::{Piece, first_piece};
+use crate::lexemes::{Lexeme, first_lexeme};
 use crate::runs::code_count;
 use crate::token::Token;
 use crate::unsupported::unsupported;
 use std::alloc::Global;
 use std::str::from_utf8;
 
-// The length of the longest text that is read.
+// The most bytes that a text may have.
 const MOST_BYTES: usize = 65_535;
 
-/// Returns the tokens of a text in their order, or its first refusal before the grammar is looked at (Expression
-/// Constraint Language 2.2, 5.1 "Brief syntax"): `Long`, `Utf8`, or else `Unsupported`, `Token` or `Limit` at the
-/// least offset, at one offset in this order. Returns `Memory` if memory runs out; a text without a token takes no
-/// memory. It never returns `Depth` or `Syntax`.
+/// Returns the tokens of `text` in their order, or the text's first refusal before the grammar is
+/// looked at (Expression Constraint Language 2.2, 5.1 "Brief syntax"). The refusal is `Long`, or
+/// else `Utf8`, or else the fault at the least offset; at one offset `Unsupported` comes before
+/// `Token`, and `Token` before `Limit`. Returns `Memory` if memory runs out; a text without a token
+/// takes no memory. Never returns `Depth` or `Syntax`, which the parser finds.
 pub fn lex(alloc: Global, text: &[u8]) -> Result<Vec<Token<'_>>, QueryFault>
     // The result has the tokens of the text, as the grammar sees them and with their places.
     ensures found { IfOk result (λ tokens. AreTokensOf text.now (map spelled tokens.items)) }
@@ -29,9 +30,11 @@ pub fn lex(alloc: Global, text: &[u8]) -> Result<Vec<Token<'_>>, QueryFault>
     ensures spans { IfOk result (λ tokens. FollowOn text.now 0 (map placed tokens.items)) }
     ensures readable { OnOk result (IsReadable text.now) }
 
-    // A refusal is a fault of the text. If the text has a fault, or tokens, the only other answer is `Memory`.
+    // A refusal is a fault of the text. If the text has a fault, or tokens, the only other answer
+    // is `Memory`.
     ensures fault { IfErr result (λ fault. (fault ≡ Memory) ⊎ IsFaultOf text.now fault) }
-    ensures only { (fault : QueryFault) → IsFaultOf text.now fault → (result ≡ Err fault) ⊎ (result ≡ Err Memory) }
+    ensures only { (fault : QueryFault) → IsFaultOf text.now fault → (result ≡ Err fault)
+        ⊎ (result ≡ Err Memory) }
     ensures whole { (tokens : List Spelled) → IsReadable text.now → AreTokensOf text.now tokens
         → IsOk result ⊎ (result ≡ Err Memory) }
     ensures long { (result ≡ Err Long) ↔ IsFaultOf text.now Long }
@@ -50,7 +53,8 @@ pub fn lex(alloc: Global, text: &[u8]) -> Result<Vec<Token<'_>>, QueryFault>
     cut(alloc, text)
 }
 
-// Cuts a text that is UTF-8 and not too long into tokens.
+// Cuts `text`, which is UTF-8 and not too long, into tokens. `run_end` remembers where the current
+// run of letters, digits and `-` ends, so that each run is counted only once.
 fn cut(alloc: Global, text: &[u8]) -> Result<Vec<Token<'_>>, QueryFault>
     requires { IsReadable text.now }
     ensures found { IfOk result (λ tokens. AreTokensOf text.now (map spelled tokens.items)) }
@@ -67,13 +71,13 @@ fn cut(alloc: Global, text: &[u8]) -> Result<Vec<Token<'_>>, QueryFault>
         if run_end <= at {
             run_end = at + code_count(rest);
         }
-        let piece = read(rest, run_end - at, at)?;
-        let end = at + piece.length;
-        if let Some(kind) = piece.kind {
+        let lexeme = read(rest, run_end - at, at)?;
+        let end = at + lexeme.length;
+        if let Some(kind) = lexeme.kind {
             tokens.push(Token {
                 kind,
                 span: (at, end),
-                text: &rest[..piece.length],
+                text: &rest[..lexeme.length],
             })?;
         }
         at = end;
@@ -81,20 +85,20 @@ fn cut(alloc: Global, text: &[u8]) -> Result<Vec<Token<'_>>, QueryFault>
     Ok(tokens)
 }
 
-// Reads the piece that begins `rest`, or returns the fault there. `rest` begins at `offset` of the text;
-// `code_count` is the number of letters, digits and `-` that begin `rest`.
-fn read(rest: &[u8], code_count: usize, offset: usize) -> Result<Piece, QueryFault>
+// Returns the lexeme that begins `rest`, or the fault there. `offset` is the offset of `rest` in
+// the whole text. `code_count` is the number of letters, digits and `-` that begin `rest`.
+fn read(rest: &[u8], code_count: usize, offset: usize) -> Result<Lexeme, QueryFault>
     requires { code_count ≡ prefix_len is_code_byte rest.now }
     ensures { result ≡ found_of (reading offset rest.now) }
 {
     if let Some(feature) = unsupported(rest, code_count) {
         return Err(QueryFault::Unsupported(offset, feature));
     }
-    let Some(piece) = first_piece(rest) else {
+    let Some(lexeme) = first_lexeme(rest) else {
         return Err(QueryFault::Token(offset));
     };
-    if !piece.is_within_limit {
+    if !lexeme.is_within_limit {
         return Err(QueryFault::Limit(offset));
     }
-    Ok(piece)
+    Ok(lexeme)
 }

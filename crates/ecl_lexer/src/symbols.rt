@@ -1,35 +1,35 @@
-//! The symbols of the language.
+//! Finds a symbol of the language, as `<<` or `{`, at the beginning of a text.
 ghost use Rattle.std.specs.Prelude.{◌≡◌, [], ◌∷◌, option_map};
-ghost use Rattle.ecl_lexer.specs.Pieces.{symbol_kind};
+ghost use Rattle.ecl_lexer.specs.Lexemes.{symbol_kind};
 ghost use Rattle.ecl_lexer.specs.Reading.{found, symbol_at};
 
-use crate::pieces::Piece;
+use crate::lexemes::Lexeme;
 use crate::token::TokenKind;
 
-/// Returns the longest symbol that begins a text, or `None` if no symbol does.
-pub fn symbol(text: &[u8]) -> Option<Piece>
+/// Returns the longest symbol that begins `text`, as a lexeme, or `None` if no symbol does.
+pub fn symbol(text: &[u8]) -> Option<Lexeme>
     ensures { result ≡ option_map found (symbol_at text.now) }
 {
     if text.len() >= 3
         && let Some(kind) = three_bytes(text[0], text[1], text[2])
     {
-        return Some(Piece::token(kind, 3));
+        return Some(Lexeme::token(kind, 3));
     }
     if text.len() >= 2
         && let Some(kind) = two_bytes(text[0], text[1])
     {
-        return Some(Piece::token(kind, 2));
+        return Some(Lexeme::token(kind, 2));
     }
     if text.is_empty() {
         return None;
     }
     match one_byte(text[0]) {
-        Some(kind) => Some(Piece::token(kind, 1)),
+        Some(kind) => Some(Lexeme::token(kind, 1)),
         None => None,
     }
 }
 
-// The kind of the symbol of three bytes, or `None` if they are not one.
+// Returns the kind of the symbol that these three bytes spell, or `None` if they spell none.
 fn three_bytes(first: u8, second: u8, third: u8) -> Option<TokenKind>
     ensures { result ≡ symbol_kind (first ∷ second ∷ third ∷ []) }
 {
@@ -42,7 +42,7 @@ fn three_bytes(first: u8, second: u8, third: u8) -> Option<TokenKind>
     }
 }
 
-// The kind of the symbol of two bytes, or `None` if they are not one.
+// Returns the kind of the symbol that these two bytes spell, or `None` if they spell none.
 fn two_bytes(first: u8, second: u8) -> Option<TokenKind>
     ensures { result ≡ symbol_kind (first ∷ second ∷ []) }
 {
@@ -59,7 +59,7 @@ fn two_bytes(first: u8, second: u8) -> Option<TokenKind>
     }
 }
 
-// The kind of the symbol of one byte, or `None` if it is not one.
+// Returns the kind of the symbol that `byte` is, or `None` if it is none.
 fn one_byte(byte: u8) -> Option<TokenKind>
     ensures { result ≡ symbol_kind (byte ∷ []) }
 {

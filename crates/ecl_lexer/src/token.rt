@@ -1,10 +1,10 @@
 //! The tokens of an expression constraint.
 
-/// The kinds of token (Expression Constraint Language 2.2, 5.1 "Brief syntax"), one for each spelling.
-/// The comma and the word `AND` spell one kind.
+/// The kinds of token (Expression Constraint Language 2.2, 5.1 "Brief syntax"), one for each
+/// spelling. The comma and the word `AND` spell one kind.
 #[derive(Clone, Copy, Debug, PartialEq, Eq)]
 pub enum TokenKind {
-    /// `<`: descendant of, and among comparisons less than.
+    /// `<`: descendant of; as a comparison, less than.
     DescendantOf,
     /// `<<`: descendant or self of.
     DescendantOrSelfOf,
@@ -12,7 +12,7 @@ pub enum TokenKind {
     ChildOf,
     /// `<<!`: child or self of.
     ChildOrSelfOf,
-    /// `>`: ancestor of, and among comparisons greater than.
+    /// `>`: ancestor of; as a comparison, greater than.
     AncestorOf,
     /// `>>`: ancestor or self of.
     AncestorOrSelfOf,
@@ -20,13 +20,13 @@ pub enum TokenKind {
     ParentOf,
     /// `>>!`: parent or self of.
     ParentOrSelfOf,
-    /// `!!>`: top of a set.
+    /// `!!>`: top of a set, its members that are below no member of it.
     Top,
-    /// `!!<`: bottom of a set.
+    /// `!!<`: bottom of a set, its members that are above no member of it.
     Bottom,
     /// `^`: member of.
     MemberOf,
-    /// `*`: any concept, and among the bounds of a cardinality many.
+    /// `*`: any concept; as the maximum of a cardinality, no maximum.
     Wildcard,
     /// `(`.
     RoundOpen,
@@ -60,14 +60,14 @@ pub enum TokenKind {
     Or,
     /// The word `MINUS`.
     Minus,
-    /// `R` or `r`: the attribute is read backwards.
+    /// `R` or `r`: the attribute is read backwards, from value to source.
     Reverse,
     /// 1 to 18 digits. The first digit is 0 only if it is alone.
     Digits,
-    /// `#`, a sign or none, and 1 to 18 digits, of which the first is 0 only if it is alone. If `.` and a digit
-    /// follow, the number also has the point and 1 to 18 digits after it.
+    /// `#`, an optional sign, and 1 to 18 digits, of which the first is 0 only if it is alone. If
+    /// `.` and a digit follow, the number also has the `.` and 1 to 18 digits after it.
     Number,
-    /// A term between two `|`.
+    /// A term between two `|`, with both.
     Term,
 }
 
@@ -76,8 +76,9 @@ pub enum TokenKind {
 pub struct Token<'a> {
     /// The kind of the token.
     pub kind: TokenKind,
-    /// The place of the token: the offsets, in bytes from 0, of its first byte and after its last.
+    /// The offset in the text of the token's first byte and of the byte after its last, in bytes
+    /// from 0.
     pub span: (usize, usize),
-    /// The bytes of the token in the text.
+    /// The bytes of the token.
     pub text: &'a [u8],
 }

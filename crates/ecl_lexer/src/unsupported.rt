@@ -1,4 +1,4 @@
-//! Finds forms of the language that are not read.
+//! Finds the forms of the language that this engine does not support.
 ghost use Rattle.std.specs.Prelude.{◌≡◌, ◌∷◌, Some, None, if◌then◌else◌};
 ghost use Rattle.std.specs.List.{prefix_len};
 ghost use Rattle.ecl_lexer.specs.Bytes.{after_run, begins_with as begins_with_byte, is_code_byte, is_space as is_space_byte};
@@ -7,20 +7,21 @@ ghost use Rattle.ecl_lexer.specs.Refusals.{boolean_form, braces_form, fields_for
 use crate::fault::Feature;
 use crate::runs::{letter_count, space_count};
 
-/// Returns the form that begins a text and is not read, if there is one. `code_count` is the number of letters,
-/// digits and `-` at the front of the text. The caller counts a run once and passes on what is left of it.
+/// Returns the unsupported form that begins `text`, or `None` if none does. `code_count` is the
+/// number of letters, digits and `-` at the front of `text`. The caller counts each run of these
+/// bytes once, so that a text with one long run is not read again for each lexeme.
 pub fn unsupported(text: &[u8], code_count: usize) -> Option<Feature>
     requires { code_count ≡ prefix_len is_code_byte text.now }
     ensures { result ≡ unsupported_form text.now }
 {
-    let Some((first, behind)) = text.split_first() else {
+    let Some((first, following)) = text.split_first() else {
         return None;
     };
-    if *first == b'{' && begins_with(behind, b'{') {
-        return Some(braces(&behind[1..]));
+    if *first == b'{' && begins_with(following, b'{') {
+        return Some(braces(&following[1..]));
     }
     if *first == b'^' {
-        return fields(behind);
+        return fields(following);
     }
     if *first == b'"' {
         return Some(Feature::String);
@@ -35,29 +36,32 @@ pub fn unsupported(text: &[u8], code_count: usize) -> Option<Feature>
     boolean(text)
 }
 
-// The form after `{{`: a history supplement or a filter.
-fn braces(behind: &[u8]) -> Feature
-    ensures { result ≡ braces_form behind.now }
+// Returns the form that begins with `{{`: a history supplement or a filter. `following` is the text
+// after `{{`.
+fn braces(following: &[u8]) -> Feature
+    ensures { result ≡ braces_form following.now }
 {
-    if begins_with(&behind[space_count(behind)..], b'+') {
+    if begins_with(&following[space_count(following)..], b'+') {
         Feature::History
     } else {
         Feature::Filter
     }
 }
 
-// The form after `^`: fields of a reference set, or none.
-fn fields(behind: &[u8]) -> Option<Feature>
-    ensures { result ≡ fields_form behind.now }
+// Returns `Fields` if `following`, the text after `^`, begins with `[` after optional white space,
+// or else `None`.
+fn fields(following: &[u8]) -> Option<Feature>
+    ensures { result ≡ fields_form following.now }
 {
-    if begins_with(&behind[space_count(behind)..], b'[') {
+    if begins_with(&following[space_count(following)..], b'[') {
         Some(Feature::Fields)
     } else {
         None
     }
 }
 
-// The form of a text that begins with `true` or `false`, or none.
+// Returns `Boolean` if the letters at the front of `text` spell `true` or `false`, in either case,
+// or else `None`.
 fn boolean(text: &[u8]) -> Option<Feature>
     ensures { result ≡ boolean_form text.now }
 {
@@ -69,6 +73,7 @@ fn boolean(text: &[u8]) -> Option<Feature>
     }
 }
 
+// Whether the first byte of `text` is `byte`.
 fn begins_with(text: &[u8], byte: u8) -> bool
     ensures { result ≡ begins_with_byte byte text.now }
 {

@@ -1,6 +1,7 @@
--- The brackets of each form of the grammar match, token after token, and as many are open as the refusal for depth
--- counts.
-use Rattle.std.proofs.Common.{◌≡◌, ◌<◌, ◌+◌, ◌-◌, ◌==◌, ◌&&◌, ◌||◌, ℕ, Bool, true, false, List, [], ◌∷◌, length, refl, ap, sym, ◌∙◌, arith}
+-- The brackets of each form of the grammar match. Matching them token by token has as many open as the definition of
+-- `Depth` counts.
+use Rattle.std.proofs.Common.{◌≡◌, ◌<◌, ◌+◌, ◌-◌, ◌==◌, ◌&&◌, ◌||◌, ℕ, Bool, true, false, List, [], ◌∷◌, length, refl}
+use Rattle.std.proofs.Common.{ap, sym, ◌∙◌, arith}
 use Rattle.std.specs.Prelude.{map}
 use Rattle.std.proofs.lemmas.Bool.Decides.{nat_tests}
 use Rattle.std.proofs.lemmas.List.{length-set}
@@ -8,14 +9,14 @@ use Rattle.ecl_lexer.specs.Tokens.{Spelled}
 use Rattle.ecl_lexer.specs.declared.token.TokenKind.{TokenKind}
 use Rattle.ecl_lexer.specs.declared.token.TokenKind.TheVariants as token
 use Rattle.constraint_tree.specs.Grammar.{IsTreeOf, Symbol, mark, symbol_of}
-use Rattle.constraint_tree.specs.Refusal.{most_open, open_behind, opens}
+use Rattle.constraint_tree.specs.Refusal.{most_open, open_after, opens}
 use Rattle.constraint_tree.specs.Tree.{Tree}
 use Rattle.constraint_tree.proofs.LevelLemmas.{kind_of_symbol, symbols_deep}
 use Rattle.ecl_parser.specs.declared.brackets.OpenBracket.{OpenBracket}
 use Rattle.ecl_parser.specs.inside.Brackets.{Matching, agree, bracket_closed, bracket_opened, closed_by, token_matched}
 use Rattle.ecl_parser.proofs.Forms.{HoldsOfForms, constraint_holds, is_bracket}
 
--- the brackets after `tokens`, which begin at `place`
+-- the state of bracket matching after `tokens`, of which the first has the index `place`
 abbrev pub all_matched : ℕ → List Symbol → Matching → Matching
 all_matched place [] old = old
 all_matched place (symbol ∷ rest) old = all_matched (place + 1) rest (token_matched place (kind_of_symbol symbol) old)
@@ -30,7 +31,7 @@ no_bracket_matched token.BraceClose none place old = absurd (cc)
 no_bracket_matched other none place old = refl
 
 -- reading `tokens` from `place` on reaches `rest` with the open brackets of `old` and with `are_matched` unchanged
-record GoesBehind (place : ℕ) (old : Matching) (tokens rest : List Symbol) : Type 0 where
+record GoesAfter (place : ℕ) (old : Matching) (tokens rest : List Symbol) : Type 0 where
   further : ℕ
   new : Matching
   same : all_matched place tokens old ≡ all_matched further rest new
@@ -40,13 +41,13 @@ record GoesBehind (place : ℕ) (old : Matching) (tokens rest : List Symbol) : T
 -- the brackets of `tokens` match: reading them in front of any rest leaves the open brackets and `are_matched`
 -- unchanged
 record IsMatched (tokens : List Symbol → List Symbol) : Type 0 where
-  matches : (place : ℕ) (old : Matching) (rest : List Symbol) → GoesBehind place old (tokens rest) rest
+  matches : (place : ℕ) (old : Matching) (rest : List Symbol) → GoesAfter place old (tokens rest) rest
 
 -- a token that is no bracket may be put in front of tokens that leave the brackets unchanged
-behind_token : (symbol : Symbol) → is_bracket (kind_of_symbol symbol) ≡ false
+after_token : (symbol : Symbol) → is_bracket (kind_of_symbol symbol) ≡ false
     → (place : ℕ) (old : Matching) (tokens rest : List Symbol)
-    → GoesBehind (place + 1) old tokens rest → GoesBehind place old (symbol ∷ tokens) rest
-behind_token symbol none place old tokens rest goes = record {
+    → GoesAfter (place + 1) old tokens rest → GoesAfter place old (symbol ∷ tokens) rest
+after_token symbol none place old tokens rest goes = record {
   further = goes.further;
   new = goes.new;
   same = ap (all_matched (place + 1) tokens) (no_bracket_matched (kind_of_symbol symbol) none place old) ∙ goes.same;
@@ -55,9 +56,9 @@ behind_token symbol none place old tokens rest goes = record {
 }
 
 -- two lists of tokens in a row leave the brackets unchanged, if each list does
-behind_both : (place : ℕ) (old : Matching) (tokens more rest : List Symbol) → (first : GoesBehind place old tokens more)
-    → GoesBehind first.further first.new more rest → GoesBehind place old tokens rest
-behind_both place old tokens more rest first second = record {
+after_both : (place : ℕ) (old : Matching) (tokens more rest : List Symbol) → (first : GoesAfter place old tokens more)
+    → GoesAfter first.further first.new more rest → GoesAfter place old tokens rest
+after_both place old tokens more rest first second = record {
   further = second.further;
   new = second.new;
   same = first.same ∙ second.same;
@@ -80,12 +81,12 @@ brace_pair : Pairs token.BraceOpen token.BraceClose false
 brace_pair = record { opened = λ place old. refl; closed = λ place old. refl; agrees = refl }
 
 -- tokens in brackets leave the brackets unchanged, if the tokens inside do
-behind_bracket : {opening closing : TokenKind} {is_round : Bool} → Pairs opening closing is_round
+after_bracket : {opening closing : TokenKind} {is_round : Bool} → Pairs opening closing is_round
     → (place : ℕ) (old : Matching)
     → (tokens rest : List Symbol)
-    → GoesBehind (place + 1) (bracket_opened place is_round old) tokens (mark closing ∷ rest)
-    → GoesBehind place old (mark opening ∷ tokens) rest
-behind_bracket {opening} {closing} {is_round} pair place old tokens rest goes =
+    → GoesAfter (place + 1) (bracket_opened place is_round old) tokens (mark closing ∷ rest)
+    → GoesAfter place old (mark opening ∷ tokens) rest
+after_bracket {opening} {closing} {is_round} pair place old tokens rest goes =
     let new = goes.new in
     let top = ap (λ (list : List OpenBracket). closed_by list goes.further is_round new) goes.unclosed in
     let shut = pair.closed goes.further new ∙ top in
@@ -106,27 +107,28 @@ forms_matched = record {
   };
   symbol = λ {tokens = tokens} symbol none inside. record {
     matches = λ place old rest.
-        behind_token symbol none place old (tokens rest) rest (inside.matches (place + 1) old rest);
+        after_token symbol none place old (tokens rest) rest (inside.matches (place + 1) old rest);
   };
-  behind = λ {tokens = tokens} {more = more} first second. record {
+  following = λ {tokens = tokens} {more = more} first second. record {
     matches = λ place old rest.
         let front = first.matches place old (more rest) in
-        behind_both place old (tokens (more rest)) (more rest) rest front (second.matches front.further front.new rest);
+        after_both place old (tokens (more rest)) (more rest) rest front (second.matches front.further front.new rest);
   };
   round = λ {tokens = tokens} inside. record {
     matches = λ place old rest.
-        behind_bracket round_pair place old (tokens (mark token.RoundClose ∷ rest)) rest
+        after_bracket round_pair place old (tokens (mark token.RoundClose ∷ rest)) rest
         (inside.matches (place + 1) (bracket_opened place true old) (mark token.RoundClose ∷ rest));
   };
   brace = λ {tokens = tokens} inside. record {
     matches = λ place old rest.
-        behind_bracket brace_pair place old (tokens (mark token.BraceClose ∷ rest)) rest
+        after_bracket brace_pair place old (tokens (mark token.BraceClose ∷ rest)) rest
         (inside.matches (place + 1) (bracket_opened place false old) (mark token.BraceClose ∷ rest));
   };
   lower = λ less inside. inside;
 }
 
--- the brackets of tokens that have a tree match
+-- if tokens have a tree, matching their brackets leaves the open brackets as they were before, and finds no bracket
+-- that closes one of the other kind
 pub tree_matches : (tokens : List Spelled) (tree : Tree) (start : Matching) → IsTreeOf tokens tree
     → (all_matched 0 (map symbol_of tokens) start).unclosed ≡ start.unclosed
     × ((all_matched 0 (map symbol_of tokens) start).are_matched ≡ start.are_matched)
@@ -145,7 +147,7 @@ closed_length (opened ∷ outer) place is_round old = omega arith
 
 -- after a token as many brackets are open as the refusal for depth counts
 open_length : (kind : TokenKind) (place : ℕ) (old : Matching)
-    → open_behind (length old.unclosed) kind ≡ length (token_matched place kind old).unclosed
+    → open_after (length old.unclosed) kind ≡ length (token_matched place kind old).unclosed
 open_length token.RoundOpen place old = omega arith
 open_length token.BraceOpen place old = omega arith
 open_length token.RoundClose place old = sym (closed_length old.unclosed place true old)
@@ -157,23 +159,24 @@ not_full : (opened : Bool) (count : ℕ) → (opened ≡ true → count < 64) �
 not_full false count few = refl
 not_full true count few = let fewer = few refl in grind (arith, nat_tests)
 
--- if one more bracket may be open, tokens are too deep exactly if the tokens after the first are
-pub deep_behind : (symbol : Symbol) (rest : List Symbol) (place : ℕ) (old : Matching)
+-- if one more bracket may be open in front of a token that opens one, then the token and `rest` are too deep exactly
+-- if `rest` is too deep after the token
+pub deep_after : (symbol : Symbol) (rest : List Symbol) (place : ℕ) (old : Matching)
     → (opens (kind_of_symbol symbol) ≡ true → length old.unclosed < 64)
     → symbols_deep (length old.unclosed) (symbol ∷ rest)
     ≡ symbols_deep (length (token_matched place (kind_of_symbol symbol) old).unclosed) rest
-deep_behind symbol rest place old few =
+deep_after symbol rest place old few =
     let kind = kind_of_symbol symbol in
     let count = length old.unclosed in
-    ap (λ (full : Bool). full || symbols_deep (open_behind count kind) rest) (not_full (opens kind) count few)
+    ap (λ (full : Bool). full || symbols_deep (open_after count kind) rest) (not_full (opens kind) count few)
     ∙ ap (λ (n : ℕ). symbols_deep n rest) (open_length kind place old)
 
--- if 64 brackets are open, a token that opens one is too deep
+-- if 64 brackets are open and a token opens one more, the token and any tokens after it are too deep
 pub too_deep : (symbol : Symbol) (rest : List Symbol) (count : ℕ) → opens (kind_of_symbol symbol) ≡ true → count ≡ 64
     → symbols_deep count (symbol ∷ rest) ≡ true
 too_deep symbol rest count is full =
     ap (λ (n : ℕ). symbols_deep n (symbol ∷ rest)) full
-    ∙ ap (λ (found : Bool). (found && true) || symbols_deep (open_behind 64 (kind_of_symbol symbol)) rest) is
+    ∙ ap (λ (found : Bool). (found && true) || symbols_deep (open_after 64 (kind_of_symbol symbol)) rest) is
 
 -- closing a bracket keeps the number of ends
 closed_long : (list : List OpenBracket) (place : ℕ) (is_round : Bool) (old : Matching)
@@ -181,7 +184,7 @@ closed_long : (list : List OpenBracket) (place : ℕ) (is_round : Bool) (old : M
 closed_long [] place is_round old = refl
 closed_long (opened ∷ outer) place is_round old = length-set old.ends opened.place (place + 1)
 
--- reading a token keeps the number of ends
+-- reading a token keeps the length of the list `ends`
 pub as_long : (kind : TokenKind) (place : ℕ) (old : Matching)
     → length (token_matched place kind old).ends ≡ length old.ends
 as_long token.RoundOpen place old = refl

@@ -15,7 +15,8 @@ use Rattle.ecl_parser.proofs.ParseLemmas.{refusal_of_text, tokens_read}
 use Rattle.ecl_parser.proofs.Sound.{constraint_derives}
 
 -- tokens that are not too deep have a tree or have none, depending on whether reading reaches their end
-tree_or_none : (tokens : List Spelled) → is_deep 0 tokens ≡ false → ((tree : Tree) × IsTreeOf tokens tree) ⊎ ((tree : Tree) → ¬ IsTreeOf tokens tree)
+tree_or_none : (tokens : List Spelled) → is_deep 0 tokens ≡ false → ((tree : Tree) × IsTreeOf tokens tree)
+    ⊎ ((tree : Tree) → ¬ IsTreeOf tokens tree)
 tree_or_none tokens shallow = by_read (constraint_in (readers 64) (map symbol_of tokens)) refl
   where
     by_rest : (tree : Tree) (rest : List Symbol) → constraint_in (readers 64) (map symbol_of tokens) ≡ Some (tree, rest)
@@ -52,7 +53,7 @@ of_readable text readable = elim (each_text text readable) [
   | inr (fault, is) ↦ inr (fault, refusal_of_text text fault is)
 ]
 
--- every text is a constraint or is refused
+-- each text is a constraint with some tree, or it has a refusal
 pub tree_or_refusal : (text : List ℕ)
     → ((tree : Tree) × IsConstraint text tree) ⊎ ((fault : QueryFault) × IsRefusalOf text fault)
 tree_or_refusal text = elim (cases_lt most_bytes (length text)) [

@@ -1,6 +1,7 @@
--- Token after token, the brackets that were closed have their ends, and for each open bracket the tokens after the
--- bracket that will close it are known.
-use Rattle.std.proofs.Common.{◌≡◌, ◌⊎◌, inl, inr, ◌<◌, ◌+◌, ℕ, zero, suc, Bool, true, false, List, [], ◌∷◌, length, drop, refl, ap, sym, ◌∙◌, subst, arith, get_or-set_other, get_or-set_same}
+-- Matching brackets token by token: each bracket that was closed has its entry in `ends`, and for each open bracket
+-- the tokens after its closing bracket are known.
+use Rattle.std.proofs.Common.{◌≡◌, ◌⊎◌, inl, inr, ◌<◌, ◌+◌, ℕ, zero, suc, Bool, true, false, List, [], ◌∷◌, length}
+use Rattle.std.proofs.Common.{drop, refl, ap, sym, ◌∙◌, subst, arith, get_or-set_other, get_or-set_same}
 use Rattle.std.specs.Prelude.{◌&&◌, slice_index, slice_set}
 use Rattle.std.proofs.lemmas.Bool.{cases_eq, false≢true}
 use Rattle.std.proofs.lemmas.List.{length-replicate, length-set}
@@ -10,11 +11,12 @@ use Rattle.constraint_tree.proofs.LevelLemmas.{kind_of_symbol}
 use Rattle.ecl_parser.specs.declared.brackets.OpenBracket.{OpenBracket}
 use Rattle.ecl_parser.specs.declared.tokens.Mark.{Mark}
 use Rattle.ecl_parser.specs.declared.tokens.Mark.TheVariants as marks
-use Rattle.ecl_parser.specs.inside.Brackets.{AreEnds, Matching, agree, bracket_opened, closed_by, nothing_matched, token_matched}
-use Rattle.ecl_parser.specs.inside.Reading.{behind_close, stands}
+use Rattle.ecl_parser.specs.inside.Brackets.{AreEnds, Matching, agree, bracket_opened, closed_by, nothing_matched}
+use Rattle.ecl_parser.specs.inside.Brackets.{token_matched}
+use Rattle.ecl_parser.specs.inside.Reading.{after_close, stands}
 use Rattle.ecl_parser.proofs.BracketLemmas.{all_matched}
 
--- a token stands only at a place of the tokens
+-- if a token of the kind `wanted` stands at the index `place`, then `place` is below the number of tokens
 pub stands_within : (wanted : Mark) (tokens : List Symbol) (place : ℕ) → stands wanted (drop place tokens) ≡ true
     → place < length tokens
 stands_within wanted [] zero is = absurd (false≢true is)
@@ -71,7 +73,7 @@ level_outside false level = level
 -- `after` at level `to`
 abbrev Keeps : List Symbol → ℕ → List Symbol → ℕ → Type 0
 Keeps before from after to =
-    (further : ℕ) → behind_close (more further from) before ≡ behind_close (more further to) after
+    (further : ℕ) → after_close (more further from) before ≡ after_close (more further to) after
 
 -- `Keeps` holds one bracket further out
 keeps_outside : (is_round : Bool) (before : List Symbol) (from : ℕ) (after : List Symbol) (to : ℕ)
@@ -83,7 +85,7 @@ keeps_outside false before from after to keeps = keeps
 record IsOpen (tokens ahead : List Symbol) (level : ℕ) (opened : OpenBracket) : Type 0 where
   within : opened.place < length tokens
   kind : stands marks.RoundOpen (drop opened.place tokens) ≡ opened.is_round
-  closes : opened.is_round ≡ true → behind_close 0 (drop (opened.place + 1) tokens) ≡ behind_close level ahead
+  closes : opened.is_round ≡ true → after_close 0 (drop (opened.place + 1) tokens) ≡ after_close level ahead
 
 -- every bracket of a list is open, each outside the one in front of it
 abbrev AreOpen : List Symbol → List Symbol → ℕ → List OpenBracket → Type 0
@@ -92,13 +94,13 @@ AreOpen tokens ahead level (opened ∷ outer) =
     IsOpen tokens ahead level opened × AreOpen tokens ahead (level_outside opened.is_round level) outer
 
 -- open brackets stay open from `before` to `after`, if `Keeps` holds for the two
-are_open_behind : (tokens before : List Symbol) (from : ℕ) (after : List Symbol) (to : ℕ) (list : List OpenBracket)
+are_open_after : (tokens before : List Symbol) (from : ℕ) (after : List Symbol) (to : ℕ) (list : List OpenBracket)
     → Keeps before from after to
     → AreOpen tokens before from list → AreOpen tokens after to list
-are_open_behind tokens before from after to [] keeps are = tt
-are_open_behind tokens before from after to (opened ∷ outer) keeps (here, others) = (
+are_open_after tokens before from after to [] keeps are = tt
+are_open_after tokens before from after to (opened ∷ outer) keeps (here, others) = (
   record { within = here.within; kind = here.kind; closes = λ round. here.closes round ∙ keeps 0 },
-  are_open_behind tokens before (level_outside opened.is_round from) after (level_outside opened.is_round to) outer
+  are_open_after tokens before (level_outside opened.is_round from) after (level_outside opened.is_round to) outer
       (keeps_outside opened.is_round before from after to keeps) others,
 )
 
@@ -125,7 +127,7 @@ IsRound tokens place = stands marks.RoundOpen (drop place tokens) ≡ true
 
 -- the end of the `(` at the place is the place after the `)` that closes it
 abbrev HasEnd : List Symbol → List ℕ → ℕ → Type 0
-HasEnd tokens ends place = drop (slice_index ends place) tokens ≡ behind_close 0 (drop (place + 1) tokens)
+HasEnd tokens ends place = drop (slice_index ends place) tokens ≡ after_close 0 (drop (place + 1) tokens)
 
 -- the `(` at the place has its end, if one stands there
 abbrev HasEndIfRound : List Symbol → List ℕ → ℕ → Type 0
@@ -170,33 +172,33 @@ module _ (tokens : List Symbol) (at : ℕ) (symbol : Symbol) (rest : List Symbol
   no_round_here none round = false≢true (sym none ∙ ap (stands marks.RoundOpen) (sym ahead) ∙ round)
 
   -- a token that is no bracket keeps `AreRight`
-  right_behind_other : (found : Matching) → stands marks.RoundOpen (symbol ∷ rest) ≡ false
-      → ((level : ℕ) → behind_close level (symbol ∷ rest) ≡ behind_close level rest)
+  right_after_other : (found : Matching) → stands marks.RoundOpen (symbol ∷ rest) ≡ false
+      → ((level : ℕ) → after_close level (symbol ∷ rest) ≡ after_close level rest)
       → AreRight tokens at (symbol ∷ rest) found → AreRight tokens (at + 1) rest found
-  right_behind_other found none flat right = record {
+  right_after_other found none flat right = record {
     long = right.long;
-    unclosed = are_open_behind tokens (symbol ∷ rest) 0 rest 0 found.unclosed (λ further. flat (more further 0))
+    unclosed = are_open_after tokens (symbol ∷ rest) 0 rest 0 found.unclosed (λ further. flat (more further 0))
         right.unclosed;
     closed = before_next (EndsOrIsOpen tokens found.ends found.unclosed) tokens at right.closed
         (λ round. absurd (no_round_here none round));
   }
 
   -- a token that opens a bracket keeps `AreRight`
-  right_behind_opening : (found : Matching) (is_round : Bool) → stands marks.RoundOpen (symbol ∷ rest) ≡ is_round
-      → ((level : ℕ) → behind_close level (symbol ∷ rest) ≡ behind_close (level_outside is_round level) rest)
+  right_after_opening : (found : Matching) (is_round : Bool) → stands marks.RoundOpen (symbol ∷ rest) ≡ is_round
+      → ((level : ℕ) → after_close level (symbol ∷ rest) ≡ after_close (level_outside is_round level) rest)
       → AreRight tokens at (symbol ∷ rest) found → AreRight tokens (at + 1) rest (bracket_opened at is_round found)
-  right_behind_opening found is_round kind opens right =
+  right_after_opening found is_round kind opens right =
       let opened : OpenBracket = record { place = at; is_round = is_round } in record {
         long = right.long;
         unclosed = (
           record {
             within = within_ahead tokens at symbol rest ahead;
             kind = ap (stands marks.RoundOpen) ahead ∙ kind;
-            closes = λ round. ap (behind_close 0) (next_ahead tokens at symbol rest ahead);
+            closes = λ round. ap (after_close 0) (next_ahead tokens at symbol rest ahead);
           },
-          are_open_behind tokens (symbol ∷ rest) 0 rest (level_outside is_round 0) found.unclosed
+          are_open_after tokens (symbol ∷ rest) 0 rest (level_outside is_round 0) found.unclosed
               (λ further. opens (more further 0)
-              ∙ ap (λ (level : ℕ). behind_close level rest) (sym (more-outside is_round further)))
+              ∙ ap (λ (level : ℕ). after_close level rest) (sym (more-outside is_round further)))
               right.unclosed,
         );
         closed = before_next (EndsOrIsOpen tokens found.ends (opened ∷ found.unclosed)) tokens at
@@ -215,7 +217,7 @@ module _ (tokens : List Symbol) (at : ℕ) (symbol : Symbol) (rest : List Symbol
 
     -- the closed bracket has its end
     end_here : length ends ≡ length tokens → IsOpen tokens (symbol ∷ rest) 0 opened
-        → (opened.is_round ≡ true → behind_close 0 (symbol ∷ rest) ≡ rest)
+        → (opened.is_round ≡ true → after_close 0 (symbol ∷ rest) ≡ rest)
         → HasEndIfRound tokens with_end opened.place
     end_here long is_open closes = λ round.
         let is_round = sym is_open.kind ∙ round in
@@ -224,81 +226,81 @@ module _ (tokens : List Symbol) (at : ℕ) (symbol : Symbol) (rest : List Symbol
         ∙ next_ahead tokens at symbol rest ahead ∙ sym (closes is_round) ∙ sym (is_open.closes is_round)
 
     -- other brackets keep their ends
-    end_beside : (place : ℕ) → (place ≡ opened.place → ⊥) → HasEnd tokens ends place → HasEnd tokens with_end place
-    end_beside place apart ended =
+    end_besides : (place : ℕ) → (place ≡ opened.place → ⊥) → HasEnd tokens ends place → HasEnd tokens with_end place
+    end_besides place apart ended =
         ap (λ (n : ℕ). drop n tokens) (get_or-set_other ends opened.place place (at + 1) 0 apart) ∙ ended
 
     -- each `(` is open or has its end after a bracket was closed
-    ends_behind : (outer : List OpenBracket) → HasEndIfRound tokens with_end opened.place → (place : ℕ)
+    ends_after : (outer : List OpenBracket) → HasEndIfRound tokens with_end opened.place → (place : ℕ)
         → IsRound tokens place → EndsOrIsOpen tokens ends (opened ∷ outer) place
         → EndsOrIsOpen tokens with_end outer place
-    ends_behind outer here place round (inl ended) = elim (cases_eq place opened.place) [
+    ends_after outer here place round (inl ended) = elim (cases_eq place opened.place) [
       | inl same ↦
           let P : ℕ → Type 0 = HasEndIfRound tokens with_end in
           inl (subst P (sym same) here round)
-      | inr apart ↦ inl (end_beside place apart ended)
+      | inr apart ↦ inl (end_besides place apart ended)
     ]
-    ends_behind outer here place round (inr (inl same)) =
+    ends_after outer here place round (inr (inl same)) =
         let P : ℕ → Type 0 = HasEndIfRound tokens with_end in
         inl (subst P same here round)
-    ends_behind outer here place round (inr (inr among)) = inr among
+    ends_after outer here place round (inr (inr among)) = inr among
 
   -- The token closes a bracket of its kind, whatever is open there.
   module _ (is_round : Bool) (none : stands marks.RoundOpen (symbol ∷ rest) ≡ false)
-      (closes : (level : ℕ) → behind_close (level_outside is_round level) (symbol ∷ rest) ≡ behind_close level rest)
-      (here : is_round ≡ true → behind_close 0 (symbol ∷ rest) ≡ rest) where
+      (closes : (level : ℕ) → after_close (level_outside is_round level) (symbol ∷ rest) ≡ after_close level rest)
+      (here : is_round ≡ true → after_close 0 (symbol ∷ rest) ≡ rest) where
     -- a token that closes a bracket of its kind keeps `AreRight`
-    right_behind_closing : (found : Matching) → AreRight tokens at (symbol ∷ rest) found → (opened : OpenBracket)
+    right_after_closing : (found : Matching) → AreRight tokens at (symbol ∷ rest) found → (opened : OpenBracket)
         → (outer : List OpenBracket) → found.unclosed ≡ opened ∷ outer → opened.is_round ≡ is_round → (matched : Bool)
         → AreRight tokens (at + 1) rest
         (record { unclosed = outer; ends = with_end found.ends opened; are_matched = matched })
-    right_behind_closing found right opened outer is kind matched =
+    right_after_closing found right opened outer is kind matched =
         let P : List OpenBracket → Type 0 = AreOpen tokens (symbol ∷ rest) 0 in
         let are : AreOpen tokens (symbol ∷ rest) 0 (opened ∷ outer) = subst P is right.unclosed in
         let Outside : Bool → Type 0 = λ round. AreOpen tokens (symbol ∷ rest) (level_outside round 0) outer in
         let at_end = end_here found.ends opened right.long are.0 (λ round. here (sym kind ∙ round)) in record {
           long = length-set found.ends opened.place (at + 1) ∙ right.long;
-          unclosed = are_open_behind tokens (symbol ∷ rest) (level_outside is_round 0) rest 0 outer
-              (λ further. ap (λ (level : ℕ). behind_close level (symbol ∷ rest)) (more-outside is_round further)
+          unclosed = are_open_after tokens (symbol ∷ rest) (level_outside is_round 0) rest 0 outer
+              (λ further. ap (λ (level : ℕ). after_close level (symbol ∷ rest)) (more-outside is_round further)
               ∙ closes (more further 0))
               (subst Outside kind are.1);
           closed = before_next (EndsOrIsOpen tokens (with_end found.ends opened) outer) tokens at
               (λ place within round.
               let Q : List OpenBracket → Type 0 = λ list. EndsOrIsOpen tokens found.ends list place in
-              ends_behind found.ends opened outer at_end place round (subst Q is (right.closed place within round)))
+              ends_after found.ends opened outer at_end place round (subst Q is (right.closed place within round)))
               (λ round. absurd (no_round_here none round));
         }
 
     -- a closing token keeps `AreRight`, as long as the brackets match
-    right_behind_close : (found : Matching) → AreRightIfMatched tokens at (symbol ∷ rest) found
+    right_after_close : (found : Matching) → AreRightIfMatched tokens at (symbol ∷ rest) found
         → (list : List OpenBracket) → found.unclosed ≡ list
         → AreRightIfMatched tokens (at + 1) rest (closed_by list at is_round found)
-    right_behind_close found right [] is = λ matched. absurd (false≢true matched)
-    right_behind_close found right (opened ∷ outer) is = λ matched.
+    right_after_close found right [] is = λ matched. absurd (false≢true matched)
+    right_after_close found right (opened ∷ outer) is = λ matched.
         let parts = both_true (agree opened.is_round is_round) found.are_matched matched in
-        right_behind_closing found (right parts.1) opened outer is (agree_same opened.is_round is_round parts.0)
+        right_after_closing found (right parts.1) opened outer is (agree_same opened.is_round is_round parts.0)
         (agree opened.is_round is_round && found.are_matched)
 
 -- every token keeps `AreRight`, as long as the brackets match
-right_behind : (tokens : List Symbol) (at : ℕ) (symbol : Symbol) (rest : List Symbol) (found : Matching)
+right_after : (tokens : List Symbol) (at : ℕ) (symbol : Symbol) (rest : List Symbol) (found : Matching)
     → drop at tokens ≡ symbol ∷ rest → AreRightIfMatched tokens at (symbol ∷ rest) found
     → AreRightIfMatched tokens (at + 1) rest (token_matched at (kind_of_symbol symbol) found)
-right_behind tokens at (digits run) rest found ahead right =
-    λ matched. right_behind_other tokens at (digits run) rest ahead found refl (λ level. refl) (right matched)
-right_behind tokens at (decimal text) rest found ahead right =
-    λ matched. right_behind_other tokens at (decimal text) rest ahead found refl (λ level. refl) (right matched)
-right_behind tokens at (mark token.RoundOpen) rest found ahead right = λ matched.
-    right_behind_opening tokens at (mark token.RoundOpen) rest ahead found true refl (λ level. refl) (right matched)
-right_behind tokens at (mark token.BraceOpen) rest found ahead right = λ matched.
-    right_behind_opening tokens at (mark token.BraceOpen) rest ahead found false refl (λ level. refl) (right matched)
-right_behind tokens at (mark token.RoundClose) rest found ahead right =
-    right_behind_close tokens at (mark token.RoundClose) rest ahead true refl (λ level. refl) (λ round. refl)
+right_after tokens at (digits run) rest found ahead right =
+    λ matched. right_after_other tokens at (digits run) rest ahead found refl (λ level. refl) (right matched)
+right_after tokens at (decimal text) rest found ahead right =
+    λ matched. right_after_other tokens at (decimal text) rest ahead found refl (λ level. refl) (right matched)
+right_after tokens at (mark token.RoundOpen) rest found ahead right = λ matched.
+    right_after_opening tokens at (mark token.RoundOpen) rest ahead found true refl (λ level. refl) (right matched)
+right_after tokens at (mark token.BraceOpen) rest found ahead right = λ matched.
+    right_after_opening tokens at (mark token.BraceOpen) rest ahead found false refl (λ level. refl) (right matched)
+right_after tokens at (mark token.RoundClose) rest found ahead right =
+    right_after_close tokens at (mark token.RoundClose) rest ahead true refl (λ level. refl) (λ round. refl)
     found right found.unclosed refl
-right_behind tokens at (mark token.BraceClose) rest found ahead right =
-    right_behind_close tokens at (mark token.BraceClose) rest ahead false refl (λ level. refl)
+right_after tokens at (mark token.BraceClose) rest found ahead right =
+    right_after_close tokens at (mark token.BraceClose) rest ahead false refl (λ level. refl)
     (λ round. absurd (false≢true round)) found right found.unclosed refl
-right_behind tokens at (mark other) rest found ahead right =
-    λ matched. right_behind_other tokens at (mark other) rest ahead found refl (λ level. refl) (right matched)
+right_after tokens at (mark other) rest found ahead right =
+    λ matched. right_after_other tokens at (mark other) rest ahead found refl (λ level. refl) (right matched)
 
 -- the tokens from a place on keep `AreRight`, as long as the brackets match
 right_at_end : (tokens : List Symbol) (at : ℕ) (ahead : List Symbol) (found : Matching) → drop at tokens ≡ ahead
@@ -313,9 +315,10 @@ right_at_end tokens at [] found is right = λ matched.
     }
 right_at_end tokens at (symbol ∷ rest) found is right =
     right_at_end tokens (at + 1) rest (token_matched at (kind_of_symbol symbol) found)
-    (next_ahead tokens at symbol rest is) (right_behind tokens at symbol rest found is right)
+    (next_ahead tokens at symbol rest is) (right_after tokens at symbol rest found is right)
 
--- if all brackets match and none is open at the end, each `(` has its end
+-- if after all tokens each closing bracket has closed one of its kind and no bracket is open, then `ends` has for
+-- each `(` the index after the `)` that closes it
 pub ends_found : (tokens : List Symbol) (found : Matching)
     → found ≡ all_matched 0 tokens (nothing_matched (length tokens))
     → found.are_matched ≡ true → found.unclosed ≡ [] → AreEnds tokens found.ends

@@ -1,15 +1,25 @@
 -- How deep the brackets of a form are. The round brackets of a form's tokens close, and the tokens in front of a rest
 -- are no fewer than the rest.
-use Rattle.std.proofs.Common.{◌≡◌, ◌≤◌, ℕ, suc, Bool, true, false, List, ◌∷◌, length, Option, None, Some, max, refl, ◌∙◌, arith}
+use Rattle.std.proofs.Common.{◌≡◌, ◌≤◌, ℕ, suc, Bool, true, false, List, ◌∷◌, length, Option, None, Some, max, refl}
+use Rattle.std.proofs.Common.{◌∙◌, arith}
 use Rattle.constraint_tree.specs.declared.operator.Compare.{Compare}
 use Rattle.constraint_tree.specs.declared.operator.Compare.TheVariants as compare
 use Rattle.constraint_tree.specs.declared.operator.Operator.{Operator}
 use Rattle.constraint_tree.specs.declared.operator.Operator.TheVariants as operator
 use Rattle.ecl_lexer.specs.declared.token.TokenKind.{TokenKind}
 use Rattle.ecl_lexer.specs.declared.token.TokenKind.TheVariants as token
-use Rattle.constraint_tree.specs.Grammar.{Symbol, digits, decimal, mark, CountForm, at_least, between, ConstraintForm, alone, refined, conjunction, disjunction, exclusion, dotted, SubForms, no_subs, sub_then, SubForm, plain, member, walk, walk_member, FocusForm, concept, concept_term, any, round, RefinementForm, one_item, all_items, some_items, ItemForms, no_items, item_then, ItemForm, attribute, group, round_refinement, SetForm, one_part, all_parts, some_parts, PartForms, no_parts, part_then, PartForm, counted_part, round_set, PairForm, within, outside, number, operator_kind, compare_kind, counted_tokens, reverse_tokens, constraint_tokens, subs_tokens, sub_tokens, focus_tokens, refinement_tokens, items_tokens, item_tokens, set_tokens, parts_tokens, part_tokens, pair_tokens}
+use Rattle.constraint_tree.specs.Grammar.{Symbol, digits, decimal, mark, CountForm, at_least, between, ConstraintForm}
+use Rattle.constraint_tree.specs.Grammar.{alone, refined, conjunction, disjunction, exclusion, dotted, SubForms}
+use Rattle.constraint_tree.specs.Grammar.{no_subs, sub_then, SubForm, plain, member, walk, walk_member, FocusForm}
+use Rattle.constraint_tree.specs.Grammar.{concept, concept_term, any, round, RefinementForm, one_item, all_items}
+use Rattle.constraint_tree.specs.Grammar.{some_items, ItemForms, no_items, item_then, ItemForm, attribute, group}
+use Rattle.constraint_tree.specs.Grammar.{round_refinement, SetForm, one_part, all_parts, some_parts, PartForms}
+use Rattle.constraint_tree.specs.Grammar.{no_parts, part_then, PartForm, counted_part, round_set, PairForm, within}
+use Rattle.constraint_tree.specs.Grammar.{outside, number, operator_kind, compare_kind, counted_tokens, reverse_tokens}
+use Rattle.constraint_tree.specs.Grammar.{constraint_tokens, subs_tokens, sub_tokens, focus_tokens, refinement_tokens}
+use Rattle.constraint_tree.specs.Grammar.{items_tokens, item_tokens, set_tokens, parts_tokens, part_tokens, pair_tokens}
 use Rattle.constraint_tree.proofs.LevelLemmas.{kind_of_symbol}
-use Rattle.ecl_parser.specs.inside.Reading.{behind_close}
+use Rattle.ecl_parser.specs.inside.Reading.{after_close}
 
 -- how many brackets are open at once inside a form
 abbrev mutual
@@ -80,7 +90,7 @@ abbrev mutual
   pair_depth (outside name value) = max (sub_depth name) (sub_depth value)
   pair_depth (number name compare text value is) = sub_depth name
 
--- whether a kind of token is a bracket: `(`, `)`, `{` or `}`
+-- whether a kind of token is a bracket of a constraint: `(`, `)`, `{` or `}`
 abbrev pub is_bracket : TokenKind → Bool
 is_bracket token.RoundOpen = true
 is_bracket token.RoundClose = true
@@ -98,31 +108,36 @@ compare_no_bracket : (c : Compare) → is_bracket (compare_kind c) ≡ false
 compare_no_bracket compare.Equal = refl
 compare_no_bracket other = refl
 
--- a property of tokens in front of others, by the depth of their brackets, that holds of the tokens of every form
+-- `Is depth tokens` is a property that the tokens of each form have, if `depth` is the depth of the form's brackets:
+-- it holds for the empty list, and each step that builds the tokens of a form keeps it
 pub record HoldsOfForms (Is : ℕ → (List Symbol → List Symbol) → Type 0) : Type 0 where
-  -- the property holds of the empty list of tokens, at depth 0
+  -- the property holds for the empty list of tokens, with depth 0
   pub nothing : Is 0 (λ rest. rest)
-  -- the property holds of a token that is no bracket, with the tokens after it
-  pub symbol : {depth : ℕ} {tokens : List Symbol → List Symbol} (next : Symbol) → is_bracket (kind_of_symbol next) ≡ false
+  -- adding a token that is no bracket in front keeps the property and the depth
+  pub symbol : {depth : ℕ} {tokens : List Symbol → List Symbol} (next : Symbol)
+      → is_bracket (kind_of_symbol next) ≡ false
       → Is depth tokens → Is depth (λ rest. next ∷ tokens rest)
-  -- the property holds of tokens in front of others, at the greater depth
-  pub behind : {depth further : ℕ} {tokens more : List Symbol → List Symbol} → Is depth tokens → Is further more
+  -- two lists of tokens one after the other have the property, with the greater of the two depths
+  pub following : {depth further : ℕ} {tokens more : List Symbol → List Symbol} → Is depth tokens → Is further more
       → Is (max depth further) (λ rest. tokens (more rest))
-  -- the property holds of tokens in round brackets, one deeper
+  -- tokens in round brackets have the property, with the depth plus 1
   pub round : {depth : ℕ} {tokens : List Symbol → List Symbol} → Is depth tokens
       → Is (suc depth) (λ rest. mark token.RoundOpen ∷ tokens (mark token.RoundClose ∷ rest))
-  -- the property holds of tokens in braces, one deeper
+  -- tokens in braces have the property, with the depth plus 1
   pub brace : {depth : ℕ} {tokens : List Symbol → List Symbol} → Is depth tokens
       → Is (suc depth) (λ rest. mark token.BraceOpen ∷ tokens (mark token.BraceClose ∷ rest))
-  -- the property holds at a smaller depth
+  -- the property also holds with each smaller depth
   pub lower : {depth less : ℕ} {tokens : List Symbol → List Symbol} → less ≤ depth → Is depth tokens → Is less tokens
 
 -- If a property has `HoldsOfForms`, the tokens of each form have the property.
 module _ {Is : ℕ → (List Symbol → List Symbol) → Type 0} (along : HoldsOfForms Is) where
   -- two forms with a token between them, and further forms after them, have the property
-  joined : {first second further : ℕ} {one two others : List Symbol → List Symbol} (kind : TokenKind) → is_bracket kind ≡ false
-      → Is first one → Is second two → Is further others → Is (max first (max second further)) (λ rest. one (mark kind ∷ two (others rest)))
-  joined kind none first second more = along.behind first (along.symbol (mark kind) none (along.behind second more))
+  joined : {first second further : ℕ} {one two others : List Symbol → List Symbol} (kind : TokenKind)
+      → is_bracket kind ≡ false
+      → Is first one → Is second two → Is further others
+      → Is (max first (max second further)) (λ rest. one (mark kind ∷ two (others rest)))
+  joined kind none first second more =
+      along.following first (along.symbol (mark kind) none (along.following second more))
 
   -- a form after an optional cardinality has the property
   counted : {depth : ℕ} {tokens : List Symbol → List Symbol} (count : Option CountForm) → Is depth tokens
@@ -142,39 +157,45 @@ module _ {Is : ℕ → (List Symbol → List Symbol) → Type 0} (along : HoldsO
   reversed false inside = inside
 
   mutual
-    -- a constraint form has the property
+    -- the tokens of each constraint form have the property, with the depth of the form
     pub constraint_holds : (form : ConstraintForm) → Is (constraint_depth form) (constraint_tokens form)
     constraint_holds (alone sub) = sub_holds sub
-    constraint_holds (refined focus refinement) = along.behind (sub_holds focus) (along.symbol (mark token.Colon) refl (refinement_holds refinement))
+    constraint_holds (refined focus refinement) =
+        along.following (sub_holds focus) (along.symbol (mark token.Colon) refl (refinement_holds refinement))
     constraint_holds (conjunction first second more) =
         joined token.And refl (sub_holds first) (sub_holds second) (subs_hold token.And refl more)
     constraint_holds (disjunction first second more) =
         joined token.Or refl (sub_holds first) (sub_holds second) (subs_hold token.Or refl more)
-    constraint_holds (exclusion first second) = along.behind (sub_holds first) (along.symbol (mark token.Minus) refl (sub_holds second))
+    constraint_holds (exclusion first second) =
+        along.following (sub_holds first) (along.symbol (mark token.Minus) refl (sub_holds second))
     constraint_holds (dotted start name more) =
         joined token.Dot refl (sub_holds start) (sub_holds name) (subs_hold token.Dot refl more)
 
     -- further operands have the property
-    subs_hold : (kind : TokenKind) → is_bracket kind ≡ false → (forms : SubForms) → Is (subs_depth forms) (subs_tokens kind forms)
+    subs_hold : (kind : TokenKind) → is_bracket kind ≡ false → (forms : SubForms)
+        → Is (subs_depth forms) (subs_tokens kind forms)
     subs_hold kind none no_subs = along.nothing
-    subs_hold kind none (sub_then sub more) = along.symbol (mark kind) none (along.behind (sub_holds sub) (subs_hold kind none more))
+    subs_hold kind none (sub_then sub more) =
+        along.symbol (mark kind) none (along.following (sub_holds sub) (subs_hold kind none more))
 
-    -- an operand has the property
+    -- the tokens of each operand have the property, with the depth of the operand
     pub sub_holds : (form : SubForm) → Is (sub_depth form) (sub_tokens form)
     sub_holds (plain focus) = focus_holds focus
     sub_holds (member focus) = along.symbol (mark token.MemberOf) refl (focus_holds focus)
     sub_holds (walk o focus) = along.symbol (mark (operator_kind o)) (operator_no_bracket o) (focus_holds focus)
     sub_holds (walk_member o focus) =
-        along.symbol (mark (operator_kind o)) (operator_no_bracket o) (along.symbol (mark token.MemberOf) refl (focus_holds focus))
+        along.symbol (mark (operator_kind o)) (operator_no_bracket o)
+        (along.symbol (mark token.MemberOf) refl (focus_holds focus))
 
     -- a focus has the property
     focus_holds : (form : FocusForm) → Is (focus_depth form) (focus_tokens form)
     focus_holds (concept run is) = along.symbol (digits run) refl along.nothing
-    focus_holds (concept_term run is) = along.symbol (digits run) refl (along.symbol (mark token.Term) refl along.nothing)
+    focus_holds (concept_term run is) =
+        along.symbol (digits run) refl (along.symbol (mark token.Term) refl along.nothing)
     focus_holds any = along.symbol (mark token.Wildcard) refl along.nothing
     focus_holds (round constraint) = along.round (constraint_holds constraint)
 
-    -- a refinement form has the property
+    -- the tokens of each refinement form have the property, with the depth of the form
     pub refinement_holds : (form : RefinementForm) → Is (refinement_depth form) (refinement_tokens form)
     refinement_holds (one_item item) = item_holds item
     refinement_holds (all_items first second more) =
@@ -183,17 +204,19 @@ module _ {Is : ℕ → (List Symbol → List Symbol) → Type 0} (along : HoldsO
         joined token.Or refl (item_holds first) (item_holds second) (items_hold token.Or refl more)
 
     -- further items have the property
-    items_hold : (kind : TokenKind) → is_bracket kind ≡ false → (forms : ItemForms) → Is (items_depth forms) (items_tokens kind forms)
+    items_hold : (kind : TokenKind) → is_bracket kind ≡ false → (forms : ItemForms)
+        → Is (items_depth forms) (items_tokens kind forms)
     items_hold kind none no_items = along.nothing
-    items_hold kind none (item_then item more) = along.symbol (mark kind) none (along.behind (item_holds item) (items_hold kind none more))
+    items_hold kind none (item_then item more) =
+        along.symbol (mark kind) none (along.following (item_holds item) (items_hold kind none more))
 
-    -- an item has the property
+    -- the tokens of each item have the property, with the depth of the item
     pub item_holds : (form : ItemForm) → Is (item_depth form) (item_tokens form)
     item_holds (attribute count reverse pair) = counted count (reversed reverse (pair_holds pair))
     item_holds (group count set) = counted count (along.brace (set_holds set))
     item_holds (round_refinement refinement) = along.round (refinement_holds refinement)
 
-    -- an attribute set form has the property
+    -- the tokens of each attribute set form have the property, with the depth of the form
     pub set_holds : (form : SetForm) → Is (set_depth form) (set_tokens form)
     set_holds (one_part part) = part_holds part
     set_holds (all_parts first second more) =
@@ -202,38 +225,43 @@ module _ {Is : ℕ → (List Symbol → List Symbol) → Type 0} (along : HoldsO
         joined token.Or refl (part_holds first) (part_holds second) (parts_hold token.Or refl more)
 
     -- further parts have the property
-    parts_hold : (kind : TokenKind) → is_bracket kind ≡ false → (forms : PartForms) → Is (parts_depth forms) (parts_tokens kind forms)
+    parts_hold : (kind : TokenKind) → is_bracket kind ≡ false → (forms : PartForms)
+        → Is (parts_depth forms) (parts_tokens kind forms)
     parts_hold kind none no_parts = along.nothing
-    parts_hold kind none (part_then part more) = along.symbol (mark kind) none (along.behind (part_holds part) (parts_hold kind none more))
+    parts_hold kind none (part_then part more) =
+        along.symbol (mark kind) none (along.following (part_holds part) (parts_hold kind none more))
 
-    -- a part has the property
+    -- the tokens of each part have the property, with the depth of the part
     pub part_holds : (form : PartForm) → Is (part_depth form) (part_tokens form)
     part_holds (counted_part count pair) = counted count (pair_holds pair)
     part_holds (round_set set) = along.round (set_holds set)
 
     -- a pair has the property
     pair_holds : (form : PairForm) → Is (pair_depth form) (pair_tokens form)
-    pair_holds (within name value) = along.behind (sub_holds name) (along.symbol (mark token.Equal) refl (sub_holds value))
-    pair_holds (outside name value) = along.behind (sub_holds name) (along.symbol (mark token.NotEqual) refl (sub_holds value))
+    pair_holds (within name value) =
+        along.following (sub_holds name) (along.symbol (mark token.Equal) refl (sub_holds value))
+    pair_holds (outside name value) =
+        along.following (sub_holds name) (along.symbol (mark token.NotEqual) refl (sub_holds value))
     pair_holds (number name c text value is) =
-        along.lower (omega arith) (along.behind (sub_holds name)
+        along.lower (omega arith) (along.following (sub_holds name)
         (along.symbol (mark (compare_kind c)) (compare_no_bracket c) (along.symbol (decimal text) refl along.nothing)))
 
--- the round brackets of `tokens` close, and `tokens` in front of a rest are no fewer than the rest
+-- each `(` in `tokens` is closed in `tokens`, and `tokens` in front of any `rest` are at least as many as `rest`
 pub record IsClosed (tokens : List Symbol → List Symbol) : Type 0 where
-  -- the tokens after the `)` that closes an outer `(` are the same, with `tokens` in front of `rest` or without
-  pub closes : (level : ℕ) (rest : List Symbol) → behind_close level (tokens rest) ≡ behind_close level rest
-  -- `tokens` in front of `rest` are no fewer than `rest`
+  -- the search for the `)` that closes an earlier `(` passes over `tokens` and finds it in `rest`
+  pub closes : (level : ℕ) (rest : List Symbol) → after_close level (tokens rest) ≡ after_close level rest
+  -- `tokens` in front of `rest` are at least as many as `rest`
   pub longer : (rest : List Symbol) → length rest ≤ length (tokens rest)
 
--- a token that is no bracket leaves the tokens after the closing `)` as they are
-pub no_bracket_closes : (symbol : Symbol) → is_bracket (kind_of_symbol symbol) ≡ false → (level : ℕ) (rest : List Symbol)
-    → behind_close level (symbol ∷ rest) ≡ behind_close level rest
+-- the search for the `)` that closes an earlier `(` passes over a token that is no bracket
+pub no_bracket_closes : (symbol : Symbol) → is_bracket (kind_of_symbol symbol) ≡ false
+    → (level : ℕ) (rest : List Symbol)
+    → after_close level (symbol ∷ rest) ≡ after_close level rest
 no_bracket_closes (mark token.RoundOpen) none level rest = absurd (cc)
 no_bracket_closes (mark token.RoundClose) none level rest = absurd (cc)
 no_bracket_closes other none level rest = refl
 
--- the round brackets of every form's tokens close, and the tokens in front of a rest are no fewer than the rest
+-- in the tokens of each form each `(` is closed, and the tokens in front of any `rest` are at least as many as `rest`
 pub forms_closed : HoldsOfForms (λ depth tokens. IsClosed tokens)
 forms_closed = record {
   nothing = record { closes = λ level rest. refl; longer = λ rest. omega arith };
@@ -241,7 +269,7 @@ forms_closed = record {
     closes = λ level rest. no_bracket_closes symbol none level (tokens rest) ∙ inside.closes level rest;
     longer = λ rest. omega (arith, inside.longer rest);
   };
-  behind = λ {more = more} first second. record {
+  following = λ {more = more} first second. record {
     closes = λ level rest. first.closes level (more rest) ∙ second.closes level rest;
     longer = λ rest. omega (arith, first.longer (more rest), second.longer rest);
   };

@@ -12,7 +12,7 @@ use Rattle.ecl_parser.specs.declared.tokens.Mark.{Mark}
 use Rattle.ecl_parser.specs.declared.tokens.Mark.TheVariants as marks
 use Rattle.std.proofs.lemmas.Bool.{false≢true}
 
--- the kind of token of a mark
+-- the kind of token that a mark names
 abbrev pub kind_of : Mark → TokenKind
 kind_of marks.And = token.And
 kind_of marks.Or = token.Or
@@ -31,7 +31,7 @@ kind_of marks.MemberOf = token.MemberOf
 kind_of marks.Reverse = token.Reverse
 kind_of marks.Term = token.Term
 
--- a token that is read as a mark has the kind of that mark
+-- if `is_mark` is true for the mark `wanted` and a kind of token, this is the kind that the mark names
 pub mark_kind : (wanted : Mark) (kind : TokenKind) → is_mark wanted kind ≡ true → kind ≡ kind_of wanted
 mark_kind marks.And token.And is = refl
 mark_kind marks.Or token.Or is = refl
@@ -51,17 +51,18 @@ mark_kind marks.Reverse token.Reverse is = refl
 mark_kind marks.Term token.Term is = refl
 mark_kind wanted kind is = absurd (false≢true is)
 
--- the token of an operator is read as that operator
+-- the token that spells a hierarchy operator is read as this operator
 pub operator_back : (o : Operator) → operator_of (operator_kind o) ≡ Some o
 operator_back operator.Descendants = refl
 operator_back other = refl
 
--- the token of a comparison is read as that comparison
+-- the token that spells a comparison is read as this comparison
 pub compare_back : (c : Compare) → compare_of (compare_kind c) ≡ Some c
 compare_back compare.Equal = refl
 compare_back other = refl
 
--- a token that is read as something is not a mark whose own token is read as nothing
+-- if `read` has a result for `kind` and none for the kind of the mark `wanted`, then `kind` is not the kind of this
+-- mark
 pub read_is_no_mark : {A : Type 0} (read : TokenKind → Option A) (kind : TokenKind) (found : A) → read kind ≡ Some found
     → (wanted : Mark) → read (kind_of wanted) ≡ None → is_mark wanted kind ≡ false
 read_is_no_mark {A} read kind found is wanted none = by (is_mark wanted kind) refl

@@ -7,7 +7,8 @@ use Rattle.ecl_lexer.specs.Tokens.{Spelled}
 use Rattle.constraint_tree.specs.Grammar.{symbol_of}
 use Rattle.constraint_tree.specs.Refusal.{is_deep}
 use Rattle.constraint_tree.proofs.CanonLemmas.{deep_symbols}
-use Rattle.constraint_tree.proofs.LevelLemmas.{kind_of_symbol, IsFlat, IsWithin, round_brackets, braces, nothing_within, marked_within, then_within, bracket_within, lower_within, symbols_deep}
+use Rattle.constraint_tree.proofs.LevelLemmas.{kind_of_symbol, IsFlat, IsWithin, round_brackets, braces, nothing_within}
+use Rattle.constraint_tree.proofs.LevelLemmas.{marked_within, then_within, bracket_within, lower_within, symbols_deep}
 use Rattle.ecl_parser.proofs.Forms.{is_bracket, HoldsOfForms, constraint_holds, constraint_depth}
 
 -- a token that is no bracket opens and closes none
@@ -19,7 +20,8 @@ no_bracket_flat token.BraceClose none count rest = absurd (cc)
 no_bracket_flat other none count rest = refl
 
 -- a token that is no bracket in front of tokens keeps `IsWithin`
-token_within : {depth : ℕ} {tokens : List Symbol → List Symbol} (symbol : Symbol) → is_bracket (kind_of_symbol symbol) ≡ false
+token_within : {depth : ℕ} {tokens : List Symbol → List Symbol} (symbol : Symbol)
+    → is_bracket (kind_of_symbol symbol) ≡ false
     → IsWithin tokens depth → IsWithin (λ rest. symbol ∷ tokens rest) depth
 token_within (digits run) none inside = record { fits = λ count rest few flat. inside.fits count rest few flat }
 token_within (decimal text) none inside = record { fits = λ count rest few flat. inside.fits count rest few flat }
@@ -30,15 +32,16 @@ forms_within : HoldsOfForms (λ depth tokens. IsWithin tokens depth)
 forms_within = record {
   nothing = nothing_within;
   symbol = λ symbol none inside. token_within symbol none inside;
-  behind = λ first second. then_within first second;
+  following = λ first second. then_within first second;
   round = λ inside. lower_within (omega arith) (bracket_within round_brackets inside);
   brace = λ inside. lower_within (omega arith) (bracket_within braces inside);
   lower = λ less inside. lower_within less inside;
 }
 
--- a form that derives tokens that are not too deep has at most 64 brackets open at once
+-- if a form derives tokens that are not too deep, at most 64 brackets are open at once in the form
 pub fits_most : (form : ConstraintForm) (tokens : List Spelled) → map symbol_of tokens ≡ constraint_tokens form []
     → is_deep 0 tokens ≡ false → constraint_depth form ≤ 64
 fits_most form tokens same shallow =
-    let found = (constraint_holds forms_within form).fits 0 [] (omega arith) (ap (symbols_deep 0) (sym same) ∙ sym (deep_symbols 0 tokens) ∙ shallow) in
+    let found = (constraint_holds forms_within form).fits 0 [] (omega arith) (ap (symbols_deep 0) (sym same)
+    ∙ sym (deep_symbols 0 tokens) ∙ shallow) in
     omega (arith, found.0)

@@ -1,4 +1,5 @@
-//! Which bracket closes which.
+//! Finds for each opening bracket the one that closes it. Brackets are `(`, `)`, `{` and `}`; the
+//! `[` and `]` of a cardinality are not counted.
 ghost use Rattle.std.specs.Prelude.{◌≡◌, ◌<◌, ℕ, false, true, IfErr, IfOk, IfSome, None, OnOk, OnSome, [], length, map};
 ghost use Rattle.ecl_lexer.specs.Tokens.{spelled};
 ghost use Rattle.ecl_lexer.specs.declared.fault.QueryFault.TheVariants.{Depth};
@@ -12,22 +13,22 @@ use ecl_lexer::{QueryFault, Token, TokenKind};
 use std::alloc::{AllocError, Global};
 use std::marker::Model;
 
-/// How many brackets may be open at once.
+/// The most brackets that may be open at once.
 pub const MOST_OPEN: usize = 64;
 
-/// An open bracket: its place among the tokens, and whether it is round or a brace.
+/// An open bracket: the index of its token, and whether it is round or a brace.
 #[derive(Clone, Copy, Default)]
 pub struct OpenBracket {
     pub place: usize,
     pub is_round: bool,
 }
 
-/// The brackets of the tokens read so far. Contracts see the open brackets, the innermost first, the ends, and
-/// whether each closing bracket closed one of its kind.
+/// The brackets of the tokens that were read. Contracts see the open brackets (innermost first),
+/// the list `ends`, and whether each closing bracket closed one of its kind.
 #[derive(Drop)]
 struct Brackets {
     unclosed: ArrayVec<OpenBracket, MOST_OPEN>,
-    // for the place of each bracket, the place after the bracket that closed it
+    // at the index of each closed opening bracket the index after its closing bracket, or else 0
     ends: Vec<usize>,
     are_matched: bool,
 }
@@ -45,7 +46,7 @@ impl Model for Brackets {
 }
 
 impl Brackets {
-    // Creates the brackets of `count` tokens, none of which is read yet.
+    // Creates the state for a text of `count` tokens, before any of them is read.
     fn new(alloc: Global, count: usize) -> Result<Brackets, AllocError>
         ensures { IfOk result (λ brackets. brackets ≡ nothing_matched count) }
     {
@@ -57,12 +58,14 @@ impl Brackets {
         })
     }
 
-    // Reads the token at `place`. Returns `Depth` if it opens a bracket and `MOST_OPEN` are open already.
+    // Reads the token of the kind `kind` at the index `place`. Returns `Depth` if it opens a
+    // bracket and `MOST_OPEN` are open already.
     fn take(&mut self, place: usize, kind: TokenKind) -> Result<(), QueryFault>
         requires { place < length self.old.ends }
         ensures ok { OnOk result (self.new ≡ token_matched place kind self.old) }
         ensures few { OnOk result (opens kind ≡ true → length self.old.unclosed < 64) }
-        ensures deep { IfErr result (λ fault. (fault ≡ Depth) × (opens kind ≡ true) × (length self.old.unclosed ≡ 64)) }
+        ensures deep { IfErr result (λ fault. (fault ≡ Depth) × (opens kind ≡ true)
+            × (length self.old.unclosed ≡ 64)) }
     {
         match kind {
             TokenKind::RoundOpen => self.open_bracket(place, true),
@@ -79,7 +82,8 @@ impl Brackets {
         }
     }
 
-    // Opens a bracket at `place`. Returns `Depth` if `MOST_OPEN` are open already.
+    // Notes that the token at the index `place` opens a bracket. Returns `Depth` if `MOST_OPEN` are
+    // open already.
     fn open_bracket(&mut self, place: usize, is_round: bool) -> Result<(), QueryFault>
         requires { place < length self.old.ends }
         ensures ok { OnOk result (self.new ≡ bracket_opened place is_round self.old) }
@@ -92,7 +96,8 @@ impl Brackets {
         }
     }
 
-    // Closes the innermost open bracket, whatever its kind; notes it if the kinds differ or none is open.
+    // Notes that the token at the index `place` closes the innermost open bracket, whatever its
+    // kind. Clears `are_matched` if the kinds differ or no bracket is open.
     fn close_bracket(&mut self, place: usize, is_round: bool)
         requires { place < length self.old.ends }
         ensures { self.new ≡ bracket_closed place is_round self.old }
@@ -106,7 +111,8 @@ impl Brackets {
         }
     }
 
-    // Returns the ends, or `None` if a bracket is open or a closing bracket closed none of its kind.
+    // Returns `ends`, or `None` if a bracket is still open or a closing bracket closed none of its
+    // kind.
     fn ends(self) -> Option<Vec<usize>>
         ensures ends { IfSome result (λ ends. ends.items ≡ self.ends) }
         ensures matched { OnSome result ((self.are_matched ≡ true) × (self.unclosed ≡ [])) }
@@ -124,10 +130,11 @@ impl Brackets {
     }
 }
 
-/// Returns for each token that opens a bracket the place after the bracket that closes it. Returns `Depth` if
-/// more than `MOST_OPEN` brackets are open at once: a closing bracket closes the innermost open one, whether it
-/// is round or a brace. Returns `Syntax` if the kinds of two brackets do not match, or a bracket is not closed
-/// or not opened; such tokens have no tree.
+/// Returns a list with an entry for each token. The entry of a token that opens a bracket is the
+/// index after the token that closes it. Returns `Depth` if more than `MOST_OPEN` brackets are open
+/// at once; for this count a closing bracket closes the innermost open one, whether it is round or
+/// a brace. Returns `Syntax` if a bracket is not closed, not opened, or closed by one of the other
+/// kind; such tokens have no tree. Returns `Memory` if memory runs out.
 pub fn bracket_ends(alloc: Global, tokens: &[Token<'_>]) -> Result<Vec<usize>, QueryFault>
     ensures shallow { IfOk result (λ _. is_deep 0 (map spelled tokens.now) ≡ false) }
     ensures ends { IfOk result (λ ends. AreEnds (symbols tokens.now) ends.items) }

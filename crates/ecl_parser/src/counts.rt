@@ -1,4 +1,4 @@
-//! Reading a cardinality.
+//! Reads a cardinality.
 ghost use Rattle.std.specs.Prelude.{◌≡◌, None, Some, IfSome};
 ghost use Rattle.ecl_parser.specs.inside.Gives.{Gives, symbols_from};
 ghost use Rattle.ecl_parser.specs.inside.Reading.{bounds_at, count_at, most_at};
@@ -7,9 +7,12 @@ use crate::tokens::{Mark, Tokens, take, take_digits};
 use constraint_tree::Cardinality;
 use ecl_lexer::QueryFault;
 
-/// Reads Count: the cardinality at `at`, or `[1..*]` if none stands there.
+/// Reads the rule Count: the cardinality that begins at the index `at`, and moves `at` after it. If
+/// no `[` stands there, it returns the default `[1..*]` and leaves `at`. Returns `Syntax` if a `[`
+/// begins no cardinality.
 pub fn count(tokens: &Tokens<'_>, at: &mut usize) -> Result<Cardinality, QueryFault>
-    ensures { Gives (λ found. (found, symbols_from tokens.now at.new)) result (count_at (symbols_from tokens.now at.old)) }
+    ensures { Gives (λ found. (found, symbols_from tokens.now at.new)) result
+        (count_at (symbols_from tokens.now at.old)) }
 {
     if !take(Mark::BracketOpen, tokens, at) {
         return Ok(Cardinality { min: 1, max: None });
@@ -20,10 +23,12 @@ pub fn count(tokens: &Tokens<'_>, at: &mut usize) -> Result<Cardinality, QueryFa
     }
 }
 
-// Reads the bounds of a cardinality and the bracket that closes it.
+// Reads the bounds of a cardinality and its `]`, after its `[`. Returns `None` if they do not
+// follow.
 #[tactic(auto, unfolding(crate::specs::inside::Reading::bounds_at))]
 fn bounds(tokens: &Tokens<'_>, at: &mut usize) -> Option<Cardinality>
-    ensures some { IfSome result (λ found. bounds_at (symbols_from tokens.now at.old) ≡ Some (found, symbols_from tokens.now at.new)) }
+    ensures some { IfSome result (λ found. bounds_at (symbols_from tokens.now at.old)
+        ≡ Some (found, symbols_from tokens.now at.new)) }
     ensures none { result ≡ None → bounds_at (symbols_from tokens.now at.old) ≡ None }
 {
     let min = take_digits(1, tokens, at)?;
@@ -37,9 +42,11 @@ fn bounds(tokens: &Tokens<'_>, at: &mut usize) -> Option<Cardinality>
     Some(Cardinality { min, max })
 }
 
-// Reads the maximum of a cardinality; `*` means no maximum.
+// Reads the maximum of a cardinality. The inner `None` means `*`, no maximum; the outer `None`
+// means that no maximum stands at `at`.
 fn most(tokens: &Tokens<'_>, at: &mut usize) -> Option<Option<u64>>
-    ensures some { IfSome result (λ found. most_at (symbols_from tokens.now at.old) ≡ Some (found, symbols_from tokens.now at.new)) }
+    ensures some { IfSome result (λ found. most_at (symbols_from tokens.now at.old)
+        ≡ Some (found, symbols_from tokens.now at.new)) }
     ensures none { result ≡ None → most_at (symbols_from tokens.now at.old) ≡ None }
 {
     if take(Mark::Wildcard, tokens, at) {

@@ -1,7 +1,7 @@
-//! Reads expression constraints (Expression Constraint Language 2.2, brief syntax).
+//! The parser of expression constraints (Expression Constraint Language 2.2, brief syntax).
 //!
-//! `parse` returns the one tree of a text, or the text's first refusal. The crate `constraint_tree` defines the
-//! meaning of a text: the grammar and the refusals that the contract of `parse` names. The contract of
+//! `parse` returns the one tree of a text, or its first refusal. The crate `constraint_tree`
+//! defines the grammar and the refusals that the contract of `parse` names. The contract of
 //! `read_again` says that the printed text of a constraint is read as that constraint.
 #![tactic(auto)]
 

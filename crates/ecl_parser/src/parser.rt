@@ -1,10 +1,13 @@
-//! The recursive descent over the tokens. Each function reads one form of the grammar from the place `at`,
-//! returns its tree, and moves `at` after the form. `depth` is the number of brackets that may still be opened:
-//! it falls with each one, so the descent ends.
+//! The recursive descent over the tokens. Each function reads one rule of the grammar from the
+//! index `at`, returns its tree, and moves `at` after it. The rules (Constraint, Sub, Focus,
+//! Refinement, Item, Set, Part, Pair, Count) are those of `specs/Grammar.antt` in
+//! `constraint_tree`. `depth` is the number of brackets that may still be opened: it falls with
+//! each one, so the descent ends. Each function returns `Syntax` if the tokens do not follow the
+//! rule, and `Memory` if memory runs out.
 ghost use Rattle.std.specs.Prelude.{◌≡◌, ◌∷◌, [], IfOk, map};
 ghost use Rattle.constraint_tree.specs.Tree.{attribute_tree_of, refinement_tree_of, set_tree_of, test_tree_of, tree_of};
 ghost use Rattle.ecl_parser.specs.inside.Gives.{Gives, symbols_from};
-ghost use Rattle.ecl_parser.specs.inside.Reading.{all_behind, constraint_behind, constraint_in, dotted_behind, focus_in, item_behind, item_in, member_in, minus_behind, pair_in, part_in, readers, refined_behind, refinement_in, set_in, sub_in, test_in, value_test, with_front};
+ghost use Rattle.ecl_parser.specs.inside.Reading.{all_after, constraint_after, constraint_in, dotted_after, focus_in, item_after, item_in, member_in, minus_after, pair_in, part_in, readers, refined_after, refinement_in, set_in, sub_in, test_in, value_test, with_front};
 
 use crate::counts::count;
 use crate::tokens::{
@@ -17,7 +20,8 @@ use constraint_tree::{
 use ecl_lexer::QueryFault;
 use std::alloc::{AllocError, Global};
 
-/// Reads Constraint: a Sub, alone, joined with other Subs, refined, or dotted.
+/// Reads the rule Constraint: a Sub that stands alone, is joined with other Subs, is refined, or is
+/// followed by dots and names.
 #[cycle(parser)]
 #[tactic(auto, unfolding(crate::specs::inside::Reading::constraint_in))]
 pub fn constraint(
@@ -26,24 +30,26 @@ pub fn constraint(
     at: &mut usize,
     depth: u8,
 ) -> Result<Constraint, QueryFault>
-    ensures { Gives (λ found. (tree_of found, symbols_from tokens.now at.new)) result (constraint_in (readers depth) (symbols_from tokens.now at.old)) }
+    ensures { Gives (λ found. (tree_of found, symbols_from tokens.now at.new)) result
+        (constraint_in (readers depth) (symbols_from tokens.now at.old)) }
 {
     let first = sub(alloc, tokens, at, depth)?;
-    constraint_behind(alloc, first, tokens, at, depth)
+    constraint_after(alloc, first, tokens, at, depth)
 }
 
-// Reads the rest of a constraint after its first Sub: the Subs joined with it, the names after dots, the
-// refinement, or the Sub after `MINUS`. Returns `first` alone if none of them follows.
+// Reads what follows the first Sub of a constraint: the Subs joined with it, the names after dots,
+// the refinement, or the Sub after `MINUS`. Returns `first` if none of these follows.
 #[cycle(parser)]
-#[tactic(auto, unfolding(crate::specs::inside::Reading::constraint_behind))]
-fn constraint_behind(
+#[tactic(auto, unfolding(crate::specs::inside::Reading::constraint_after))]
+fn constraint_after(
     alloc: Global,
     first: Constraint,
     tokens: &Tokens<'_>,
     at: &mut usize,
     depth: u8,
 ) -> Result<Constraint, QueryFault>
-    ensures { Gives (λ found. (tree_of found, symbols_from tokens.now at.new)) result (constraint_behind (readers depth) (tree_of first) (symbols_from tokens.now at.old)) }
+    ensures { Gives (λ found. (tree_of found, symbols_from tokens.now at.new)) result
+        (constraint_after (readers depth) (tree_of first) (symbols_from tokens.now at.old)) }
 {
     if is_ahead(Mark::And, tokens, *at) {
         let parts = joined(alloc, first, Mark::And, tokens, at, depth)?;
@@ -65,7 +71,7 @@ fn constraint_behind(
     Ok(first)
 }
 
-// Reads the Subs that follow `first`, each after the token `joint`. Returns them with `first` in front.
+// Reads the Subs that follow `first`, each after the token `joint`. Returns `first` and these Subs.
 #[cycle(parser)]
 fn joined(
     alloc: Global,
@@ -76,7 +82,8 @@ fn joined(
     depth: u8,
 ) -> Result<Vec<Constraint>, QueryFault>
     ensures { Gives (λ found. (map tree_of found.items, symbols_from tokens.now at.new)) result
-        (with_front (tree_of first ∷ []) (all_behind (sub_in (readers depth)) joint (symbols_from tokens.now at.old))) }
+        (with_front (tree_of first ∷ [])
+        (all_after (sub_in (readers depth)) joint (symbols_from tokens.now at.old))) }
 {
     let parts = single(alloc, first)?;
     subs(alloc, parts, joint, tokens, at, depth)
@@ -91,14 +98,15 @@ fn dotted(
     at: &mut usize,
     depth: u8,
 ) -> Result<Constraint, QueryFault>
-    ensures { Gives (λ found. (tree_of found, symbols_from tokens.now at.new)) result (dotted_behind (readers depth) (tree_of start) (symbols_from tokens.now at.old)) }
+    ensures { Gives (λ found. (tree_of found, symbols_from tokens.now at.new)) result
+        (dotted_after (readers depth) (tree_of start) (symbols_from tokens.now at.old)) }
 {
     let start = Box::new(alloc, start)?;
     let names = subs(alloc, Vec::new(alloc), Mark::Dot, tokens, at, depth)?;
     Ok(Constraint::Dotted(start, names))
 }
 
-// Reads the refinement of `focus` and returns the refined constraint.
+// Reads the refinement after `:` and returns `focus` refined by it.
 #[cycle(parser)]
 fn refined(
     alloc: Global,
@@ -107,7 +115,8 @@ fn refined(
     at: &mut usize,
     depth: u8,
 ) -> Result<Constraint, QueryFault>
-    ensures { Gives (λ found. (tree_of found, symbols_from tokens.now at.new)) result (refined_behind (readers depth) (tree_of focus) (symbols_from tokens.now at.old)) }
+    ensures { Gives (λ found. (tree_of found, symbols_from tokens.now at.new)) result
+        (refined_after (readers depth) (tree_of focus) (symbols_from tokens.now at.old)) }
 {
     let what = refinement(alloc, tokens, at, depth)?;
     let focus = Box::new(alloc, focus)?;
@@ -115,7 +124,7 @@ fn refined(
     Ok(Constraint::Refined(focus, what))
 }
 
-// Reads the Sub after `MINUS` and returns the difference of `first` and that Sub.
+// Reads the Sub after `MINUS` and returns the difference of `first` and this Sub.
 #[cycle(parser)]
 fn subtracted(
     alloc: Global,
@@ -124,7 +133,8 @@ fn subtracted(
     at: &mut usize,
     depth: u8,
 ) -> Result<Constraint, QueryFault>
-    ensures { Gives (λ found. (tree_of found, symbols_from tokens.now at.new)) result (minus_behind (readers depth) (tree_of first) (symbols_from tokens.now at.old)) }
+    ensures { Gives (λ found. (tree_of found, symbols_from tokens.now at.new)) result
+        (minus_after (readers depth) (tree_of first) (symbols_from tokens.now at.old)) }
 {
     let second = sub(alloc, tokens, at, depth)?;
     let first = Box::new(alloc, first)?;
@@ -132,7 +142,8 @@ fn subtracted(
     Ok(Constraint::Minus(first, second))
 }
 
-// Reads Subs, each after the token `joint`, and appends them to `parts`.
+// Reads Subs, each after the token `joint`, until no `joint` follows. Returns `parts` with these
+// Subs appended.
 #[cycle(parser)]
 fn subs(
     alloc: Global,
@@ -143,7 +154,8 @@ fn subs(
     depth: u8,
 ) -> Result<Vec<Constraint>, QueryFault>
     ensures { Gives (λ found. (map tree_of found.items, symbols_from tokens.now at.new)) result
-        (with_front (map tree_of parts.items) (all_behind (sub_in (readers depth)) joint (symbols_from tokens.now at.old))) }
+        (with_front (map tree_of parts.items)
+        (all_after (sub_in (readers depth)) joint (symbols_from tokens.now at.old))) }
 {
     for _turn in *at..tokens.len() {
         if !take(joint, tokens, at) {
@@ -158,7 +170,7 @@ fn subs(
     Ok(parts)
 }
 
-// Reads Sub: an optional operator and its operand.
+// Reads the rule Sub: an optional hierarchy operator, an optional `^`, and a Focus.
 #[cycle(parser)]
 #[tactic(auto, unfolding(crate::specs::inside::Reading::sub_in))]
 fn sub(
@@ -167,7 +179,8 @@ fn sub(
     at: &mut usize,
     depth: u8,
 ) -> Result<Constraint, QueryFault>
-    ensures { Gives (λ found. (tree_of found, symbols_from tokens.now at.new)) result (sub_in (readers depth) (symbols_from tokens.now at.old)) }
+    ensures { Gives (λ found. (tree_of found, symbols_from tokens.now at.new)) result
+        (sub_in (readers depth) (symbols_from tokens.now at.old)) }
 {
     match take_operator(tokens, at) {
         Some(operator) => {
@@ -179,7 +192,7 @@ fn sub(
     }
 }
 
-// Reads a focus with an optional `^` in front.
+// Reads an optional `^` and a Focus.
 #[cycle(parser)]
 #[tactic(auto, unfolding(crate::specs::inside::Reading::member_in))]
 fn member(
@@ -188,7 +201,8 @@ fn member(
     at: &mut usize,
     depth: u8,
 ) -> Result<Constraint, QueryFault>
-    ensures { Gives (λ found. (tree_of found, symbols_from tokens.now at.new)) result (member_in (readers depth) (symbols_from tokens.now at.old)) }
+    ensures { Gives (λ found. (tree_of found, symbols_from tokens.now at.new)) result
+        (member_in (readers depth) (symbols_from tokens.now at.old)) }
 {
     if take(Mark::MemberOf, tokens, at) {
         let sets = focus(alloc, tokens, at, depth)?;
@@ -198,7 +212,7 @@ fn member(
     focus(alloc, tokens, at, depth)
 }
 
-// Reads Focus: a concept, `*`, or a constraint in brackets.
+// Reads the rule Focus: a concept with an optional term, `*`, or a constraint in round brackets.
 #[cycle(parser)]
 #[tactic(auto, unfolding(crate::specs::inside::Reading::focus_in, crate::specs::inside::Reading::readers))]
 fn focus(
@@ -207,7 +221,8 @@ fn focus(
     at: &mut usize,
     depth: u8,
 ) -> Result<Constraint, QueryFault>
-    ensures { Gives (λ found. (tree_of found, symbols_from tokens.now at.new)) result (focus_in (readers depth) (symbols_from tokens.now at.old)) }
+    ensures { Gives (λ found. (tree_of found, symbols_from tokens.now at.new)) result
+        (focus_in (readers depth) (symbols_from tokens.now at.old)) }
 {
     if let Some(number) = take_digits(6, tokens, at) {
         let _is_term = take(Mark::Term, tokens, at);
@@ -226,16 +241,17 @@ fn focus(
     Ok(found)
 }
 
-// Reads Refinement: items joined by AND or by OR.
+// Reads the rule Refinement: one Item, or several joined by AND or by OR.
 #[cycle(parser)]
-#[tactic(auto, using(constraint_tree::proofs::TreeLemmas::trees_of_items), unfolding(crate::specs::inside::Reading::refinement_in, crate::specs::inside::Reading::refinement_behind))]
+#[tactic(auto, using(constraint_tree::proofs::TreeLemmas::trees_of_items), unfolding(crate::specs::inside::Reading::refinement_in, crate::specs::inside::Reading::refinement_after))]
 fn refinement(
     alloc: Global,
     tokens: &Tokens<'_>,
     at: &mut usize,
     depth: u8,
 ) -> Result<Refinement, QueryFault>
-    ensures { Gives (λ found. (refinement_tree_of found, symbols_from tokens.now at.new)) result (refinement_in (readers depth) (symbols_from tokens.now at.old)) }
+    ensures { Gives (λ found. (refinement_tree_of found, symbols_from tokens.now at.new)) result
+        (refinement_in (readers depth) (symbols_from tokens.now at.old)) }
 {
     let first = item(alloc, tokens, at, depth)?;
     if is_ahead(Mark::And, tokens, *at) {
@@ -251,7 +267,8 @@ fn refinement(
     Ok(first)
 }
 
-// Reads items, each after the token `joint`, and appends them to `parts`.
+// Reads Items, each after the token `joint`, until no `joint` follows. Returns `parts` with these
+// Items appended.
 #[cycle(parser)]
 fn items(
     alloc: Global,
@@ -261,8 +278,9 @@ fn items(
     at: &mut usize,
     depth: u8,
 ) -> Result<Vec<Refinement>, QueryFault>
-    ensures { Gives (λ found. (map refinement_tree_of found.items, symbols_from tokens.now at.new)) result
-        (with_front (map refinement_tree_of parts.items) (all_behind (item_in (readers depth)) joint (symbols_from tokens.now at.old))) }
+    ensures { Gives (λ found. (map refinement_tree_of found.items, symbols_from tokens.now at.new))
+        result (with_front (map refinement_tree_of parts.items)
+        (all_after (item_in (readers depth)) joint (symbols_from tokens.now at.old))) }
 {
     for _turn in *at..tokens.len() {
         if !take(joint, tokens, at) {
@@ -277,7 +295,8 @@ fn items(
     Ok(parts)
 }
 
-// Reads Item: a refinement in brackets, or a cardinality and an attribute or a group of attributes.
+// Reads the rule Item: a refinement in round brackets, or an optional cardinality and an attribute
+// or a group of attributes.
 #[cycle(parser)]
 #[tactic(auto, unfolding(crate::specs::inside::Reading::item_in, crate::specs::inside::Reading::readers))]
 fn item(
@@ -286,7 +305,8 @@ fn item(
     at: &mut usize,
     depth: u8,
 ) -> Result<Refinement, QueryFault>
-    ensures { Gives (λ found. (refinement_tree_of found, symbols_from tokens.now at.new)) result (item_in (readers depth) (symbols_from tokens.now at.old)) }
+    ensures { Gives (λ found. (refinement_tree_of found, symbols_from tokens.now at.new)) result
+        (item_in (readers depth) (symbols_from tokens.now at.old)) }
 {
     if take_bracket(tokens, at) {
         if depth == 0 {
@@ -302,9 +322,10 @@ fn item(
     counted_item(alloc, cardinality, tokens, at, depth)
 }
 
-// Reads an attribute, or a group of attributes in braces, after its cardinality.
+// Reads what follows the cardinality of an Item: a group of attributes in braces, or an attribute
+// with an optional `R`.
 #[cycle(parser)]
-#[tactic(auto, unfolding(crate::specs::inside::Reading::item_behind, crate::specs::inside::Reading::readers))]
+#[tactic(auto, unfolding(crate::specs::inside::Reading::item_after, crate::specs::inside::Reading::readers))]
 fn counted_item(
     alloc: Global,
     cardinality: Cardinality,
@@ -312,7 +333,8 @@ fn counted_item(
     at: &mut usize,
     depth: u8,
 ) -> Result<Refinement, QueryFault>
-    ensures { Gives (λ found. (refinement_tree_of found, symbols_from tokens.now at.new)) result (item_behind (readers depth) cardinality (symbols_from tokens.now at.old)) }
+    ensures { Gives (λ found. (refinement_tree_of found, symbols_from tokens.now at.new)) result
+        (item_after (readers depth) cardinality (symbols_from tokens.now at.old)) }
 {
     if take(Mark::BraceOpen, tokens, at) {
         if depth == 0 {
@@ -332,16 +354,17 @@ fn counted_item(
     Ok(Refinement::One(found))
 }
 
-// Reads Set: parts joined by AND or by OR.
+// Reads the rule Set: one Part, or several joined by AND or by OR.
 #[cycle(parser)]
-#[tactic(auto, using(constraint_tree::proofs::TreeLemmas::trees_of_items), unfolding(crate::specs::inside::Reading::set_in, crate::specs::inside::Reading::set_behind))]
+#[tactic(auto, using(constraint_tree::proofs::TreeLemmas::trees_of_items), unfolding(crate::specs::inside::Reading::set_in, crate::specs::inside::Reading::set_after))]
 fn set(
     alloc: Global,
     tokens: &Tokens<'_>,
     at: &mut usize,
     depth: u8,
 ) -> Result<AttributeSet, QueryFault>
-    ensures { Gives (λ found. (set_tree_of found, symbols_from tokens.now at.new)) result (set_in (readers depth) (symbols_from tokens.now at.old)) }
+    ensures { Gives (λ found. (set_tree_of found, symbols_from tokens.now at.new)) result
+        (set_in (readers depth) (symbols_from tokens.now at.old)) }
 {
     let first = part(alloc, tokens, at, depth)?;
     if is_ahead(Mark::And, tokens, *at) {
@@ -357,7 +380,8 @@ fn set(
     Ok(first)
 }
 
-// Reads parts, each after the token `joint`, and appends them to `list`.
+// Reads Parts, each after the token `joint`, until no `joint` follows. Returns `list` with these
+// Parts appended.
 #[cycle(parser)]
 fn parts(
     alloc: Global,
@@ -368,7 +392,8 @@ fn parts(
     depth: u8,
 ) -> Result<Vec<AttributeSet>, QueryFault>
     ensures { Gives (λ found. (map set_tree_of found.items, symbols_from tokens.now at.new)) result
-        (with_front (map set_tree_of list.items) (all_behind (part_in (readers depth)) joint (symbols_from tokens.now at.old))) }
+        (with_front (map set_tree_of list.items)
+        (all_after (part_in (readers depth)) joint (symbols_from tokens.now at.old))) }
 {
     for _turn in *at..tokens.len() {
         if !take(joint, tokens, at) {
@@ -383,7 +408,7 @@ fn parts(
     Ok(list)
 }
 
-// Reads Part: a set in brackets, or a cardinality and an attribute.
+// Reads the rule Part: a Set in round brackets, or an optional cardinality and an attribute.
 #[cycle(parser)]
 #[tactic(auto, unfolding(crate::specs::inside::Reading::part_in, crate::specs::inside::Reading::readers))]
 fn part(
@@ -392,7 +417,8 @@ fn part(
     at: &mut usize,
     depth: u8,
 ) -> Result<AttributeSet, QueryFault>
-    ensures { Gives (λ found. (set_tree_of found, symbols_from tokens.now at.new)) result (part_in (readers depth) (symbols_from tokens.now at.old)) }
+    ensures { Gives (λ found. (set_tree_of found, symbols_from tokens.now at.new)) result
+        (part_in (readers depth) (symbols_from tokens.now at.old)) }
 {
     if take_bracket(tokens, at) {
         if depth == 0 {
@@ -409,7 +435,8 @@ fn part(
     Ok(AttributeSet::One(found))
 }
 
-// Reads Pair: a name, a comparison, and the value that it compares with.
+// Reads the rule Pair: a name, a comparison and a value. Returns the attribute that has these, the
+// cardinality `count` and the direction `reverse`.
 #[cycle(parser)]
 #[tactic(auto, unfolding(crate::specs::inside::Reading::pair_in))]
 fn pair(
@@ -420,7 +447,8 @@ fn pair(
     at: &mut usize,
     depth: u8,
 ) -> Result<Attribute, QueryFault>
-    ensures { Gives (λ found. (attribute_tree_of found, symbols_from tokens.now at.new)) result (pair_in (readers depth) count reverse (symbols_from tokens.now at.old)) }
+    ensures { Gives (λ found. (attribute_tree_of found, symbols_from tokens.now at.new)) result
+        (pair_in (readers depth) count reverse (symbols_from tokens.now at.old)) }
 {
     let name = sub(alloc, tokens, at, depth)?;
     let Some(compare) = take_compare(tokens, at) else {
@@ -435,7 +463,7 @@ fn pair(
     })
 }
 
-// Reads the value of a comparison: a number, or a Sub after `=` and `!=`.
+// Reads the value after the comparison `compare`: a number, or, after `=` and `!=`, a Sub.
 #[cycle(parser)]
 #[tactic(auto, unfolding(crate::specs::inside::Reading::test_in))]
 fn test(
@@ -445,7 +473,8 @@ fn test(
     at: &mut usize,
     depth: u8,
 ) -> Result<Test, QueryFault>
-    ensures { Gives (λ found. (test_tree_of found, symbols_from tokens.now at.new)) result (test_in (readers depth) compare (symbols_from tokens.now at.old)) }
+    ensures { Gives (λ found. (test_tree_of found, symbols_from tokens.now at.new)) result
+        (test_in (readers depth) compare (symbols_from tokens.now at.old)) }
 {
     if let Some(number) = take_number(tokens, at) {
         return Ok(Test::Number(compare, number));
@@ -465,7 +494,7 @@ fn test(
     }
 }
 
-// Returns a list with the one part `first`.
+// Returns a list of the one part `first`.
 fn single<T: Drop>(alloc: Global, first: T) -> Result<Vec<T>, AllocError>
     ensures { IfOk result (λ parts. parts.items ≡ first ∷ []) }
 {

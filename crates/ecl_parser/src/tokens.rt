@@ -1,5 +1,5 @@
-//! The tokens of a text, read from a place on. The end of each bracket is known, so nothing searches for the
-//! token after it.
+//! Access to the tokens of a text by index. The end of each bracket is computed before, so that no
+//! function searches for it.
 ghost use Rattle.std.specs.Prelude.{◌≡◌, ◌+◌, ◌<◌, ◌^◌, ◌∷◌, [], false, true, None, Some, IfSome, drop, length, option_map};
 ghost use Rattle.numerals.specs.Decimals.{decimal_of};
 ghost use Rattle.ecl_lexer.specs.Tokens.{spelled};
@@ -7,18 +7,18 @@ ghost use Rattle.constraint_tree.specs.Grammar.{symbol_of};
 ghost use Rattle.ecl_parser.specs.declared.tokens.Mark.TheVariants as marks;
 ghost use Rattle.ecl_parser.specs.inside.Brackets.{AreEnds};
 ghost use Rattle.ecl_parser.specs.inside.Gives.{symbols, symbols_from};
-ghost use Rattle.ecl_parser.specs.inside.Reading.{behind, behind_close as behind_close_of, bracketed_at, compare_at, compare_of as comparison_of, digits_at, is_mark as is_marked, number_at, operator_at, operator_of as walk_of, stands};
+ghost use Rattle.ecl_parser.specs.inside.Reading.{following, after_close as after_close_of, bracketed_at, compare_at, compare_of as comparison_of, digits_at, is_mark as is_marked, number_at, operator_at, operator_of as walk_of, stands};
 
 use constraint_tree::{Compare, Operator};
 use ecl_lexer::{Token, TokenKind};
 use numerals::{Decimal, decimal, digits};
 use std::marker::Model;
 
-/// The tokens of a text, whose brackets match. Contracts see the list of them.
+/// The tokens of a text whose brackets match. Contracts see the list of tokens.
 #[derive(Drop)]
 pub struct Tokens<'a> {
     tokens: &'a [Token<'a>],
-    // for each `(` the place after the `)` that closes it
+    // at the index of each `(` the index after the `)` that closes it
     ends: &'a [usize],
 }
 
@@ -36,7 +36,7 @@ impl<'a> Model for Tokens<'a> {
 }
 
 impl<'a> Tokens<'a> {
-    /// Creates tokens with the ends of their brackets.
+    /// Joins `tokens` with `ends`, which `bracket_ends` returned for them.
     pub fn new(tokens: &'a [Token<'a>], ends: &'a [usize]) -> Tokens<'a>
         requires { AreEnds (symbols tokens.now) ends.now }
         ensures { result ≡ tokens.now }
@@ -44,24 +44,25 @@ impl<'a> Tokens<'a> {
         Tokens { tokens, ends }
     }
 
-    /// The number of tokens.
+    /// Returns the number of tokens.
     pub fn len(&self) -> usize
         ensures { result ≡ length self.now }
     {
         self.tokens.len()
     }
 
-    // The place after the bracket that closes the round bracket at `place`.
-    fn behind_close(&self, place: usize) -> usize
+    // Returns the index after the `)` that closes the `(` at the index `place`.
+    fn after_close(&self, place: usize) -> usize
         requires { stands marks.RoundOpen (symbols_from self.now place) ≡ true }
-        ensures { symbols_from self.now result ≡ behind_close_of 0 (symbols_from self.now (place + 1)) }
+        ensures { symbols_from self.now result
+            ≡ after_close_of 0 (symbols_from self.now (place + 1)) }
     {
         let ends = self.ends;
         ends[place]
     }
 }
 
-/// A kind of token that carries nothing but its place.
+/// A kind of token whose bytes do not matter to the parser: a symbol, a word or a term.
 #[derive(Clone, Copy)]
 pub enum Mark {
     And,
@@ -106,7 +107,8 @@ fn is_mark(wanted: Mark, kind: TokenKind) -> bool
     }
 }
 
-// Returns the operator of a token of `kind`, or `None` if the kind is no operator.
+// Returns the hierarchy operator that a token of the kind `kind` spells, or `None` if it spells
+// none.
 fn operator_of(kind: TokenKind) -> Option<Operator>
     ensures { result ≡ walk_of kind }
 {
@@ -125,7 +127,7 @@ fn operator_of(kind: TokenKind) -> Option<Operator>
     }
 }
 
-// Returns the comparison of a token of `kind`, or `None` if the kind is no comparison.
+// Returns the comparison that a token of the kind `kind` spells, or `None` if it spells none.
 fn compare_of(kind: TokenKind) -> Option<Compare>
     ensures { result ≡ comparison_of kind }
 {
@@ -140,9 +142,10 @@ fn compare_of(kind: TokenKind) -> Option<Compare>
     }
 }
 
-/// The token at `at`, or `None` if the tokens end before it.
+/// Returns the token at the index `at`, or `None` if there are at most `at` tokens.
 pub fn token_at<'a>(tokens: &Tokens<'a>, at: usize) -> Option<Token<'a>>
-    ensures front { IfSome result (λ token. symbols_from tokens.now at ≡ symbol_of (spelled token) ∷ symbols_from tokens.now (at + 1)) }
+    ensures front { IfSome result (λ token. symbols_from tokens.now at ≡ symbol_of (spelled token)
+        ∷ symbols_from tokens.now (at + 1)) }
     ensures within { IfSome result (λ token. at < length tokens.now) }
     ensures next { IfSome result (λ token. at + 1 < 2 ^ 64) }
     ensures none { result ≡ None → symbols_from tokens.now at ≡ [] }
@@ -153,13 +156,14 @@ pub fn token_at<'a>(tokens: &Tokens<'a>, at: usize) -> Option<Token<'a>>
     }
 }
 
-/// Whether a token of the kind `wanted` stands at `at`.
-#[tactic(auto, using(crate::proofs::TokenLemmas::behind_symbol))]
+/// Whether the token at the index `at` has the kind `wanted`.
+#[tactic(auto, using(crate::proofs::TokenLemmas::after_symbol))]
 pub fn is_ahead(wanted: Mark, tokens: &Tokens<'_>, at: usize) -> bool
     ensures kind { result ≡ stands wanted (symbols_from tokens.now at) }
     ensures within { result ≡ true → at < length tokens.now }
     ensures next { result ≡ true → at + 1 < 2 ^ 64 }
-    ensures rest { result ≡ true → behind wanted (symbols_from tokens.now at) ≡ Some (symbols_from tokens.now (at + 1)) }
+    ensures rest { result ≡ true → following wanted (symbols_from tokens.now at)
+        ≡ Some (symbols_from tokens.now (at + 1)) }
 {
     match token_at(tokens, at) {
         Some(token) => is_mark(wanted, token.kind),
@@ -167,10 +171,12 @@ pub fn is_ahead(wanted: Mark, tokens: &Tokens<'_>, at: usize) -> bool
     }
 }
 
-/// Moves `at` after a token of the kind `wanted`. Returns false if none stands there.
+/// If the token at the index `at` has the kind `wanted`, moves `at` after it and returns true.
+/// Otherwise returns false and leaves `at`.
 pub fn take(wanted: Mark, tokens: &Tokens<'_>, at: &mut usize) -> bool
-    ensures taken { result ≡ true → behind wanted (symbols_from tokens.now at.old) ≡ Some (symbols_from tokens.now at.new) }
-    ensures left { result ≡ false → behind wanted (symbols_from tokens.now at.old) ≡ None }
+    ensures taken { result ≡ true → following wanted (symbols_from tokens.now at.old)
+        ≡ Some (symbols_from tokens.now at.new) }
+    ensures left { result ≡ false → following wanted (symbols_from tokens.now at.old) ≡ None }
     ensures same { result ≡ false → at.new ≡ at.old }
 {
     let place = *at;
@@ -181,10 +187,12 @@ pub fn take(wanted: Mark, tokens: &Tokens<'_>, at: &mut usize) -> bool
     false
 }
 
-/// Moves `at` after an operator and returns it, or returns `None` if none stands there.
+/// If a hierarchy operator stands at `at`, moves `at` after it and returns it. Otherwise returns
+/// `None` and leaves `at`.
 #[tactic(auto, using(crate::proofs::TokenLemmas::operator_symbol))]
 pub fn take_operator(tokens: &Tokens<'_>, at: &mut usize) -> Option<Operator>
-    ensures taken { IfSome result (λ operator. operator_at (symbols_from tokens.now at.old) ≡ Some (operator, symbols_from tokens.now at.new)) }
+    ensures taken { IfSome result (λ operator. operator_at (symbols_from tokens.now at.old)
+        ≡ Some (operator, symbols_from tokens.now at.new)) }
     ensures left { result ≡ None → operator_at (symbols_from tokens.now at.old) ≡ None }
     ensures same { result ≡ None → at.new ≡ at.old }
 {
@@ -195,10 +203,12 @@ pub fn take_operator(tokens: &Tokens<'_>, at: &mut usize) -> Option<Operator>
     Some(operator)
 }
 
-/// Moves `at` after a comparison and returns it, or returns `None` if none stands there.
+/// If a comparison stands at `at`, moves `at` after it and returns it. Otherwise returns `None` and
+/// leaves `at`.
 #[tactic(auto, using(crate::proofs::TokenLemmas::compare_symbol))]
 pub fn take_compare(tokens: &Tokens<'_>, at: &mut usize) -> Option<Compare>
-    ensures taken { IfSome result (λ compare. compare_at (symbols_from tokens.now at.old) ≡ Some (compare, symbols_from tokens.now at.new)) }
+    ensures taken { IfSome result (λ compare. compare_at (symbols_from tokens.now at.old)
+        ≡ Some (compare, symbols_from tokens.now at.new)) }
     ensures left { result ≡ None → compare_at (symbols_from tokens.now at.old) ≡ None }
 {
     let place = *at;
@@ -208,9 +218,11 @@ pub fn take_compare(tokens: &Tokens<'_>, at: &mut usize) -> Option<Compare>
     Some(compare)
 }
 
-/// Moves `at` after `least` to 18 digits and returns their number, or returns `None` if none stand there.
+/// If a token of `least` to 18 digits stands at `at`, moves `at` after it and returns the number
+/// that it spells. Otherwise returns `None` and leaves `at`.
 pub fn take_digits(least: usize, tokens: &Tokens<'_>, at: &mut usize) -> Option<u64>
-    ensures taken { IfSome result (λ number. digits_at least (symbols_from tokens.now at.old) ≡ Some (number, symbols_from tokens.now at.new)) }
+    ensures taken { IfSome result (λ number. digits_at least (symbols_from tokens.now at.old)
+        ≡ Some (number, symbols_from tokens.now at.new)) }
     ensures left { result ≡ None → digits_at least (symbols_from tokens.now at.old) ≡ None }
     ensures same { result ≡ None → at.new ≡ at.old }
 {
@@ -226,9 +238,11 @@ pub fn take_digits(least: usize, tokens: &Tokens<'_>, at: &mut usize) -> Option<
     }
 }
 
-/// Moves `at` after a number and returns it, or returns `None` if none stands there.
+/// If a token as `#2.5` stands at `at`, moves `at` after it and returns its number. Otherwise
+/// returns `None` and leaves `at`.
 pub fn take_number(tokens: &Tokens<'_>, at: &mut usize) -> Option<Decimal>
-    ensures taken { IfSome result (λ number. number_at (symbols_from tokens.now at.old) ≡ Some (number.0, symbols_from tokens.now at.new)) }
+    ensures taken { IfSome result (λ number. number_at (symbols_from tokens.now at.old)
+        ≡ Some (number.0, symbols_from tokens.now at.new)) }
     ensures left { result ≡ None → number_at (symbols_from tokens.now at.old) ≡ None }
     ensures same { result ≡ None → at.new ≡ at.old }
 {
@@ -244,7 +258,7 @@ pub fn take_number(tokens: &Tokens<'_>, at: &mut usize) -> Option<Decimal>
     }
 }
 
-// Returns the number of a token's text, whose first byte is `#`.
+// Returns the number that a token's text spells after its first byte, `#`.
 fn number(text: &[u8]) -> Option<Decimal>
     ensures { option_map (λ found. found.0) result ≡ decimal_of (drop 1 text.now) }
 {
@@ -254,10 +268,12 @@ fn number(text: &[u8]) -> Option<Decimal>
     }
 }
 
-/// Moves `at` after a `(` that does not begin the name of an attribute, because no comparison follows its `)`.
-/// Returns false if none stands there.
+/// If a `(` stands at `at` and no comparison follows its `)`, moves `at` after the `(` and returns
+/// true: the bracket then holds refinements or attribute sets. Otherwise returns false and leaves
+/// `at`: a `(` before a comparison begins the name of an attribute.
 pub fn take_bracket(tokens: &Tokens<'_>, at: &mut usize) -> bool
-    ensures taken { result ≡ true → bracketed_at (symbols_from tokens.now at.old) ≡ Some (symbols_from tokens.now at.new) }
+    ensures taken { result ≡ true → bracketed_at (symbols_from tokens.now at.old)
+        ≡ Some (symbols_from tokens.now at.new) }
     ensures left { result ≡ false → bracketed_at (symbols_from tokens.now at.old) ≡ None }
     ensures same { result ≡ false → at.new ≡ at.old }
 {
@@ -265,8 +281,8 @@ pub fn take_bracket(tokens: &Tokens<'_>, at: &mut usize) -> bool
     if !is_ahead(Mark::RoundOpen, tokens, place) {
         return false;
     }
-    let mut behind = tokens.behind_close(place);
-    if take_compare(tokens, &mut behind).is_some() {
+    let mut following = tokens.after_close(place);
+    if take_compare(tokens, &mut following).is_some() {
         return false;
     }
     *at = place + 1;

@@ -10,19 +10,19 @@ use Rattle.plan_bounds.specs.Alternatives.{leaf_bound}
 use Rattle.plan_bounds.specs.Bounds.{members_bound, walk_bound}
 use Rattle.plan_bounds.specs.Counts.{leaf_of}
 
--- the own bound of a walk is no less if its operand finds more
+-- the bound of a walk node itself does not fall if its operand finds more concepts
 pub walk_more : (indexed : Indexed) (operator : Operator) (one : Option ℕ) (few many : ℕ) → few ≤ many
     → walk_bound indexed operator one few ≤ walk_bound indexed operator one many
 walk_more indexed operator (Some id) few many more = omega arith
 walk_more indexed operator None few many more = omega (arith, more)
 
--- the own bound of a node of reference set members is no less if its operand finds more
+-- the bound of a `Members` node itself does not fall if its operand finds more concepts
 pub members_more : (indexed : Indexed) (one : Option ℕ) (few many : ℕ) → few ≤ many
     → members_bound indexed one few ≤ members_bound indexed one many
 members_more indexed (Some id) few many more = omega arith
 members_more indexed None few many more = omega (arith, more)
 
--- the own bound of a leaf is no less if its types and its test find more
+-- the bound of a leaf itself does not fall if its types and its test find more concepts
 pub leaf_more : (indexed : Indexed) (all : ℕ) (back : Bool) (count : Cardinality) (types : Physical)
     (test : PhysicalTest)
     (few_types many_types few_values many_values : ℕ) (choice : Choice) → few_types ≤ many_types → few_values

@@ -15,7 +15,7 @@ use Rattle.held_release.specs.Numbering.{concept_number}
 use Rattle.set_algebra.specs.Meaning.{means}
 use Rattle.set_algebra.specs.Physical.{Physical, PhysicalTest, logical, physical_empty, physical_all, physical_one}
 use Rattle.set_algebra.specs.Physical.{physical_walk, physical_members, physical_and, physical_or, physical_minus}
-use Rattle.set_algebra.specs.Physical.{physical_values, physical_pairs, physical_units}
+use Rattle.set_algebra.specs.Physical.{physical_values, physical_pairs, physical_groups}
 use Rattle.postings.specs.Indexed.{Indexed, IsIndexOf, types_of}
 use Rattle.postings.specs.Stats.{type_row_count}
 use Rattle.postings.proofs.PlaceLemmas.{length-places_from}
@@ -84,7 +84,8 @@ module _ (release : Release) (indexed : Indexed) (index : IsIndexOf indexed rele
       ∙ ap (λ (xs : List ℕ). is_one_of indexed.concepts xs other) (sym is) ∙ told in
       eq-eqb other id (sym (eqb-true (get_or indexed.concepts n 0) other same) ∙ named)
 
-  -- reading the types that a plan has found, and their rows, takes at most `size` and the rows of the plan
+  -- if `items` is what `plan` means for the types of a leaf, and has at most `size` concepts, reading the types and
+  -- their rows takes at most `size` items and the rows of the plan's types
   pub types_read : (plan : Physical) → items ≡ numbers_in release (means release (logical plan))
       → type_items indexed items ≤ size + type_rows indexed plan
   types_read (physical_one id) is =
@@ -117,7 +118,7 @@ module _ (release : Release) (indexed : Indexed) (index : IsIndexOf indexed rele
   types_read (physical_minus first second) is = of_any
   types_read (physical_values start names) is = of_any
   types_read (physical_pairs back count types test choice) is = of_any
-  types_read (physical_units count units) is = of_any
+  types_read (physical_groups count units) is = of_any
 
   -- ---- by value: the values found, and their rows
   module _ (back : Bool) (below : IsRisingBelow (length release.concepts) items) where
@@ -133,7 +134,8 @@ module _ (release : Release) (indexed : Indexed) (index : IsIndexOf indexed rele
     rows_of_number None = omega arith
     rows_of_number (Some n) = omega (arith, sum_by-cons (row_count_of indexed back) n [])
 
-    -- the rows of the values that a plan has found are at most the rows that the plan leaves
+    -- if `items` is what `plan` means, the rows with one of them as value or (if `back`) as source are at most those
+    -- that `rows_left` allows for the plan
     pub values_read : (plan : Physical) → items ≡ numbers_in release (means release (logical plan))
         → sum_by (row_count_of indexed back) items ≤ rows_left (value_row_count indexed back) (length indexed.rows) plan
     values_read (physical_one id) is =
@@ -153,10 +155,11 @@ module _ (release : Release) (indexed : Indexed) (index : IsIndexOf indexed rele
     values_read (physical_minus first second) is = rows_of_any
     values_read (physical_values start names) is = rows_of_any
     values_read (physical_pairs other count types test choice) is = rows_of_any
-    values_read (physical_units count units) is = rows_of_any
+    values_read (physical_groups count units) is = rows_of_any
 
 -- ---- the bound of a leaf has room for what its choice reads
--- what a leaf reads under a choice is at most its bound, by what its types and its test have found
+-- what a leaf reads under `choice` is at most the bound of that choice, computed from how many concepts its types and
+-- its test have found
 pub leaf_room : (release : Release) (indexed : Indexed) → IsIndexOf indexed release
     → IsStrictlyIncreasing release.concepts
     → {S : Type 0} (items_of : S → List ℕ) (all : ℕ) (back : Bool) (count : Cardinality) (types : Physical)

@@ -10,7 +10,7 @@ use Rattle.held_release.specs.Numbering.{concept_number}
 use Rattle.set_algebra.specs.Meaning.{means}
 use Rattle.set_algebra.specs.Physical.{Physical, logical, physical_empty, physical_all, physical_one, physical_walk}
 use Rattle.set_algebra.specs.Physical.{physical_members, physical_and, physical_or, physical_minus, physical_values}
-use Rattle.set_algebra.specs.Physical.{physical_pairs, physical_units}
+use Rattle.set_algebra.specs.Physical.{physical_pairs, physical_groups}
 use Rattle.postings.specs.Indexed.{Indexed, IsIndexOf}
 use Rattle.plan_bounds.specs.Bounds.{members_bound}
 use Rattle.plan_bounds.specs.Counts.{counted, one_of}
@@ -38,7 +38,8 @@ module _ (release : Release) (indexed : Indexed) (index : IsIndexOf indexed rele
       subst (λ (n : ℕ). IsRisingBelow n items) (sym (lists ∙ ap (λ (xs : List ℕ). length xs) index.concepts)) below in
       omega (arith, few, items_of_some indexed.members items rises)
 
-  -- reading what a plan has found and the components of its reference sets takes at most the bound of the node
+  -- if `items` is what `plan` means, and has at most `size` concepts, reading them and the components of their
+  -- reference sets takes at most the bound of the `Members` node itself
   pub members_read : (plan : Physical) → items ≡ numbers_in release (means release (logical plan))
       → length items + items_in indexed.members items ≤ members_bound indexed (one_of plan) size
   members_read (physical_one id) is =
@@ -59,4 +60,4 @@ module _ (release : Release) (indexed : Indexed) (index : IsIndexOf indexed rele
   members_read (physical_minus first second) is = of_any
   members_read (physical_values start names) is = of_any
   members_read (physical_pairs back count types test choice) is = of_any
-  members_read (physical_units count units) is = of_any
+  members_read (physical_groups count units) is = of_any

@@ -8,27 +8,27 @@ use Rattle.set_algebra.specs.declared.plan.ConceptPlan.{ConceptPlan}
 use Rattle.set_algebra.specs.Plan.{Plan, one_plan, plan_of}
 use Rattle.set_algebra.proofs.PhysicalLemmas.{logical-physical_of}
 use Rattle.candidates.specs.Numbers.{numbers_in}
-use Rattle.candidates.specs.Tallies.{Adds, Tally}
+use Rattle.candidates.specs.RowEstimates.{Adds, Estimate}
 use Rattle.candidates.proofs.Normal.{as_list, one_in}
 use Rattle.executor.specs.inside.Logical.{logical_of}
 use Rattle.executor.specs.inside.Named.{AddsNamed, HasNamed}
 
--- if the rows of the concept in force with identifier `id` are added, if there is one, then `AddsNamed` holds of the
--- plan that names `id`
+-- if an estimate adds the rows of the concept in force with the identifier `id`, or of none if there is none, this is
+-- `AddsNamed` for the plan of the one concept `id`
 pub adds_named : (release : Release) → IsStrictlyIncreasing release.concepts → (id : ℕ) (number : Option ℕ)
-    → concept_number release.concepts id ≡ number → (early late : Tally) → Adds (as_list number) early late
+    → concept_number release.concepts id ≡ number → (early late : Estimate) → Adds (as_list number) early late
     → (plan : Plan) → plan ≡ one_plan id → AddsNamed release plan early late
 adds_named release rising id number at early late adds plan is =
     subst (λ (plan : Plan). AddsNamed release plan early late) (sym is)
     (subst (λ (values : List ℕ). Adds values early late) (one_in release rising id number at) adds)
 
--- if `AddsNamed` holds of the plan that names `id`, the rows of that concept are added
-pub named_adds : (release : Release) (id : ℕ) (early late : Tally) (plan : Plan) → plan
+-- `AddsNamed` for the plan of the one concept `id` adds the rows of that concept, if it is in force
+pub named_adds : (release : Release) (id : ℕ) (early late : Estimate) (plan : Plan) → plan
     ≡ one_plan id → AddsNamed release plan early late
     → Adds (numbers_in release (λ concept. has_concept release concept && (concept == id))) early late
 named_adds release id early late plan is = subst (λ (plan : Plan). AddsNamed release plan early late) is
 
--- a name that is equal to another has the meaning that is known of that one, whatever the choices of both
+-- if two plans differ only in their choices, a set that has what one means also has what the other means
 pub named_again : (release : Release) (before name : ConceptPlan) {items : List ℕ} {bound : ℕ}
     → plan_of before ≡ plan_of name → HasNamed release (logical_of before) items bound
     → HasNamed release (logical_of name) items bound

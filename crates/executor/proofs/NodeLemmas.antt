@@ -11,18 +11,19 @@ use Rattle.constraint_tree.specs.Walks.{has_concept, walks}
 use Rattle.constraint_tree.specs.declared.operator.Cardinality.{Cardinality}
 use Rattle.ancestor_index.specs.HierarchyLists.{Hierarchy, hierarchy_of}
 use Rattle.set_algebra.specs.declared.plan.ConceptPlan.{ConceptPlan}
-use Rattle.set_algebra.specs.Meaning.{all_mean, unit_means, has_groups, has_pairs, leads, means, pairs_of, some_means}
+use Rattle.set_algebra.specs.Meaning.{all_mean, group_means, has_groups, has_pairs, leads, means, pairs_of, some_means}
 use Rattle.set_algebra.specs.Meaning.{value_passes}
-use Rattle.set_algebra.specs.Plan.{PlanOfUnits, Plan, Plans, TestPlan, all_plan, and_plan, members_plan, no_plans}
+use Rattle.set_algebra.specs.Plan.{PlanOfGroups, Plan, Plans, TestPlan, all_plan, and_plan, members_plan, no_plans}
 use Rattle.set_algebra.specs.Plan.{one_plan, or_plan}
-use Rattle.set_algebra.specs.Plan.{outside_plan, pairs_plan, plan_then, units_plan, values_plan, walk_plan, within_plan}
+use Rattle.set_algebra.specs.Plan.{outside_plan, pairs_plan, plan_then, groups_plan, values_plan, walk_plan}
+use Rattle.set_algebra.specs.Plan.{within_plan}
 use Rattle.set_algebra.proofs.MeaningLemmas.{in_force_if_meant}
 use Rattle.walks.specs.Components.{components_of}
 use Rattle.candidates.specs.Numbers.{is_one_of, numbers_in}
-use Rattle.walks.specs.Led.{led_to}
+use Rattle.walks.specs.Related.{related_to}
 use Rattle.walks.proofs.MemberLemmas.{components_in, one_of_set}
 use Rattle.candidates.proofs.Normal.{each_in_force, in_force_kept, numbers_in-agree}
-use Rattle.walks.proofs.StepLemmas.{led_is}
+use Rattle.walks.proofs.StepLemmas.{related_is}
 use Rattle.executor.specs.inside.Logical.{logical_of, logicals_of}
 
 -- equal plans mean equal sets
@@ -47,11 +48,11 @@ module _ (release : Release) (plan : Plan) (found : List ℕ) where
       ≡ walk_plan operator child
       → hierarchy ≡ hierarchy_of release → count ≡ length release.concepts → from
       ≡ numbers_in release (means release child)
-      → found ≡ led_to hierarchy count operator from → found ≡ numbers_in release (means release plan)
+      → found ≡ related_to hierarchy count operator from → found ≡ numbers_in release (means release plan)
   walk_node child operator hierarchy count from is over counted from_is found_is =
       found_is
-      ∙ (λ i. led_to (over i) (counted i) operator from)
-      ∙ led_is release (means release child) from from_is operator
+      ∙ (λ i. related_to (over i) (counted i) operator from)
+      ∙ related_is release (means release child) from from_is operator
       ∙ in_force_kept release (walks release operator (means release child))
       ∙ meant release plan (walk_plan operator child) is
 
@@ -134,12 +135,12 @@ module _ (release : Release) (plan : Plan) (found : List ℕ) where
       ∙ meant release plan (pairs_plan back count types test) is
 
   -- the concepts whose number of groups that `units` means lies in `count` are what the plan of groups means
-  pub units_node : (count : Cardinality) (units : PlanOfUnits) → plan ≡ units_plan count units
-      → found ≡ numbers_in release (has_groups release count (unit_means release units)) → found
+  pub groups_node : (count : Cardinality) (units : PlanOfGroups) → plan ≡ groups_plan count units
+      → found ≡ numbers_in release (has_groups release count (group_means release units)) → found
       ≡ numbers_in release (means release plan)
-  units_node count units is found_is =
-      found_is ∙ in_force_kept release (has_groups release count (unit_means release units))
-      ∙ meant release plan (units_plan count units) is
+  groups_node count units is found_is =
+      found_is ∙ in_force_kept release (has_groups release count (group_means release units))
+      ∙ meant release plan (groups_plan count units) is
 
 -- one more name leads from where the first `k` names lead to the values of attributes with a type that it means
 leads_further : (release : Release) (names : List ConceptPlan) (k : ℕ) (d : ConceptPlan) → k < length names →
@@ -152,24 +153,24 @@ leads_further release (name ∷ names) (suc k) d within set =
     leads_further release names k d (omega (arith, within)) (is_value release set (means release (logical_of name)))
 
 -- the concepts that attribute names lead to are in force, if they start from concepts in force
-led_in_force : (release : Release) (names : Plans) (set : ℕ → Bool) → ((concept : ℕ) → set concept
+related_in_force : (release : Release) (names : Plans) (set : ℕ → Bool) → ((concept : ℕ) → set concept
     ≡ true → has_concept release concept ≡ true)
     → (concept : ℕ) → leads release set names concept ≡ true → has_concept release concept ≡ true
-led_in_force release no_plans set forced concept led = forced concept led
-led_in_force release (plan_then name names) set forced concept led =
-    led_in_force release names (is_value release set (means release name))
-    (λ value holds. (and_parts (has_concept release value) _ holds).0) concept led
+related_in_force release no_plans set forced concept driven = forced concept driven
+related_in_force release (plan_then name names) set forced concept driven =
+    related_in_force release names (is_value release set (means release name))
+    (λ value holds. (and_parts (has_concept release value) _ holds).0) concept driven
 
 -- if the first `k` names lead to `found`, the name at `k` leads from there to where `k + 1` names lead
 pub name_step : (release : Release) (plan : Plan) (names : List ConceptPlan) (k : ℕ) (name : ConceptPlan) → k < length
     names → name ≡ get_or names k name
-    → (concepts found types led : List ℕ) → concepts ≡ release.concepts
+    → (concepts found types driven : List ℕ) → concepts ≡ release.concepts
     → types ≡ numbers_in release (means release (logical_of name))
-    → led ≡ numbers_in release (is_value release (is_one_of concepts found) (is_one_of concepts types))
+    → driven ≡ numbers_in release (is_value release (is_one_of concepts found) (is_one_of concepts types))
     → found ≡ numbers_in release (leads release (means release plan) (logicals_of (take k names)))
-    → led ≡ numbers_in release (leads release (means release plan) (logicals_of (take (k + 1) names)))
-name_step release plan names k name within is concepts found types led are types_are led_is found_is =
-    led_is
+    → driven ≡ numbers_in release (leads release (means release plan) (logicals_of (take (k + 1) names)))
+name_step release plan names k name within is concepts found types driven are types_are related_is found_is =
+    related_is
     ∙ (λ i. numbers_in release
     (is_value release (sources i) (one_meant release (logical_of name) concepts types are types_are i)))
     ∙ (λ i. numbers_in release (is_value release (leads release (means release plan) (logicals_of (take k names)))
@@ -184,7 +185,8 @@ name_step release plan names k name within is concepts found types led are types
     sources =
         ap (λ (ids : List ℕ). is_one_of ids found) are
         ∙ (λ i id. one_of_set release (leads release (means release plan) (logicals_of (take k names))) found found_is
-        (led_in_force release (logicals_of (take k names)) (means release plan) (in_force_if_meant release plan)) id i)
+        (related_in_force release (logicals_of (take k names)) (means release plan) (in_force_if_meant release plan)) id
+        i)
 
 -- what passes a test by the concepts of a set passes it by the plan that means them
 module _ (release : Release) (plan : Plan) (concepts items : List ℕ) (test : TestPlan) where

@@ -13,9 +13,9 @@ use Rattle.set_algebra.specs.declared.plan.ConceptPlan.TheVariants as concept_pl
 use Rattle.set_algebra.specs.declared.plan.UnitPlan.{UnitPlan}
 use Rattle.set_algebra.specs.declared.plan.ValueTest.{ValueTest}
 use Rattle.set_algebra.specs.declared.plan.ValueTest.TheVariants as value_test
-use Rattle.set_algebra.specs.Physical.{Physical, PhysicalTest, PhysicalUnits, Physicals, logical, physical_members}
+use Rattle.set_algebra.specs.Physical.{Physical, PhysicalTest, PhysicalGroups, Physicals, logical, physical_members}
 use Rattle.set_algebra.specs.Physical.{physical_of}
-use Rattle.set_algebra.specs.Physical.{physical_outside, physical_test_of, physical_units_list_of, physical_values}
+use Rattle.set_algebra.specs.Physical.{physical_outside, physical_test_of, physical_groups_list_of, physical_values}
 use Rattle.set_algebra.specs.Physical.{physical_walk}
 use Rattle.set_algebra.specs.Physical.{physical_within, physicals_of}
 use Rattle.set_algebra.specs.Plan.{outside_plan, within_plan}
@@ -34,8 +34,8 @@ use Rattle.executor.proofs.NodeLemmas.{outside_passes, within_passes}
 use Rattle.executor.proofs.WorkLemmas.{along_from}
 use Rattle.reading.specs.Counted.{CountsWithin, HandsOut, IsFound}
 use Rattle.reading.proofs.CountLemmas.{counted_both, counted_thrice}
-use Rattle.executor.specs.inside.Executed.{AnswersAll, AnswersPlan, AnswersTest, AnswersUnits, CountsPlan, CountsTest}
-use Rattle.executor.specs.inside.Executed.{CountsBeside, CountsUnits}
+use Rattle.executor.specs.inside.Executed.{AnswersAll, AnswersPlan, AnswersTest, AnswersGroups, CountsPlan, CountsTest}
+use Rattle.executor.specs.inside.Executed.{CountsWithRoom, CountsGroups}
 
 -- ---- nodes of one part: which node a plan is
 -- a `Walk` node is the physical walk of its operator and operand
@@ -74,9 +74,9 @@ module _ (indexed : Indexed) {early late : Counter} where
   plan_counts is = subst (λ (plan : Physical). CountsPlan indexed plan early late) (sym is)
 
   -- what is within the bound of a node of groups is within the bound of the plan that the node is
-  pub units_count : {plan node : PhysicalUnits} → plan ≡ node → CountsUnits indexed node early late → CountsUnits
+  pub groups_count : {plan node : PhysicalGroups} → plan ≡ node → CountsGroups indexed node early late → CountsGroups
       indexed plan early late
-  units_count is = subst (λ (plan : PhysicalUnits). CountsUnits indexed plan early late) (sym is)
+  groups_count is = subst (λ (plan : PhysicalGroups). CountsGroups indexed plan early late) (sym is)
 
   -- what is within the bound of a test is within the bound of the test that it is equal to
   pub test_counts : {test node : PhysicalTest} → test ≡ node → CountsTest indexed node early late → CountsTest indexed
@@ -94,11 +94,11 @@ module _ {S E : Type 0} (sets : Ghosts S) (release : Release) (indexed : Indexed
       (λ (plan : Physical). IfOk result (AnswersPlan sets release indexed candidates plan early late)) (sym is)
 
   -- an answer to a node of groups is an answer to the plan that the node is
-  pub units_answer : {plan node : PhysicalUnits} → plan ≡ node
-      → IfOk result (AnswersUnits sets release indexed candidates node early late)
-      → IfOk result (AnswersUnits sets release indexed candidates plan early late)
-  units_answer is = subst
-      (λ (plan : PhysicalUnits). IfOk result (AnswersUnits sets release indexed candidates plan early late)) (sym is)
+  pub groups_answer : {plan node : PhysicalGroups} → plan ≡ node
+      → IfOk result (AnswersGroups sets release indexed candidates node early late)
+      → IfOk result (AnswersGroups sets release indexed candidates plan early late)
+  groups_answer is = subst
+      (λ (plan : PhysicalGroups). IfOk result (AnswersGroups sets release indexed candidates plan early late)) (sym is)
 
 -- ---- what a test answers, by the set that its plan has found
 module _ {S : Type 0} (sets : Ghosts S) (release : Release) (indexed : Indexed) (index : IsIndexOf indexed release)
@@ -160,9 +160,13 @@ no_floor indexed before none =
 
 -- the floor of no parts of groups is 0, so any counter has reached it
 pub no_floor_of_groups : (indexed : Indexed) {parts : List UnitPlan} (before : ℕ) → parts ≡ []
-    → min (before + groups_sum (floor_number indexed) (physical_units_list_of parts)) (2 ^ 64 - 1) ≤ before
+    → min (before + groups_sum (floor_number indexed) (physical_groups_list_of parts)) (2 ^ 64 - 1) ≤ before
 no_floor_of_groups indexed before none =
-    omega (arith, ap (λ (parts : List UnitPlan). groups_sum (floor_number indexed) (physical_units_list_of parts)) none)
+    omega (
+      arith,
+      ap (λ (parts : List UnitPlan). groups_sum (floor_number indexed) (physical_groups_list_of parts))
+          none,
+    )
 
 -- ---- a leaf: its types, and its test
 module _ (indexed : Indexed) (types : Physical) (test : PhysicalTest) where
@@ -183,19 +187,19 @@ module _ (indexed : Indexed) (types : Physical) (test : PhysicalTest) where
 
 -- ---- dotted attributes read their start, and then the values along their names
 -- dotted attributes count at most the bound of their start, of their names and of the values along them
-pub led_reads : (indexed : Indexed) (start : Physical) (names : Physicals) {found : ℕ} {early between late : Counter}
+pub driven_reads : (indexed : Indexed) (start : Physical) (names : Physicals) {found : ℕ} {early between late : Counter}
     → CountsPlan indexed start early between
     → CountsWithin (values_bound indexed (plan_count names) found + plans_sum (own_number indexed) names) between late
     → found ≤ size indexed start → CountsPlan indexed (physical_values start names) early late
-led_reads indexed start names {found = found} first along few =
+driven_reads indexed start names {found = found} first along few =
     counted_both first along (omega (arith, along_from indexed (plan_count names) found (size indexed start) few))
 
 -- a difference counts at most the bounds of both parts and its own bound, which has room for what both found
 pub counted_minus : {first second left right most own all : ℕ} {early one two three late : Counter}
-    → CountsWithin first early one → CountsBeside left most own one two → CountsWithin second two three
+    → CountsWithin first early one → CountsWithRoom left most own one two → CountsWithin second two three
     → HandsOut (left + right) three late → right ≤ left → right ≤ most → left + min most left ≤ own
     → (first + own) + second ≤ all → CountsWithin all early late
-counted_minus counted_first beside counted_second read few small room in_all = record {
+counted_minus counted_first beside counted_second read few small room execute_and = record {
   grows = omega (arith, counted_first.grows, beside.grows, counted_second.grows, read.grows);
   within = omega (
     arith,
@@ -206,6 +210,6 @@ counted_minus counted_first beside counted_second read few small room in_all = r
     few,
     small,
     room,
-    in_all,
+    execute_and,
   );
 }

@@ -20,11 +20,11 @@ use Rattle.postings.specs.Groups.{all_groups}
 use Rattle.postings.specs.Indexed.{Indexed, IsIndexOf}
 use Rattle.set_algebra.specs.declared.plan.ConceptPlan.{ConceptPlan}
 use Rattle.set_algebra.specs.declared.plan.UnitPlan.{UnitPlan}
-use Rattle.set_algebra.specs.Meaning.{unit_means, means}
-use Rattle.set_algebra.specs.Plan.{Plan, PlanOfUnits, or_plan, or_units}
-use Rattle.set_algebra.specs.Physical.{Physical, PhysicalUnits, logical, logical_units, physical_of, physical_or}
-use Rattle.set_algebra.specs.Physical.{physical_units_list_of}
-use Rattle.set_algebra.specs.Physical.{physical_units_of, physical_units_or, physicals_of}
+use Rattle.set_algebra.specs.Meaning.{group_means, means}
+use Rattle.set_algebra.specs.Plan.{Plan, PlanOfGroups, or_plan, or_group_plan}
+use Rattle.set_algebra.specs.Physical.{Physical, PhysicalGroups, logical, logical_groups, physical_of, physical_or}
+use Rattle.set_algebra.specs.Physical.{physical_groups_list_of}
+use Rattle.set_algebra.specs.Physical.{physical_groups_of, physical_groups_or, physicals_of}
 use Rattle.plan_bounds.specs.Bounds.{own_number}
 use Rattle.plan_bounds.specs.Nodes.{group_sum, groups_sum, node_sum, plans_sum}
 use Rattle.plan_bounds.specs.Sizes.{group_size, group_sizes, size, sizes, total}
@@ -36,7 +36,7 @@ use Rattle.candidates.specs.Groups.{groups_where, some_group_in}
 use Rattle.candidates.specs.Numbers.{numbers_in}
 use Rattle.candidates.specs.Within.{groups_within, numbers_within}
 use Rattle.candidates.proofs.SumLemmas.{listed_few}
-use Rattle.executor.specs.inside.Logical.{logical_of, logical_units_list_of, logical_units_of, logicals_of}
+use Rattle.executor.specs.inside.Logical.{logical_of, logical_groups_list_of, logical_groups_of, logicals_of}
 use Rattle.executor.proofs.GroupNodeLemmas as groups
 use Rattle.executor.proofs.NodeLemmas.{or_node}
 use Rattle.executor.proofs.WithinNodes.{groups_same, within_same}
@@ -63,8 +63,8 @@ concepts_read indexed = record {
 -- the sizes of plans of groups, added up
 abbrev pub groups_found : Indexed → Sum UnitPlan
 groups_found indexed = record {
-  of_part = λ part. group_size indexed (physical_units_of part);
-  of_parts = λ parts. total (group_sizes indexed (physical_units_list_of parts));
+  of_part = λ part. group_size indexed (physical_groups_of part);
+  of_parts = λ parts. total (group_sizes indexed (physical_groups_list_of parts));
   none = refl;
   more = λ part parts. refl;
 }
@@ -72,11 +72,11 @@ groups_found indexed = record {
 -- twice the sizes of plans of groups, and their bounds, added up
 abbrev pub groups_read : Indexed → Sum UnitPlan
 groups_read indexed = record {
-  of_part = λ part. 2 * group_size indexed (physical_units_of part) + group_sum (own_number indexed)
-      (physical_units_of part);
+  of_part = λ part. 2 * group_size indexed (physical_groups_of part) + group_sum (own_number indexed)
+      (physical_groups_of part);
   of_parts = λ parts.
-      2 * total (group_sizes indexed (physical_units_list_of parts)) + groups_sum (own_number indexed)
-      (physical_units_list_of parts);
+      2 * total (group_sizes indexed (physical_groups_list_of parts)) + groups_sum (own_number indexed)
+      (physical_groups_list_of parts);
   none = refl;
   more = λ part parts. omega arith;
 }
@@ -93,7 +93,7 @@ fewer bound may set =
       count_le (λ n. may n && set n) set (range_with_len 0 bound) (λ n passes. (and_parts (may n) (set n) passes).1),
     )
 
--- a set that is found among candidates has at most as many numbers as there are candidates
+-- a set that is found among `candidates` has at most as many numbers as there are candidates
 pub few_of_candidates : (bound : ℕ) (candidates : List ℕ) (set : ℕ → Bool) (found : List ℕ)
     → found ≡ numbers_where bound (λ n. has candidates n && set n) → length found ≤ length candidates
 few_of_candidates bound candidates set found is =
@@ -121,7 +121,7 @@ are_candidates bound may set found is =
 module _ (release : Release) (indexed : Indexed) (is : IsIndexOf indexed release)
     (rising : IsStrictlyIncreasing release.concepts)
     (known : All (λ (row : Attribute). has release.concepts row.source ≡ true) release.attributes) where
-  -- a plan of concepts finds at most its size, among any candidates
+  -- a plan of concepts finds, among any candidates, at most as many as its size
   pub few_found : (plan : Physical) (may : ℕ → Bool) (found : List ℕ) → found
       ≡ numbers_within release may (means release (logical plan))
       → length found ≤ size indexed plan
@@ -133,12 +133,12 @@ module _ (release : Release) (indexed : Indexed) (is : IsIndexOf indexed release
         numbers-le release indexed is rising known plan,
       )
 
-  -- a plan of groups finds at most its size, among any candidates
-  pub few_groups : (plan : PhysicalUnits) (may : ℕ → Bool) (found : List ℕ)
-      → found ≡ groups_within release may (unit_means release (logical_units plan)) → length found
+  -- a plan of groups finds, among any candidates, at most as many as its size
+  pub few_groups : (plan : PhysicalGroups) (may : ℕ → Bool) (found : List ℕ)
+      → found ≡ groups_within release may (group_means release (logical_groups plan)) → length found
       ≤ group_size indexed plan
   few_groups plan may found found_is =
-      let set : List Pair → Bool = unit_means release (logical_units plan) in
+      let set : List Pair → Bool = group_means release (logical_groups plan) in
       omega (
         arith,
         ap (λ (numbers : List ℕ). length numbers) found_is,
@@ -146,7 +146,7 @@ module _ (release : Release) (indexed : Indexed) (is : IsIndexOf indexed release
         group_numbers-le release indexed is rising known plan (some_group_in release set) (λ group. refl),
       )
 
-  -- the concepts that at least one part finds are at most the total of the sizes of the parts
+  -- the concepts that at least one part finds are at most as many as the sizes of the parts add up to
   pub few_joined : (parts : List ConceptPlan) (may : ℕ → Bool) (found : List ℕ)
       → found ≡ numbers_within release may (λ concept. list_any (λ part. means release (logical_of part) concept) parts)
       → length found ≤ total (sizes indexed (physicals_of parts))
@@ -158,21 +158,22 @@ module _ (release : Release) (indexed : Indexed) (is : IsIndexOf indexed release
       (or_node release plan (numbers_in release some) parts refl refl)) in
       omega (arith, few)
 
-  -- the groups that at least one part finds are at most the total of the sizes of the parts
+  -- the groups that at least one part finds are at most as many as the sizes of the parts add up to
   pub few_joined_groups : (parts : List UnitPlan) (may : ℕ → Bool) (found : List ℕ)
-      → found ≡ groups_within release may (λ pairs. list_any (λ part. unit_means release (logical_units_of part) pairs)
+      → found ≡ groups_within release may
+      (λ pairs. list_any (λ part. group_means release (logical_groups_of part) pairs)
       parts)
-      → length found ≤ total (group_sizes indexed (physical_units_list_of parts))
+      → length found ≤ total (group_sizes indexed (physical_groups_list_of parts))
   few_joined_groups parts may found found_is =
-      let some : List Pair → Bool = λ pairs. list_any (λ part. unit_means release (logical_units_of part) pairs)
+      let some : List Pair → Bool = λ pairs. list_any (λ part. group_means release (logical_groups_of part) pairs)
       parts in
-      let plan : PlanOfUnits = or_units (logical_units_list_of parts) in
-      let few = few_groups (physical_units_or (physical_units_list_of parts)) may found
-      (found_is ∙ groups_same release may some (unit_means release plan)
+      let plan : PlanOfGroups = or_group_plan (logical_groups_list_of parts) in
+      let few = few_groups (physical_groups_or (physical_groups_list_of parts)) may found
+      (found_is ∙ groups_same release may some (group_means release plan)
       (groups.or_node release plan (groups_where release some) parts refl refl)) in
       omega (arith, few)
 
-  -- the values of attributes are at most as many as the concepts and as the rows
+  -- the values of attributes are at most as many as all concepts, and as all rows
   pub few_values : (set types : ℕ → Bool) (found : List ℕ) → found ≡ numbers_in release (is_value release set types)
       → length found ≤ min (length indexed.concepts) (length indexed.rows)
   few_values set types found found_is =

@@ -15,7 +15,7 @@ use Rattle.held_release.specs.Numbering.{concept_number}
 use Rattle.set_algebra.specs.Meaning.{means}
 use Rattle.set_algebra.specs.Physical.{Physical, logical, physical_empty, physical_all, physical_one, physical_walk}
 use Rattle.set_algebra.specs.Physical.{physical_members, physical_and, physical_or, physical_minus, physical_values}
-use Rattle.set_algebra.specs.Physical.{physical_pairs, physical_units}
+use Rattle.set_algebra.specs.Physical.{physical_pairs, physical_groups}
 use Rattle.ancestor_index.specs.HierarchyLists.{Hierarchy}
 use Rattle.postings.specs.Indexed.{Indexed, IsIndexOf}
 use Rattle.plan_bounds.specs.Bounds.{walk_bound}
@@ -46,7 +46,7 @@ along hierarchy ParentsOrSelf = refl
 along hierarchy Top = refl
 along hierarchy Bottom = refl
 
--- the items of all lists of the operator's family are as many as its lists have together
+-- all lists of the operator's family have together `lists_length` items
 pub all_along : (indexed : Indexed) (operator : Operator) → all_items_of indexed.hierarchy (family_of operator)
     ≡ lists_length indexed operator
 all_along indexed Descendants = refl
@@ -88,7 +88,8 @@ module _ (release : Release) (indexed : Indexed) (index : IsIndexOf indexed rele
         all_along indexed operator,
       )
 
-  -- reading what a plan has found and the lists that a walk leads along takes at most the bound of the walk
+  -- if `items` is what the operand means, and has at most `size` concepts, reading them and the lists of the operator's
+  -- family takes at most the bound of the walk node itself
   pub walk_read : (plan : Physical) → items ≡ numbers_in release (means release (logical plan))
       → length items + walk_items indexed.hierarchy operator items ≤ walk_bound indexed operator (one_of plan) size
   walk_read (physical_one id) is =
@@ -110,14 +111,14 @@ module _ (release : Release) (indexed : Indexed) (index : IsIndexOf indexed rele
   walk_read (physical_minus first second) is = of_any
   walk_read (physical_values start names) is = of_any
   walk_read (physical_pairs back count types test choice) is = of_any
-  walk_read (physical_units count units) is = of_any
+  walk_read (physical_groups count units) is = of_any
 
--- the bound of a walk from what is not one concept is the size and the length of all lists
+-- if the operand is not the plan of one concept, the bound of a walk is the operand's size and the length of all lists
 pub several_bound : (indexed : Indexed) (operator : Operator) (one : Option ℕ) (size : ℕ) → one ≡ None
     → walk_bound indexed operator one size ≡ size + lists_length indexed operator
 several_bound indexed operator one size none = ap (λ (one : Option ℕ). walk_bound indexed operator one size) none
 
--- the floor of a walk from what is not one concept is 0
+-- if the operand is not the plan of one concept, the floor of a walk is 0
 pub several_floor : (indexed : Indexed) (operator : Operator) (one : Option ℕ) → one
     ≡ None → walk_floor indexed operator one ≡ 0
 several_floor indexed operator one none = ap (walk_floor indexed operator) none ∙ at (is_extreme operator)
@@ -126,7 +127,7 @@ several_floor indexed operator one none = ap (walk_floor indexed operator) none 
     at true = refl
     at false = refl
 
--- a plan that has rows to read without its candidates is not one concept
+-- a plan that reads rows if it does not use its candidates is not the plan of one concept
 pub not_one : (one : Option ℕ) (rows : ℕ) → (IsSome one → rows ≡ 0) → 0 < rows → one ≡ None
 not_one None rows none some = refl
 not_one (Some id) rows none some = let is : IsSome (Some id) = search rules in absurd (omega (arith, none is, some))

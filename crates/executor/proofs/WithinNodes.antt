@@ -20,19 +20,20 @@ use Rattle.ancestor_index.specs.HierarchyLists.{Hierarchy, hierarchy_of}
 use Rattle.postings.specs.Groups.{ConceptGroup, all_groups}
 use Rattle.set_algebra.specs.declared.plan.ConceptPlan.{ConceptPlan}
 use Rattle.set_algebra.specs.declared.plan.UnitPlan.{UnitPlan}
-use Rattle.set_algebra.specs.Meaning.{has_groups, means, unit_means}
-use Rattle.set_algebra.specs.Plan.{PlanOfUnits, Plan, and_plan, and_units, empty_plan, minus_plan, minus_units}
-use Rattle.set_algebra.specs.Plan.{nothing_unit, or_plan, or_units, units_plan, walk_plan}
+use Rattle.set_algebra.specs.Meaning.{has_groups, means, group_means}
+use Rattle.set_algebra.specs.Plan.{PlanOfGroups, Plan, and_plan, and_group_plan, empty_plan, minus_plan}
+use Rattle.set_algebra.specs.Plan.{minus_group_plan}
+use Rattle.set_algebra.specs.Plan.{nothing_group, or_plan, or_group_plan, groups_plan, walk_plan}
 use Rattle.candidates.specs.Groups.{groups_where, some_group_in}
 use Rattle.candidates.specs.Numbers.{numbers_in}
 use Rattle.walks.specs.Asked.{AreEnough, asked_lists}
-use Rattle.walks.specs.Led.{led_to}
-use Rattle.executor.specs.inside.Logical.{logical_of, logical_units_list_of, logical_units_of, logicals_of}
-use Rattle.executor.specs.inside.Lead.{leads_off, leads_off_groups}
+use Rattle.walks.specs.Related.{related_to}
+use Rattle.executor.specs.inside.Logical.{logical_of, logical_groups_list_of, logical_groups_of, logicals_of}
+use Rattle.executor.specs.inside.DrivingPart.{leads_off, leads_off_groups}
 use Rattle.candidates.specs.Within.{groups_within, numbers_within}
-use Rattle.walks.proofs.AskedLemmas.{led_from_part}
+use Rattle.walks.proofs.AskedLemmas.{related_from_part}
 use Rattle.executor.proofs.GroupNodeLemmas as groups
-use Rattle.executor.proofs.NodeLemmas.{and_node, or_node, units_node, walk_node}
+use Rattle.executor.proofs.NodeLemmas.{and_node, or_node, groups_node, walk_node}
 use Rattle.pair_sets.proofs.LeafLemmas as leaf
 use Rattle.candidates.proofs.WithinLemmas.{all_again, all_done, kept_groups, minus_within, restricted_to, some_of_none}
 
@@ -98,48 +99,48 @@ module _ (release : Release) (may : ℕ → Bool) where
       ∙ meant_within plan (minus_plan first second) is
 
   -- the candidates that the driving part and all parts mean are the candidates that all parts mean
-  pub led_all : (parts : List ConceptPlan) (lead : ℕ) (found : List ℕ)
+  pub driven_all : (parts : List ConceptPlan) (driving : ℕ) (found : List ℕ)
       → found ≡ numbers_where (length release.concepts)
-      (λ n. (may n && leads_off release (slice_get parts lead) (get_or release.concepts n 0))
+      (λ n. (may n && leads_off release (slice_get parts driving) (get_or release.concepts n 0))
       && list_all (λ part. means release (logical_of part) (get_or release.concepts n 0)) parts)
       → found ≡ numbers_within release may (λ concept. list_all (λ part. means release (logical_of part) concept) parts)
-  led_all parts lead found found_is =
+  driven_all parts driving found found_is =
       all_done (length release.concepts) may
-      (λ n. leads_off release (slice_get parts lead) (get_or release.concepts n 0))
+      (λ n. leads_off release (slice_get parts driving) (get_or release.concepts n 0))
       (λ n. list_all (λ part. means release (logical_of part) (get_or release.concepts n 0)) parts)
-      found (λ n within all. had (get_or release.concepts n 0) (slice_get parts lead) refl all) found_is
+      found (λ n within all. had (get_or release.concepts n 0) (slice_get parts driving) refl all) found_is
     where
-      had : (concept : ℕ) (at : Option ConceptPlan) → slice_get parts lead ≡ at
+      had : (concept : ℕ) (at : Option ConceptPlan) → slice_get parts driving ≡ at
           → list_all (λ part. means release (logical_of part) concept) parts ≡ true → leads_off release at concept
           ≡ true
       had concept None is all = refl
-      had concept (Some part) is all = passed_by (λ p. means release (logical_of p) concept) parts lead part all is
+      had concept (Some part) is all = passed_by (λ p. means release (logical_of p) concept) parts driving part all is
 
   -- if there is no driving part, restricting all concepts to candidates gives what the driving part means among them
-  pub led_none : (parts : List ConceptPlan) (lead : ℕ) (every found : List ℕ) → length parts ≤ lead
+  pub driven_none : (parts : List ConceptPlan) (driving : ℕ) (every found : List ℕ) → length parts ≤ driving
       → every ≡ range_with_len 0 (length release.concepts) → found ≡ filter may every
-      → found ≡ numbers_within release may (leads_off release (slice_get parts lead))
-  led_none parts lead every found past every_is found_is =
+      → found ≡ numbers_within release may (leads_off release (slice_get parts driving))
+  driven_none parts driving every found past every_is found_is =
       restricted_to (length release.concepts) may (λ n. true) every found (every_is ∙ each) found_is
       ∙ ap (λ (at : Option ConceptPlan). numbers_within release may (leads_off release at))
-      (sym (slice_get_past parts lead past))
+      (sym (slice_get_past parts driving past))
     where
       each : range_with_len 0 (length release.concepts) ≡ numbers_where (length release.concepts) (λ n. true)
       each = sym (numbers_where-all (length release.concepts))
 
   -- a turn at the driving part changes nothing, because it was executed first
-  pub led_again : (parts : List ConceptPlan) (lead k : ℕ) → k ≡ lead → k < length parts → (found : List ℕ)
+  pub driven_again : (parts : List ConceptPlan) (driving k : ℕ) → k ≡ driving → k < length parts → (found : List ℕ)
       → found ≡ numbers_where (length release.concepts)
-      (λ n. (may n && leads_off release (slice_get parts lead) (get_or release.concepts n 0))
+      (λ n. (may n && leads_off release (slice_get parts driving) (get_or release.concepts n 0))
       && list_all (λ part. means release (logical_of part) (get_or release.concepts n 0)) (take k parts))
       → found ≡ numbers_where (length release.concepts)
-      (λ n. (may n && leads_off release (slice_get parts lead) (get_or release.concepts n 0))
+      (λ n. (may n && leads_off release (slice_get parts driving) (get_or release.concepts n 0))
       && list_all (λ part. means release (logical_of part) (get_or release.concepts n 0)) (take (k + 1) parts))
-  led_again parts lead k here within found found_is = elim (slice_get_cases parts k).1 [
+  driven_again parts driving k here within found found_is = elim (slice_get_cases parts k).1 [
     | inl (x, inside, at, is) ↦
         all_again (length release.concepts) (λ (part : ConceptPlan) n. means release (logical_of part)
         (get_or release.concepts n 0)) parts k x within
-        (λ n. may n && leads_off release (slice_get parts lead) (get_or release.concepts n 0)) found
+        (λ n. may n && leads_off release (slice_get parts driving) (get_or release.concepts n 0)) found
         (λ n below holds.
         ap (λ (part : ConceptPlan). means release (logical_of part) (get_or release.concepts n 0)) is
         ∙ ap (λ (found : Option ConceptPlan). leads_off release found (get_or release.concepts n 0)) (sym at
@@ -170,9 +171,9 @@ module _ (release : Release) (may : ℕ → Bool) where
       (filter may (groups_where release q)) refl refl
 
   -- equal plans of groups mean equal sets among candidates
-  pub groups_meant : (plan other : PlanOfUnits) → plan ≡ other
-      → groups_within release may (unit_means release other) ≡ groups_within release may (unit_means release plan)
-  groups_meant plan other is = ap (λ (p : PlanOfUnits). groups_within release may (unit_means release p)) (sym is)
+  pub groups_meant : (plan other : PlanOfGroups) → plan ≡ other
+      → groups_within release may (group_means release other) ≡ groups_within release may (group_means release plan)
+  groups_meant plan other is = ap (λ (p : PlanOfGroups). groups_within release may (group_means release p)) (sym is)
 
   -- no group has pairs in the empty set
   nothing_in : (at : Option ConceptGroup) → false ≡ some_group_in release (λ pairs. false) at
@@ -180,12 +181,12 @@ module _ (release : Release) (may : ℕ → Bool) where
   nothing_in (Some group) = refl
 
   -- the empty set is what the plan of no group means among candidates
-  pub nothing_within : (plan : PlanOfUnits) (found : List ℕ) → plan ≡ nothing_unit → found ≡ [] → found
-      ≡ groups_within release may (unit_means release plan)
+  pub nothing_within : (plan : PlanOfGroups) (found : List ℕ) → plan ≡ nothing_group → found ≡ [] → found
+      ≡ groups_within release may (group_means release plan)
   nothing_within plan found is found_is =
       some_of_none (length all) may found found_is
       ∙ (λ i. numbers_where (length all) (λ n. may n && nothing_in (slice_get all n) i))
-      ∙ groups_meant plan nothing_unit is
+      ∙ groups_meant plan nothing_group is
 
   -- the pairs of a group are in the difference of two sets exactly if they are in the first and not in the second
   minus_in : (p q : List Pair → Bool) (at : Option ConceptGroup)
@@ -196,16 +197,18 @@ module _ (release : Release) (may : ℕ → Bool) where
 
   -- the first part of groups among candidates without the second among what the first found is what the difference
   -- means among candidates
-  pub minus_groups : (plan first second : PlanOfUnits) (left right found : List ℕ) → plan ≡ minus_units first second
-      → left ≡ groups_within release may (unit_means release first)
-      → right ≡ groups_within release (has left) (unit_means release second)
-      → found ≡ other_items left right → found ≡ groups_within release may (unit_means release plan)
+  pub minus_groups : (plan first second : PlanOfGroups) (left right found : List ℕ)
+      → plan ≡ minus_group_plan first second
+      → left ≡ groups_within release may (group_means release first)
+      → right ≡ groups_within release (has left) (group_means release second)
+      → found ≡ other_items left right → found ≡ groups_within release may (group_means release plan)
   minus_groups plan first second left right found is left_is right_is found_is =
-      minus_within (length all) may (group_by_number (unit_means release first))
-      (group_by_number (unit_means release second)) left right found left_is right_is found_is
-      ∙ (λ i. numbers_where (length all) (λ n. may n && minus_in (unit_means release first) (unit_means release second)
+      minus_within (length all) may (group_by_number (group_means release first))
+      (group_by_number (group_means release second)) left right found left_is right_is found_is
+      ∙ (λ i. numbers_where (length all) (λ n. may n
+      && minus_in (group_means release first) (group_means release second)
       (slice_get all n) i))
-      ∙ groups_meant plan (minus_units first second) is
+      ∙ groups_meant plan (minus_group_plan first second) is
 
   -- each group below the number of groups has its pairs in a set that contains all
   there : (n : ℕ) → n < length all → (at : Option ConceptGroup) → slice_get all n ≡ at → (set : List Pair → Bool)
@@ -215,64 +218,69 @@ module _ (release : Release) (may : ℕ → Bool) where
 
   -- the pairs of a group are in the sets of all parts exactly if they are in their intersection
   all_in : (parts : List UnitPlan) (n : ℕ) → n < length all → (at : Option ConceptGroup) → slice_get all n ≡ at
-      → list_all (λ part. some_group_in release (unit_means release (logical_units_of part)) at) parts
-      ≡ some_group_in release (λ pairs. list_all (λ part. unit_means release (logical_units_of part) pairs) parts) at
+      → list_all (λ part. some_group_in release (group_means release (logical_groups_of part)) at) parts
+      ≡ some_group_in release (λ pairs. list_all (λ part. group_means release (logical_groups_of part) pairs) parts) at
   all_in parts n within None is = absurd (leaf.none_within all n within is)
   all_in parts n within (Some group) is = refl
 
   -- the pairs of a group are in the set of at least one part exactly if they are in their union
   any_in : (parts : List UnitPlan) (at : Option ConceptGroup)
-      → list_any (λ part. some_group_in release (unit_means release (logical_units_of part)) at) parts
-      ≡ some_group_in release (λ pairs. list_any (λ part. unit_means release (logical_units_of part) pairs) parts) at
+      → list_any (λ part. some_group_in release (group_means release (logical_groups_of part)) at) parts
+      ≡ some_group_in release (λ pairs. list_any (λ part. group_means release (logical_groups_of part) pairs) parts) at
   any_in [] None = refl
   any_in (part ∷ parts) None = any_in parts None
   any_in parts (Some group) = refl
 
   -- the candidate groups that the driving part and all parts mean are the candidate groups that all parts mean
-  pub groups_led_all : (parts : List UnitPlan) (lead : ℕ) (found : List ℕ)
+  pub groups_driven_all : (parts : List UnitPlan) (driving : ℕ) (found : List ℕ)
       → found ≡ numbers_where (length all)
-      (λ n. (may n && some_group_in release (leads_off_groups release (slice_get parts lead)) (slice_get all n))
-      && list_all (λ part. some_group_in release (unit_means release (logical_units_of part)) (slice_get all n)) parts)
-      → found ≡ groups_within release may (λ pairs. list_all (λ part. unit_means release (logical_units_of part) pairs)
+      (λ n. (may n && some_group_in release (leads_off_groups release (slice_get parts driving)) (slice_get all n))
+      && list_all (λ part. some_group_in release (group_means release (logical_groups_of part)) (slice_get all n))
       parts)
-  groups_led_all parts lead found found_is =
-      all_done (length all) may (λ n. some_group_in release (leads_off_groups release (slice_get parts lead))
+      → found ≡ groups_within release may
+      (λ pairs. list_all (λ part. group_means release (logical_groups_of part) pairs)
+      parts)
+  groups_driven_all parts driving found found_is =
+      all_done (length all) may (λ n. some_group_in release (leads_off_groups release (slice_get parts driving))
       (slice_get all n))
-      (λ n. list_all (λ part. some_group_in release (unit_means release (logical_units_of part)) (slice_get all n))
+      (λ n. list_all (λ part. some_group_in release (group_means release (logical_groups_of part)) (slice_get all n))
       parts)
-      found (λ n within each. had n within (slice_get parts lead) refl each) found_is
+      found (λ n within each. had n within (slice_get parts driving) refl each) found_is
       ∙ numbers_where-agree (length all) (λ n. may n && list_all
-      (λ part. some_group_in release (unit_means release (logical_units_of part)) (slice_get all n)) parts)
-      (λ n. may n && some_group_in release (λ pairs. list_all (λ part. unit_means release (logical_units_of part) pairs)
+      (λ part. some_group_in release (group_means release (logical_groups_of part)) (slice_get all n)) parts)
+      (λ n. may n && some_group_in release (λ pairs. list_all
+      (λ part. group_means release (logical_groups_of part) pairs)
       parts) (slice_get all n))
       (λ n within. ap (λ (b : Bool). may n && b) (all_in parts n within (slice_get all n) refl))
     where
-      had : (n : ℕ) → n < length all → (at : Option UnitPlan) → slice_get parts lead ≡ at
-          → list_all (λ part. some_group_in release (unit_means release (logical_units_of part)) (slice_get all n))
+      had : (n : ℕ) → n < length all → (at : Option UnitPlan) → slice_get parts driving ≡ at
+          → list_all (λ part. some_group_in release (group_means release (logical_groups_of part)) (slice_get all n))
           parts ≡ true
           → some_group_in release (leads_off_groups release at) (slice_get all n) ≡ true
       had n within None is each = there n within (slice_get all n) refl (λ pairs. true) (λ pairs. refl)
-      had n within (Some part) is each = passed_by (λ p. some_group_in release (unit_means release (logical_units_of p))
-          (slice_get all n)) parts lead part each is
+      had n within (Some part) is each =
+          passed_by (λ p. some_group_in release (group_means release (logical_groups_of p))
+          (slice_get all n)) parts driving part each is
 
   -- a turn at the driving part of groups changes nothing, because it was executed first
-  pub groups_led_again : (parts : List UnitPlan) (lead k : ℕ) → k ≡ lead → k < length parts → (found : List ℕ)
+  pub groups_driven_again : (parts : List UnitPlan) (driving k : ℕ) → k ≡ driving → k < length parts → (found : List ℕ)
       → found ≡ numbers_where (length all) (λ n. (may n && some_group_in release
-      (leads_off_groups release (slice_get parts lead)) (slice_get all n))
-      && list_all (λ part. some_group_in release (unit_means release (logical_units_of part)) (slice_get all n))
+      (leads_off_groups release (slice_get parts driving)) (slice_get all n))
+      && list_all (λ part. some_group_in release (group_means release (logical_groups_of part)) (slice_get all n))
       (take k parts))
       → found ≡ numbers_where (length all) (λ n. (may n && some_group_in release
-      (leads_off_groups release (slice_get parts lead)) (slice_get all n))
-      && list_all (λ part. some_group_in release (unit_means release (logical_units_of part)) (slice_get all n))
+      (leads_off_groups release (slice_get parts driving)) (slice_get all n))
+      && list_all (λ part. some_group_in release (group_means release (logical_groups_of part)) (slice_get all n))
       (take (k + 1) parts))
-  groups_led_again parts lead k here within found found_is = elim (slice_get_cases parts k).1 [
+  groups_driven_again parts driving k here within found found_is = elim (slice_get_cases parts k).1 [
     | inl (x, inside, at, is) ↦
         all_again (length all)
-        (λ (part : UnitPlan) n. some_group_in release (unit_means release (logical_units_of part)) (slice_get all n))
+        (λ (part : UnitPlan) n. some_group_in release (group_means release (logical_groups_of part)) (slice_get all n))
         parts k x within
-        (λ n. may n && some_group_in release (leads_off_groups release (slice_get parts lead)) (slice_get all n)) found
+        (λ n. may n && some_group_in release (leads_off_groups release (slice_get parts driving)) (slice_get all n))
+        found
         (λ n below holds.
-        ap (λ (part : UnitPlan). some_group_in release (unit_means release (logical_units_of part)) (slice_get all n))
+        ap (λ (part : UnitPlan). some_group_in release (group_means release (logical_groups_of part)) (slice_get all n))
         is
         ∙ ap (λ (found : Option UnitPlan). some_group_in release (leads_off_groups release found) (slice_get all n))
         (sym at ∙ ap (slice_get parts) here)
@@ -282,19 +290,20 @@ module _ (release : Release) (may : ℕ → Bool) where
   ]
 
   -- if there is no driving part, restricting all groups to candidates gives what the driving part means among them
-  pub groups_led_none : (parts : List UnitPlan) (lead : ℕ) (every found : List ℕ) → length parts ≤ lead
+  pub groups_driven_none : (parts : List UnitPlan) (driving : ℕ) (every found : List ℕ) → length parts ≤ driving
       → every ≡ groups_where release (λ pairs. true) → found ≡ filter may every
-      → found ≡ groups_within release may (leads_off_groups release (slice_get parts lead))
-  groups_led_none parts lead every found past every_is found_is =
+      → found ≡ groups_within release may (leads_off_groups release (slice_get parts driving))
+  groups_driven_none parts driving every found past every_is found_is =
       kept_groups release may (λ pairs. true) every found every_is found_is
       ∙ ap (λ (at : Option UnitPlan). groups_within release may (leads_off_groups release at))
-      (sym (slice_get_past parts lead past))
+      (sym (slice_get_past parts driving past))
 
   -- the candidate groups that at least one part means, by their numbers, are those by their pairs
   pub any_done : (parts : List UnitPlan) (found : List ℕ)
       → found ≡ numbers_where (length all) (λ n. may n && list_any
-      (λ part. some_group_in release (unit_means release (logical_units_of part)) (slice_get all n)) parts)
-      → found ≡ groups_within release may (λ pairs. list_any (λ part. unit_means release (logical_units_of part) pairs)
+      (λ part. some_group_in release (group_means release (logical_groups_of part)) (slice_get all n)) parts)
+      → found ≡ groups_within release may
+      (λ pairs. list_any (λ part. group_means release (logical_groups_of part) pairs)
       parts)
   any_done parts found found_is = found_is
       ∙ (λ i. numbers_where (length all) (λ n. may n && any_in parts (slice_get all n) i))
@@ -306,13 +315,15 @@ pub walk_of_part : (release : Release) (child : Plan) (operator : Operator) (hie
     → hierarchy ≡ hierarchy_of release → count ≡ length release.concepts
     → AreEnough (asked_lists hierarchy operator) may enough
     → part ≡ numbers_within release enough (means release child)
-    → found ≡ filter may (led_to hierarchy count operator part)
+    → found ≡ filter may (related_to hierarchy count operator part)
     → found ≡ numbers_within release may (means release (walk_plan operator child))
 walk_of_part release child operator hierarchy count may enough part found over counted are_enough part_is found_is =
-    kept_node release may (walk_plan operator child) (led_to hierarchy count operator set) found
-    (walk_node release (walk_plan operator child) (led_to hierarchy count operator set) child operator hierarchy count
+    kept_node release may (walk_plan operator child) (related_to hierarchy count operator set) found
+    (walk_node release (walk_plan operator child) (related_to hierarchy count operator set) child operator hierarchy
+    count
     set refl over counted refl refl)
-    (found_is ∙ led_from_part count hierarchy (record { release = release; hierarchy_is = over; count_is = counted })
+    (found_is ∙ related_from_part count hierarchy
+    (record { release = release; hierarchy_is = over; count_is = counted })
     set part (rises holds) (subst (IsRisingBelow count) (sym part_is) (rises (λ n. enough n && holds n))) enough same
     operator may are_enough)
   where
@@ -361,31 +372,33 @@ module _ (release : Release) (may : ℕ → Bool) where
       within_same release may set (means release plan) (or_node release plan (numbers_in release set) parts refl refl)
 
   -- the candidates with a number of groups of `units` in `count` are what the plan of groups means among candidates
-  pub units_within : (count : Cardinality) (units : PlanOfUnits)
-      → numbers_within release may (has_groups release count (unit_means release units))
-      ≡ numbers_within release may (means release (units_plan count units))
-  units_within count units =
-      let set : ℕ → Bool = has_groups release count (unit_means release units) in
-      let plan : Plan = units_plan count units in
-      within_same release may set (means release plan) (units_node release plan (numbers_in release set) count units
+  pub execute_units : (count : Cardinality) (units : PlanOfGroups)
+      → numbers_within release may (has_groups release count (group_means release units))
+      ≡ numbers_within release may (means release (groups_plan count units))
+  execute_units count units =
+      let set : ℕ → Bool = has_groups release count (group_means release units) in
+      let plan : Plan = groups_plan count units in
+      within_same release may set (means release plan) (groups_node release plan (numbers_in release set) count units
       refl refl)
 
   -- the candidate groups that all parts mean are what their conjunction means among candidates
   pub and_groups : (parts : List UnitPlan)
-      → groups_within release may (λ pairs. list_all (λ part. unit_means release (logical_units_of part) pairs) parts)
-      ≡ groups_within release may (unit_means release (and_units (logical_units_list_of parts)))
+      → groups_within release may (λ pairs. list_all (λ part. group_means release (logical_groups_of part) pairs) parts)
+      ≡ groups_within release may (group_means release (and_group_plan (logical_groups_list_of parts)))
   and_groups parts =
-      let set : List Pair → Bool = λ pairs. list_all (λ part. unit_means release (logical_units_of part) pairs) parts in
-      let plan : PlanOfUnits = and_units (logical_units_list_of parts) in
-      groups_same release may set (unit_means release plan) (groups.and_node release plan (groups_where release set)
+      let set : List Pair → Bool =
+      λ pairs. list_all (λ part. group_means release (logical_groups_of part) pairs) parts in
+      let plan : PlanOfGroups = and_group_plan (logical_groups_list_of parts) in
+      groups_same release may set (group_means release plan) (groups.and_node release plan (groups_where release set)
       parts refl refl)
 
   -- the candidate groups that at least one part means are what their disjunction means among candidates
   pub or_groups : (parts : List UnitPlan)
-      → groups_within release may (λ pairs. list_any (λ part. unit_means release (logical_units_of part) pairs) parts)
-      ≡ groups_within release may (unit_means release (or_units (logical_units_list_of parts)))
+      → groups_within release may (λ pairs. list_any (λ part. group_means release (logical_groups_of part) pairs) parts)
+      ≡ groups_within release may (group_means release (or_group_plan (logical_groups_list_of parts)))
   or_groups parts =
-      let set : List Pair → Bool = λ pairs. list_any (λ part. unit_means release (logical_units_of part) pairs) parts in
-      let plan : PlanOfUnits = or_units (logical_units_list_of parts) in
-      groups_same release may set (unit_means release plan) (groups.or_node release plan (groups_where release set)
+      let set : List Pair → Bool =
+      λ pairs. list_any (λ part. group_means release (logical_groups_of part) pairs) parts in
+      let plan : PlanOfGroups = or_group_plan (logical_groups_list_of parts) in
+      groups_same release may set (group_means release plan) (groups.or_node release plan (groups_where release set)
       parts refl refl)

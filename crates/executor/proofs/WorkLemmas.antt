@@ -10,7 +10,7 @@ use Rattle.number_lists.proofs.ListLemmas.{next_place}
 use Rattle.postings.specs.Indexed.{Indexed}
 use Rattle.plan_bounds.specs.Bounds.{values_bound}
 use Rattle.plan_bounds.proofs.LoopLemmas.{Sum}
-use Rattle.executor.specs.inside.Lead.{of_lead}
+use Rattle.executor.specs.inside.DrivingPart.{of_driving}
 
 -- ---- the parts before a place, and the part at it
 module _ {Part : Type 0} (sum : Sum Part) where
@@ -66,34 +66,35 @@ module _ {Part : Type 0} (sum : Sum Part) where
 
   -- the number of the driving part, which is executed first; 0 if there is no such part
   abbrev pub of_first : List Part → ℕ → ℕ
-  of_first parts lead = of_lead sum.of_part (slice_get parts lead)
+  of_first parts driving = of_driving sum.of_part (slice_get parts driving)
 
   -- the parts before `place` and the driving part, if it is not before `place`, have together at most the sum over
   -- all parts
-  first_room : (parts : List Part) (lead place : ℕ) → place ≤ lead → lead < length parts
-      → sum.of_parts (take place parts) + of_first parts lead ≤ sum.of_parts parts
-  first_room parts lead place before inside = elim (slice_get_cases parts lead).1 [
+  first_room : (parts : List Part) (driving place : ℕ) → place ≤ driving → driving < length parts
+      → sum.of_parts (take place parts) + of_first parts driving ≤ sum.of_parts parts
+  first_room parts driving place before inside = elim (slice_get_cases parts driving).1 [
     | inl (part, within, at, is) ↦
         omega (
           arith,
-          ap (of_lead sum.of_part) at,
-          sum_le parts place lead before,
-          sum_more parts lead part within (sym is),
-          sum_most parts (lead + 1),
+          ap (of_driving sum.of_part) at,
+          sum_le parts place driving before,
+          sum_more parts driving part within (sym is),
+          sum_most parts (driving + 1),
         )
     | inr (past, at) ↦ absurd (omega (arith, past, inside))
   ]
 
   -- the number of the driving part is at most the sum over all parts
-  pub first_within : (parts : List Part) (lead : ℕ) → lead < length parts → of_first parts lead ≤ sum.of_parts parts
-  first_within parts lead inside = omega (arith, first_room parts lead 0 (omega arith) inside)
+  pub first_within : (parts : List Part) (driving : ℕ) → driving < length parts
+      → of_first parts driving ≤ sum.of_parts parts
+  first_within parts driving inside = omega (arith, first_room parts driving 0 (omega arith) inside)
 
 -- ---- the driving part is one of the parts, if there is a part
 -- the place `min place (count - 1)` is one of the parts, if there is a part
-pub lead_inside : {empty : Bool} {count lead : ℕ} (place : ℕ) → empty ≡ (count == 0) → empty ≡ false → lead
-    ≡ min place (count - 1) → lead < count
-lead_inside {empty} {count} {lead} place told not_empty lead_is = elim (cases_lt 0 count) [
-  | inl some ↦ omega (arith, some, lead_is)
+pub driving_inside : {empty : Bool} {count driving : ℕ} (place : ℕ) → empty ≡ (count == 0) → empty ≡ false → driving
+    ≡ min place (count - 1) → driving < count
+driving_inside {empty} {count} {driving} place told not_empty driving_is = elim (cases_lt 0 count) [
+  | inl some ↦ omega (arith, some, driving_is)
   | inr none ↦ absurd (both_ways empty not_empty (told ∙ eq-eqb count 0 (omega (arith, none))))
 ]
 
@@ -111,16 +112,18 @@ pub record Counts (before least most after : ℕ) : Type 0 where
 
 -- loop invariant of AND: the counts are those of the parts before `place` and of the driving part, which was executed
 -- first
-pub record AllSoFar {Part : Type 0} (least most : Sum Part) (parts : List Part) (lead place before after : ℕ) : Type 0
+pub record AllSoFar {Part : Type 0} (least most : Sum Part) (parts : List Part) (driving place before after : ℕ) : Type
+    0
   where
     -- the counter does not fall
     pub grows : before ≤ after
     -- up to the place of the driving part, its count comes on top of those of the parts before `place`
-    pub early : place ≤ lead → Counts before
-        (least.of_parts (take place parts) + of_first least parts lead)
-        (most.of_parts (take place parts) + of_first most parts lead) after
+    pub early : place ≤ driving → Counts before
+        (least.of_parts (take place parts) + of_first least parts driving)
+        (most.of_parts (take place parts) + of_first most parts driving) after
     -- after the place of the driving part, its count is among those of the parts before `place`
-    pub late : lead < place → Counts before (least.of_parts (take place parts)) (most.of_parts (take place parts)) after
+    pub late : driving < place
+        → Counts before (least.of_parts (take place parts)) (most.of_parts (take place parts)) after
 
 -- loop invariant of a node that takes its parts in order: the counts are those of the parts before `place`, and at
 -- most `own place` that the node itself reads
@@ -132,21 +135,22 @@ pub record SomeSoFar {Part : Type 0} (least most : Sum Part) (own : ℕ → ℕ)
   pub counts : Counts before (least.of_parts (take place parts)) (own place + most.of_parts (take place parts)) after
 
 -- the number of the driving part is that of the part at its place
-pub lead_is : {Part : Type 0} (number : Part → ℕ) (parts : List Part) (lead : ℕ) (part : Part) → lead < length parts →
-    part ≡ get_or parts lead part
-    → of_lead number (slice_get parts lead) ≡ number part
-lead_is number parts lead part within is =
-    ap (of_lead number) (slice_get_read parts (length parts) lead part refl within is)
+pub driving_is : {Part : Type 0} (number : Part → ℕ) (parts : List Part) (driving : ℕ) (part : Part)
+    → driving < length parts →
+    part ≡ get_or parts driving part
+    → of_driving number (slice_get parts driving) ≡ number part
+driving_is number parts driving part within is =
+    ap (of_driving number) (slice_get_read parts (length parts) driving part refl within is)
 
-module _ {Part : Type 0} {least most : Sum Part} {parts : List Part} {lead : ℕ} where
+module _ {Part : Type 0} {least most : Sum Part} {parts : List Part} {driving : ℕ} where
   -- after the driving part has been executed, `AllSoFar` holds at place 0
-  pub all_first : {before after : ℕ} (part : Part) → lead < length parts → part ≡ get_or parts lead part → before
+  pub all_first : {before after : ℕ} (part : Part) → driving < length parts → part ≡ get_or parts driving part → before
       ≤ after
       → after ≤ before + most.of_part part → min (before + least.of_part part) (2 ^ 64 - 1) ≤ after
-      → AllSoFar least most parts lead 0 before after
+      → AllSoFar least most parts driving 0 before after
   all_first part inside is grows within floor =
-      let first_is : (sum : Sum Part) → of_first sum parts lead ≡ sum.of_part part =
-      λ sum. lead_is sum.of_part parts lead part inside is in
+      let first_is : (sum : Sum Part) → of_first sum parts driving ≡ sum.of_part part =
+      λ sum. driving_is sum.of_part parts driving part inside is in
       record {
         grows = grows;
         early = λ from. record {
@@ -157,43 +161,52 @@ module _ {Part : Type 0} {least most : Sum Part} {parts : List Part} {lead : ℕ
       }
 
   -- what has been counted is at most the sum over all parts
-  pub all_most : {place before after : ℕ} → AllSoFar least most parts lead place before after → lead < length parts
+  pub all_most : {place before after : ℕ} → AllSoFar least most parts driving place before after
+      → driving < length parts
       → after ≤ before + most.of_parts parts
-  all_most {place} so_far inside = elim (cases_lt lead place) [
+  all_most {place} so_far inside = elim (cases_lt driving place) [
     | inl past ↦ omega (arith, (so_far.late past).within, sum_most most parts place)
-    | inr before ↦ omega (arith, (so_far.early before).within, first_room most parts lead place before inside)
+    | inr before ↦ omega (arith, (so_far.early before).within, first_room most parts driving place before inside)
   ]
 
   -- what has been counted and the count of the part at `place`, which is executed next, are at most the sum over all
   -- parts
-  pub all_next : {place before after next : ℕ} → AllSoFar least most parts lead place before after → lead < length parts
-      → (part : Part) → place < length parts → part ≡ get_or parts place part → place ≢ lead
+  pub all_next : {place before after next : ℕ} → AllSoFar least most parts driving place before after
+      → driving < length parts
+      → (part : Part) → place < length parts → part ≡ get_or parts place part → place ≢ driving
       → next ≤ after + most.of_part part → next ≤ before + most.of_parts parts
   all_next {place} so_far inside part within is other counted =
       let more = sum_more most parts place part within is in
-      elim (cases_lt place lead) [
+      elim (cases_lt place driving) [
         | inl less ↦
             omega (
               arith,
               counted,
               (so_far.early (omega (arith, less))).within,
               more,
-              first_room most parts lead (place + 1) (omega (arith, less)) inside,
+              first_room most parts driving (place + 1) (omega (arith, less)) inside,
             )
-        | inr past ↦ omega (arith, counted, (so_far.late (behind past)).within, more, sum_most most parts (place + 1))
+        | inr past ↦ omega (
+          arith,
+          counted,
+          (so_far.late (following past)).within,
+          more,
+          sum_most most parts
+              (place + 1),
+        )
       ]
     where
-      behind : lead ≤ place → lead < place
-      behind past = elim (cases_lt lead place) [
+      following : driving ≤ place → driving < place
+      following past = elim (cases_lt driving place) [
         | inl less ↦ less
         | inr same ↦ absurd (other (omega (arith, past, same)))
       ]
 
   -- a turn that executes the part at `place` keeps `AllSoFar`
-  pub all_turn : {place before after next : ℕ} → AllSoFar least most parts lead place before after
-      → (part : Part) → place < length parts → part ≡ get_or parts place part → place ≢ lead
+  pub all_turn : {place before after next : ℕ} → AllSoFar least most parts driving place before after
+      → (part : Part) → place < length parts → part ≡ get_or parts place part → place ≢ driving
       → after ≤ next → next ≤ after + most.of_part part → min (after + least.of_part part) (2 ^ 64 - 1) ≤ next
-      → AllSoFar least most parts lead (place + 1) before next
+      → AllSoFar least most parts driving (place + 1) before next
   all_turn {place} so_far part inside is other grows within floor =
       let more = sum_more most parts place part inside is in
       let less = sum_more least parts place part inside is in
@@ -211,7 +224,7 @@ module _ {Part : Type 0} {least most : Sum Part} {parts : List Part} {lead : ℕ
               );
             };
         late = λ past.
-            let counts = so_far.late (before_or_behind past) in
+            let counts = so_far.late (before_or_after past) in
             record {
               within = omega (arith, counts.within, within, more);
               floor = omega (
@@ -223,20 +236,20 @@ module _ {Part : Type 0} {least most : Sum Part} {parts : List Part} {lead : ℕ
             };
       }
     where
-      before_or_behind : lead < place + 1 → lead < place
-      before_or_behind past = elim (cases_lt lead place) [
+      before_or_after : driving < place + 1 → driving < place
+      before_or_after past = elim (cases_lt driving place) [
         | inl less ↦ less
         | inr more ↦ absurd (other (omega (arith, past, more)))
       ]
 
   -- a turn that passes over the driving part keeps `AllSoFar`
-  pub all_pass : {place before after next : ℕ} → AllSoFar least most parts lead place before after
-      → (part : Part) → place < length parts → part ≡ get_or parts place part → place ≡ lead
-      → next ≡ after → AllSoFar least most parts lead (place + 1) before next
+  pub all_pass : {place before after next : ℕ} → AllSoFar least most parts driving place before after
+      → (part : Part) → place < length parts → part ≡ get_or parts place part → place ≡ driving
+      → next ≡ after → AllSoFar least most parts driving (place + 1) before next
   all_pass {place} so_far part inside is here same =
       let counts = so_far.early (omega (arith, here)) in
-      let first_is : (sum : Sum Part) → of_first sum parts lead ≡ sum.of_part part =
-      λ sum. (λ i. of_first sum parts (sym here i)) ∙ lead_is sum.of_part parts place part inside is in
+      let first_is : (sum : Sum Part) → of_first sum parts driving ≡ sum.of_part part =
+      λ sum. (λ i. of_first sum parts (sym here i)) ∙ driving_is sum.of_part parts place part inside is in
       record {
         grows = omega (arith, so_far.grows, same);
         early = λ from. absurd (omega (arith, from, here));
@@ -247,8 +260,8 @@ module _ {Part : Type 0} {least most : Sum Part} {parts : List Part} {lead : ℕ
       }
 
   -- past the last part, the counts are those of all parts
-  pub all_end : {place before after : ℕ} → AllSoFar least most parts lead place before after → length parts
-      ≤ place → lead < length parts
+  pub all_end : {place before after : ℕ} → AllSoFar least most parts driving place before after → length parts
+      ≤ place → driving < length parts
       → Counts before (least.of_parts parts) (most.of_parts parts) after
   all_end {place} so_far past inside =
       let counts = so_far.late (omega (arith, past, inside)) in
@@ -329,8 +342,8 @@ times_less {place} {count} all inside =
 
 -- ---- larger bounds
 -- a counter that has grown by at most `sum` has grown by at most `found + sum`
-pub counted_beside : {after : ℕ} (before found sum : ℕ) → after ≤ before + sum → after ≤ before + (found + sum)
-counted_beside before found sum within = omega (arith, within)
+pub counted_with_room : {after : ℕ} (before found sum : ℕ) → after ≤ before + sum → after ≤ before + (found + sum)
+counted_with_room before found sum within = omega (arith, within)
 
 -- a counter that has grown by at most `sum` has grown by at most `sum + 0`
 pub counted_without : {after : ℕ} (before sum : ℕ) → after ≤ before + sum → after ≤ before + (sum + 0)

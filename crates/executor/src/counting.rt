@@ -10,8 +10,8 @@ ghost use Rattle.plan_bounds.specs.Sizes.{size, test_size};
 use plan_bounds::{LeafParts, NodeLimits, leaf_limits};
 use postings::Lengths;
 
-/// Returns the floor and the own bound of a leaf among `all` concepts or groups. `found` says how many types, and
-/// how many concepts for its test, have been found.
+/// Returns the floor and the bound of a leaf itself, without its parts, among `all` concepts or
+/// groups. `found` has how many concepts the leaf's types, and the set of its test, have found.
 pub fn leaf_limits_within(
     lengths: Lengths<'_>,
     all: u64,
@@ -21,12 +21,15 @@ pub fn leaf_limits_within(
 ) -> NodeLimits
     requires types { found.0 ≤ size lengths.indexes.now (physical_of leaf.types.now) }
     requires test { found.1 ≤ test_size lengths.indexes.now (physical_test_of leaf.test.now) }
-    ensures within { result.bound ≤ leaf_bound_at lengths.entry.indexes.now all back leaf.entry.count
-        (physical_of leaf.entry.types.now) (physical_test_of leaf.entry.test.now) leaf.entry.choice }
-    ensures floor { result.floor ≡ leaf_floor lengths.entry.indexes.now back (physical_of leaf.entry.types.now)
-        (physical_test_of leaf.entry.test.now) leaf.entry.choice }
+    ensures within { result.bound ≤ leaf_bound_at lengths.entry.indexes.now all back
+        leaf.entry.count (physical_of leaf.entry.types.now) (physical_test_of leaf.entry.test.now)
+        leaf.entry.choice }
+    ensures floor { result.floor ≡ leaf_floor lengths.entry.indexes.now back
+        (physical_of leaf.entry.types.now) (physical_test_of leaf.entry.test.now)
+        leaf.entry.choice }
     ensures ordered { result.floor ≤ result.bound }
-    ensures bound { result.bound ≡ capped (leaf_bound (leaf_of lengths.entry.indexes.now all back leaf.entry.count
+    ensures bound { result.bound ≡ capped
+        (leaf_bound (leaf_of lengths.entry.indexes.now all back leaf.entry.count
         (physical_of leaf.entry.types.now) (physical_test_of leaf.entry.test.now) found.0 found.1)
         leaf.entry.choice) }
 {

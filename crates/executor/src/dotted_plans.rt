@@ -23,48 +23,53 @@ use reading::{Answer, Counter, Reader};
 use set_algebra::ConceptPlan;
 use std::alloc::AllocError;
 
-/// Executes a `Values` node: returns the candidates among the concepts that its dotted attributes lead to.
+/// Executes a `Values` node: returns the candidates among the concepts that its dotted attributes
+/// lead to.
 #[cycle(execute)]
-pub fn led_from<S: ConceptSet>(
+pub fn execute_dotted<S: ConceptSet>(
     reader: Reader<'_>,
     start: &ConceptPlan,
     names: &[ConceptPlan],
     candidates: &Candidates<'_, S>,
     visits: &mut Counter,
 ) -> Result<Answer<S>, AllocError>
-    requires candidates { AreConcepts S.ConceptSet reader.snapshot.now.release reader.indexes.now candidates.now }
+    requires candidates { AreConcepts S.ConceptSet reader.snapshot.now.release reader.indexes.now
+        candidates.now }
     ensures counted { CountsPlan reader.entry.indexes.now (physical_values (physical_of start.now)
         (physicals_of names.now)) visits.old visits.new }
-    ensures found { IfOk result (AnswersPlan S.ConceptSet reader.entry.snapshot.now.release reader.entry.indexes.now
-        candidates.now (physical_values (physical_of start.now) (physicals_of names.now)) visits.old visits.new) }
+    ensures found { IfOk result (AnswersPlan S.ConceptSet reader.entry.snapshot.now.release
+        reader.entry.indexes.now candidates.now
+        (physical_values (physical_of start.now) (physicals_of names.now)) visits.old visits.new) }
 {
     let all = Candidates::All;
     let from: Answer<S> = execute_within(reader, start, &all, visits)?;
-    let led = led_along(reader, from, names, visits)?;
-    let found = restricted(reader, led, candidates)?;
+    let driven = execute_attributes(reader, from, names, visits)?;
+    let found = restricted(reader, driven, candidates)?;
     Ok(found)
 }
 
-// Returns the concepts to which dotted attributes lead from a set: the values of its attributes with the first
-// name, the values of theirs with the second, and so on (Expression Constraint Language, "Refinements", dotted
-// attributes).
+// Returns the concepts to which dotted attributes lead from a set: the values of its attributes
+// with the first name, the values of theirs with the second, and so on (Expression Constraint
+// Language, "Refinements", dotted attributes).
 #[cycle(execute)]
-fn led_along<S: ConceptSet>(
+fn execute_attributes<S: ConceptSet>(
     reader: Reader<'_>,
     from: Answer<S>,
     names: &[ConceptPlan],
     visits: &mut Counter,
 ) -> Result<Answer<S>, AllocError>
     requires bound { S.bound_of from ≡ length reader.snapshot.now.release.concepts }
-    ensures counted { CountsWithin (values_bound reader.entry.indexes.now (plan_count (physicals_of names.now))
-        (length (S.items_of from)) + plans_sum (own_number reader.entry.indexes.now) (physicals_of names.now))
-        visits.old visits.new }
-    ensures found { IfOk result (λ found. (plan : Plan) → S.items_of from ≡ numbers_in reader.entry.snapshot.now.release
-        (means reader.entry.snapshot.now.release plan) → IsFound S.ConceptSet
-        (length reader.entry.snapshot.now.release.concepts) (numbers_in reader.entry.snapshot.now.release
-        (leads reader.entry.snapshot.now.release (means reader.entry.snapshot.now.release plan)
-        (logicals (physicals_of names.now)))) (plans_sum (floor_number reader.entry.indexes.now)
-        (physicals_of names.now)) visits.old visits.new found) }
+    ensures counted { CountsWithin (values_bound reader.entry.indexes.now
+        (plan_count (physicals_of names.now)) (length (S.items_of from))
+        + plans_sum (own_number reader.entry.indexes.now) (physicals_of names.now)) visits.old
+        visits.new }
+    ensures found { IfOk result (λ found. (plan : Plan) → S.items_of from
+        ≡ numbers_in reader.entry.snapshot.now.release (means reader.entry.snapshot.now.release
+        plan) → IsFound S.ConceptSet (length reader.entry.snapshot.now.release.concepts)
+        (numbers_in reader.entry.snapshot.now.release (leads reader.entry.snapshot.now.release
+        (means reader.entry.snapshot.now.release plan) (logicals (physicals_of names.now))))
+        (plans_sum (floor_number reader.entry.indexes.now) (physicals_of names.now)) visits.old
+        visits.new found) }
 {
     // the concepts rise, and the sources of all attribute rows are in force
     reader.concept_count();
@@ -79,8 +84,8 @@ fn led_along<S: ConceptSet>(
     Ok(found)
 }
 
-// Returns the concepts that the name of a dotted attribute means. If the name before it is equal, what it means is
-// known; then the name is not executed, and its floor is counted.
+// Returns the concepts that the name of a dotted attribute means. If the name before it is equal,
+// what it means is known; then the name is not executed, and its floor is counted.
 #[cycle(execute)]
 fn named_by<S: ConceptSet>(
     reader: Reader<'_>,
@@ -88,11 +93,12 @@ fn named_by<S: ConceptSet>(
     known: Option<(&ConceptPlan, Answer<S>)>,
     visits: &mut Counter,
 ) -> Result<Answer<S>, AllocError>
-    requires known { IfSome known (λ known. HasNamed reader.snapshot.now.release (logical (physical_of known.0.now))
-        (S.items_of known.1) (S.bound_of known.1)) }
-    ensures counted { CountsPlan reader.entry.indexes.now (physical_of name.now) visits.old visits.new }
-    ensures found { IfOk result (AnswersAll S.ConceptSet reader.entry.snapshot.now.release reader.entry.indexes.now
-        (physical_of name.now) visits.old visits.new) }
+    requires known { IfSome known (λ known. HasNamed reader.snapshot.now.release
+        (logical (physical_of known.0.now)) (S.items_of known.1) (S.bound_of known.1)) }
+    ensures counted { CountsPlan reader.entry.indexes.now (physical_of name.now) visits.old
+        visits.new }
+    ensures found { IfOk result (AnswersAll S.ConceptSet reader.entry.snapshot.now.release
+        reader.entry.indexes.now (physical_of name.now) visits.old visits.new) }
 {
     if let Some((before, set)) = known {
         if *before == *name {

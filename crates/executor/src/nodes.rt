@@ -14,20 +14,23 @@ use std::alloc::AllocError;
 /// Returns the empty set of concepts.
 pub fn no_concept<S: ConceptSet>(reader: Reader<'_>) -> Result<Answer<S>, AllocError>
     ensures items { IfOk result (λ found. S.items_of found ≡ []) }
-    ensures bound { IfOk result (λ found. S.bound_of found ≡ length reader.entry.snapshot.now.release.concepts) }
+    ensures bound { IfOk result (λ found. S.bound_of found
+        ≡ length reader.entry.snapshot.now.release.concepts) }
 {
     Answer::from_items(reader.alloc, &[], reader.concept_count())
 }
 
-/// Returns the candidates among all concepts in force.
+/// Returns all candidates, which are concepts.
 pub fn every_candidate<S: ConceptSet>(
     reader: Reader<'_>,
     candidates: &Candidates<'_, S>,
 ) -> Result<Answer<S>, AllocError>
     requires { AreBelow S.bound_of (length reader.snapshot.now.release.concepts) candidates.now }
-    ensures items { IfOk result (λ found. S.items_of found ≡ filter (may_be S.items_of candidates.now)
+    ensures items { IfOk result (λ found. S.items_of found
+        ≡ filter (may_be S.items_of candidates.now)
         (range_with_len 0 (length reader.entry.snapshot.now.release.concepts))) }
-    ensures bound { IfOk result (λ found. S.bound_of found ≡ length reader.entry.snapshot.now.release.concepts) }
+    ensures bound { IfOk result (λ found. S.bound_of found
+        ≡ length reader.entry.snapshot.now.release.concepts) }
 {
     let every = Answer::every(reader.alloc, reader.concept_count())?;
     restricted(reader, every, candidates)
@@ -36,55 +39,65 @@ pub fn every_candidate<S: ConceptSet>(
 /// Returns the empty set of groups.
 pub fn no_group<S: ConceptSet>(reader: Reader<'_>) -> Result<Answer<S>, AllocError>
     ensures items { IfOk result (λ found. S.items_of found ≡ []) }
-    ensures bound { IfOk result (λ found. S.bound_of found ≡ length (all_groups reader.entry.snapshot.now.release)) }
+    ensures bound { IfOk result (λ found. S.bound_of found
+        ≡ length (all_groups reader.entry.snapshot.now.release)) }
 {
     Answer::from_items(reader.alloc, &[], group_count(reader))
 }
 
-/// Returns the candidates among all groups.
+/// Returns all candidates, which are groups.
 pub fn every_candidate_group<S: ConceptSet>(
     reader: Reader<'_>,
     candidates: &Candidates<'_, S>,
 ) -> Result<Answer<S>, AllocError>
-    requires candidates { AreBelow S.bound_of (length (all_groups reader.snapshot.now.release)) candidates.now }
-    ensures items { IfOk result (λ found. S.items_of found ≡ filter (may_be S.items_of candidates.now)
+    requires candidates { AreBelow S.bound_of (length (all_groups reader.snapshot.now.release))
+        candidates.now }
+    ensures items { IfOk result (λ found. S.items_of found
+        ≡ filter (may_be S.items_of candidates.now)
         (range_with_len 0 (length (all_groups reader.entry.snapshot.now.release)))) }
-    ensures bound { IfOk result (λ found. S.bound_of found ≡ length (all_groups reader.entry.snapshot.now.release)) }
+    ensures bound { IfOk result (λ found. S.bound_of found
+        ≡ length (all_groups reader.entry.snapshot.now.release)) }
 {
     let every = Answer::every(reader.alloc, group_count(reader))?;
     restricted(reader, every, candidates)
 }
 
-/// Returns how many groups all concepts have.
+/// Returns how many groups all concepts have together.
 pub fn group_count(reader: Reader<'_>) -> u32
     ensures { result ≡ length (all_groups reader.entry.snapshot.now.release) }
 {
-    // the concepts rise, so that each has its groups once
+    // tells the prover that the concepts rise, so that each has its groups once
     reader.concept_count();
     reader.group_count()
 }
 
-/// Returns the concept in force with identifier `id`, if there is one and it is a candidate.
+/// Returns the set of the concept in force with the identifier `id`, or the empty set if there is
+/// none, or if it is not a candidate.
 pub fn one_candidate<S: ConceptSet>(
     reader: Reader<'_>,
     id: u64,
     candidates: &Candidates<'_, S>,
 ) -> Result<Answer<S>, AllocError>
     requires { AreBelow S.bound_of (length reader.snapshot.now.release.concepts) candidates.now }
-    ensures items { IfOk result (λ found. S.items_of found ≡ filter (may_be S.items_of candidates.now)
+    ensures items { IfOk result (λ found. S.items_of found
+        ≡ filter (may_be S.items_of candidates.now)
         (numbers_in reader.entry.snapshot.now.release
         (λ concept. has_concept reader.entry.snapshot.now.release concept && (concept == id)))) }
-    ensures bound { IfOk result (λ found. S.bound_of found ≡ length reader.entry.snapshot.now.release.concepts) }
+    ensures bound { IfOk result (λ found. S.bound_of found
+        ≡ length reader.entry.snapshot.now.release.concepts) }
 {
     let one = one_concept(reader, id)?;
     restricted(reader, one, candidates)
 }
 
-// Returns the concept in force with identifier `id`, if there is one.
+// Returns the set of the concept in force with the identifier `id`, or the empty set if there is
+// none.
 fn one_concept<S: ConceptSet>(reader: Reader<'_>, id: u64) -> Result<Answer<S>, AllocError>
-    ensures items { IfOk result (λ found. S.items_of found ≡ numbers_in reader.entry.snapshot.now.release
+    ensures items { IfOk result (λ found. S.items_of found
+        ≡ numbers_in reader.entry.snapshot.now.release
         (λ concept. has_concept reader.entry.snapshot.now.release concept && (concept == id))) }
-    ensures bound { IfOk result (λ found. S.bound_of found ≡ length reader.entry.snapshot.now.release.concepts) }
+    ensures bound { IfOk result (λ found. S.bound_of found
+        ≡ length reader.entry.snapshot.now.release.concepts) }
 {
     let count = reader.concept_count();
     match reader.index_of(id) {

@@ -1,4 +1,4 @@
-//! Executes the walks of a plan.
+//! Executes the walks of a plan: its hierarchy operators.
 ghost use Rattle.std.specs.Prelude.{◌≡◌, ◌≤◌, ◌/◌, IfOk, None, length};
 ghost use Rattle.number_lists.specs.Members.{has};
 ghost use Rattle.set_algebra.specs.Meaning.{means};
@@ -8,55 +8,61 @@ ghost use Rattle.plan_bounds.specs.Floors.{floor_number};
 ghost use Rattle.plan_bounds.specs.Nodes.{node_sum};
 ghost use Rattle.walks.specs.Reads.{asked_items};
 ghost use Rattle.reading.specs.Counted.{IsFound, full};
-ghost use Rattle.candidates.specs.Tallies.{Adds};
+ghost use Rattle.candidates.specs.RowEstimates.{Adds};
 ghost use Rattle.candidates.specs.Within.{AreConcepts, numbers_within};
 ghost use Rattle.executor.specs.inside.Executed.{AnswersPlan, CountsPlan};
 
+use crate::estimates::rows_without;
 use crate::found::walk_found;
-use crate::guesses::rows_without;
 use crate::plans::execute_within;
-use candidates::{Candidates, RowTally, extent_of};
+use candidates::{Candidates, RowEstimate, stats_of};
 use idset::ConceptSet;
 use plan_bounds::WalkParts;
 use reading::{Answer, Counter, Reader};
 use std::alloc::AllocError;
-use walks::{are_enough, enough_for, led_among};
+use walks::{are_enough, enough_for, related_among};
 
-/// Executes a `Walk` node: returns the candidates among the concepts that the operator leads to from what the
-/// operand means. For few candidates it executes the operand only for the concepts in their lists. If the operand
-/// is one concept and `tally` asks for rows, it adds the rows of what is found.
+/// Executes a `Walk` node: returns the candidates that the operator leads to from the concepts that
+/// the operand means. If the candidates are few, it executes the operand only for the concepts from
+/// which the operator leads to a candidate. If `estimate` asks for rows, the node adds the rows of
+/// what it finds, or makes the estimate unknown.
 #[cycle(execute)]
 pub fn walk_from<S: ConceptSet>(
     reader: Reader<'_>,
     walk: WalkParts<'_>,
     candidates: &Candidates<'_, S>,
     visits: &mut Counter,
-    tally: &mut RowTally<'_>,
+    estimate: &mut RowEstimate<'_>,
 ) -> Result<Answer<S>, AllocError>
-    requires candidates { AreConcepts S.ConceptSet reader.snapshot.now.release reader.indexes.now candidates.now }
+    requires candidates { AreConcepts S.ConceptSet reader.snapshot.now.release reader.indexes.now
+        candidates.now }
     ensures counted { CountsPlan reader.entry.indexes.now (physical_walk walk.entry.operator
         (physical_of walk.entry.operand.now)) visits.old visits.new }
-    ensures found { IfOk result (AnswersPlan S.ConceptSet reader.entry.snapshot.now.release reader.entry.indexes.now
-        candidates.now (physical_walk walk.entry.operator (physical_of walk.entry.operand.now)) visits.old visits.new) }
-    ensures adds { IfOk result (λ found. Adds (S.items_of found) tally.old tally.new) }
+    ensures found { IfOk result (AnswersPlan S.ConceptSet reader.entry.snapshot.now.release
+        reader.entry.indexes.now candidates.now
+        (physical_walk walk.entry.operator (physical_of walk.entry.operand.now)) visits.old
+        visits.new) }
+    ensures adds { IfOk result (λ found. Adds (S.items_of found) estimate.old estimate.new) }
 {
     let count = reader.concept_count();
     if let Candidates::Within(wanted, _) = candidates {
         let rows = rows_without(walk.operand, reader.lengths());
         if are_enough(reader, walk.operator, count, rows, candidates) {
-            tally.forget();
+            estimate.forget();
             let found = walk_to_few(reader, walk, *wanted, rows, visits)?;
             return Ok(found);
         }
     }
     let all = Candidates::All;
     let from: Answer<S> = execute_within(reader, walk.operand, &all, visits)?;
-    let found = walk_found(reader, walk, &from, candidates, visits, tally)?;
+    let found = walk_found(reader, walk, &from, candidates, visits, estimate)?;
     Ok(found)
 }
 
-// Executes a walk for few candidates. The lists that lead back from the candidates have all concepts on which the
-// answer depends, so it executes the operand for these alone. Then it tests each candidate by its list.
+// Executes a walk for few candidates, `wanted`. Whether the operator leads to a candidate depends
+// only on the concepts in a list of the candidate. So the operand is executed with those as its
+// candidates, and then each candidate is tested by its list. `rows` is how many rows the operand
+// reads if it does not use its candidates.
 #[cycle(execute)]
 fn walk_to_few<S: ConceptSet>(
     reader: Reader<'_>,
@@ -67,20 +73,23 @@ fn walk_to_few<S: ConceptSet>(
 ) -> Result<Answer<S>, AllocError>
     requires bound { S.bound_of wanted.now ≡ length reader.snapshot.now.release.concepts }
     requires several { one_of (physical_of walk.operand.now) ≡ None }
-    requires room { full (asked_items reader.indexes.now.hierarchy walk.operator (S.items_of wanted.now))
-        ≤ lists_length reader.indexes.now walk.operator / 3 }
+    requires room { full (asked_items reader.indexes.now.hierarchy walk.operator
+        (S.items_of wanted.now)) ≤ lists_length reader.indexes.now walk.operator / 3 }
     ensures counted { CountsPlan reader.entry.indexes.now (physical_walk walk.entry.operator
         (physical_of walk.entry.operand.now)) visits.old visits.new }
-    ensures found { IfOk result (IsFound S.ConceptSet (length reader.entry.snapshot.now.release.concepts)
+    ensures found { IfOk result
+        (IsFound S.ConceptSet (length reader.entry.snapshot.now.release.concepts)
         (numbers_within reader.entry.snapshot.now.release (has (S.items_of wanted.now))
         (means reader.entry.snapshot.now.release (logical (physical_walk walk.entry.operator
-        (physical_of walk.entry.operand.now))))) (node_sum (floor_number reader.entry.indexes.now)
-        (physical_walk walk.entry.operator (physical_of walk.entry.operand.now))) visits.old visits.new) }
+        (physical_of walk.entry.operand.now)))))
+        (node_sum (floor_number reader.entry.indexes.now)
+        (physical_walk walk.entry.operator (physical_of walk.entry.operand.now))) visits.old
+        visits.new) }
 {
     let enough: Answer<S> = enough_for(reader, walk.operator, wanted, visits)?;
-    let extent = extent_of(reader, &enough, rows, visits)?;
-    let theirs = Candidates::Within(&enough, extent);
+    let stats = stats_of(reader, &enough, rows, visits)?;
+    let theirs = Candidates::Within(&enough, stats);
     let from: Answer<S> = execute_within(reader, walk.operand, &theirs, visits)?;
-    let found = led_among(reader, walk.operator, &from, wanted, visits)?;
+    let found = related_among(reader, walk.operator, &from, wanted, visits)?;
     Ok(found)
 }

@@ -1,4 +1,4 @@
-//! Texts that are identifiers, and texts that are none.
+//! Tests with texts that are identifiers and texts that are not.
 use arrayvec::ArrayVec;
 use sctid::{IdFault, Part, SctId};
 use std::process::Abort;
@@ -43,8 +43,8 @@ fn parses(rt: HostRuntime) {
     assert_parsed(&rt, TEXTS);
 }
 
-// Returns the number of the identifier in `text`. It writes the digits twice, because the second write has to
-// replace the first.
+// Returns the number of the identifier in `text`. It writes the identifier into `digits` twice,
+// because the second write has to replace the first.
 fn number_written(digits: &mut ArrayVec<u8, 18>, text: &[u8]) -> Result<u64, IdFault> {
     let id = SctId::parse(text)?;
     id.write_to(digits);

@@ -1,6 +1,6 @@
-//! Tests of the reading of release files, from outside: identifiers, rows of each kind, and lines.
+//! Tests of reading release files: identifiers, rows of each kind, and lines.
 //!
-//! They stand in a crate of their own, so that the tested crates are not proved once more with them.
+//! The tests have a crate of their own, because a crate is proved a second time with its tests.
 #![tactic(auto)]
 
 #[cfg(test)]

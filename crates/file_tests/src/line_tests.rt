@@ -1,4 +1,4 @@
-//! Tests of lines: of bytes in memory, and of files that are read in pieces.
+//! Tests of cutting bytes into lines, both in memory and read from a source in pieces.
 ghost use Rattle.std.specs.Prelude.{◌≤◌};
 
 use release_files::{FileSource, Line, Lines, MemoryFiles, NamedBytes, PieceLines, SourceFault};
@@ -16,7 +16,7 @@ fn is_same(found: Option<Line<'_>>, expected: Line<'_>) -> bool {
     }
 }
 
-// Checks that these lines come next, each with its number, end and text.
+// Checks that the next lines are `expected`, each with its number, its end and its text.
 fn check_next(rt: &impl Abort, lines: &mut Lines<'_>, expected: &[(u64, u64, &[u8])]) {
     for &(number, end, bytes) in expected {
         let line = Line { number, end, bytes };
@@ -24,7 +24,7 @@ fn check_next(rt: &impl Abort, lines: &mut Lines<'_>, expected: &[(u64, u64, &[u
     }
 }
 
-// Checks that the bytes have these lines and no more.
+// Checks that the lines of `bytes` are `expected`, and that no line follows.
 fn assert_lines(rt: &impl Abort, bytes: &[u8], expected: &[(u64, u64, &[u8])]) {
     let mut lines = Lines::new(bytes);
     check_next(rt, &mut lines, expected);
@@ -72,11 +72,11 @@ fn finds_no_line_in_nothing(rt: HostRuntime) {
 
 const NAME: &str = "Terminology/lines.txt";
 
-// A text with a byte order mark, each kind of line end, empty lines, a mark that is none, and a last line without an
-// end.
+// A text with a byte order mark, each kind of line end, empty lines, a mark that is none, and a
+// last line without an end.
 const TEXT: &[u8] = b"\xef\xbb\xbfa\tb\r\n\r\n\nlong\rer\r\r\n\xef\xbb\xbfc\nd";
 
-// Three files, two of which have one name.
+// Returns three files, two of which have the same name.
 fn files() -> [NamedBytes<'static>; 3] {
     [
         NamedBytes {
@@ -94,7 +94,7 @@ fn files() -> [NamedBytes<'static>; 3] {
     ]
 }
 
-// Turns a fault for want of memory into an error; fails at any other fault.
+// Returns `AllocError` if memory was refused. Fails the test at any other fault.
 fn but_for_memory(rt: &impl Abort, checked: Result<(), SourceFault>) -> Result<(), AllocError> {
     assert!(rt; checked != Err(SourceFault::Device), "no call fails");
     match checked {
@@ -126,7 +126,7 @@ fn check_line<S: FileSource>(
     Ok(())
 }
 
-// Checks that the open file has the lines of these bytes. After the last line, and after a fault, no line comes.
+// Checks that the open file has the lines of `bytes`, and then no more.
 fn check_lines<S: FileSource>(
     rt: &impl Abort,
     lines: &mut PieceLines,
@@ -160,7 +160,8 @@ fn check_whole<S: FileSource>(
     checked
 }
 
-// Opens a file of a source, and checks that it has the lines of these bytes.
+// Opens a file of a source, and checks that it has the lines of `bytes`. No line may follow the
+// last line or a fault.
 fn check_file<S: FileSource>(
     rt: &impl Abort,
     alloc: Global,
@@ -173,7 +174,7 @@ fn check_file<S: FileSource>(
     check_whole(rt, &mut lines, source, bytes)
 }
 
-// Checks that a file in memory has its lines if it is read in pieces of this many bytes.
+// Checks the lines of a file in memory that is read in pieces of `piece` bytes.
 fn check_pieces(
     rt: &impl Abort,
     alloc: Global,
@@ -201,7 +202,7 @@ fn front(limit: usize) -> &'static [u8] {
     &TEXT[..limit.min(TEXT.len())]
 }
 
-// Checks that the first bytes of a file have the lines of a file with these bytes alone.
+// Checks that a file read up to a limit has the lines of its first bytes.
 fn check_front<S: FileSource>(
     rt: &impl Abort,
     alloc: Global,
@@ -213,7 +214,7 @@ fn check_front<S: FileSource>(
     check_lines(rt, &mut lines, source, front(limit))
 }
 
-// Checks the lines of the first `limit` bytes of a file in memory, for which no call fails.
+// Checks the lines of the first `limit` bytes of a file in memory. No call of the source fails.
 fn check_limit(rt: &impl Abort, alloc: Global, limit: usize) -> Result<(), AllocError> {
     let files = files();
     let mut source = MemoryFiles::new(alloc, &files, 4_096, 0);
@@ -228,7 +229,7 @@ fn reads_no_more_than_the_limit(rt: HostRuntime) -> Result<(), AllocError> {
     Ok(())
 }
 
-// Makes a text of a line of `count` bytes and a line of one byte.
+// Returns a text with a line of `count` bytes and a line of one byte.
 fn long_text(alloc: Global, count: usize) -> Result<Vec<u8>, AllocError> {
     let mut text = Vec::new(alloc);
     text.resize(count, b'x')?;
@@ -257,8 +258,8 @@ fn check_long(rt: &impl Abort, alloc: Global, bytes: &[u8]) -> Result<(), AllocE
     check_pieces(rt, alloc, &files, 1_000_000, bytes)
 }
 
-// Checks that a failing call of the source is answered and counted once, and that no line follows. Returns whether
-// no call failed.
+// Checks that the source counts one failure if one of its calls fails, and that no line follows.
+// Returns whether no call failed.
 fn check_counted(
     rt: &impl Abort,
     alloc: Global,

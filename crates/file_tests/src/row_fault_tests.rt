@@ -1,4 +1,4 @@
-//! Lines that are no rows, with the first fault of each.
+//! Tests with lines that are not rows: the first fault of each.
 use rf2_rows::{FileKind, RowCause, RowFault, read_row};
 use sctid::IdFault;
 use std::process::Abort;
@@ -10,7 +10,7 @@ fn fault_of(kind: FileKind, line: &[u8]) -> Option<RowFault> {
     }
 }
 
-// Checks that each line has this fault and no row.
+// Checks that each line is refused with the given cause and column.
 fn assert_faults(rt: &impl Abort, kind: FileKind, lines: &[(&[u8], RowCause, u8)]) {
     for &(line, cause, column) in lines {
         let fault = RowFault { cause, column };

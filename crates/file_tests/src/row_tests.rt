@@ -1,4 +1,4 @@
-//! Names of files, and lines of each kind.
+//! Tests of the kinds of files by their names, and of rows of each kind.
 use rf2_rows::{
     ConceptRow, ConcreteRow, Decimal, DescriptionRow, FileKind, MemberRow, RelationshipRow, Row,
     RowCause, RowFault, RowReader, Value, file_kind, header, read_row,
@@ -224,7 +224,7 @@ fn value_of(line: &[u8]) -> Option<Value<'_>> {
     }
 }
 
-// Checks that the value of each line is this number, in units of 10^-18.
+// Checks that the value of each line is the given number, in units of 10^-18.
 fn assert_numbers(rt: &impl Abort, lines: &[(&[u8], i128)]) {
     for (line, number) in lines {
         let value = Value::Decimal(Decimal(*number));
@@ -232,7 +232,7 @@ fn assert_numbers(rt: &impl Abort, lines: &[(&[u8], i128)]) {
     }
 }
 
-// Checks that the value of each line is this text.
+// Checks that the value of each line is the given text.
 fn assert_texts(rt: &impl Abort, lines: &[(&[u8], &[u8])]) {
     for (line, text) in lines {
         assert!(rt; value_of(line) == Some(Value::Other(text)), "{text:?}");
@@ -335,7 +335,7 @@ fn is_member(row: &MemberRow) -> bool {
         && row.active
 }
 
-// Makes a description whose language code has `code` bytes and whose term has `term` bytes.
+// Returns a description row whose language code has `code` bytes and whose term has `term` bytes.
 fn description_with(alloc: Global, code: usize, term: usize) -> Result<Vec<u8>, AllocError> {
     let mut line = Vec::from_slice(alloc, b"100014\t20240101\t1\t900000000000207008\t100005\t")?;
     push_letters(&mut line, code)?;
@@ -352,8 +352,8 @@ fn push_letters(line: &mut Vec<u8>, count: usize) -> Result<(), AllocError> {
     Ok(())
 }
 
-// Fields are cut at tabs at any place: the two texts have each length from 0 to 65, so a tab stands at each place of
-// a block of 64 bytes.
+// Fields are cut at tabs. The two texts have each length from 0 to 65, so that a tab occurs at each
+// place of a block of 64 bytes.
 #[test]
 fn cuts_at_a_tab_anywhere(rt: HostRuntime) -> Result<(), AllocError> {
     for code in 0..66usize {
@@ -373,7 +373,7 @@ fn assert_lengths(rt: &impl Abort, line: &[u8], code: usize, term: usize) {
     assert!(rt; lengths == Some((code, term)), "{code} and {term}");
 }
 
-// A line of tabs alone has one field more than tabs.
+// A line that consists of tabs has one field more than tabs.
 #[test]
 fn counts_fields(rt: HostRuntime) {
     for length in 0..66usize {
@@ -389,7 +389,8 @@ fn has_fields(line: &[u8]) -> bool {
     }
 }
 
-// Returns the module and the definition status of a concept's line, and `None` for another row.
+// Returns the module and the definition status of a concept row, or `None` for a row of another
+// kind.
 fn concept_of(reader: &mut RowReader, line: &[u8]) -> Result<Option<(u64, u64)>, RowFault> {
     match reader.read_row(FileKind::Concept, line) {
         Ok(Row::Concept(row)) => Ok(Some((
@@ -401,7 +402,8 @@ fn concept_of(reader: &mut RowReader, line: &[u8]) -> Result<Option<(u64, u64)>,
     }
 }
 
-// Checks the module and the definition status of each line, or its fault. One reader reads them in turn.
+// Checks the module and the definition status of each row, or its fault. One reader reads all rows,
+// one after the other, because a reader keeps identifiers from one row to the next.
 fn assert_concepts(rt: &impl Abort, rows: &[(&[u8], Result<Option<(u64, u64)>, RowFault>)]) {
     let mut reader = RowReader::new();
     for (line, expected) in rows {
@@ -463,7 +465,8 @@ fn reads_concepts_in_turn(rt: HostRuntime) {
     );
 }
 
-// Returns the characteristic type and the modifier of a relationship's line, and `None` for another row.
+// Returns the characteristic type and the modifier of a relationship row, or `None` for any other
+// line.
 fn relationship_of(reader: &mut RowReader, line: &[u8]) -> Option<(u64, u64)> {
     match reader.read_row(FileKind::Relationship, line) {
         Ok(Row::Relationship(row)) => {
@@ -476,7 +479,8 @@ fn relationship_of(reader: &mut RowReader, line: &[u8]) -> Option<(u64, u64)> {
     }
 }
 
-// Checks the characteristic type and the modifier of each line. One reader reads them in turn.
+// Checks the characteristic type and the modifier of each row. One reader reads all rows, one after
+// the other.
 fn assert_relationships(rt: &impl Abort, rows: &[(&[u8], (u64, u64))]) {
     let mut reader = RowReader::new();
     for (line, expected) in rows {

@@ -1,8 +1,8 @@
-//! Tests of which lines are one row, and which time a row has.
+//! Tests of `same_row`, which compares two lines as rows, and of the effective time of a row.
 use rf2_rows::{FileKind, RowFault, read_row, same_row};
 use std::process::Abort;
 
-// Whether `same_row` answers `same` for two lines of a kind, each of which is a row.
+// Whether both lines are rows of the kind, and `same_row` returns `same` for them.
 fn are_told(kind: FileKind, one: &[u8], other: &[u8], same: bool) -> bool {
     match (read_row(kind, one), read_row(kind, other)) {
         (Ok(_), Ok(_)) => {

@@ -1,4 +1,4 @@
--- Buckets of rising identifiers: those before an identifier's bucket are less than it, and those after it are greater.
+-- Buckets of rising identifiers: identifiers in earlier buckets are less than those in later ones.
 use Rattle.std.proofs.Common.{rules, ℕ, ◌+◌, ◌≡◌, ◌≤◌, ◌<◌, List, length, get_or, arith}
 use Rattle.std.specs.List.Sorted.{IsStrictlyIncreasing}
 use Rattle.held_release.specs.inside.Buckets.{AreBucketStarts, IsBucketStart, bucket_count, bucket_of}
@@ -19,7 +19,8 @@ less_by_bucket : (x y : ℕ) → bucket_of x < bucket_of y → x < y
 unfolding bucket_of
 less_by_bucket x y less = omega arith
 
--- a bucket starts at the first identifier that is in no earlier one
+-- if the identifiers rise, all before the index `start` are in buckets before `bucket`, and the one at `start`, if
+-- there is one, is not, then `bucket` starts at `start`
 pub bucket_started : (ids : List ℕ) → IsStrictlyIncreasing ids → (bucket start : ℕ) → start ≤ length ids
     → ((place : ℕ) → place < start → bucket_of (get_or ids place 0) < bucket)
     → (start < length ids → bucket ≤ bucket_of (get_or ids start 0)) → IsBucketStart ids bucket start
@@ -32,8 +33,10 @@ module _ (ids starts : List ℕ) (kept : AreBucketStarts ids starts) (id bucket 
 
   -- an identifier before the start of the bucket of `id` is less than `id`
   pub less_before : (place : ℕ) → place < get_or starts bucket 0 → get_or ids place 0 < id
-  less_before place before = less_by_bucket _ _ (omega (arith, own, (start_of bucket (omega arith)).before place before))
+  less_before place before =
+      less_by_bucket _ _ (omega (arith, own, (start_of bucket (omega arith)).before place before))
 
   -- an identifier from the start of the next bucket on is greater than `id`
-  pub greater_behind : (place : ℕ) → get_or starts (bucket + 1) 0 ≤ place → place < length ids → id < get_or ids place 0
-  greater_behind place behind below = less_by_bucket _ _ (omega (arith, own, (start_of (bucket + 1) (omega arith)).behind place behind below))
+  pub greater_after : (place : ℕ) → get_or starts (bucket + 1) 0 ≤ place → place < length ids → id < get_or ids place 0
+  greater_after place following below =
+      less_by_bucket _ _ (omega (arith, own, (start_of (bucket + 1) (omega arith)).following place following below))

@@ -1,7 +1,8 @@
--- From the listed rows to the contents of a snapshot.
+-- The result of `finished`, from the lists of the chosen rows.
 use Rattle.std.proofs.lemmas.Bool.Decides.{nat_tests}
 use Rattle.std.proofs.lemmas.Grind.{common_steps}
-use Rattle.std.proofs.Common.{ℕ, Bool, ◌≡◌, ◌≢◌, ◌≤◌, ◌+◌, ◌-◌, All, List, [], ◌∷◌, length, map, Option, None, Some, Result, Ok, Err, arith, false, true, cond, filter_map, refl}
+use Rattle.std.proofs.Common.{ℕ, Bool, ◌≡◌, ◌≢◌, ◌≤◌, ◌+◌, ◌-◌, All, List, [], ◌∷◌, length, map, Option, None, Some}
+use Rattle.std.proofs.Common.{Result, Ok, Err, arith, false, true, cond, filter_map, refl}
 use Rattle.std.proofs.lemmas.List.{length-map}
 use Rattle.std.proofs.lemmas.Bool.{and_parts}
 use Rattle.std.proofs.lemmas.List.Elements.{All-weaker, filter_passes}
@@ -47,12 +48,14 @@ contents_by_number language files concepts inactive isa attributes members names
   passed = passed;
 }
 
--- if no concept reaches itself, `finished` is `Ok` of the contents that the numbered concepts and rows stand for
+-- if no concept is its own descendant, `finished` is `Ok` of the contents that the concepts, the numbered rows and the
+-- other lists mean
 pub finished-Ok : (language : List ℕ) (files count : ℕ) (listed : ReleaseLists) (concepts inactive : List ℕ)
     (isa : List (ℕ × ℕ)) (attributes : List Attribute) (members : List (ℕ × ℕ)) (names : List Name) (passed : ℕ)
     → concepts ≡ rising listed.active_concepts → inactive ≡ rising listed.inactive_concepts
     → isa ≡ filter_map (numbered_row concepts) listed.isa_ends
-    → attributes ≡ attributes_among concepts listed.attributes → members ≡ filter_map (numbered_row concepts) listed.member_ends
+    → attributes ≡ attributes_among concepts listed.attributes
+    → members ≡ filter_map (numbered_row concepts) listed.member_ends
     → names ≡ names_among concepts listed.names
     → first_cyclic concepts (rows_among concepts listed.isa_ends) ≡ None
     → passed ≡ count - (length concepts + length isa + length attributes + length members + length names)
@@ -61,9 +64,11 @@ pub finished-Ok : (language : List ℕ) (files count : ℕ) (listed : ReleaseLis
 finished-Ok language files count listed concepts inactive isa attributes members names passed rises inactive_rise isa_is
     attributes_are members_are named acyclic counted = grind (arith, rows_of_numbers, length-map)
 
--- a fault that names the first concept that reaches itself, or is the want of memory, is the fault of `finished`
+-- if a fault names the first concept that is its own descendant, or is want of memory, it is the fault of `finished`
+-- (`IsFaultOf`)
 pub finished-Err : (language : List ℕ) (files count : ℕ) (listed : ReleaseLists) (concepts : List ℕ) (fault : LoadFault)
-    → concepts ≡ rising listed.active_concepts → IsCycle fault (first_cyclic concepts (rows_among concepts listed.isa_ends))
+    → concepts ≡ rising listed.active_concepts
+    → IsCycle fault (first_cyclic concepts (rows_among concepts listed.isa_ends))
     → IsFaultOf fault (finished language files count listed)
 finished-Err language files count listed concepts fault rises cycle other = grind (arith, common_steps, nat_tests)
 
@@ -72,17 +77,20 @@ pub length-names_among : (concepts : List ℕ) (names : List Name) → length (n
 length-names_among concepts names = grind (arith, common_steps, nat_tests, count_by-le-length, length-filter)
 
 -- `attributes_among` keeps at most as many attributes as there are
-pub length-attributes_among : (concepts : List ℕ) (attributes : List Attribute) → length (attributes_among concepts attributes) ≤ length attributes
+pub length-attributes_among : (concepts : List ℕ) (attributes : List Attribute)
+    → length (attributes_among concepts attributes) ≤ length attributes
 length-attributes_among concepts attributes = grind (arith, common_steps, nat_tests, count_by-le-length, length-filter)
 
--- if the value of a kept attribute is a concept, it is one of `concepts`
+-- `attributes_among` keeps only attributes whose value is one of `concepts` or no concept
 pub attributes_among-values : (concepts : List ℕ) (attributes : List Attribute)
     → All (λ (row : Attribute). is_value_among concepts row.value ≡ true) (attributes_among concepts attributes)
-attributes_among-values concepts attributes = grind (arith, common_steps, nat_tests, All-weaker, and_parts, filter_passes)
+attributes_among-values concepts attributes =
+    grind (arith, common_steps, nat_tests, All-weaker, and_parts, filter_passes)
 
--- a fault that names the least concept that reaches itself by numbered rows names the first that reaches itself by
--- identifiers
+-- a fault that names the least concept that is its own descendant by numbered rows names the first concept that is its
+-- own descendant by the rows of identifiers
 pub least_cycle : (fault : LoadFault) (concepts : List ℕ) → IsStrictlyIncreasing concepts → (ends : List (ℕ × ℕ))
     → IsLeastCycle fault concepts (filter_map (numbered_row concepts) ends)
     → IsCycle fault (first_cyclic concepts (rows_among concepts ends))
-least_cycle fault concepts ends h0 h1 h2 = grind (arith, common_steps, nat_tests, common_steps, first_cyclic-Some, nat_tests)
+least_cycle fault concepts ends h0 h1 h2 =
+    grind (arith, common_steps, nat_tests, common_steps, first_cyclic-Some, nat_tests)

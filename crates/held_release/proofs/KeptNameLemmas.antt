@@ -1,5 +1,7 @@
--- Name rows keep their texts while the buffer and the spans of language codes grow.
-use Rattle.std.proofs.Common.{arith, ℕ, ◌≡◌, ◌<◌, ◌+◌, ◌++◌, ◌∙◌, length, get_or, List, [], ◌∷◌, map, ap, All, Option, None, Some, set, take, length-append, slice_get, get_or-set_other, get_or-set_same, length-set}
+-- Stored name rows keep their texts while the buffer and the spans of language codes grow.
+use Rattle.std.proofs.Common.{arith, ℕ, ◌≡◌, ◌<◌, ◌+◌, ◌++◌, ◌∙◌, length, get_or, List, [], ◌∷◌, map, ap, All, Option}
+use Rattle.std.proofs.Common.{None, Some, set, take, length-append, slice_get, get_or-set_other, get_or-set_same}
+use Rattle.std.proofs.Common.{length-set}
 use Rattle.std.proofs.lemmas.Bool.Decides.{nat_tests}
 use Rattle.std.proofs.lemmas.Grind.{common_steps}
 use Rattle.std.proofs.lemmas.Bool.{cases_eq}
@@ -12,7 +14,7 @@ use Rattle.row_lists.proofs.SpanLemmas.{all-push, rows-push, span-extends, stand
 use Rattle.held_release.specs.inside.NamesInLines.{AreNoted, IsKept, name_kept, term_span}
 use Rattle.held_release.specs.declared.kept_names.KeptName.{KeptName}
 
--- spans noted for rows stay valid while the buffer grows
+-- if `spans` are right for the terms in `texts`, they are right in each text that begins with `texts`
 pub noted-extends : (names : List Name) (texts grown : List ℕ) (spans : List (Option Span))
     → AreNoted names texts spans → Extends texts grown → AreNoted names grown spans
 noted-extends names texts grown spans noted extends = record {
@@ -21,9 +23,12 @@ noted-extends names texts grown spans noted extends = record {
       (λ span stands. stands-extends texts grown extends name.term span stands);
 }
 
--- if the term of the row at `place` stands at `span`, this span may be noted for the row
-pub noted-set : (names : List Name) (texts : List ℕ) (spans : List (Option Span)) (place : ℕ) (name : Name) (span : Span)
-    → AreNoted names texts spans → slice_get names place ≡ Some name → StandsAt texts name.term span → AreNoted names texts (set spans place (Some span))
+-- if `span` is the span of the term of the row at the index `place`, `spans` stay right if the entry of this row is set
+-- to it
+pub noted-set : (names : List Name) (texts : List ℕ) (spans : List (Option Span)) (place : ℕ) (name : Name)
+    (span : Span)
+    → AreNoted names texts spans → slice_get names place ≡ Some name → StandsAt texts name.term span
+    → AreNoted names texts (set spans place (Some span))
 noted-set names texts spans place name span noted there stands =
     grind (arith, common_steps, nat_tests, cases_eq, get_or-set_other, get_or-set_same, length-set, slice_get_within)
 
@@ -35,14 +40,22 @@ module _ (texts grown : List ℕ) (languages more : List Span) (kept items : Lis
   pub kept-push : IsKept grown more row → All (IsKept grown more) items
   kept-push is =
       all-push (IsKept texts languages) (IsKept grown more) (λ row kept. record {
-        language = omega (arith, kept.language, ap length extends_languages.1, length-append languages extends_languages.0);
+        language = omega (
+          arith,
+          kept.language,
+          ap length extends_languages.1,
+          length-append languages
+              extends_languages.0,
+        );
         term = span-extends texts grown extends (term_span row) kept.term;
       }) kept items row pushed are is
 
   -- if the rows so far stand for the first `place` names and the new row for the next one, they stand for `place + 1`
   -- names
-  pub names-push : AreSpansOf texts languages → (names : List Name) (place : ℕ) (name : Name) → map (name_kept texts languages) kept ≡ take place names
-      → name_kept grown more row ≡ name → place < length names → name ≡ get_or names place name → map (name_kept grown more) items ≡ take (place + 1) names
+  pub names-push : AreSpansOf texts languages → (names : List Name) (place : ℕ) (name : Name)
+      → map (name_kept texts languages) kept ≡ take place names
+      → name_kept grown more row ≡ name → place < length names → name ≡ get_or names place name
+      → map (name_kept grown more) items ≡ take (place + 1) names
   names-push placed names place name so_far is within there =
       rows-push (name_kept texts languages) (name_kept grown more) (IsKept texts languages) same kept items row
       (get_or names place name) pushed are (is ∙ there)
@@ -57,6 +70,7 @@ module _ (texts grown : List ℕ) (languages more : List Span) (kept items : Lis
             id = row.id;
             concept = row.concept;
             language = ((ap (text_at grown) language
-                ∙ text-extends texts grown extends (get_or languages row.language no_span) (placed row.language no_span is.language)) i);
+                ∙ text-extends texts grown extends (get_or languages row.language no_span)
+                (placed row.language no_span is.language)) i);
             term = text-extends texts grown extends (term_span row) is.term i;
           }

@@ -1,7 +1,8 @@
--- The concept that the fault `Cycle` names, in the words of a reader.
+-- The concept that the fault `Cycle` names.
 use Rattle.std.proofs.lemmas.Bool.Decides.{nat_tests}
 use Rattle.std.proofs.lemmas.Grind.{common_steps}
-use Rattle.std.proofs.Common.{ℕ, ◌≡◌, ◌<◌, List, length, get_or, None, Some, sym, ◌∙◌, ap, arith, Bool, true, false, Contains, find, slice_get}
+use Rattle.std.proofs.Common.{ℕ, ◌≡◌, ◌<◌, List, length, get_or, None, Some, sym, ◌∙◌, ap, arith, Bool, true, false}
+use Rattle.std.proofs.Common.{Contains, find, slice_get}
 use Rattle.std.specs.List.Sorted.{IsStrictlyIncreasing}
 use Rattle.std.proofs.lemmas.Bool.{cases_lt, false_from_ne_true}
 use Rattle.std.proofs.lemmas.List.{get_or_default}
@@ -18,7 +19,8 @@ use Rattle.number_lists.proofs.IncreasingLemmas.{earlier_below, not_falling}
 
 -- the item that `find` finds passes the test, and no item before it does
 find-Some : (test : ℕ → Bool) (xs : List ℕ) (x : ℕ) → find test xs ≡ Some x
-    → (i : ℕ) × (i < length xs) × (get_or xs i 0 ≡ x) × (test x ≡ true) × ((k : ℕ) → k < i → test (get_or xs k 0) ≡ false)
+    → (i : ℕ) × (i < length xs) × (get_or xs i 0 ≡ x) × (test x ≡ true)
+    × ((k : ℕ) → k < i → test (get_or xs k 0) ≡ false)
 find-Some test xs x found =
     let there : slice_get xs (position_or_len test xs) ≡ Some x = sym (find_at test xs) ∙ found in
     let within = slice_get_within xs (position_or_len test xs) x there in (
@@ -43,7 +45,8 @@ find-none_passes test xs none x (k, below, is) =
     )
 
 -- in a rising list a lesser concept stands before a greater one
-earlier_place : (concepts : List ℕ) → IsStrictlyIncreasing concepts → (i k : ℕ) → i < length concepts → k < length concepts
+earlier_place : (concepts : List ℕ) → IsStrictlyIncreasing concepts → (i k : ℕ) → i < length concepts
+    → k < length concepts
     → get_or concepts k 0 < get_or concepts i 0 → k < i
 earlier_place concepts rising i k within also less = grind (arith, common_steps, nat_tests, cases_lt, not_falling)
 
@@ -68,7 +71,8 @@ names_least_cyclic release rising = (
         ),
     λ (there, chain, none).
         let i : ℕ = there.0 in
-        let is : get_or release.concepts i 0 ≡ concept = get_or_default release.concepts i 0 concept there.1 ∙ there.2 in
+        let is : get_or release.concepts i 0 ≡ concept = get_or_default release.concepts i 0 concept there.1
+        ∙ there.2 in
         find-first test release.concepts i there.1
         (λ k before. fails (get_or release.concepts k 0)
         (none (get_or release.concepts k 0) (Contains-get_or release.concepts k 0 (omega (arith, there.1)))
@@ -77,7 +81,8 @@ names_least_cyclic release rising = (
         ∙ ap (λ (n : ℕ). Some n) is,
   ),
   (
-    λ found concept there chain. grind (arith, (find-none_passes test release.concepts found concept there), (test_from_chain release.isa chain)),
+    λ found concept there chain. grind
+        (arith, (find-none_passes test release.concepts found concept there), (test_from_chain release.isa chain)),
     λ none. find-none test release.concepts
         (λ k within. fails (get_or release.concepts k 0)
         (none (get_or release.concepts k 0) (Contains-get_or release.concepts k 0 within))),
@@ -88,4 +93,5 @@ names_least_cyclic release rising = (
     test concept = reaches release.isa concept concept
 
     fails : (concept : ℕ) → (Reaches release.isa concept concept → ⊥) → test concept ≡ false
-    fails concept none = false_from_ne_true (test concept) (λ holds. none (chain_from_test release.isa concept concept holds))
+    fails concept none = false_from_ne_true (test concept)
+        (λ holds. none (chain_from_test release.isa concept concept holds))

@@ -1,11 +1,12 @@
 -- The name row that `first_name` gives comes before all others.
-use Rattle.std.proofs.Common.{ℕ, ◌≡◌, List, [], ◌∷◌, None, Some, Bool, true, false, cond, nat_lt, not, ◌&&◌, ap, refl, arith, subst, Contains, inl, inr}
+use Rattle.std.proofs.Common.{ℕ, ◌≡◌, List, [], ◌∷◌, None, Some, Bool, true, false, cond, nat_lt, not, ◌&&◌, ap, refl}
+use Rattle.std.proofs.Common.{arith, subst, Contains, inl, inr}
 use Rattle.std.proofs.lemmas.Bool.Decides.{nat_tests}
 use Rattle.rf2_rows.specs.Release.{Name}
 use Rattle.number_lists.proofs.ListLemmas.{contained_cases, first_contained, rest_contained}
 use Rattle.held_release.specs.Name.{NamesFirstRow, comes_before, first_name, first_of_two, is_in}
 
--- the order of two rows by what it depends on: whether each is in the language, and their identifiers
+-- whether a row comes before another, by what this depends on: whether each is in the language, and their identifiers
 abbrev pub before : Bool → Bool → ℕ → ℕ → Bool
 before one other one_id other_id = cond (one && not other) true (cond (other && not one) false (nat_lt one_id other_id))
 
@@ -37,7 +38,8 @@ first_of_more : (language : List ℕ) (row first : Name) (rows : List Name) → 
     → IsFirst language (row ∷ rows) (first_of_two language row (Some first))
 first_of_more language row first rows is = by (comes_before language first row) refl
   where
-    by : (earlier : Bool) → comes_before language first row ≡ earlier → IsFirst language (row ∷ rows) (cond earlier first row)
+    by : (earlier : Bool) → comes_before language first row ≡ earlier
+        → IsFirst language (row ∷ rows) (cond earlier first row)
     by true comes = (
       rest_contained row rows first is.0,
       λ other there. elim (contained_cases row rows other there) [
@@ -57,14 +59,16 @@ first_of_more language row first rows is = by (comes_before language first row) 
     )
 
 -- `first_of_two` of a row and the first of the later rows is the first of all
-first_of_all : (language : List ℕ) (row : Name) (rows : List Name) → IsFirst language (row ∷ rows) (first_of_two language row (first_name language rows))
+first_of_all : (language : List ℕ) (row : Name) (rows : List Name)
+    → IsFirst language (row ∷ rows) (first_of_two language row (first_name language rows))
 first_of_all language row [] = grind (arith, first_contained, is_in)
 first_of_all language row (next ∷ rows) =
     first_of_more language row (first_of_two language next (first_name language rows)) (next ∷ rows)
     (first_of_all language next rows)
 
 -- the row that `first_name` gives is a first one
-some_first : (language : List ℕ) (rows : List Name) (row : Name) → first_name language rows ≡ Some row → IsFirst language rows row
+some_first : (language : List ℕ) (rows : List Name) (row : Name) → first_name language rows ≡ Some row
+    → IsFirst language rows row
 some_first language [] row found = (cc)
 some_first language (first ∷ rows) row found =
     grind (
@@ -79,6 +83,7 @@ none_first : (language : List ℕ) (rows : List Name) → first_name language ro
 none_first language [] none = refl
 none_first language (row ∷ rows) none = (cc)
 
--- `first_name` gives one of the rows, before which none comes, and gives none exactly if there are no rows
+-- `first_name` gives one of the rows, and no other row comes before it; it gives none exactly if there are no rows
 pub names_first_row : NamesFirstRow
-names_first_row language rows = (some_first language rows, (none_first language rows, λ none. ap (first_name language) none))
+names_first_row language rows =
+    (some_first language rows, (none_first language rows, λ none. ap (first_name language) none))

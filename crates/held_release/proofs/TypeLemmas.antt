@@ -1,23 +1,25 @@
--- The places of types, while new types are added.
-use Rattle.std.proofs.Common.{ℕ, ◌+◌, ◌≡◌, ◌≤◌, ◌<◌, ◌++◌, ◌∷◌, [], ◌∙◌, Bool, true, false, cond, not, List, length, get_or, nat_eq, Some, refl, sym, ap, append-nil, arith, length-append}
+-- The indexes of types, while new types are added.
+use Rattle.std.proofs.Common.{ℕ, ◌+◌, ◌≡◌, ◌≤◌, ◌<◌, ◌++◌, ◌∷◌, [], ◌∙◌, Bool, true, false, cond, not, List, length}
+use Rattle.std.proofs.Common.{get_or, nat_eq, Some, refl, sym, ap, append-nil, arith, length-append}
 use Rattle.std.specs.List.{list_any, position_or_len, slice_get}
 use Rattle.std.proofs.lemmas.List.{get_or_append_left, get_or_at, length_push}
 use Rattle.std.proofs.lemmas.List.Sums.{prefix_len-le-length}
 use Rattle.std.proofs.lemmas.Option.{slice_get-get_or}
-use Rattle.first_met.specs.FirstMet.{keys_behind}
-use Rattle.first_met.proofs.PlaceLemmas.{behind_all}
+use Rattle.key_interner.specs.KeyInterner.{keys_after}
+use Rattle.key_interner.proofs.PlaceLemmas.{after_all}
 use Rattle.held_release.specs.inside.SortedInside.{row_in}
 use Rattle.row_lists.specs.Spans.{Extends}
 use Rattle.held_release.specs.declared.sorted_attributes.SortedRow.{SortedRow}
 use Rattle.number_lists.proofs.MemberLemmas.{any-has}
 use Rattle.number_lists.proofs.PlaceLemmas.{get_or-place_of, place_below}
 
--- the position of a key is at most the number of keys
+-- the position of a key, or the number of keys if it is missing, is at most the number of keys
 pub place_near : (keys : List ℕ) (key : ℕ) → position_or_len (nat_eq key) keys ≤ length keys
 place_near keys key = prefix_len-le-length (λ other. not (nat_eq key other)) keys
 
--- a type stands at the place at which it was met
-pub placed_type : (types : List ℕ) (id : ℕ) → slice_get (keys_behind types id) (position_or_len (nat_eq id) types) ≡ Some id
+-- after `id` was added to `types`, unless it was there, it is at the index that it had, or at the end
+pub placed_type : (types : List ℕ) (id : ℕ) → slice_get (keys_after types id) (position_or_len (nat_eq id) types)
+    ≡ Some id
 placed_type types id = by (list_any (nat_eq id) types) refl
   where
     by : (known : Bool) → list_any (nat_eq id) types ≡ known
@@ -27,13 +29,13 @@ placed_type types id = by (list_any (nat_eq id) types) refl
         slice_get-get_or types (position_or_len (nat_eq id) types) 0 (place_below types id there)
         ∙ ap (λ (id : ℕ). Some id) (get_or-place_of types id there)
     by false new =
-        ap (slice_get (types ++ id ∷ [])) (behind_all types id new)
+        ap (slice_get (types ++ id ∷ [])) (after_all types id new)
         ∙ slice_get-get_or (types ++ id ∷ []) (length types) 0 (omega (arith, length_push types id))
         ∙ ap (λ (id : ℕ). Some id) (get_or_at types id [] 0 (length types) refl)
 
--- types with a new one added begin with the types before
-pub behind_extends : (types : List ℕ) (id : ℕ) → Extends types (keys_behind types id)
-behind_extends types id = by (list_any (nat_eq id) types)
+-- the types after `id` was added begin with the types before
+pub after_extends : (types : List ℕ) (id : ℕ) → Extends types (keys_after types id)
+after_extends types id = by (list_any (nat_eq id) types)
   where
     by : (known : Bool) → Extends types (cond known types (types ++ id ∷ []))
     by true = ([], sym (append-nil types))
@@ -49,12 +51,13 @@ module _ (types more : List ℕ) (extends : Extends types more) where
   pub row-extends : (row : SortedRow) → row.type_place < length types → row_in more row ≡ row_in types row
   row-extends row within =
       let same : get_or more row.type_place 0 ≡ get_or types row.type_place 0 =
-      ap (λ (ids : List ℕ). get_or ids row.type_place 0) extends.1 ∙ get_or_append_left types extends.0 0 row.type_place within in
+      ap (λ (ids : List ℕ). get_or ids row.type_place 0) extends.1
+      ∙ get_or_append_left types extends.0 0 row.type_place within in
       λ i. record { source = row.source; group = row.group; type_id = same i; value = row.value }
 
--- adding a type makes at most one type more
-pub behind_few : (types : List ℕ) (id : ℕ) → length (keys_behind types id) ≤ length types + 1
-behind_few types id = by (list_any (nat_eq id) types)
+-- adding a type makes the list longer by at most one
+pub after_few : (types : List ℕ) (id : ℕ) → length (keys_after types id) ≤ length types + 1
+after_few types id = by (list_any (nat_eq id) types)
   where
     by : (known : Bool) → length (cond known types (types ++ id ∷ [])) ≤ length types + 1
     by true = omega arith

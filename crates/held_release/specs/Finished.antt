@@ -1,4 +1,4 @@
--- The snapshot that is made of the listed rows of a release.
+-- The contents of a release that are made of the lists of its chosen rows.
 use Rattle.std.specs.Prelude.{◌≡◌, ◌≢◌, ◌&&◌, ◌-◌, ℕ, List, filter, Option, Some, option_map, Result}
 use Rattle.number_lists.specs.Members.{has}
 use Rattle.rf2_rows.specs.Release.{Attribute, Name, Release}
@@ -10,7 +10,8 @@ use Rattle.row_lists.specs.declared.fault.LoadFault.TheVariants.{Cycle, Memory}
 use Rattle.held_release.specs.Contents.{Contents, least_cyclic, unless_cyclic}
 use Rattle.held_release.specs.ValuesInForce.{is_value_among}
 
--- a fault that names the concept that reaches itself, or the want of memory
+-- the fault names the concept of a cycle, or is want of memory; without such a concept it is want
+-- of memory
 abbrev pub IsCycle : LoadFault → Option ℕ → Type 0
 IsCycle fault cyclic = fault ≢ Memory → option_map Cycle cyclic ≡ Some fault
 
@@ -18,12 +19,13 @@ IsCycle fault cyclic = fault ≢ Memory → option_map Cycle cyclic ≡ Some fau
 abbrev pub names_among : List ℕ → List Name → List Name
 names_among concepts names = filter (λ (name : Name). has concepts name.concept) names
 
--- the attributes whose source is one of `concepts`, and whose value is one of them if it is a concept
+-- the attributes whose source is one of `concepts`, and whose value is one of them or no concept
 abbrev pub attributes_among : List ℕ → List Attribute → List Attribute
 attributes_among concepts attributes =
-    filter (λ (attribute : Attribute). has concepts attribute.source && is_value_among concepts attribute.value) attributes
+    filter (λ (attribute : Attribute). has concepts attribute.source
+    && is_value_among concepts attribute.value) attributes
 
--- the release that is made of the rows that were listed
+-- the release that the lists make: only concepts in force, and rows that name only these
 abbrev pub release_from : ReleaseLists → Release
 release_from listed =
     let concepts = rising listed.active_concepts in
@@ -35,7 +37,7 @@ release_from listed =
       names = names_among concepts listed.names;
     }
 
--- the contents that are made of the rows that were listed, of `count` rows
+-- the contents that the lists make; `count` is the number of all rows
 abbrev pub contents_from : List ℕ → ℕ → ℕ → ReleaseLists → Contents
 contents_from language files count listed = record {
   release = release_from listed;
@@ -45,6 +47,7 @@ contents_from language files count listed = record {
   passed = count - listed_count (release_from listed);
 }
 
--- the snapshot that is made of the rows that were listed, or `Cycle` if a concept reaches itself
+-- the contents that the lists make, or the fault `Cycle` if a concept is its own descendant
 abbrev pub finished : List ℕ → ℕ → ℕ → ReleaseLists → Result Contents LoadFault
-finished language files count listed = unless_cyclic (contents_from language files count listed) (least_cyclic (release_from listed))
+finished language files count listed =
+    unless_cyclic (contents_from language files count listed) (least_cyclic (release_from listed))

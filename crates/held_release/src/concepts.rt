@@ -1,4 +1,4 @@
-//! The concepts in force, each found at its number by its identifier.
+//! The concepts in force, and the lookup of a concept's number by its identifier.
 ghost use Rattle.std.specs.Prelude.{ℕ, ◌≡◌, ◌≤◌, ◌<◌, ◌^◌, IfOk, length, slice_index};
 ghost use Rattle.std.specs.List.Sorted.{IsStrictlyIncreasing};
 ghost use Rattle.held_release.specs.inside.Buckets.{AreBucketStarts, IsBucketStart, bucket_count, bucket_of};
@@ -9,22 +9,24 @@ use sctid::SctId;
 use std::alloc::{AllocError, Global};
 use std::marker::Model;
 
-// How many successive identifiers share a bucket. The last three digits of a concept's identifier in the
-// short form follow from those before them, so a bucket holds five concepts at most.
+// How many successive identifiers share a bucket. The last three digits of a concept's identifier
+// in the short form follow from those before them, so a bucket holds five concepts at most.
 const BUCKET_IDS: u64 = 4096;
 
-// The last bucket, which all larger identifiers share: those of extensions have 11 digits and more.
+// The last bucket, which all larger identifiers share. Identifiers of extensions have at least 11
+// digits and so are in it.
 const LAST_BUCKET: u64 = 524_287;
 
 const BUCKETS: usize = LAST_BUCKET as usize + 1;
 
-/// The concepts in force: fewer than 2^31. Each has the number of its place, from 0, in the rising order of
-/// their identifiers. Contracts see the list of these identifiers.
+/// The concepts in force: fewer than 2^31. The number of a concept is its index, from 0, in the
+/// rising list of the identifiers. Contracts name this type as that list.
 #[derive(Drop)]
 pub struct Concepts {
     // the identifiers in rising order
     ids: Vec<SctId>,
-    // for each bucket, how many identifiers are in the buckets before it; and at the end, how many there are in all
+    // for each bucket, how many identifiers are in the buckets before it; one more entry has the
+    // number of all identifiers
     starts: Vec<u32>,
 }
 
@@ -41,7 +43,8 @@ impl Model for Concepts {
 }
 
 impl Concepts {
-    /// The concepts with the identifiers `ids`.
+    /// Creates the list of the concepts with the identifiers `ids`, which must rise strictly, and
+    /// the buckets for the lookup.
     pub fn new(alloc: Global, ids: Vec<SctId>) -> Result<Concepts, AllocError>
         requires rising { IsStrictlyIncreasing ids.items }
         requires few { length ids.items < 2 ^ 31 }
@@ -51,7 +54,7 @@ impl Concepts {
         Ok(Concepts { ids, starts })
     }
 
-    /// How many concepts there are.
+    /// Returns the number of concepts.
     pub fn len(&self) -> u32
         ensures count { result ≡ length self.now }
         ensures few { length self.now < 2 ^ 31 }
@@ -60,7 +63,7 @@ impl Concepts {
         self.ids.len() as u32
     }
 
-    /// The identifier of a concept by its number.
+    /// Returns the identifier of the concept with the number `number`.
     pub fn id_at(&self, number: u32) -> SctId
         requires { number < length self.now }
         ensures { result ≡ slice_index self.now number }
@@ -68,14 +71,14 @@ impl Concepts {
         self.ids[number as usize]
     }
 
-    /// The identifiers of the concepts.
+    /// Returns the identifiers of all concepts, in rising order.
     pub fn ids(&self) -> &[SctId]
         ensures { result.now ≡ self.now }
     {
         self.ids.as_slice()
     }
 
-    /// The number of the concept with an identifier, if it is in force.
+    /// Returns the number of the concept with the identifier `id`, or `None` if it is not in force.
     pub fn index_of(&self, id: u64) -> Option<u32>
         ensures { result ≡ concept_number self.now id }
     {
@@ -96,7 +99,7 @@ impl KnownConcepts for Concepts {
     }
 }
 
-// Computes the bucket of an identifier.
+// Returns the bucket of the identifier `id`.
 #[inline]
 #[tactic(auto, unfolding(crate::specs::inside::Buckets::bucket_of))]
 fn bucket_of(id: u64) -> usize
@@ -106,7 +109,8 @@ fn bucket_of(id: u64) -> usize
     (id / BUCKET_IDS).min(LAST_BUCKET) as usize
 }
 
-// Counts for each bucket how many identifiers are in the buckets before it; the last entry counts all.
+// Returns for each bucket how many of the rising `ids` are in the buckets before it, and in a last
+// entry how many there are in all.
 fn bucket_starts(alloc: Global, ids: &[SctId]) -> Result<Vec<u32>, AllocError>
     requires rising { IsStrictlyIncreasing ids.now }
     requires few { length ids.now < 2 ^ 31 }
@@ -121,7 +125,8 @@ fn bucket_starts(alloc: Global, ids: &[SctId]) -> Result<Vec<u32>, AllocError>
     Ok(starts)
 }
 
-// Finds where `bucket` starts among the identifiers. All before `from` are in earlier buckets.
+// Returns the index in `ids` at which `bucket` starts. All identifiers before the index `from` are
+// in earlier buckets.
 fn bucket_start(ids: &[SctId], from: usize, bucket: usize) -> usize
     requires rising { IsStrictlyIncreasing ids.now }
     requires from { from ≤ length ids.now }
@@ -135,14 +140,15 @@ fn bucket_start(ids: &[SctId], from: usize, bucket: usize) -> usize
     start
 }
 
-// Finds the number of the concept with identifier `id` by binary search. Those before `from` are less than
-// `id`, and those from `to` on are greater.
+// Finds the number of the concept with the identifier `id` by binary search. The identifiers before
+// the index `from` are less than `id`, and those from `to` on are greater.
 fn number_between(ids: &[SctId], from: usize, to: usize, id: u64) -> Option<u32>
     requires rising { IsStrictlyIncreasing ids.now }
     requires few { length ids.now < 2 ^ 31 }
     requires within { (from ≤ to) × (to ≤ length ids.now) }
     requires above { (place : ℕ) → place < from → slice_index ids.now place < id }
-    requires below { (place : ℕ) → to ≤ place → place < length ids.now → id < slice_index ids.now place }
+    requires below { (place : ℕ) → to ≤ place → place < length ids.now
+        → id < slice_index ids.now place }
     ensures { result ≡ concept_number ids.now id }
 {
     let mut low = from;

@@ -1,4 +1,5 @@
-//! Makes a release of the rows that were read: numbers its concepts, and keeps the rows between them.
+//! Makes a `Snapshot` of the rows that were read: numbers the concepts in force, and keeps the rows
+//! in force.
 ghost use Rattle.std.specs.Prelude.{◌≡◌, ◌<◌, ◌^◌, ℕ, None, Ok, IfOk, IfErr, OnOk, map, length, string_bytes};
 ghost use Rattle.std.specs.List.{filter_map};
 ghost use Rattle.std.specs.List.Sorted.{IsStrictlyIncreasing};
@@ -21,15 +22,19 @@ use crate::lines::{ConceptLines, lines_among};
 use crate::numbered_attributes::number_attributes;
 use crate::numbering::number_rows;
 use crate::sorted_attributes::{SortedAttributes, sort_by_source};
-use first_met::Seed;
 use hierarchy::{least_cyclic, parents_first};
+use key_interner::Seed;
 use row_lists::{Attributes, LoadFault, Names, ReadRows, RowLists};
 use sctid::SctId;
 use std::alloc::{AllocError, Global};
 
-/// Makes the release of the rows in `read`, which come from `files` files. It numbers the concepts in force in rising
-/// order and keeps the rows between them. Names in `language` come first. Hashes over what the rows hold begin with
-/// `seed`, which the release keeps. The fault is `Cycle`, with the least concept that reaches itself, or `Memory`.
+/// Makes the snapshot of the chosen rows in `read`. Numbers the concepts in force in rising order,
+/// and keeps the rows that name only concepts in force. `language` is the preferred language of
+/// names, `files` the number of files for the report, and `seed` the seed for hashes, which the
+/// snapshot keeps.
+///
+/// Fails with `Cycle` and the least concept that is its own descendant, if there is one, or with
+/// `Memory`.
 pub fn finish(
     alloc: Global,
     read: ReadRows,
@@ -38,8 +43,10 @@ pub fn finish(
     seed: Seed,
 ) -> Result<Snapshot, LoadFault>
     requires { AreFew read.count (read_in read.lists) }
-    ensures ok { IfOk result (λ snapshot. finished (string_bytes language) files read.count (read_in read.lists) ≡ Ok snapshot) }
-    ensures err { IfErr result (λ fault. IsFaultOf fault (finished (string_bytes language) files read.count (read_in read.lists))) }
+    ensures ok { IfOk result (λ snapshot. finished (string_bytes language) files read.count
+        (read_in read.lists) ≡ Ok snapshot) }
+    ensures err { IfErr result (λ fault. IsFaultOf fault
+        (finished (string_bytes language) files read.count (read_in read.lists))) }
 {
     let ReadRows { lists, count } = read;
     let RowLists {
@@ -94,7 +101,7 @@ pub fn finish(
     }
 }
 
-// The rows of the concepts in force, besides the hierarchy.
+// What is kept of the concepts in force besides the hierarchy.
 #[derive(Drop)]
 struct Lists {
     lines: ConceptLines,
@@ -102,8 +109,8 @@ struct Lists {
     members: Vec<(u32, u32)>,
 }
 
-// Makes the lines, the attribute rows sorted by source, and the member rows of `concepts`. The lines have
-// the names in `language`.
+// Makes the lines of `concepts`, with names in the preferred language `language`, and keeps the
+// attribute rows, sorted by source, and the member rows that are in force.
 fn lists_among(
     alloc: Global,
     concepts: &Concepts,
@@ -116,10 +123,13 @@ fn lists_among(
     requires few { length names < 2 ^ 32 }
     requires few_attributes { length attributes < 2 ^ 31 }
     ensures names { IfOk result (λ lists. lists.lines.names ≡ names_among concepts.now names) }
-    ensures lines { IfOk result (λ lists. lists.lines.lines ≡ map (concept_line (name_among language.now lists.lines.names)) concepts.now) }
-    ensures attributes { IfOk result (λ lists. in_file_order concepts.now lists.attributes ≡ attributes_among concepts.now attributes) }
+    ensures lines { IfOk result (λ lists. lists.lines.lines
+        ≡ map (concept_line (name_among language.now lists.lines.names)) concepts.now) }
+    ensures attributes { IfOk result (λ lists. in_file_order concepts.now lists.attributes
+        ≡ attributes_among concepts.now attributes) }
     ensures sorted { IfOk result (λ lists. IsSortedBySource concepts.now lists.attributes) }
-    ensures members { IfOk result (λ lists. lists.members.items ≡ filter_map (numbered_row concepts.now) member_ends.now) }
+    ensures members { IfOk result (λ lists. lists.members.items
+        ≡ filter_map (numbered_row concepts.now) member_ends.now) }
 {
     let attributes = sorted_among(alloc, concepts, attributes, seed)?;
     let members = number_rows(alloc, concepts, member_ends)?;
@@ -131,8 +141,8 @@ fn lists_among(
     })
 }
 
-// Numbers the attribute rows of `concepts` and sorts them by source. It frees `attributes` before it sorts,
-// to save memory.
+// Keeps the attribute rows that are in force, with the numbers of their concepts, and sorts them by
+// source. Frees `attributes` before it sorts, to save memory.
 fn sorted_among(
     alloc: Global,
     concepts: &Concepts,
@@ -140,7 +150,8 @@ fn sorted_among(
     seed: Seed,
 ) -> Result<SortedAttributes, AllocError>
     requires { length attributes < 2 ^ 31 }
-    ensures order { IfOk result (λ sorted. in_file_order concepts.now sorted ≡ attributes_among concepts.now attributes) }
+    ensures order { IfOk result (λ sorted. in_file_order concepts.now sorted
+        ≡ attributes_among concepts.now attributes) }
     ensures sorted { IfOk result (λ sorted. IsSortedBySource concepts.now sorted) }
 {
     let numbered = number_attributes(alloc, concepts, &attributes)?;
@@ -148,26 +159,30 @@ fn sorted_among(
     sort_by_source(alloc, concepts, numbered, seed)
 }
 
-// The is-a rows by the numbers of their ends, and an order of the concepts.
+// The is-a rows in force, as pairs of concept numbers, and a topological order of the concepts.
 #[derive(Drop)]
 struct NumberedHierarchy {
     isa: Vec<(u32, u32)>,
-    // the concepts in an order in which parents come first
+    // the numbers of all concepts, each after those of its parents
     order: Vec<u32>,
 }
 
-// Makes the is-a rows between `concepts` by number, and an order in which parents come first. The fault is
-// `Cycle` if a concept reaches itself.
+// Keeps the is-a rows `ends` between `concepts` as pairs of numbers, and computes an order in which
+// parents come first. Fails with `Cycle` if a concept is its own descendant.
 fn number_hierarchy(
     alloc: Global,
     concepts: &Concepts,
     ends: &[(SctId, SctId)],
 ) -> Result<NumberedHierarchy, LoadFault>
     requires { length ends.now < 2 ^ 31 }
-    ensures rows { IfOk result (λ hierarchy. hierarchy.isa.items ≡ filter_map (numbered_row concepts.now) ends.now) }
-    ensures order { IfOk result (λ hierarchy. IsParentsFirst (length concepts.now) hierarchy.isa.items hierarchy.order.items) }
-    ensures acyclic { OnOk result (first_cyclic concepts.now (rows_among concepts.now ends.now) ≡ None) }
-    ensures cycle { IfErr result (λ fault. IsCycle fault (first_cyclic concepts.now (rows_among concepts.now ends.now))) }
+    ensures rows { IfOk result (λ hierarchy. hierarchy.isa.items
+        ≡ filter_map (numbered_row concepts.now) ends.now) }
+    ensures order { IfOk result (λ hierarchy. IsParentsFirst (length concepts.now)
+        hierarchy.isa.items hierarchy.order.items) }
+    ensures acyclic { OnOk result (first_cyclic concepts.now (rows_among concepts.now ends.now)
+        ≡ None) }
+    ensures cycle { IfErr result (λ fault. IsCycle fault
+        (first_cyclic concepts.now (rows_among concepts.now ends.now))) }
 {
     let isa = number_rows(alloc, concepts, ends)?;
     match parents_first(alloc, isa.as_slice(), concepts.len())? {
@@ -176,11 +191,13 @@ fn number_hierarchy(
     }
 }
 
-// Makes the fault that names the least concept that reaches itself.
+// Returns the fault that names the least concept that is its own descendant by `rows`; there must
+// be one. Returns `Memory` if memory is refused.
 fn cycle_fault(alloc: Global, concepts: &Concepts, rows: &[(u32, u32)]) -> LoadFault
     requires within { IsWithin (length concepts.now) rows.now }
     requires few { length rows.now < 2 ^ 32 }
-    requires cyclic { (concept : ℕ) × (concept < length concepts.now) × Reaches rows.now concept concept }
+    requires cyclic { (concept : ℕ) × (concept < length concepts.now)
+        × Reaches rows.now concept concept }
     ensures { IsLeastCycle result concepts.now rows.now }
 {
     match least_cyclic(alloc, rows, concepts.len()) {
@@ -190,7 +207,7 @@ fn cycle_fault(alloc: Global, concepts: &Concepts, rows: &[(u32, u32)]) -> LoadF
     }
 }
 
-// Sorts the concepts, and keeps each once.
+// Sorts `concepts`, and keeps each once.
 fn rising(mut concepts: Vec<SctId>) -> Vec<SctId>
     ensures rising { result.items ≡ rising_of concepts.items }
     ensures increasing { IsStrictlyIncreasing result.items }

@@ -1,4 +1,4 @@
-//! A release in memory, and reading it.
+//! A loaded release, and the functions that read it.
 ghost use Rattle.std.specs.Prelude.{◌≡◌, ◌<◌, ◌^◌, ℕ, List, None, Some, true, map, length, slice_index};
 ghost use Rattle.std.specs.List.{slice_get};
 ghost use Rattle.std.specs.List.Sorted.{IsStrictlyIncreasing};
@@ -16,37 +16,38 @@ use crate::concepts::Concepts;
 use crate::lines::ConceptLines;
 use crate::report::Report;
 use crate::sorted_attributes::{AttributeNumbers, AttributeRow, NumberedValue, SortedAttributes};
-use first_met::Seed;
+use key_interner::Seed;
 use rf2_rows::Value;
 use sctid::SctId;
 use std::marker::Model;
 
-/// The rows in force of a release. Its concepts have the numbers from 0, in the rising order of
-/// their identifiers. Contracts see the release, the inactive concepts, the asked language, and the counts
-/// of files and of rows that are passed over.
+/// A loaded release: its concepts and rows in force. The number of a concept is its index, from 0,
+/// in the rising list of the identifiers. Contracts name this type as the release, the inactive
+/// concepts, the preferred language, and the counts of files and of rows that were passed over.
 #[derive(Drop)]
 pub struct Snapshot {
     // the concepts in force
     pub(crate) concepts: Concepts,
-    // the concepts whose row that counts is inactive, in rising order
+    // the identifiers of the concepts whose chosen row is inactive, in rising order
     pub(crate) inactive: Vec<SctId>,
-    // child and parent of each is-a row, in the order of the rows
+    // the child and the parent of each is-a row, by number, in the order of the rows in the files
     pub(crate) isa: Vec<(u32, u32)>,
-    // the numbers of the concepts in an order in which parents come first
+    // the numbers of all concepts, each after those of its parents
     pub(crate) order: Vec<u32>,
-    // the attribute rows sorted by source
+    // the attribute rows, sorted by source
     pub(crate) attributes: SortedAttributes,
-    // reference set and component of each member row, in the order of the rows
+    // the reference set and the component of each member row, by number, in the order of the rows
+    // in the files
     pub(crate) members: Vec<(u32, u32)>,
-    // the line of each concept, and the name rows in the order of the rows
+    // the output line of each concept, and the name rows in the order of the files
     pub(crate) lines: ConceptLines,
-    // the language whose names come first
+    // the code of the preferred language
     pub(crate) language: String,
-    // how many files have a kind
+    // how many files are Snapshot files of some kind by their names
     pub(crate) files: u64,
     // how many rows are in none of the release's lists
     pub(crate) passed: u64,
-    // the seed of the hashes over what the rows hold
+    // the seed for hashes of what the rows contain
     pub(crate) seed: Seed,
 }
 
@@ -63,12 +64,12 @@ impl Model for Snapshot {
 }
 
 impl Snapshot {
-    /// The seed of the hashes over what the files hold, as the source of the files gave it.
+    /// Returns the seed for hashes of what the files contain, as the source of the files gave it.
     pub fn seed(&self) -> Seed {
         self.seed
     }
 
-    /// How many concepts are in force: fewer than 2^31.
+    /// Returns the number of concepts in force: fewer than 2^31.
     pub fn concept_count(&self) -> u32
         ensures count { result ≡ length self.now.release.concepts }
         ensures few { length self.now.release.concepts < 2 ^ 31 }
@@ -77,22 +78,23 @@ impl Snapshot {
         self.concepts.len()
     }
 
-    /// The number of the concept with an identifier, or `None` if there is none in force.
+    /// Returns the number of the concept with the identifier `id`, or `None` if it is not in force.
     pub fn index_of(&self, id: u64) -> Option<u32>
         ensures { result ≡ concept_number self.now.release.concepts id }
     {
         self.concepts.index_of(id)
     }
 
-    /// Whether an identifier is that of a concept whose row that counts is inactive (Release File Specification,
-    /// "Concept file", active).
+    /// Whether `id` is the identifier of a concept whose chosen row is inactive (Release File
+    /// Specification, "Concept file", active).
     pub fn is_inactive(&self, id: u64) -> bool
         ensures { result ≡ has self.now.inactive id }
     {
         is_among(id, self.inactive.as_slice())
     }
 
-    /// The identifier of a concept by its number, which is below `concept_count`.
+    /// Returns the identifier of the concept with the number `concept`, which must be below
+    /// `concept_count`.
     pub fn id_at(&self, concept: u32) -> SctId
         requires { concept < length self.now.release.concepts }
         ensures { result ≡ slice_index self.now.release.concepts concept }
@@ -100,76 +102,88 @@ impl Snapshot {
         self.concepts.id_at(concept)
     }
 
-    /// The name of a concept by its number, which is below `concept_count`: the term of its fully
-    /// specified name. If it has several, those in the asked language come first, and among them the one
-    /// with the least identifier. `None` if it has none (Release File Specification, "Description file").
+    /// Returns the name of the concept with the number `concept`, which must be below
+    /// `concept_count`: the term of its fully specified name, or `None` if it has none. Of several,
+    /// one in the preferred language comes before the others, and then one with a lesser
+    /// description identifier before one with a greater (Release File Specification, "Description
+    /// file").
     #[tactic(auto, using(crate::proofs::LineLemmas::line_among, crate::proofs::NameInLineLemmas::same_name))]
     pub fn name(&self, concept: u32) -> Option<&str>
         requires { concept < length self.now.release.concepts }
-        ensures { text_lent result ≡ name_of self.now.release self.now.language (slice_index self.now.release.concepts concept) }
+        ensures { text_lent result ≡ name_of self.now.release self.now.language
+            (slice_index self.now.release.concepts concept) }
     {
         self.lines.name(concept, self.concepts.id_at(concept))
     }
 
-    /// The line of a concept by its number, which is below `concept_count`: its identifier, then a space
-    /// and its name between bars if it has one, and LF.
+    /// Returns the output line of the concept with the number `concept`, which must be below
+    /// `concept_count`: its identifier, then a space and its name between bars if it has one, and
+    /// LF.
     #[tactic(auto, using(crate::proofs::LineLemmas::line_among))]
     pub fn line(&self, concept: u32) -> &[u8]
         requires { concept < length self.now.release.concepts }
-        ensures { result.now ≡ concept_line (name_of self.now.release self.now.language) (slice_index self.now.release.concepts concept) }
+        ensures { result.now ≡ concept_line (name_of self.now.release self.now.language)
+            (slice_index self.now.release.concepts concept) }
     {
         self.lines.line(concept)
     }
 
-    /// Child and parent of each is-a row in force by their numbers, in the order of the files and
-    /// their lines: fewer than 2^31 rows.
+    /// Returns the child and the parent of each is-a row in force, as numbers of concepts, in the
+    /// order of the files and their lines: fewer than 2^31 rows.
     pub fn isa_rows(&self) -> &[(u32, u32)]
-        ensures rows { map (row_of_numbers self.now.release.concepts) result.now ≡ self.now.release.isa }
+        ensures rows { map (row_of_numbers self.now.release.concepts) result.now
+            ≡ self.now.release.isa }
         ensures within { IsWithin (length self.now.release.concepts) result.now }
         ensures few { length result.now < 2 ^ 31 }
     {
         self.isa.as_slice()
     }
 
-    /// The numbers of the concepts in an order in which parents come before their children: each of
-    /// them once, and no is-a row leads to a concept that stands later.
+    /// Returns the numbers of all concepts in a topological order: each once, and each after all
+    /// its parents.
     #[tactic(auto, using(crate::proofs::NumberingLemmas::same_numbers))]
     pub fn parents_first(&self) -> &[u32]
-        ensures { (rows : List (ℕ × ℕ)) → map (row_of_numbers self.now.release.concepts) rows ≡ self.now.release.isa
-            → IsWithin (length self.now.release.concepts) rows
+        ensures { (rows : List (ℕ × ℕ)) → map (row_of_numbers self.now.release.concepts) rows
+            ≡ self.now.release.isa → IsWithin (length self.now.release.concepts) rows
             → IsParentsFirst (length self.now.release.concepts) rows result.now }
     {
         self.order.as_slice()
     }
 
-    /// Reference set and component of each member row in force by their numbers, in the order of the
-    /// files and their lines: fewer than 2^31 rows (Release File Specification, "Simple reference set").
+    /// Returns the reference set and the component of each member row in force, as numbers of
+    /// concepts, in the order of the files and their lines: fewer than 2^31 rows (Release File
+    /// Specification, "Simple reference set").
     pub fn member_rows(&self) -> &[(u32, u32)]
-        ensures rows { map (row_of_numbers self.now.release.concepts) result.now ≡ self.now.release.members }
+        ensures rows { map (row_of_numbers self.now.release.concepts) result.now
+            ≡ self.now.release.members }
         ensures within { IsWithin (length self.now.release.concepts) result.now }
         ensures few { length result.now < 2 ^ 31 }
     {
         self.members.as_slice()
     }
 
-    /// How many attribute rows are in force: fewer than 2^31, and as many by source. Each value that is
-    /// a concept is in force.
+    /// Returns the number of attribute rows in force: fewer than 2^31. Its contract also states
+    /// that the list of the rows by source has as many rows, and that each value that is a concept
+    /// is in force.
     #[tactic(auto, using(crate::proofs::SortedLemmas::rows_counted))]
     pub fn attribute_count(&self) -> u32
         ensures count { result ≡ length self.now.release.attributes }
         ensures few { length self.now.release.attributes < 2 ^ 31 }
-        ensures by_source { length (attributes_by_source self.now.release) ≡ length self.now.release.attributes }
+        ensures by_source { length (attributes_by_source self.now.release)
+            ≡ length self.now.release.attributes }
         ensures values { AreValuesInForce self.now.release }
     {
         self.attributes.len() as u32
     }
 
-    /// An attribute row in force by its number, which is below `attribute_count`. The rows are
-    /// numbered by source: those of the first concept come first, and those of one concept are in the
-    /// order of the files and their lines. A value that is a concept is in force.
+    /// Returns the attribute row in force with the number `n`, which must be below
+    /// `attribute_count`. The rows are numbered by source: first those of the first concept, and
+    /// those of one concept in the order of the files and their lines. A value that is a concept is
+    /// in force.
     pub fn attribute_row(&self, n: u32) -> AttributeRow<'_>
         requires { n < length self.now.release.attributes }
-        ensures row { slice_get (attributes_by_source self.now.release) n ≡ Some (with_source self.now.release.concepts (attribute_of result)) }
+        ensures row { slice_get (attributes_by_source self.now.release) n
+            ≡ Some (with_source self.now.release.concepts (attribute_of result)) }
         ensures source { result.source < length self.now.release.concepts }
         ensures value { is_value_among self.now.release.concepts (value_lent result.value) ≡ true }
     {
@@ -182,19 +196,21 @@ impl Snapshot {
         }
     }
 
-    /// An attribute row in force by its number, like `attribute_row`, but with a concept as value by its
-    /// number, so that no identifier is read.
+    /// Returns the attribute row in force with the number `n`, like `attribute_row`. A value that
+    /// is a concept is returned as its number, which saves the lookup of its identifier.
     pub fn attribute_numbers(&self, n: u32) -> AttributeNumbers<'_>
         requires { n < length self.now.release.attributes }
-        ensures row { slice_get (attributes_by_source self.now.release) n ≡ Some (by_identifiers self.now.release.concepts (attribute_numbered result)) }
+        ensures row { slice_get (attributes_by_source self.now.release) n
+            ≡ Some (by_identifiers self.now.release.concepts (attribute_numbered result)) }
         ensures source { result.source < length self.now.release.concepts }
-        ensures value { IsNumberBelow (length self.now.release.concepts) (numbered_lent result.value) }
+        ensures value { IsNumberBelow (length self.now.release.concepts)
+            (numbered_lent result.value) }
     {
         self.attributes.numbers(n as usize)
     }
 
-    /// How many files the release was loaded from, and how many of its rows are in force or passed
-    /// over.
+    /// Returns the counts of the files that the release was loaded from, of the rows in force, and
+    /// of the rows that were passed over.
     pub fn report(&self) -> Report
         ensures files { result.files ≡ self.now.files }
         ensures concepts { result.concepts ≡ length self.now.release.concepts }
@@ -216,7 +232,7 @@ impl Snapshot {
     }
 }
 
-// Tells whether an identifier is that of a concept in a rising list.
+// Whether the rising list `concepts` has the identifier `id`.
 fn is_among(id: u64, concepts: &[SctId]) -> bool
     requires { IsStrictlyIncreasing concepts.now }
     ensures { result ≡ has concepts.now id }
@@ -230,10 +246,11 @@ fn is_among(id: u64, concepts: &[SctId]) -> bool
     place.is_ok()
 }
 
-// Replaces the number of a concept by its identifier, in a value.
+// Returns `value` with the identifier of a concept instead of its number.
 fn identified_value<'a>(concepts: &Concepts, value: NumberedValue<'a>) -> Value<'a>
     requires { IsNumberBelow (length concepts.now) (numbered_lent value) }
-    ensures value { value_lent result ≡ value_by_identifier concepts.now (numbered_lent value.entry) }
+    ensures value { value_lent result ≡ value_by_identifier concepts.now
+        (numbered_lent value.entry) }
     ensures among { is_value_among concepts.now (value_lent result) ≡ true }
 {
     match value {

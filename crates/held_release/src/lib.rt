@@ -1,4 +1,5 @@
-//! A release in memory: the rows in force, by the numbers of their concepts.
+//! A loaded release in memory: its concepts in force, numbered from 0, and the rows in force, in
+//! which concepts go by their numbers.
 #![tactic(auto)]
 
 mod attribute_types;

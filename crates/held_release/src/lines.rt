@@ -1,5 +1,5 @@
-//! The lines of concepts, one after another in one buffer, and the name rows. The term of a row that names a
-//! concept is part of the concept's line.
+//! The output lines of the concepts, joined in one buffer, and the name rows. The term of the row
+//! that names a concept is stored once, in the concept's line.
 ghost use Rattle.std.specs.Prelude.{◌≡◌, ◌≤◌, ◌<◌, ◌+◌, ◌^◌, ◌++◌, ℕ, [], List, Option, None, Some, All, IfOk, IfSome, OnOk, length, map, option_and_then, option_map, slice_index, slice_range, string_bytes};
 ghost use Rattle.std.specs.List.{slice_get};
 ghost use Rattle.rf2_rows.specs.Release.{Name};
@@ -21,20 +21,20 @@ use sctid::SctId;
 use std::alloc::{AllocError, Global};
 use std::marker::Model;
 
-// About how many bytes a line takes; `lines_by_place` reserves this much for each concept.
+// About how many bytes a line has; `lines_by_place` reserves this much for each concept.
 const BYTES_OF_LINE: usize = 72;
 
-/// A line for each concept, in the order of their numbers, and name rows. Contracts see the lists of
-/// both.
+/// The output line of each concept, in the order of their numbers, and the name rows. Contracts
+/// name this type as these two lists.
 #[derive(Drop)]
 pub struct ConceptLines {
-    // the place of each line's first byte, and where the last line ends
+    // the index in `texts` of each line's first byte, and the index after the last line
     starts: Vec<usize>,
-    // the lines, one after another, and then the texts of name rows that stand in no line
+    // all lines, joined, and then the texts of name rows that are in no line
     texts: String,
-    // the name rows, which contracts alone look at
+    // the name rows, which are kept only for the contracts and their count
     names: Vec<KeptName>,
-    // the spans at which the language codes of name rows stand
+    // the spans of the language codes of name rows in `texts`
     languages: Vec<Span>,
 }
 
@@ -51,14 +51,14 @@ impl Model for ConceptLines {
 }
 
 impl ConceptLines {
-    /// How many name rows there are.
+    /// Returns the number of name rows.
     pub fn name_count(&self) -> usize
         ensures { result ≡ length self.now.names }
     {
         self.names.len()
     }
 
-    /// The line of a concept by its number.
+    /// Returns the line of the concept with the number `number`.
     pub fn line(&self, number: u32) -> &[u8]
         requires { number < length self.now.lines }
         ensures { result.now ≡ list_of self.now.lines number }
@@ -70,10 +70,12 @@ impl ConceptLines {
         )
     }
 
-    /// The name in line `number`, which is the line of `concept`, if it has one.
+    /// Returns the name in the line `number`, or `None` if it has none. `concept` must be the
+    /// identifier of the concept with this line: the name is found by the length of its digits.
     pub fn name(&self, number: u32, concept: SctId) -> Option<&str>
         requires number { number < length self.now.lines }
-        requires line { (name : Option (List ℕ)) × (list_of self.now.lines number ≡ concept_line (λ _. name) concept) }
+        requires line { (name : Option (List ℕ))
+            × (list_of self.now.lines number ≡ concept_line (λ _. name) concept) }
         ensures { list_of self.now.lines number ≡ concept_line (λ _. text_lent result) concept }
     {
         let from = self.starts[number as usize];
@@ -82,7 +84,8 @@ impl ConceptLines {
     }
 }
 
-/// Makes the lines of `concepts` with their names in `language`, and keeps the name rows of the concepts.
+/// Makes the lines of `concepts`, and keeps the rows of `names` that name one of them. `language`
+/// is the preferred language of names. Fails if memory is refused.
 pub fn lines_among(
     alloc: Global,
     concepts: &Concepts,
@@ -91,14 +94,16 @@ pub fn lines_among(
 ) -> Result<ConceptLines, AllocError>
     requires { length names < 2 ^ 32 }
     ensures names { IfOk result (λ lines. lines.names ≡ names_among concepts.now names) }
-    ensures lines { IfOk result (λ lines. lines.lines ≡ map (concept_line (name_among language.now lines.names)) concepts.now) }
+    ensures lines { IfOk result (λ lines. lines.lines
+        ≡ map (concept_line (name_among language.now lines.names)) concepts.now) }
 {
     names.retain_among(concepts);
     let places = first_places(alloc, &names, concepts, language)?;
     lines_by_place(alloc, concepts.ids(), &names, places.as_slice())
 }
 
-// Makes the line of each concept. `places` has the place of the row that names it, if there is one.
+// Makes the line of each concept. For each concept, `places` has the index in `names` of the row
+// that names it, if there is one.
 fn lines_by_place(
     alloc: Global,
     concepts: &[SctId],
@@ -109,7 +114,8 @@ fn lines_by_place(
     requires each { length places.now ≡ length concepts.now }
     requires within { All (λ place. IfSome place (λ at. at < length names.now)) places.now }
     ensures names { IfOk result (λ lines. lines.names ≡ names.now) }
-    ensures lines { IfOk result (λ lines. (language : List ℕ) → AreFirstPlaces language concepts.now names.now names.now places.now
+    ensures lines { IfOk result (λ lines. (language : List ℕ)
+        → AreFirstPlaces language concepts.now names.now names.now places.now
         → lines.lines ≡ map (concept_line (name_among language names.now)) concepts.now) }
 {
     let mut texts = String::with_capacity(alloc, concepts.len().saturating_mul(BYTES_OF_LINE))?;
@@ -126,8 +132,9 @@ fn lines_by_place(
     })
 }
 
-// Writes the lines, and notes in `spans` where in them the terms of rows stand. Returns where the lines
-// start, and where the last one ends.
+// Appends the line of each concept to `texts`. For each row of `names` that names a concept, sets
+// its entry of `spans` to the span of its term in that line. Returns the index at which each line
+// starts, and the index after the last line.
 #[tactic(auto, using(std::proofs::lemmas::List::take_all))]
 fn write_lines(
     alloc: Global,
@@ -142,8 +149,10 @@ fn write_lines(
     requires none { string_bytes texts.old ≡ [] }
     requires noted { AreNoted names.now (string_bytes texts.old) spans.old.items }
     ensures starts { IfOk result (λ starts. AreStarts starts.items (string_bytes texts.new)) }
-    ensures lines { IfOk result (λ starts. (language : List ℕ) → AreFirstPlaces language concepts.now names.now names.now places.now
-        → lines_between starts.items (string_bytes texts.new) ≡ map (concept_line (name_among language names.now)) concepts.now) }
+    ensures lines { IfOk result (λ starts. (language : List ℕ) → AreFirstPlaces language
+        concepts.now names.now names.now places.now
+        → lines_between starts.items (string_bytes texts.new)
+        ≡ map (concept_line (name_among language names.now)) concepts.now) }
     ensures noted { OnOk result (AreNoted names.now (string_bytes texts.new) spans.new.items) }
 {
     let mut starts = Vec::with_capacity(alloc, concepts.len().saturating_add(1))?;
@@ -155,8 +164,8 @@ fn write_lines(
     Ok(starts)
 }
 
-// Writes the line of a concept. If the row at `place` names it, notes in `spans` where in the line the term
-// of this row stands.
+// Appends the line of `concept` to `texts`. If the row of `names` at `place` names it, sets that
+// entry of `spans` to the span of the term in the line.
 fn write_line(
     concept: SctId,
     names: &Names,
@@ -167,7 +176,8 @@ fn write_line(
     requires within { IfSome place (λ at. at < length names.now) }
     requires noted { AreNoted names.now (string_bytes texts.old) spans.old.items }
     ensures line { OnOk result (string_bytes texts.new ≡ string_bytes texts.old
-        ++ concept_line (λ _. option_map (λ (row : Name). row.term) (option_and_then (slice_get names.now) place)) concept) }
+        ++ concept_line (λ _. option_map (λ (row : Name). row.term)
+        (option_and_then (slice_get names.now) place)) concept) }
     ensures noted { OnOk result (AreNoted names.now (string_bytes texts.new) spans.new.items) }
 {
     match place {
@@ -180,9 +190,10 @@ fn write_line(
     }
 }
 
-// Appends the line of a concept that has a name. Returns the span of the name.
+// Appends the line of `concept` with the name `name` to `texts`. Returns the span of the name.
 fn push_named(concept: SctId, name: &str, texts: &mut String) -> Result<Span, AllocError>
-    ensures line { OnOk result (string_bytes texts.new ≡ string_bytes texts.old ++ concept_line (λ _. Some name.now) concept) }
+    ensures line { OnOk result (string_bytes texts.new ≡ string_bytes texts.old
+        ++ concept_line (λ _. Some name.now) concept) }
     ensures span { IfOk result (StandsAt (string_bytes texts.new) name.now) }
 {
     let mut digits = itoa::Buffer::new();
@@ -193,32 +204,36 @@ fn push_named(concept: SctId, name: &str, texts: &mut String) -> Result<Span, Al
     Ok(span)
 }
 
-// Appends the line of a concept that has no name.
+// Appends the line of `concept`, which has no name, to `texts`.
 fn push_bare(concept: SctId, texts: &mut String) -> Result<(), AllocError>
-    ensures { OnOk result (string_bytes texts.new ≡ string_bytes texts.old ++ concept_line (λ _. None) concept) }
+    ensures { OnOk result (string_bytes texts.new ≡ string_bytes texts.old
+        ++ concept_line (λ _. None) concept) }
 {
     let mut digits = itoa::Buffer::new();
     texts.push_str(digits.format(concept.number()))?;
     texts.push_str("\n")
 }
 
-// Takes line `number` out of `texts`: the bytes between its start and the next one.
+// Returns the line `number` in `texts`: the bytes between its start and the start of the next one.
 fn line_between<'a>(texts: &'a [u8], starts: &[usize], number: usize) -> &'a [u8]
     requires next { number + 1 < length starts.now }
     requires rise { slice_index starts.now number ≤ slice_index starts.now (number + 1) }
     requires end { slice_index starts.now (number + 1) ≤ length texts.now }
-    ensures { result.now ≡ slice_range texts.now (slice_index starts.now number) (slice_index starts.now (number + 1)) }
+    ensures { result.now ≡ slice_range texts.now (slice_index starts.now number)
+        (slice_index starts.now (number + 1)) }
 {
     let from = starts[number];
     let to = starts[number + 1];
     &texts[from..to]
 }
 
-// Takes the name out of the line of a concept that stands between `from` and `to`, if it has one.
+// Returns the name in the line of `concept`, which is in `texts` from the index `from` to `to`;
+// `None` if the line has no name.
 fn name_between(texts: &str, from: usize, to: usize, concept: SctId) -> Option<&str>
     requires rise { from ≤ to }
     requires end { to ≤ length texts.now }
-    requires line { (name : Option (List ℕ)) × (slice_range texts.now from to ≡ concept_line (λ _. name) concept) }
+    requires line { (name : Option (List ℕ))
+        × (slice_range texts.now from to ≡ concept_line (λ _. name) concept) }
     ensures { slice_range texts.now from to ≡ concept_line (λ _. text_lent result) concept }
 {
     let mut digits = itoa::Buffer::new();

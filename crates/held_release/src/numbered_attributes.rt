@@ -1,4 +1,5 @@
-//! Attribute rows by numbers, in the order in which they were read.
+//! Attribute rows with the numbers of concepts in place of identifiers, in the order in which they
+//! were read.
 ghost use Rattle.std.specs.Prelude.{◌≡◌, ◌≤◌, ◌<◌, ◌+◌, ◌^◌, ◌++◌, ◌∷◌, List, [], IfOk, OnOk, length, map, slice_index_or};
 ghost use Rattle.rf2_rows.specs.Release.{Attribute, concept_value};
 ghost use Rattle.rf2_rows.specs.Rows.{value_lent};
@@ -15,7 +16,8 @@ use row_lists::{Attributes, ConcreteValues};
 use sctid::SctId;
 use std::alloc::{AllocError, Global};
 
-/// An attribute row: the number of its source, its group and type, and the number of its value.
+/// An attribute row: the number of its source, its relationship group number, the identifier of its
+/// type, and its packed value.
 #[derive(Clone, Copy)]
 pub struct NumberedRow {
     pub source: u32,
@@ -24,22 +26,26 @@ pub struct NumberedRow {
     pub value: PackedNumber,
 }
 
-/// Attribute rows by numbers, in the order in which they were read.
+/// Attribute rows with the numbers of concepts in place of identifiers, in the order in which they
+/// were read.
 #[derive(Drop)]
 pub struct NumberedAttributes {
     pub rows: Vec<NumberedRow>,
-    /// The values that are no concepts.
+    /// The values that are not concepts.
     pub concrete: ConcreteValues,
 }
 
-/// Numbers the attribute rows whose source is one of `concepts`, and whose value is one of them if it is a concept.
+/// Keeps the rows of `attributes` that are in force, and replaces identifiers of concepts by
+/// numbers. A row is in force if its source is one of `concepts`, and its value is one of them or
+/// no concept.
 pub fn number_attributes(
     alloc: Global,
     concepts: &Concepts,
     attributes: &Attributes,
 ) -> Result<NumberedAttributes, AllocError>
     requires few { length attributes.now < 2 ^ 31 }
-    ensures rows { IfOk result (λ numbered. map (by_identifiers concepts.now) (numbered_in numbered) ≡ attributes_among concepts.now attributes.now) }
+    ensures rows { IfOk result (λ numbered. map (by_identifiers concepts.now) (numbered_in numbered)
+        ≡ attributes_among concepts.now attributes.now) }
     ensures numbered { IfOk result (AreNumbered (length concepts.now)) }
     ensures count { IfOk result (λ numbered. length numbered.rows.items ≤ length attributes.now) }
 {
@@ -53,8 +59,8 @@ pub fn number_attributes(
 }
 
 impl NumberedAttributes {
-    // Adds the row at `place` of `attributes`, if its source is one of `concepts`, and its value is no
-    // concept or one of them.
+    // Appends the row of `attributes` at the index `place`, if its source is one of `concepts`, and
+    // its value is one of them or no concept.
     fn add(
         &mut self,
         concepts: &Concepts,
@@ -64,8 +70,8 @@ impl NumberedAttributes {
         requires place { place < length attributes.now }
         requires few { length self.old.concrete < 2 ^ 31 }
         requires numbered { AreNumbered (length concepts.now) self.old }
-        ensures rows { OnOk result ((default : Attribute) → map (by_identifiers concepts.now) (numbered_in self.new)
-            ≡ map (by_identifiers concepts.now) (numbered_in self.old)
+        ensures rows { OnOk result ((default : Attribute) → map (by_identifiers concepts.now)
+            (numbered_in self.new) ≡ map (by_identifiers concepts.now) (numbered_in self.old)
             ++ attributes_among concepts.now (slice_index_or attributes.now place default ∷ [])) }
         ensures numbered { OnOk result (AreNumbered (length concepts.now) self.new) }
         ensures values { OnOk result (length self.new.concrete ≤ length self.old.concrete + 1) }
@@ -91,8 +97,8 @@ impl NumberedAttributes {
     }
 }
 
-// Numbers a value. If it is no concept, appends it to `concrete`. Returns `None` if it is a concept that is
-// not in force.
+// Packs `value`: a concept as its number, and any other value, which is appended to `concrete`, as
+// its index there. Returns `None` if it is a concept that is not in force.
 fn number_value(
     concepts: &Concepts,
     concrete: &mut ConcreteValues,
@@ -116,9 +122,10 @@ fn number_value(
     }
 }
 
-// Numbers a value that is a concept. Returns `None` if the concept is not in force.
+// Packs the number of `concept`. Returns `None` if the concept is not in force.
 fn number_concept(concepts: &Concepts, concept: SctId) -> Option<PackedNumber>
-    ensures { (values : List Concrete) → IsNumberOf concepts.now values (concept_value concept) result }
+    ensures { (values : List Concrete)
+        → IsNumberOf concepts.now values (concept_value concept) result }
 {
     // the contract of `len` says that the concepts are few
     let _ = concepts.len();

@@ -1,21 +1,21 @@
 //! The counts of a loaded release.
 
-/// How many files a release was loaded from, how many rows of each kind are in force, and how many
-/// rows are passed over.
+/// Counts of a loaded release: the files it was loaded from, the rows in force of each kind, and
+/// the rows that were passed over.
 #[derive(Clone, Copy, Debug, PartialEq, Eq)]
 pub struct Report {
-    /// The files that have a kind by their names.
+    /// How many files are Snapshot files of some kind by their names.
     pub files: u64,
-    /// The concepts in force.
+    /// How many concepts are in force.
     pub concepts: u64,
-    /// The is-a rows in force.
+    /// How many is-a rows are in force.
     pub isa: u64,
-    /// The attribute rows in force.
+    /// How many attribute rows are in force.
     pub attributes: u64,
-    /// The member rows in force.
+    /// How many member rows are in force.
     pub members: u64,
-    /// The name rows in force.
+    /// How many name rows are in force.
     pub names: u64,
-    /// The rows, of all kinds, that are passed over: none of the rows that are counted in another field.
+    /// How many rows of all kinds were passed over, that is, are counted in no other field.
     pub passed: u64,
 }

@@ -1,23 +1,23 @@
-//! The values of attribute rows by numbers.
+//! Values of attribute rows, packed into 32 bits.
 ghost use Rattle.std.specs.Prelude.{◌≡◌, ◌<◌, ◌^◌};
 
 use std::marker::Model;
 
-/// The number of an attribute value: a concept's number, or the place of a value that is no concept among
-/// those values.
+/// An attribute value as a number: the number of a concept, or an index into the list of values
+/// that are not concepts.
 #[derive(Clone, Copy)]
 pub enum ValueNumber {
     Concept(u32),
     Concrete(u32),
 }
 
-// The least packed number that stands for no concept: there are fewer than 2^31 concepts.
+// The least packed number that is no concept. There are fewer than 2^31 concepts.
 const CONCRETE: u32 = 2_147_483_648;
 
-/// The number of a value in 32 bits. Contracts see the number.
+/// A `ValueNumber` packed into 32 bits. Contracts name this type as that `ValueNumber`.
 #[derive(Clone, Copy)]
 pub struct PackedNumber {
-    // the number of a concept, or 2^31 and the place of another value
+    // the number of a concept, or 2^31 plus the index of another value
     packed: u32,
 }
 
@@ -35,7 +35,7 @@ impl Model for PackedNumber {
 }
 
 impl PackedNumber {
-    /// Packs the number of a concept, which is below 2^31.
+    /// Packs the number of a concept, which must be below 2^31.
     #[inline]
     pub fn of_concept(number: u32) -> PackedNumber
         requires { number < 2 ^ 31 }
@@ -44,7 +44,7 @@ impl PackedNumber {
         PackedNumber { packed: number }
     }
 
-    /// Packs the place of a value that is no concept, which is below 2^31.
+    /// Packs the index of a value that is not a concept. The index must be below 2^31.
     #[inline]
     pub fn of_concrete(place: u32) -> PackedNumber
         requires { place < 2 ^ 31 }

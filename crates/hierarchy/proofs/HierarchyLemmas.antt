@@ -1,17 +1,20 @@
--- The computing test `reaches` holds exactly if there is a chain of is-a rows.
+-- The test `reaches`, which can be computed, holds exactly if there is a chain of is-a rows.
 use Rattle.std.proofs.Common.{ℕ, ◌≡◌, ◌==◌, ◌||◌, ◌⊎◌, inl, inr, true, List, [], ◌∷◌, Contains, refl, ap, arith, eq-eqb}
 use Rattle.std.proofs.lemmas.Bool.{false≢true, or_cases, or_left, or_right, and_parts}
 use Rattle.std.proofs.lemmas.Bool.Decides.{nat_tests}
 use Rattle.number_lists.proofs.ListLemmas.{contained_cases, first_contained, rest_contained}
 use Rattle.hierarchy.specs.Hierarchy.{Reaches, one_row, more_rows, reaches, TellsReaches}
 
--- a chain of rows stays a chain if a row is added in front
-pub chain_with_more : (row : ℕ × ℕ) (rows : List (ℕ × ℕ)) {from to : ℕ} → Reaches rows from to → Reaches (row ∷ rows) from to
+-- if `from` reaches `to` by `rows`, it does by `row` and `rows`
+pub chain_with_more : (row : ℕ × ℕ) (rows : List (ℕ × ℕ)) {from to : ℕ} → Reaches rows from to
+    → Reaches (row ∷ rows) from to
 chain_with_more row rows (one_row first) = one_row (rest_contained row rows _ first)
-chain_with_more row rows (more_rows first rest) = more_rows (rest_contained row rows _ first) (chain_with_more row rows rest)
+chain_with_more row rows (more_rows first rest) =
+    more_rows (rest_contained row rows _ first) (chain_with_more row rows rest)
 
--- two chains in a row are a chain
-pub chain_of_two : {rows : List (ℕ × ℕ)} {from between to : ℕ} → Reaches rows from between → Reaches rows between to → Reaches rows from to
+-- if `from` reaches `between`, and `between` reaches `to`, then `from` reaches `to`
+pub chain_of_two : {rows : List (ℕ × ℕ)} {from between to : ℕ} → Reaches rows from between → Reaches rows between to
+    → Reaches rows from to
 chain_of_two (one_row first) after = more_rows first after
 chain_of_two (more_rows first rest) after = more_rows first (chain_of_two rest after)
 
@@ -22,12 +25,15 @@ chain_from_test (row ∷ rows) from to holds = elim (or_cases (reaches rows from
   | inl without ↦ chain_with_more row rows (chain_from_test rows from to without)
   | inr by_row ↦
       let here : Reaches (row ∷ rows) row.0 row.1 = one_row (first_contained row rows) in
-      let before : reaches rows from row.0 ≡ true → Reaches (row ∷ rows) from row.0 = λ up. chain_with_more row rows (chain_from_test rows from row.0 up) in
-      let after : reaches rows row.1 to ≡ true → Reaches (row ∷ rows) row.1 to = λ up. chain_with_more row rows (chain_from_test rows row.1 to up) in
+      let before : reaches rows from row.0 ≡ true → Reaches (row ∷ rows) from row.0 =
+      λ up. chain_with_more row rows (chain_from_test rows from row.0 up) in
+      let after : reaches rows row.1 to ≡ true → Reaches (row ∷ rows) row.1 to =
+      λ up. chain_with_more row rows (chain_from_test rows row.1 to up) in
       grind (arith, nat_tests, chain_of_two, by_row, here, before, after)
 ]
 
--- from the parent of the first row, the other rows reach `to` if all rows do: a way back to that row is not needed
+-- if the parent of the first row is `to` or reaches it by all rows, it is `to` or reaches it by the other rows,
+-- since a way back to the first row is not needed
 test_after_first : (row : ℕ × ℕ) (rows : List (ℕ × ℕ)) (to : ℕ)
     → (row.1 ≡ to) ⊎ (reaches (row ∷ rows) row.1 to ≡ true) → (row.1 == to || reaches rows row.1 to) ≡ true
 test_after_first row rows to x3 = grind (arith, or_left, eq-eqb, or_cases, reaches, inl, or_right, inr, and_parts)
@@ -37,10 +43,20 @@ test_by_row : (rows : List (ℕ × ℕ)) (child parent to : ℕ) → Contains ro
     → (parent ≡ to) ⊎ (reaches rows parent to ≡ true) → reaches rows child to ≡ true
 test_by_row [] child parent to (k, below, is) after = absurd (omega arith)
 test_by_row (row ∷ rows) child parent to first after = elim (contained_cases row rows (child, parent) first) [
-  | inl is ↦ grind (arith, nat_tests, (ap (λ pair. pair.0) is), (ap (λ pair. pair.1) is), (test_after_first row rows to), inl, inr)
+  | inl is ↦ grind (
+    arith,
+    nat_tests,
+    (ap (λ pair. pair.0) is),
+    (ap (λ pair. pair.1) is),
+    (test_after_first row rows to),
+    inl,
+    inr,
+  )
   | inr later ↦
-      let same : (end : ℕ) → parent ≡ end → reaches rows child end ≡ true = λ end is. test_by_row rows child parent end later (inl is) in
-      let up : (end : ℕ) → reaches rows parent end ≡ true → reaches rows child end ≡ true = λ end told. test_by_row rows child parent end later (inr told) in
+      let same : (end : ℕ) → parent ≡ end → reaches rows child end ≡ true =
+      λ end is. test_by_row rows child parent end later (inl is) in
+      let up : (end : ℕ) → reaches rows parent end ≡ true → reaches rows child end ≡ true =
+      λ end told. test_by_row rows child parent end later (inr told) in
       grind (arith, nat_tests, (same to), (up to), (same row.0), (up row.0))
 ]
 

@@ -1,5 +1,7 @@
--- The children of a concept that is done are released, one after another.
-use Rattle.std.proofs.Common.{ℕ, ◌+◌, ◌-◌, ◌==◌, ◌≡◌, ◌≢◌, ◌≤◌, ◌<◌, ◌++◌, ◌∷◌, [], ◌∙◌, ⊎_elim, cond, List, length, get_or, take, set, refl, arith, length-set, get_or-set_same, get_or-set_other, ap, sym, eq-eqb, ne_eqb}
+-- The release of the children of a concept that is done, one child after another.
+use Rattle.std.proofs.Common.{ℕ, ◌+◌, ◌-◌, ◌==◌, ◌≡◌, ◌≢◌, ◌≤◌, ◌<◌, ◌++◌, ◌∷◌, [], ◌∙◌, ⊎_elim, cond, List, length}
+use Rattle.std.proofs.Common.{get_or, take, set, refl, arith, length-set, get_or-set_same, get_or-set_other, ap, sym}
+use Rattle.std.proofs.Common.{eq-eqb, ne_eqb}
 use Rattle.std.specs.List.{IsDistinct}
 use Rattle.std.proofs.lemmas.Bool.{cases_eq}
 use Rattle.std.proofs.lemmas.List.{get_or_read}
@@ -12,27 +14,33 @@ use Rattle.hierarchy.specs.inside.Released.{IsReleased}
 use Rattle.std.proofs.lemmas.Grind.{common_steps, get_or-set_at}
 use Rattle.std.proofs.lemmas.Bool.Decides.{nat_tests}
 
--- before the first child nothing has changed, and none is added
+-- the release of no child changes no count and adds no concept
 pub release_none : (before : List ℕ) → IsReleased [] before before []
 unfolding IsDistinct
 release_none before = record { len = refl; less = λ concept. omega arith; once = tt; members = λ concept. grind arith }
 
--- the next child still waits for at least one parent
-pub still_waits : (children before after added : List ℕ) (i : ℕ) → i < length children → IsReleased (take i children) before after added
+-- if each concept waited for at least as many parents as it is times in `children`, child `i` still waits for at
+-- least one after the release of the first `i` children
+pub still_waits : (children before after added : List ℕ) (i : ℕ) → i < length children
+    → IsReleased (take i children) before after added
     → ((concept : ℕ) → times concept children ≤ get_or before concept 0) → 1 ≤ get_or after (get_or children i 0) 0
 still_waits children before after added i within released enough = grind (arith, common_steps, nat_tests, times-own)
 
--- the next child waits for one parent less; it is added exactly if that was the last
+-- if the count of child `i` is lowered by one, and the child is added exactly if its count is then 0, the first `i
+-- + 1` children are released
 pub release_next : (children : List ℕ) (i : ℕ) {before after added : List ℕ} {left : ℕ} → i < length children
     → get_or children i 0 < length after → IsReleased (take i children) before after added
-    → ((concept : ℕ) → times concept children ≤ get_or before concept 0) → left ≡ get_or after (get_or children i 0) left
-    → (left - 1 ≡ 0 → IsReleased (take (i + 1) children) before (set after (get_or children i 0) (left - 1)) (added ++ get_or children i 0 ∷ []))
+    → ((concept : ℕ) → times concept children ≤ get_or before concept 0)
+    → left ≡ get_or after (get_or children i 0) left
+    → (left - 1 ≡ 0 → IsReleased (take (i + 1) children) before (set after (get_or children i 0) (left - 1))
+    (added ++ get_or children i 0 ∷ []))
     × (left - 1 ≢ 0 → IsReleased (take (i + 1) children) before (set after (get_or children i 0) (left - 1)) added)
 release_next children i {before} {after} {added} {left} within below released enough is =
     let child = get_or children i 0 in
     let read : left ≡ get_or after child 0 = get_or_read after child left below is 0 in
     let waits = still_waits children before after added i within released enough in
-    let less : (concept : ℕ) → get_or (set after child (left - 1)) concept 0 + times concept (take (i + 1) children) ≡ get_or before concept 0 =
+    let less : (concept : ℕ) → get_or (set after child (left - 1)) concept 0 + times concept (take (i + 1) children)
+    ≡ get_or before concept 0 =
     λ concept.
     let more = sum_by_more (λ x. cond {A = ℕ} (x == concept) 1 0) children i 0 within in ⊎_elim
     (λ (same : concept ≡ child). omega (
@@ -56,8 +64,10 @@ release_next children i {before} {after} {added} {left} within below released en
         len = length-set after child (left - 1) ∙ released.len;
         less = less;
         once = IsDistinct-push nat_eq_equiv added child released.once
-            (any-has added child ∙ had_not added child (λ there. absurd (omega (arith, waits, ((released.members child).0 there).1))));
-        members = members-push (λ c. (0 < get_or before c 0) × (get_or (set after child (left - 1)) c 0 ≡ 0)) added child
+            (any-has added child ∙ had_not added child
+            (λ there. absurd (omega (arith, waits, ((released.members child).0 there).1))));
+        members = members-push (λ c. (0 < get_or before c 0) × (get_or (set after child (left - 1)) c 0 ≡ 0)) added
+            child
             (omega (arith, released.less child, waits), get_or-set_same after child (left - 1) 0 below ∙ none)
             (λ c apart. rw (get_or-set_other after child c (left - 1) 0 apart) (released.members c));
       }),

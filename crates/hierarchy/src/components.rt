@@ -1,14 +1,15 @@
-//! The search for cycles: the strongly connected components of the is-a rows, by two depth-first searches over flat
-//! lists (Kosaraju and Sharir), with no recursion. No contract says that it finds the right ranks; `cycle` tests
-//! them.
+//! The strongly connected components of the is-a rows, for the search for cycles: two depth-first
+//! searches over flat lists (Kosaraju and Sharir), with no recursion. No contract says that the
+//! ranks found here are right; the module `cycle` tests them.
 ghost use Rattle.std.specs.Prelude.{◌≡◌, ◌<◌, ◌^◌, IfOk, length};
 ghost use Rattle.hierarchy.specs.Hierarchy.{IsWithin};
 
 use number_lists::KeyedLists;
 use std::alloc::{AllocError, Global};
 
-/// Returns a rank for each of `count` concepts. Concepts that reach one another have one rank; otherwise a child has
-/// a lower rank than its parent.
+/// Returns a rank for each concept below `count`. `rows` are is-a rows, each a child and its
+/// parent. Concepts that reach one another get one rank; otherwise a child gets a lower rank than
+/// its parent.
 pub fn component_ranks(
     alloc: Global,
     rows: &[(u32, u32)],
@@ -19,14 +20,15 @@ pub fn component_ranks(
 {
     let up = KeyedLists::from_pairs(alloc, count, rows)?;
     let finished = finish_order(alloc, &up, rows.len())?;
-    let down = up.turned(alloc, count)?;
+    let down = up.transposed(alloc, count)?;
     drop(up);
-    let ranks = ranks_behind(alloc, finished.as_slice(), &down, count)?;
+    let ranks = ranks_after(alloc, finished.as_slice(), &down, count)?;
     Ok(ranks)
 }
 
-// Returns the ranks. `finished` is the order in which the search upwards was done with the concepts.
-fn ranks_behind(
+// Does the second search and returns the ranks. `finished` lists the concepts in the order in which
+// the search upwards finished them, and `down` has the children of each concept.
+fn ranks_after(
     alloc: Global,
     finished: &[u32],
     down: &KeyedLists,
@@ -43,7 +45,8 @@ fn ranks_behind(
     Ok(ranks)
 }
 
-/// Returns the places of rows in the order in which a search upwards from a concept meets them.
+/// Returns the places in `rows` of the rows that a search upwards from `concept` meets, in the
+/// order in which it meets them. All concepts are below `count`.
 pub fn rows_from(
     alloc: Global,
     rows: &[(u32, u32)],
@@ -70,7 +73,7 @@ pub fn rows_from(
     Ok(order)
 }
 
-// Returns for each concept the places of its rows.
+// Returns for each concept below `count` the places in `rows` of the rows of which it is the child.
 fn places_by_child(alloc: Global, rows: &[(u32, u32)], count: u32) -> Result<KeyedLists, AllocError>
     requires within { IsWithin count rows.now }
     requires few { length rows.now < 2 ^ 32 }
@@ -83,7 +86,7 @@ fn places_by_child(alloc: Global, rows: &[(u32, u32)], count: u32) -> Result<Key
     KeyedLists::from_pairs(alloc, count, pairs.as_slice())
 }
 
-// Returns the list of a concept, or an empty list if it has none.
+// Returns the list of `concept`, or an empty list if `lists` has none for it.
 fn list_at(lists: &KeyedLists, concept: u32) -> &[u32]
     requires { length lists.now < 2 ^ 32 }
 {
@@ -94,7 +97,7 @@ fn list_at(lists: &KeyedLists, concept: u32) -> &[u32]
     }
 }
 
-// Returns the parent of the row at a place, or 0 if there is no such row.
+// Returns the parent of the row at `place`, or 0 if there is no such row.
 fn parent_at(rows: &[(u32, u32)], place: u32) -> u32 {
     match rows.get(place as usize) {
         Some(row) => row.1,
@@ -102,7 +105,7 @@ fn parent_at(rows: &[(u32, u32)], place: u32) -> u32 {
     }
 }
 
-// Marks a concept; returns whether it was not marked before.
+// Marks `concept` in `seen`. Returns whether `seen` has it and it was not marked before.
 fn mark(seen: &mut [bool], concept: u32) -> bool {
     match seen.get_mut(concept as usize) {
         Some(slot) => {
@@ -114,8 +117,8 @@ fn mark(seen: &mut [bool], concept: u32) -> bool {
     }
 }
 
-// Returns the concepts in the order in which a depth-first search upwards is done with them. `rows` is the number of
-// rows.
+// Does the first search: returns the concepts in the order in which a depth-first search upwards
+// finishes them. `up` has the parents of each concept, and `rows` is the number of rows.
 fn finish_order(alloc: Global, up: &KeyedLists, rows: usize) -> Result<Vec<u32>, AllocError>
     requires { length up.now < 2 ^ 32 }
 {
@@ -133,8 +136,9 @@ fn finish_order(alloc: Global, up: &KeyedLists, rows: usize) -> Result<Vec<u32>,
     Ok(finished)
 }
 
-// Continues a depth-first search until its stack is empty. The stack holds concepts, each with the number of its
-// rows that are done. The search takes at most `steps` steps, which is the number of rows and concepts.
+// Continues a depth-first search until its stack is empty, and adds the concepts that it finishes
+// to `finished`. The stack holds concepts, each with how many of its rows the search has followed.
+// The search takes at most `steps` steps, which is the number of rows and concepts together.
 fn finish(
     finished: &mut Vec<u32>,
     stack: &mut Vec<(u32, usize)>,
@@ -161,7 +165,8 @@ fn finish(
     Ok(())
 }
 
-// Gives `rank` to the concept `root` and to all concepts that reach it and have no rank.
+// Gives `rank` to the concept `root` and to all concepts that reach it, unless they have a rank.
+// `down` has the children of each concept, and `stack` is empty.
 fn flood(
     ranks: &mut Vec<u32>,
     stack: &mut Vec<u32>,
@@ -186,7 +191,7 @@ fn flood(
     Ok(())
 }
 
-// Ranks a concept that has no rank yet; returns whether it had none.
+// Gives `rank` to `concept` if it has no rank, which is `u32::MAX`. Returns whether it did.
 fn set_rank(ranks: &mut [u32], concept: u32, rank: u32) -> bool {
     match ranks.get_mut(concept as usize) {
         Some(slot) if *slot == u32::MAX => {

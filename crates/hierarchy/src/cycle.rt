@@ -1,5 +1,5 @@
-//! Cycles among is-a rows. A search without a proof suggests which concepts to test, and the tests here are proved.
-//! So a wrong suggestion costs time, but gives no wrong answer.
+//! Cycles among is-a rows. A search without a proof suggests which concepts to test, and the tests
+//! here are proved. So a wrong suggestion costs time, but gives no wrong answer.
 ghost use Rattle.std.specs.Prelude.{◌≡◌, ◌<◌, ◌^◌, ◌↔◌, ◌⊎◌, ℕ, false, true, List, All, Contains, IfOk, IfSome, IfNone, IsTrue, length, vec_len};
 ghost use Rattle.std.specs.Bool.{OnFalse, OnTrue};
 ghost use Rattle.hierarchy.specs.Hierarchy.{IsWithin, Reaches};
@@ -8,8 +8,9 @@ ghost use Rattle.hierarchy.specs.inside.Search.{IsMarked, IsFollowed, MarksReach
 use crate::components::{component_ranks, rows_from};
 use std::alloc::{AllocError, Global};
 
-/// Returns the least of `count` concepts that reaches itself by the rows, each a child and its parent. There are
-/// fewer than 2^32 rows.
+/// Returns the least concept below `count` that reaches itself by `rows`, or `None` if there is
+/// none. Each row is a child and its parent, both below `count`, and there are fewer than 2^32
+/// rows.
 pub fn least_cyclic(
     alloc: Global,
     rows: &[(u32, u32)],
@@ -17,9 +18,11 @@ pub fn least_cyclic(
 ) -> Result<Option<u32>, AllocError>
     requires within { IsWithin count rows.now }
     requires few { length rows.now < 2 ^ 32 }
-    ensures none { IfOk result (λ found. IfNone found ((c : ℕ) → c < count → ¬ Reaches rows.now c c)) }
+    ensures none { IfOk result (λ found. IfNone found ((c : ℕ) → c < count
+        → ¬ Reaches rows.now c c)) }
     ensures found { IfOk result (λ found. IfSome found (λ c. (c < count) × Reaches rows.now c c)) }
-    ensures least { IfOk result (λ found. IfSome found (λ c. (d : ℕ) → d < c → ¬ Reaches rows.now d d)) }
+    ensures least { IfOk result (λ found. IfSome found (λ c. (d : ℕ) → d < c
+        → ¬ Reaches rows.now d d)) }
 {
     let ranks = component_ranks(alloc, rows, count)?;
     let suspects = suspects(alloc, rows, ranks.as_slice(), count)?;
@@ -33,8 +36,9 @@ pub fn least_cyclic(
     Ok(None)
 }
 
-// Marks the concepts that may reach themselves. If no row falls in rank, a concept whose rows all rise does not
-// reach itself.
+// Returns for each concept below `count` whether it may reach itself. If no row leads to a lower
+// rank, a concept whose rows all lead to higher ranks does not. Otherwise all concepts with a row
+// may.
 #[tactic(auto, using(crate::proofs::SearchLemmas::level_row))]
 fn suspects(
     alloc: Global,
@@ -44,7 +48,8 @@ fn suspects(
 ) -> Result<Vec<bool>, AllocError>
     requires { IsWithin count rows.now }
     ensures len { IfOk result (λ suspects. vec_len suspects ≡ count) }
-    ensures others { IfOk result (λ suspects. (c : ℕ) → c < count → ¬ IsMarked suspects.items c → ¬ Reaches rows.now c c) }
+    ensures others { IfOk result (λ suspects. (c : ℕ) → c < count → ¬ IsMarked suspects.items c
+        → ¬ Reaches rows.now c c) }
 {
     let all_rise = none_falls(rows, ranks);
     let mut suspects = vec![in alloc; false; count as usize]?;
@@ -71,8 +76,9 @@ fn rank_of(ranks: &[u32], concept: u32) -> u32
     ranks.get(concept as usize).copied().unwrap_or(0)
 }
 
-// Whether a concept reaches itself by the rows. It follows the rows first in the order in which a search meets them,
-// and then in their own order, until nothing new is found.
+// Whether `concept` reaches itself by `rows`. It follows the rows first in the order in which a
+// search upwards meets them, which is fast, and then in their own order until nothing new is found,
+// so that it misses none even if that search were wrong.
 fn reaches_itself(
     alloc: Global,
     rows: &[(u32, u32)],
@@ -90,7 +96,8 @@ fn reaches_itself(
     Ok(reaches)
 }
 
-// Whether a concept reaches itself by the rows. At the start no concept is marked.
+// Whether `concept` reaches itself by `rows`. Follows first the rows at the places in `order`.
+// Marks in `reached`, where no concept is marked at first, the concepts that it reaches.
 fn is_reached_at_last(
     reached: &mut [bool],
     rows: &[(u32, u32)],
@@ -110,7 +117,8 @@ fn is_reached_at_last(
     reached[concept as usize]
 }
 
-// Follows the rows at the places of `order`.
+// Follows the rows at the places in `order`: marks in `reached` the concepts to which they lead
+// from `start` or from a marked concept.
 fn climb_in(reached: &mut [bool], rows: &[(u32, u32)], order: &[u32], start: u32)
     requires { IsWithin (length reached.old) rows.now }
     ensures { MarksReached rows.now start reached.old → MarksReached rows.now start reached.new }
@@ -120,7 +128,7 @@ fn climb_in(reached: &mut [bool], rows: &[(u32, u32)], order: &[u32], start: u32
     }
 }
 
-// Follows the row at a place, if there is one.
+// Follows the row at `place` in `rows`, if there is one.
 fn climb_at(reached: &mut [bool], rows: &[(u32, u32)], place: u32, start: u32)
     requires { IsWithin (length reached.old) rows.now }
     ensures { MarksReached rows.now start reached.old → MarksReached rows.now start reached.new }
@@ -134,7 +142,8 @@ fn climb_at(reached: &mut [bool], rows: &[(u32, u32)], place: u32, start: u32)
 // Follows all rows again and again, until nothing new is reached.
 fn climb_to_end(reached: &mut [bool], rows: &[(u32, u32)], start: u32)
     requires { IsWithin (length reached.old) rows.now }
-    ensures reached { MarksReached rows.now start reached.old → MarksReached rows.now start reached.new }
+    ensures reached { MarksReached rows.now start reached.old
+        → MarksReached rows.now start reached.new }
     ensures followed { All (IsFollowed start reached.new) rows.now }
 {
     while climb_all(reached, rows, start) {}
@@ -143,7 +152,8 @@ fn climb_to_end(reached: &mut [bool], rows: &[(u32, u32)], start: u32)
 // Follows all rows once; returns whether something new was reached.
 fn climb_all(reached: &mut [bool], rows: &[(u32, u32)], start: u32) -> bool
     requires { IsWithin (length reached.old) rows.now }
-    ensures reached { MarksReached rows.now start reached.old → MarksReached rows.now start reached.new }
+    ensures reached { MarksReached rows.now start reached.old
+        → MarksReached rows.now start reached.new }
     ensures fewer { OnTrue result (unmarked_count reached.new < unmarked_count reached.old) }
     ensures followed { OnFalse result (All (IsFollowed start reached.new) rows.now) }
 {
@@ -156,12 +166,14 @@ fn climb_all(reached: &mut [bool], rows: &[(u32, u32)], start: u32) -> bool
     found
 }
 
-// Follows a row from the start or from a concept that it reached; returns whether the row's parent is new.
+// Follows `row`: marks its parent in `reached` if its child is `start` or marked. Returns whether
+// the parent is newly marked.
 #[tactic(auto, using(crate::proofs::SearchLemmas::marks_reached_set))]
 fn climb(reached: &mut [bool], row: (u32, u32), start: u32) -> bool
     requires child { row.0 < length reached.old }
     requires parent { row.1 < length reached.old }
-    ensures reached { (rows : List (ℕ × ℕ)) → Contains rows row → MarksReached rows start reached.old → MarksReached rows start reached.new }
+    ensures reached { (rows : List (ℕ × ℕ)) → Contains rows row
+        → MarksReached rows start reached.old → MarksReached rows start reached.new }
     ensures fewer { OnTrue result (unmarked_count reached.new < unmarked_count reached.old) }
     ensures same { OnFalse result (reached.new ≡ reached.old) }
     ensures followed { IsFollowed start reached.new row }
@@ -174,7 +186,7 @@ fn climb(reached: &mut [bool], row: (u32, u32), start: u32) -> bool
     true
 }
 
-// Whether a concept is the start or marked.
+// Whether `concept` is `start` or marked in `reached`.
 fn is_reached(reached: &[bool], concept: u32, start: u32) -> bool
     requires { concept < length reached.now }
     ensures { IsTrue result ↔ ((concept ≡ start) ⊎ IsMarked reached.now concept) }

@@ -1,4 +1,4 @@
-//! The hierarchy of concepts by their numbers: an order with parents first, and cycles.
+//! The is-a hierarchy over concept numbers: an order with parents first, and the search for cycles.
 #![tactic(auto)]
 
 mod components;

@@ -1,4 +1,6 @@
-//! Answers queries over a SNOMED CT release, one to a line of standard input, or reports the contents of a release.
+//! The program `hosecrag`: it answers queries over a SNOMED CT release, one per line of standard
+//! input, describes concepts, and reports the row counts of a release. `query_tool::start` does all
+//! of this.
 #![tactic(auto)]
 
 use query_tool::start;

@@ -1,5 +1,6 @@
--- Words of 64 bits: which numbers' bits are set.
-use Rattle.std.proofs.Common.{ℕ, zero, suc, ◌+◌, ◌*◌, ◌/◌, ◌%◌, ◌<◌, ◌≤◌, ◌≡◌, min, max, Bool, false, not, ◌&&◌, ◌||◌, eqb, List, length, get_or, refl, sym, ◌∙◌, arith, inl, inr, bit_and, bit_or, bit_xor}
+-- Bitmaps: the numbers whose bits are set after an operation on two bitmaps.
+use Rattle.std.proofs.Common.{ℕ, zero, suc, ◌+◌, ◌*◌, ◌/◌, ◌%◌, ◌<◌, ◌≤◌, ◌≡◌, min, max, Bool, false, not, ◌&&◌, ◌||◌}
+use Rattle.std.proofs.Common.{eqb, List, length, get_or, refl, sym, ◌∙◌, arith, inl, inr, bit_and, bit_or, bit_xor}
 use Rattle.std.specs.Int.{bit_at}
 use Rattle.std.specs.Simd.Lanes.{zip2}
 use Rattle.std.proofs.lemmas.Bool.{cases_lt}
@@ -69,22 +70,27 @@ is_set-zip2 f g each none xs ys long n =
     ]
   where
     past_end : (words : List ℕ) (n : ℕ) → length words ≤ n / 64 → is_set words n ≡ false
-    past_end words n past = (λ i. eqb (bit_at (get_or_past words (n / 64) 0 past i) (n % 64)) 1) ∙ (λ i. eqb (bit_at-zero (n % 64) i) 1)
+    past_end words n past = (λ i. eqb (bit_at (get_or_past words (n / 64) 0 past i) (n % 64)) 1)
+        ∙ (λ i. eqb (bit_at-zero (n % 64) i) 1)
 
--- no bit past the last word is set
+-- the bit of a number after the last word is not set
 pub is_set-past : (words : List ℕ) (n : ℕ) → 64 * length words ≤ n → is_set words n ≡ false
-is_set-past words n past = (λ i. eqb (bit_at (get_or_past words (n / 64) 0 (omega arith) i) (n % 64)) 1) ∙ (λ i. eqb (bit_at-zero (n % 64) i) 1)
+is_set-past words n past = (λ i. eqb (bit_at (get_or_past words (n / 64) 0 (omega arith) i) (n % 64)) 1)
+    ∙ (λ i. eqb (bit_at-zero (n % 64) i) 1)
 
--- a number is set in the words of `bit_and` exactly if it is set in both lists of words
-pub is_set-and : (xs ys : List ℕ) → length xs ≡ length ys → (n : ℕ) → is_set (zip2 bit_and xs ys) n ≡ (is_set xs n && is_set ys n)
+-- the bit of a number is set in `zip2 bit_and` of two bitmaps exactly if it is set in both
+pub is_set-and : (xs ys : List ℕ) → length xs ≡ length ys → (n : ℕ)
+    → is_set (zip2 bit_and xs ys) n ≡ (is_set xs n && is_set ys n)
 is_set-and xs ys long n = is_set-zip2 bit_and (λ a b. a && b) and_bit refl xs ys long n
 
--- a number is set in the words of `bit_or` exactly if it is set in one of the lists of words
-pub is_set-or : (xs ys : List ℕ) → length xs ≡ length ys → (n : ℕ) → is_set (zip2 bit_or xs ys) n ≡ (is_set xs n || is_set ys n)
+-- the bit of a number is set in `zip2 bit_or` of two bitmaps exactly if it is set in one of them
+pub is_set-or : (xs ys : List ℕ) → length xs ≡ length ys → (n : ℕ)
+    → is_set (zip2 bit_or xs ys) n ≡ (is_set xs n || is_set ys n)
 is_set-or xs ys long n = is_set-zip2 bit_or (λ a b. a || b) or_bit refl xs ys long n
 
--- a number is set in the words of `bit_minus` exactly if it is set in `xs` and not in `ys`
-pub is_set-minus : (xs ys : List ℕ) → length xs ≡ length ys → (n : ℕ) → is_set (zip2 bit_minus xs ys) n ≡ (is_set xs n && not (is_set ys n))
+-- the bit of a number is set in `zip2 bit_minus` of two bitmaps exactly if it is set in `xs` and not in `ys`
+pub is_set-minus : (xs ys : List ℕ) → length xs ≡ length ys → (n : ℕ)
+    → is_set (zip2 bit_minus xs ys) n ≡ (is_set xs n && not (is_set ys n))
 is_set-minus xs ys long n = is_set-zip2 bit_minus (λ a b. a && not b) minus_bit refl xs ys long n
 
 -- ---- the operations on words are the operations on sets
@@ -92,44 +98,53 @@ is_set-minus xs ys long n = is_set-zip2 bit_minus (λ a b. a && not b) minus_bit
 same_length : (bound : ℕ) (xs ys : List ℕ) → AreWordsBelow bound xs → AreWordsBelow bound ys → length xs ≡ length ys
 same_length bound xs ys below below' = below.enough ∙ sym below'.enough
 
--- `bit_and` of two lists of words below `bound` is words below `bound`
-pub and_words_below : (bound : ℕ) (xs ys : List ℕ) → AreWordsBelow bound xs → AreWordsBelow bound ys → AreWordsBelow bound (zip2 bit_and xs ys)
+-- `zip2 bit_and` of two bitmaps of numbers below `bound` is a bitmap of numbers below `bound`
+pub and_words_below : (bound : ℕ) (xs ys : List ℕ) → AreWordsBelow bound xs → AreWordsBelow bound ys
+    → AreWordsBelow bound (zip2 bit_and xs ys)
 and_words_below bound xs ys below below' = record {
   enough = length-zip2 bit_and xs ys (same_length bound xs ys below below') ∙ below.enough;
-  clear = λ n past. is_set-and xs ys (same_length bound xs ys below below') n ∙ (λ i. below.clear n past i && is_set ys n);
+  clear = λ n past. is_set-and xs ys (same_length bound xs ys below below') n
+      ∙ (λ i. below.clear n past i && is_set ys n);
 }
 
--- `bit_or` of two lists of words below `bound` is words below `bound`
-pub or_words_below : (bound : ℕ) (xs ys : List ℕ) → AreWordsBelow bound xs → AreWordsBelow bound ys → AreWordsBelow bound (zip2 bit_or xs ys)
+-- `zip2 bit_or` of two bitmaps of numbers below `bound` is a bitmap of numbers below `bound`
+pub or_words_below : (bound : ℕ) (xs ys : List ℕ) → AreWordsBelow bound xs → AreWordsBelow bound ys
+    → AreWordsBelow bound (zip2 bit_or xs ys)
 or_words_below bound xs ys below below' = record {
   enough = length-zip2 bit_or xs ys (same_length bound xs ys below below') ∙ below.enough;
-  clear = λ n past. is_set-or xs ys (same_length bound xs ys below below') n ∙ (λ i. below.clear n past i || below'.clear n past i);
+  clear = λ n past. is_set-or xs ys (same_length bound xs ys below below') n
+      ∙ (λ i. below.clear n past i || below'.clear n past i);
 }
 
--- `bit_minus` of two lists of words below `bound` is words below `bound`
-pub minus_words_below : (bound : ℕ) (xs ys : List ℕ) → AreWordsBelow bound xs → AreWordsBelow bound ys → AreWordsBelow bound (zip2 bit_minus xs ys)
+-- `zip2 bit_minus` of two bitmaps of numbers below `bound` is a bitmap of numbers below `bound`
+pub minus_words_below : (bound : ℕ) (xs ys : List ℕ) → AreWordsBelow bound xs → AreWordsBelow bound ys
+    → AreWordsBelow bound (zip2 bit_minus xs ys)
 minus_words_below bound xs ys below below' = record {
   enough = length-zip2 bit_minus xs ys (same_length bound xs ys below below') ∙ below.enough;
-  clear = λ n past. is_set-minus xs ys (same_length bound xs ys below below') n ∙ (λ i. below.clear n past i && not (is_set ys n));
+  clear = λ n past. is_set-minus xs ys (same_length bound xs ys below below') n
+      ∙ (λ i. below.clear n past i && not (is_set ys n));
 }
 
--- the numbers set in the words of `bit_and` are the common items of both sets
+-- the numbers whose bits are set in `zip2 bit_and` of the bitmaps of two sets are the common items of both sets
 pub and_words_items : (bound : ℕ) (xs ys : List ℕ) → AreWordsBelow bound xs → AreWordsBelow bound ys
     → numbers_where bound (is_set (zip2 bit_and xs ys))
     ≡ common_items (numbers_where bound (is_set xs)) (numbers_where bound (is_set ys))
 and_words_items bound xs ys below below' =
-    numbers_where-agree bound (is_set (zip2 bit_and xs ys)) (λ n. is_set xs n && is_set ys n) (λ n _. is_set-and xs ys (same_length bound xs ys below below') n)
+    numbers_where-agree bound (is_set (zip2 bit_and xs ys)) (λ n. is_set xs n && is_set ys n)
+    (λ n _. is_set-and xs ys (same_length bound xs ys below below') n)
     ∙ sym (common_items-numbers_where bound (is_set xs) (is_set ys))
 
--- the numbers set in the words of `bit_or` are the union of both sets
+-- the numbers whose bits are set in `zip2 bit_or` of the bitmaps of two sets are the union of both sets
 pub or_words_items : (bound : ℕ) (xs ys : List ℕ) → AreWordsBelow bound xs → AreWordsBelow bound ys
     → numbers_where bound (is_set (zip2 bit_or xs ys))
     ≡ all_items bound (numbers_where bound (is_set xs)) (numbers_where bound (is_set ys))
 or_words_items bound xs ys below below' =
-    numbers_where-agree bound (is_set (zip2 bit_or xs ys)) (λ n. is_set xs n || is_set ys n) (λ n _. is_set-or xs ys (same_length bound xs ys below below') n)
+    numbers_where-agree bound (is_set (zip2 bit_or xs ys)) (λ n. is_set xs n || is_set ys n)
+    (λ n _. is_set-or xs ys (same_length bound xs ys below below') n)
     ∙ sym (all_items-numbers_where bound (is_set xs) (is_set ys))
 
--- the numbers set in the words of `bit_minus` are the items of the first set that are not in the second
+-- the numbers whose bits are set in `zip2 bit_minus` of the bitmaps of two sets are the items of the first set that
+-- are not in the second
 pub minus_words_items : (bound : ℕ) (xs ys : List ℕ) → AreWordsBelow bound xs → AreWordsBelow bound ys
     → numbers_where bound (is_set (zip2 bit_minus xs ys))
     ≡ other_items (numbers_where bound (is_set xs)) (numbers_where bound (is_set ys))

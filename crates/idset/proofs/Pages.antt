@@ -26,7 +26,8 @@ take-front (suc n) (x ∷ xs) ys = ap (λ rest. x ∷ rest) (take-front n xs ys)
 
 -- the page of the items `done`, and of these items and `more`
 module _ (most skipped : ℕ) (done more page : List ℕ) (so_far : page ≡ take most (drop skipped done)) where
-  -- the page of the items with more items is the page so far with the next items, cut at `most`
+  -- the page of `done` and `more` is the page of `done`, followed by the items of `more` that are not skipped, cut
+  -- at `most`
   pub page_more : (next : List ℕ) → next ≡ take most (page ++ drop (skipped - length done) more)
       → next ≡ take most (drop skipped (done ++ more))
   page_more next pushed =
@@ -34,7 +35,7 @@ module _ (most skipped : ℕ) (done more page : List ℕ) (so_far : page ≡ tak
       ∙ take-front most (drop skipped done) (drop (skipped - length done) more)
       ∙ ap (take most) (sym (drop-both skipped done more))
 
-  -- a full page does not change when more items follow
+  -- a page that has `most` items does not change if more items follow
   pub page_full : most ≤ length page → page ≡ take most (drop skipped (done ++ more))
   page_full full =
       let enough : most ≤ length (drop skipped done) =
@@ -47,7 +48,8 @@ module _ (most skipped : ℕ) (done more page : List ℕ) (so_far : page ≡ tak
 pub front_whole : (most : ℕ) (items : List ℕ) → length items ≤ most → items ≡ take most (items ++ [])
 front_whole most items short = sym (take_all most items short) ∙ ap (take most) (sym (append-nil items))
 
--- pushing items that are all skipped does not change a list of at most `most` items
+-- if `more` has at most `skipped` items, so that all are skipped, adding it to a list of at most `most` items
+-- changes nothing
 pub none_pushed : (most skipped : ℕ) (items more : List ℕ) → length items ≤ most → length more ≤ skipped
     → items ≡ take most (items ++ drop skipped more)
 none_pushed most skipped items more short past =

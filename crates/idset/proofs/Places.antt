@@ -1,5 +1,6 @@
--- The place of a number in a rising list: how many items stand before the first that is not below it.
-use Rattle.std.proofs.Common.{ℕ, suc, ◌+◌, ◌-◌, ◌<◌, ◌≤◌, ◌≡◌, ◌^◌, Bool, true, false, ◌&&◌, ◌||◌, cond, ltb, eqb, List, [], ◌∷◌, ◌++◌, length, take, drop, get_or, refl, sym, ◌∙◌, subst, arith, inl, inr}
+-- The place of a number in a rising list: how many items are below it.
+use Rattle.std.proofs.Common.{ℕ, suc, ◌+◌, ◌-◌, ◌<◌, ◌≤◌, ◌≡◌, ◌^◌, Bool, true, false, ◌&&◌, ◌||◌, cond, ltb, eqb, List}
+use Rattle.std.proofs.Common.{[], ◌∷◌, ◌++◌, length, take, drop, get_or, refl, sym, ◌∙◌, subst, arith, inl, inr}
 use Rattle.std.specs.List.{filter}
 use Rattle.std.proofs.lemmas.Bool.{lt-ltb, le-ltb, eq-eqb, ne_eqb, ltb-true, cases_lt, cases_eq, true≢false}
 use Rattle.std.proofs.lemmas.List.Elements.{filter_more}
@@ -25,8 +26,9 @@ at_place items n lt = ltb-ge (get_or items (place_of items n) 0) n (prefix_len_s
     ltb-ge : (a b : ℕ) → ltb a b ≡ false → b ≤ a
     ltb-ge a b e = elim (cases_lt a b) [ inl lt ↦ absurd (true≢false (sym (lt-ltb a b lt) ∙ e)) | inr ge ↦ ge ]
 
--- an item below a number stands before the place of the number
-pub place_above : (bound : ℕ) (items : List ℕ) (n k : ℕ) → IsRisingBelow bound items → k < length items → get_or items k 0 < n → k < place_of items n
+-- an item of a rising list that is below a number is before the place of the number
+pub place_above : (bound : ℕ) (items : List ℕ) (n k : ℕ) → IsRisingBelow bound items → k < length items
+    → get_or items k 0 < n → k < place_of items n
 place_above bound items n k rises in' lt =
     elim (cases_lt k (place_of items n)) [
       | inl before ↦ before
@@ -35,7 +37,11 @@ place_above bound items n k rises in' lt =
           let at : n ≤ get_or items (place_of items n) 0 = at_place items n here in
           elim (cases_eq (place_of items n) k) [
             | inl same ↦ absurd (omega (arith, subst (λ (p : ℕ). n ≤ get_or items p 0) same at))
-            | inr apart ↦ absurd (omega (arith, get_or-rising 0 bound items (place_of items n) k rises (omega arith) in'))
+            | inr apart ↦ absurd (omega (
+              arith,
+              get_or-rising 0 bound items (place_of items n) k rises (omega arith)
+                  in',
+            ))
           ]
     ]
 
@@ -44,7 +50,7 @@ pub place_at_most : (items : List ℕ) (n k : ℕ) → n ≤ get_or items k 0 �
 place_at_most items n k le =
     elim (cases_lt k (place_of items n)) [ inl lt ↦ absurd (omega (arith, below_place items n k lt)) | inr ge ↦ ge ]
 
--- a place is that of a number if the item before it is below the number and the one at it is not
+-- in a rising list, `p` is the place of `n` if the item before `p` is below `n` and the item at `p` is not
 pub place_is : (bound : ℕ) (items : List ℕ) (n p : ℕ) → IsRisingBelow bound items → p ≤ length items
     → (0 < p → get_or items (p - 1) 0 < n) → (p < length items → n ≤ get_or items p 0) → p ≡ place_of items n
 place_is bound items n p rises in' before here =
@@ -62,7 +68,7 @@ place_is bound items n p rises in' before here =
     ] in
     omega arith
 
--- a greater number has no earlier place
+-- the place of a number is at most the place of a greater one
 pub place_grows : (items : List ℕ) (m n : ℕ) → m ≤ n → place_of items m ≤ place_of items n
 place_grows items m n le =
     elim (cases_lt (place_of items n) (length items)) [
@@ -70,7 +76,7 @@ place_grows items m n le =
       | inr ge ↦ omega (arith, place_le items m)
     ]
 
--- if the first item is below `n`, the place of `n` is one more than its place in the rest
+-- if the first item is below `n`, the place of `n` is one more than its place in the list after this item
 place-cons_below : (item : ℕ) (items : List ℕ) (n : ℕ) → item < n → place_of (item ∷ items) n ≡ suc (place_of items n)
 place-cons_below item items n lt = (λ i. cond (lt-ltb item n lt i) (1 + place_of items n) 0) ∙ more
   where
@@ -88,8 +94,10 @@ drop_place-rising lowest bound [] n rises = refl
 drop_place-rising lowest bound (item ∷ items) n rises =
     let on = rises_on lowest bound item items rises in
     elim (cases_lt item n) [
-      | inl lt ↦ (λ i. rises_within n bound (drop (place-cons_below item items n lt i) (item ∷ items))) ∙ drop_place-rising (suc item) bound items n on.rest
-      | inr ge ↦ (λ i. rises_within n bound (drop (place-cons_here item items n ge i) (item ∷ items))) ∙ rises_from_on n bound item items ge on.below on.rest
+      | inl lt ↦ (λ i. rises_within n bound (drop (place-cons_below item items n lt i) (item ∷ items)))
+          ∙ drop_place-rising (suc item) bound items n on.rest
+      | inr ge ↦ (λ i. rises_within n bound (drop (place-cons_here item items n ge i) (item ∷ items)))
+          ∙ rises_from_on n bound item items ge on.below on.rest
     ]
 
 -- the items from the place of `n` on have the members of the list that are not below `n`
@@ -106,9 +114,10 @@ has-drop_place (item ∷ items) n m le =
 
 -- the item at a place of a list is in the list
 pub has-get_or : (items : List ℕ) (k : ℕ) → k < length items → has items (get_or items k 0) ≡ true
-has-get_or items k in' = list_any_at (λ item. eqb item (get_or items k 0)) items k 0 in' (eq-eqb (get_or items k 0) (get_or items k 0) refl)
+has-get_or items k in' =
+    list_any_at (λ item. eqb item (get_or items k 0)) items k 0 in' (eq-eqb (get_or items k 0) (get_or items k 0) refl)
 
--- no number between `n` and the item at its place is in the list
+-- a number from `n` on and below the item at the place of `n` is not in the rising list
 pub none_between : (bound : ℕ) (items : List ℕ) (n m : ℕ) → IsRisingBelow bound items → n ≤ m
     → (place_of items n < length items → m < get_or items (place_of items n) 0) → has items m ≡ false
 none_between bound items n m rises le before =
@@ -124,16 +133,18 @@ none_between bound items n m rises le before =
           | inl lt ↦
               let step = place-cons_below item items n lt in
               (λ i. has (drop (step i) (item ∷ items)) m)
-              ∙ none_in (suc item) bound items n m on.rest le (λ in'. subst (λ (p : ℕ). m < get_or (item ∷ items) p 0) step (before (omega (arith, step))))
+              ∙ none_in (suc item) bound items n m on.rest le
+              (λ in'. subst (λ (p : ℕ). m < get_or (item ∷ items) p 0) step (before (omega (arith, step))))
           | inr ge ↦
               let step = place-cons_here item items n ge in
-              let above : m < item = subst (λ (p : ℕ). m < get_or (item ∷ items) p 0) step (before (omega (arith, step))) in
+              let above : m < item = subst (λ (p : ℕ). m < get_or (item ∷ items) p 0) step
+              (before (omega (arith, step))) in
               (λ i. has (drop (step i) (item ∷ items)) m)
               ∙ has-below_lowest item bound (item ∷ items) m
               (rises_from_on item bound item items (omega arith) on.below on.rest) above
         ]
 
--- a number is in a rising list exactly if it stands at its place
+-- a number is in a rising list exactly if it is the item at its place
 pub has-place : (bound : ℕ) (items : List ℕ) (n : ℕ) → IsRisingBelow bound items
     → has items n ≡ (ltb (place_of items n) (length items) && eqb (get_or items (place_of items n) 0) n)
 has-place bound items n rises =
@@ -149,7 +160,8 @@ has-place bound items n rises =
     ]
 
 -- the item at the place of `n` equals `n` exactly if `n` is in the list
-pub has-here : (items : List ℕ) (n p : ℕ) → IsRising items → p ≡ place_of items n → p < length items → eqb (get_or items p 0) n ≡ has items n
+pub has-here : (items : List ℕ) (n p : ℕ) → IsRising items → p ≡ place_of items n → p < length items
+    → eqb (get_or items p 0) n ≡ has items n
 has-here items n p rises is lt =
     let here : place_of items n < length items = omega arith in
     (λ i. eqb (get_or items (is i) 0) n)
@@ -157,38 +169,42 @@ has-here items n p rises is lt =
     ∙ (λ i. lt-ltb (place_of items n) (length items) here i && eqb (get_or items (place_of items n) 0) n))
 
 -- a number whose place is the end of the list is not in the list
-pub has-gone : (items : List ℕ) (n p : ℕ) → IsRising items → p ≡ place_of items n → length items ≤ p → false ≡ has items n
+pub has-gone : (items : List ℕ) (n p : ℕ) → IsRising items → p ≡ place_of items n → length items ≤ p
+    → false ≡ has items n
 has-gone items n p rises is ge =
     let here : length items ≤ place_of items n = omega arith in
-    sym (has-place (2 ^ 32) items n rises ∙ (λ i. le-ltb (place_of items n) (length items) here i && eqb (get_or items (place_of items n) 0) n))
+    sym (has-place (2 ^ 32) items n rises
+    ∙ (λ i. le-ltb (place_of items n) (length items) here i && eqb (get_or items (place_of items n) 0) n))
 
--- if the item at `k` is below `n`, the place of `n` is after `k`
-pub read_below : (items : List ℕ) (n k : ℕ) → IsRising items → k < length items → get_or items k 0 < n → suc k ≤ place_of items n
+-- if the item at `k` of a rising list is below `n`, the place of `n` is after `k`
+pub read_below : (items : List ℕ) (n k : ℕ) → IsRising items → k < length items → get_or items k 0 < n
+    → suc k ≤ place_of items n
 read_below items n k rises in' lt = place_above (2 ^ 32) items n k rises in' lt
 
--- if the item at `k` is not below `n`, and the place of `n` is not before `k`, it is `k`
+-- if the place of `n` is not before `k`, and the item at `k` is not below `n`, the place of `n` is `k`
 pub read_reached : (items : List ℕ) (n k : ℕ) → k ≤ place_of items n → n ≤ get_or items k 0 → k ≡ place_of items n
 read_reached items n k le here = omega (arith, place_at_most items n k here)
 
--- if `k` is at or past the end and the place of `n` is not before `k`, it is `k`
+-- if the place of `n` is not before `k`, and `k` is not before the end of the list, the place of `n` is `k`
 pub read_all : (items : List ℕ) (n k : ℕ) → k ≤ place_of items n → length items ≤ k → k ≡ place_of items n
 read_all items n k le past = omega (arith, place_le items n)
 
--- the lemmas on what reading an item tells of a place
+-- the lemmas on the place of a number, by the items that the code reads
 pub ruleset readings = (read_below, read_reached, read_all, place_le, place_at_most, has-here, has-gone)
 
 -- ---- one step of a loop that looks each item of a rising list up in another
--- pushing item `i` if it passes makes the filter of the first `i + 1` items
+-- if `out` is the filter of the first `i` items, and item `i` is pushed exactly if it passes, the result is the
+-- filter of the first `i + 1` items
 pub filter_step : (p : ℕ → Bool) (items out next : List ℕ) (i : ℕ) (kept : Bool) → i < length items
     → out ≡ filter p (take i items) → kept ≡ p (get_or items i 0)
     → next ≡ out ++ cond kept (get_or items i 0 ∷ []) [] → next ≡ filter p (take (i + 1) items)
 filter_step p items out next i kept in' so_far same pushed =
     pushed ∙ (λ j. so_far j ++ cond (same j) (get_or items i 0 ∷ []) []) ∙ sym (filter_more p items i 0 in')
 
--- the place of item `i` in the others is at most that of item `i + 1`
-pub behind_step : (items others : List ℕ) (i p : ℕ) → IsRising items → i + 1 < length items
+-- the place of item `i` of a rising list in `others` is at most that of item `i + 1`
+pub after_step : (items others : List ℕ) (i p : ℕ) → IsRising items → i + 1 < length items
     → p ≡ place_of others (get_or items i 0) → p ≤ place_of others (get_or items (i + 1) 0)
-behind_step items others i p rises in' is =
+after_step items others i p rises in' is =
     omega (
       arith,
       place_grows others (get_or items i 0) (get_or items (i + 1) 0)

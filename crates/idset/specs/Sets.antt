@@ -20,6 +20,6 @@ all_items bound items others = numbers_where bound (λ number. has items number 
 abbrev pub missing_numbers : ℕ → List ℕ → List ℕ
 missing_numbers bound items = numbers_where bound (λ number. not (has items number))
 
--- the place of `number` in a rising list: how many items stand before the first that is not below it
+-- the place of `number` in a rising list: how many items are below it
 abbrev pub place_of : List ℕ → ℕ → ℕ
 place_of items number = prefix_len (λ item. nat_lt item number) items

@@ -10,7 +10,7 @@ use std::alloc::{AllocError, Global};
 
 /// A set of numbers below a bound. Contracts see it as the list of its items, which rises strictly.
 ///
-/// A call that answers `AllocError` found no memory; nothing is changed then.
+/// A call that answers `AllocError` was refused memory. It changes nothing.
 pub trait ConceptSet: Drop {
     /// The items, in rising order.
     ghost items_of: { Self → List ℕ };
@@ -18,59 +18,63 @@ pub trait ConceptSet: Drop {
     /// The bound: every item is below it.
     ghost bound_of: { Self → ℕ };
 
-    /// The set of the items of a rising list.
+    /// Makes the set of `items`, a strictly rising list of numbers below `bound`.
     fn from_items(alloc: Global, items: &[u32], bound: u32) -> Result<Self, AllocError>
         requires { IsRisingBelow bound items.now }
         ensures items { IfOk result (λ set. items_of set ≡ items.now) }
         ensures bound { IfOk result (λ set. bound_of set ≡ bound) };
 
-    /// The set of the numbers of a list, which may be in any order and repeat a number: for the numbers that a
-    /// pass over rows finds.
+    /// Makes the set of `numbers`, which are below `bound`, in any order, and may repeat: for the
+    /// numbers that a scan of rows finds.
     fn from_numbers(alloc: Global, numbers: &[u32], bound: u32) -> Result<Self, AllocError>
         requires { All (λ number. number < bound) numbers.now }
         ensures items { IfOk result (λ set. items_of set ≡ listed_numbers bound numbers.now) }
         ensures bound { IfOk result (λ set. bound_of set ≡ bound) };
 
-    /// The set of the numbers whose bit is set in words of 64 bits, the lowest bit first: for a bitmap, and for
-    /// a wide list that an index keeps as words. The words are copied as they are.
+    /// Makes the set of the numbers whose bit is set in `words`, a bitmap in words of 64 bits, the
+    /// lowest bit first. It has as many words as `bound` takes, and no bit from `bound` on is set.
+    /// An index keeps its long lists so, and a `WordSet` copies the words as they are.
     fn from_words(alloc: Global, words: &[u64], bound: u32) -> Result<Self, AllocError>
         requires { AreWordsBelow bound words.now }
         ensures items { IfOk result (λ set. items_of set ≡ numbers_where bound (is_set words.now)) }
         ensures bound { IfOk result (λ set. bound_of set ≡ bound) };
 
-    /// The set of all numbers below a bound.
+    /// Makes the set of all numbers below `bound`.
     fn every(alloc: Global, bound: u32) -> Result<Self, AllocError>
         ensures items { IfOk result (λ set. items_of set ≡ range_with_len 0 bound) }
         ensures bound { IfOk result (λ set. bound_of set ≡ bound) };
 
-    /// Intersects: makes the set of the items that both sets have.
+    /// Intersects: makes the set of the items that are in both sets. Both have the same bound.
     fn and(&self, alloc: Global, other: &Self) -> Result<Self, AllocError>
         requires { bound_of self.now ≡ bound_of other.now }
         ensures items { IfOk result
             (λ set. items_of set ≡ common_items (items_of self.now) (items_of other.now)) }
         ensures bound { IfOk result (λ set. bound_of set ≡ bound_of self.now) };
 
-    /// Unites: makes the set of the items that one of the sets has, or both.
+    /// Unites: makes the set of the items that are in one of the sets, or in both. Both have the
+    /// same bound.
     fn or(&self, alloc: Global, other: &Self) -> Result<Self, AllocError>
         requires { bound_of self.now ≡ bound_of other.now }
-        ensures items { IfOk result
-            (λ set. items_of set ≡ all_items (bound_of self.now) (items_of self.now) (items_of other.now)) }
+        ensures items { IfOk result (λ set. items_of set
+            ≡ all_items (bound_of self.now) (items_of self.now) (items_of other.now)) }
         ensures bound { IfOk result (λ set. bound_of set ≡ bound_of self.now) };
 
-    /// Subtracts: makes the set of the items that this set has and the other has not.
+    /// Subtracts: makes the set of the items that are in this set and not in `other`. Both have the
+    /// same bound.
     fn minus(&self, alloc: Global, other: &Self) -> Result<Self, AllocError>
         requires { bound_of self.now ≡ bound_of other.now }
         ensures items { IfOk result
             (λ set. items_of set ≡ other_items (items_of self.now) (items_of other.now)) }
         ensures bound { IfOk result (λ set. bound_of set ≡ bound_of self.now) };
 
-    /// Complements: makes the set of the numbers below the bound that this set has not.
+    /// Complements: makes the set of the numbers below the bound that are not in this set.
     fn others(&self, alloc: Global) -> Result<Self, AllocError>
         ensures items { IfOk result
             (λ set. items_of set ≡ missing_numbers (bound_of self.now) (items_of self.now)) }
         ensures bound { IfOk result (λ set. bound_of set ≡ bound_of self.now) };
 
-    /// Adds the items of a rising list: for a union of many lists of an index, taken one by one.
+    /// Adds `items`, a strictly rising list of numbers below the bound. Callers unite many lists of
+    /// an index with it, one after another. If memory is refused, the set stays as it is.
     fn add_all(&mut self, alloc: Global, items: &[u32]) -> Result<(), AllocError>
         requires { IsRisingBelow (bound_of self.old) items.now }
         ensures items { OnOk result
@@ -78,16 +82,17 @@ pub trait ConceptSet: Drop {
         ensures err { OnErr result (items_of self.new ≡ items_of self.old) }
         ensures bound { bound_of self.new ≡ bound_of self.old };
 
-    /// The items in rising order, as a list of their own.
+    /// Copies the items, in rising order, into a new list.
     fn items(&self, alloc: Global) -> Result<Vec<u32>, AllocError>
         ensures { IfOk result (λ items. items.items ≡ items_of self.now) };
 
-    /// Copies the items in rising order, without the first `skipped`, at most `most` of them, into a list of their
-    /// own.
+    /// Copies a page of the items into a new list: in rising order, without the first `skipped`,
+    /// and at most `most` of them.
     fn some_items(&self, alloc: Global, skipped: u64, most: u64) -> Result<Vec<u32>, AllocError>
-        ensures { IfOk result (λ items. items.items ≡ take most (drop skipped (items_of self.now))) };
+        ensures { IfOk result (λ items. items.items
+            ≡ take most (drop skipped (items_of self.now))) };
 
-    /// Gives the set in the form that answers `has` fastest: for tests of many numbers.
+    /// Turns the set into the form that answers `has` fastest, before many numbers are tested.
     fn for_asking(self, alloc: Global) -> Result<Self, AllocError>
         ensures items { IfOk result (λ set. items_of set ≡ items_of self) }
         ensures bound { IfOk result (λ set. bound_of set ≡ bound_of self) };
@@ -97,7 +102,7 @@ pub trait ConceptSet: Drop {
         ensures items { IfOk result (λ set. items_of set ≡ items_of self.now) }
         ensures bound { IfOk result (λ set. bound_of set ≡ bound_of self.now) };
 
-    /// The bound.
+    /// Returns the bound.
     fn bound(&self) -> u32
         ensures { result ≡ bound_of self.now };
 

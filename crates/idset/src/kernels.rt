@@ -1,4 +1,4 @@
-//! The operations on words of bits, four words at a time.
+//! Operations on bitmaps, with SIMD vectors of several words of 64 bits.
 ghost use Rattle.std.specs.Prelude.{◌≡◌, ◌≤◌, ◌^◌, ◌/◌, ◌*◌, ℕ, List, IfOk, length, drop, min, take, sum_by, bit_and, bit_or, count_ones};
 ghost use Rattle.std.specs.Simd.Lanes.{zip2};
 ghost use Rattle.idset.specs.Words.{bit_minus};
@@ -6,22 +6,23 @@ ghost use Rattle.idset.specs.Words.{bit_minus};
 use std::alloc::{AllocError, Global};
 use std::simd::prelude::*;
 
-// How many words a vector holds.
+// How many words a vector for combining two bitmaps holds.
 const LANES: usize = 4;
 
-// How many words a vector for counting bits holds. It is wider than `LANES`, because its sum is taken only once.
+// How many words a vector for counting bits holds. It is wider than `LANES`, because its sum is
+// taken only once.
 const COUNTED: usize = 16;
 
-/// An operation on each pair of words.
+/// An operation that makes one word of two.
 trait WordOperation {
-    /// The word that the operation makes of two words.
+    /// The word that the operation makes of the words `one` and `other`.
     ghost of: { ℕ → ℕ → ℕ };
 
-    /// Combines one pair.
+    /// Applies the operation to two words.
     fn word(one: u64, other: u64) -> u64
         ensures { result ≡ of one other };
 
-    /// Combines a vector of pairs.
+    /// Applies the operation to two vectors, word by word.
     fn lanes(one: u64x4, other: u64x4) -> u64x4
         ensures { result ≡ zip2 of one other };
 }
@@ -74,7 +75,8 @@ impl WordOperation for Minus {
     }
 }
 
-/// Intersects: keeps the bits that both words have, word by word.
+/// Intersects two bitmaps with equally many words: makes the bitmap of the bits that are set in
+/// both.
 pub fn and_words(alloc: Global, words: &[u64], others: &[u64]) -> Result<Vec<u64>, AllocError>
     requires { length others.now ≡ length words.now }
     ensures { IfOk result (λ made. made.items ≡ zip2 bit_and words.now others.now) }
@@ -83,7 +85,8 @@ pub fn and_words(alloc: Global, words: &[u64], others: &[u64]) -> Result<Vec<u64
     Ok(made)
 }
 
-/// Unites: keeps the bits that one of the words has, or both, word by word.
+/// Unites two bitmaps with equally many words: makes the bitmap of the bits that are set in one of
+/// them, or in both.
 pub fn or_words(alloc: Global, words: &[u64], others: &[u64]) -> Result<Vec<u64>, AllocError>
     requires { length others.now ≡ length words.now }
     ensures { IfOk result (λ made. made.items ≡ zip2 bit_or words.now others.now) }
@@ -92,7 +95,8 @@ pub fn or_words(alloc: Global, words: &[u64], others: &[u64]) -> Result<Vec<u64>
     Ok(made)
 }
 
-/// Subtracts: keeps the bits that the one word has and the other has not, word by word.
+/// Subtracts two bitmaps with equally many words: makes the bitmap of the bits that are set in
+/// `words` and not in `others`.
 pub fn minus_words(alloc: Global, words: &[u64], others: &[u64]) -> Result<Vec<u64>, AllocError>
     requires { length others.now ≡ length words.now }
     ensures { IfOk result (λ made. made.items ≡ zip2 bit_minus words.now others.now) }
@@ -101,7 +105,8 @@ pub fn minus_words(alloc: Global, words: &[u64], others: &[u64]) -> Result<Vec<u
     Ok(made)
 }
 
-// Combines each word of the one list with its word of the other, into a new vector.
+// Applies the operation `O` to each word of `words` and the word at the same place of `others`,
+// into a new vector.
 #[inline]
 fn combined<O: WordOperation>(
     alloc: Global,
@@ -116,7 +121,8 @@ fn combined<O: WordOperation>(
     Ok(made)
 }
 
-// Combines each word of the one list with its word of the other, into `out`.
+// Applies the operation `O` to each word of `words` and the word at the same place of `others`,
+// into `out`. All three have equally many words.
 #[inline]
 fn combine<O: WordOperation>(words: &[u64], others: &[u64], out: &mut [u64])
     requires others { length others.now ≡ length words.now }
@@ -133,7 +139,8 @@ fn combine_vectors<O: WordOperation>(words: &[u64], others: &[u64], out: &mut [u
     requires others { length others.now ≡ length words.now }
     requires out { length out.old ≡ length words.now }
     ensures within { result ≤ length words.now }
-    ensures done { take result out.new ≡ zip2 O.of (take result words.now) (take result others.now) }
+    ensures done { take result out.new ≡ zip2 O.of (take result words.now)
+        (take result others.now) }
 {
     let mut place = 0;
     while words.len() - place >= LANES {
@@ -159,7 +166,7 @@ fn combine_rest<O: WordOperation>(words: &[u64], others: &[u64], out: &mut [u64]
     }
 }
 
-/// Counts the bits that are set in all words.
+/// Counts the bits that are set in `words`, a bitmap of at most 2^26 words.
 pub fn count_words(words: &[u64]) -> u64
     requires { length words.now ≤ 2 ^ 26 }
     ensures { result ≡ sum_by count_ones words.now }
@@ -204,7 +211,8 @@ fn count_rest(words: &[u64], from: usize) -> u64
     count
 }
 
-/// Counts the bits that are set in all words, up to `most`: it does not read further once it has counted `most`.
+/// Counts the bits that are set in `words`, a bitmap of at most 2^26 words, but returns `most` if
+/// there are more. It does not read further once it has counted `most`.
 pub fn count_up_to(words: &[u64], most: u64) -> u64
     requires { length words.now ≤ 2 ^ 26 }
     ensures { result ≡ min most (sum_by count_ones words.now) }

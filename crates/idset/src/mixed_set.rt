@@ -1,22 +1,23 @@
-//! The set in one of two forms, by how many items it has.
+//! The set as a list or as a bitmap, by how many items it has.
 ghost use Rattle.std.specs.Prelude.{◌≡◌, IfOk};
 ghost use Rattle.idset.specs.inside.MixedForm.{form_bound, form_items, form_rises, list_items, word_items};
 ghost use Rattle.idset.specs.Sets.{all_items, common_items, other_items};
 ghost use Rattle.number_lists.specs.Rising.{IsRisingBelow};
 
+use crate::bitmap::{count_marked, marked_among};
 use crate::concept_set::ConceptSet;
 use crate::lists::union_of;
-use crate::marks::{count_marks, marked_among};
 use crate::sorted_set::SortedSet;
 use crate::word_set::WordSet;
 use std::alloc::{AllocError, Global};
 
-// A set has the form of a list up to the bound divided by `WIDE` items. In a wider one, words answer `has` and are
-// combined with other sets faster.
+// A set of at most `bound / WIDE` items is a list. A larger set is a bitmap, because that answers
+// `has` faster and is combined with other sets faster.
 const WIDE: u32 = 256;
 
-/// A set as a rising list if it has few items for its bound, and as words else: a small set costs by its
-/// items, a wide one by the bound.
+/// A set that is a rising list if it has few items for its bound, and otherwise a bitmap. The
+/// number of items decides what a small set costs in time and memory, and the bound what a large
+/// one costs.
 #[derive(Drop)]
 pub struct MixedSet {
     form: Form,
@@ -56,7 +57,7 @@ impl ConceptSet for MixedSet {
     }
 
     fn from_words(alloc: Global, words: &[u64], bound: u32) -> Result<MixedSet, AllocError> {
-        if count_marks(words, bound) > bound / WIDE {
+        if count_marked(words, bound) > bound / WIDE {
             let set = WordSet::from_words(alloc, words, bound)?;
             Ok(many(set))
         } else {
@@ -191,7 +192,7 @@ fn many(set: WordSet) -> MixedSet
     }
 }
 
-// Turns a set of words into a list if it has few items.
+// Makes a mixed set of a bitmap set, which it turns into a list if it has few items.
 fn from_wide(alloc: Global, set: WordSet) -> Result<MixedSet, AllocError>
     ensures items { IfOk result (λ mixed. form_items mixed.form ≡ word_items set) }
     ensures bound { IfOk result (λ mixed. form_bound mixed.form ≡ set.bound) }
@@ -204,7 +205,7 @@ fn from_wide(alloc: Global, set: WordSet) -> Result<MixedSet, AllocError>
     }
 }
 
-// Turns a set of a list into words if it has many items.
+// Makes a mixed set of a list set, which it turns into a bitmap if it has many items.
 fn from_narrow(alloc: Global, set: SortedSet) -> Result<MixedSet, AllocError>
     ensures items { IfOk result (λ mixed. form_items mixed.form ≡ list_items set) }
     ensures bound { IfOk result (λ mixed. form_bound mixed.form ≡ set.bound) }
@@ -217,7 +218,7 @@ fn from_narrow(alloc: Global, set: SortedSet) -> Result<MixedSet, AllocError>
     }
 }
 
-// Makes the union of a set of a list and `items`.
+// Makes the union of the list set `own` and the rising list `items`.
 #[tactic(auto, using(crate::proofs::Rising::rules_of_rising))]
 fn grown_few(alloc: Global, own: &SortedSet, items: &[u32]) -> Result<MixedSet, AllocError>
     requires { IsRisingBelow own.now.bound items.now }
@@ -236,11 +237,11 @@ fn grown_few(alloc: Global, own: &SortedSet, items: &[u32]) -> Result<MixedSet, 
     }
 }
 
-// Makes the set of the items that a list and another set have in common.
+// Intersects the list set `own` with `other`.
 fn and_few(alloc: Global, own: &SortedSet, other: &MixedSet) -> Result<MixedSet, AllocError>
     requires { own.now.bound ≡ form_bound other.now.form }
-    ensures items { IfOk result
-        (λ mixed. form_items mixed.form ≡ common_items (list_items own.now) (form_items other.now.form)) }
+    ensures items { IfOk result (λ mixed. form_items mixed.form
+        ≡ common_items (list_items own.now) (form_items other.now.form)) }
     ensures bound { IfOk result (λ mixed. form_bound mixed.form ≡ own.now.bound) }
 {
     match &other.form {
@@ -255,11 +256,11 @@ fn and_few(alloc: Global, own: &SortedSet, other: &MixedSet) -> Result<MixedSet,
     }
 }
 
-// Makes the set of the items that words and another set have in common.
+// Intersects the bitmap set `own` with `other`.
 fn and_many(alloc: Global, own: &WordSet, other: &MixedSet) -> Result<MixedSet, AllocError>
     requires { own.now.bound ≡ form_bound other.now.form }
-    ensures items { IfOk result
-        (λ mixed. form_items mixed.form ≡ common_items (word_items own.now) (form_items other.now.form)) }
+    ensures items { IfOk result (λ mixed. form_items mixed.form
+        ≡ common_items (word_items own.now) (form_items other.now.form)) }
     ensures bound { IfOk result (λ mixed. form_bound mixed.form ≡ own.now.bound) }
 {
     match &other.form {
@@ -274,11 +275,11 @@ fn and_many(alloc: Global, own: &WordSet, other: &MixedSet) -> Result<MixedSet, 
     }
 }
 
-// Makes the set of the items that a list has and another set has not.
+// Subtracts `other` from the list set `own`.
 fn minus_few(alloc: Global, own: &SortedSet, other: &MixedSet) -> Result<MixedSet, AllocError>
     requires { own.now.bound ≡ form_bound other.now.form }
-    ensures items { IfOk result
-        (λ mixed. form_items mixed.form ≡ other_items (list_items own.now) (form_items other.now.form)) }
+    ensures items { IfOk result (λ mixed. form_items mixed.form
+        ≡ other_items (list_items own.now) (form_items other.now.form)) }
     ensures bound { IfOk result (λ mixed. form_bound mixed.form ≡ own.now.bound) }
 {
     match &other.form {
@@ -293,11 +294,11 @@ fn minus_few(alloc: Global, own: &SortedSet, other: &MixedSet) -> Result<MixedSe
     }
 }
 
-// Makes the set of the items that words have and another set has not.
+// Subtracts `other` from the bitmap set `own`.
 fn minus_many(alloc: Global, own: &WordSet, other: &MixedSet) -> Result<MixedSet, AllocError>
     requires { own.now.bound ≡ form_bound other.now.form }
-    ensures items { IfOk result
-        (λ mixed. form_items mixed.form ≡ other_items (word_items own.now) (form_items other.now.form)) }
+    ensures items { IfOk result (λ mixed. form_items mixed.form
+        ≡ other_items (word_items own.now) (form_items other.now.form)) }
     ensures bound { IfOk result (λ mixed. form_bound mixed.form ≡ own.now.bound) }
 {
     match &other.form {
@@ -313,11 +314,11 @@ fn minus_many(alloc: Global, own: &WordSet, other: &MixedSet) -> Result<MixedSet
     }
 }
 
-// Makes the union of a list and another set.
+// Unites the list set `own` with `other`.
 fn or_few(alloc: Global, own: &SortedSet, other: &MixedSet) -> Result<MixedSet, AllocError>
     requires { own.now.bound ≡ form_bound other.now.form }
-    ensures items { IfOk result
-        (λ mixed. form_items mixed.form ≡ all_items own.now.bound (list_items own.now) (form_items other.now.form)) }
+    ensures items { IfOk result (λ mixed. form_items mixed.form
+        ≡ all_items own.now.bound (list_items own.now) (form_items other.now.form)) }
     ensures bound { IfOk result (λ mixed. form_bound mixed.form ≡ own.now.bound) }
 {
     match &other.form {
@@ -333,11 +334,11 @@ fn or_few(alloc: Global, own: &SortedSet, other: &MixedSet) -> Result<MixedSet, 
     }
 }
 
-// Makes the union of words and another set.
+// Unites the bitmap set `own` with `other`.
 fn or_many(alloc: Global, own: &WordSet, other: &MixedSet) -> Result<MixedSet, AllocError>
     requires { own.now.bound ≡ form_bound other.now.form }
-    ensures items { IfOk result
-        (λ mixed. form_items mixed.form ≡ all_items own.now.bound (word_items own.now) (form_items other.now.form)) }
+    ensures items { IfOk result (λ mixed. form_items mixed.form
+        ≡ all_items own.now.bound (word_items own.now) (form_items other.now.form)) }
     ensures bound { IfOk result (λ mixed. form_bound mixed.form ≡ own.now.bound) }
 {
     match &other.form {
@@ -353,7 +354,7 @@ fn or_many(alloc: Global, own: &WordSet, other: &MixedSet) -> Result<MixedSet, A
     }
 }
 
-// Keeps the items of a list that are also in words.
+// Makes the list set of the items of `few` that are also in `many`.
 fn common_of_both(alloc: Global, few: &SortedSet, many: &WordSet) -> Result<SortedSet, AllocError>
     ensures items { IfOk result
         (λ set. list_items set ≡ common_items (list_items few.now) (word_items many.now)) }
@@ -363,7 +364,7 @@ fn common_of_both(alloc: Global, few: &SortedSet, many: &WordSet) -> Result<Sort
     Ok(SortedSet::from_list(items, few.bound()))
 }
 
-// Keeps the items of a list that are not in words.
+// Makes the list set of the items of `few` that are not in `many`.
 fn list_alone(alloc: Global, few: &SortedSet, many: &WordSet) -> Result<SortedSet, AllocError>
     ensures items { IfOk result
         (λ set. list_items set ≡ other_items (list_items few.now) (word_items many.now)) }

@@ -2,11 +2,11 @@
 ghost use Rattle.std.specs.Prelude.{◌≡◌, ◌<◌, ◌^◌};
 ghost use Rattle.number_lists.specs.Rising.{IsRisingBelow};
 
+use crate::bitmap::numbers_of;
 use crate::concept_set::ConceptSet;
 use crate::lists::{
     common_of, every_number, has_number, missing_from, others_of, part_of, sorted_of, union_of,
 };
-use crate::marks::numbers_of;
 use std::alloc::{AllocError, Global};
 
 /// A set as the rising list of its items: four bytes an item, whatever the bound.
@@ -123,7 +123,7 @@ impl ConceptSet for SortedSet {
 }
 
 impl SortedSet {
-    /// Makes the set of the items of a rising list, and takes over the list.
+    /// Makes the set of `items`, a strictly rising list of numbers below `bound`, without a copy.
     pub fn from_list(items: Vec<u32>, bound: u32) -> SortedSet
         requires { IsRisingBelow bound items.items }
         ensures items { ⟦<SortedSet as ConceptSet>⟧.items_of result ≡ items.items }
@@ -132,7 +132,7 @@ impl SortedSet {
         SortedSet { items, bound }
     }
 
-    /// Lends the items, in rising order.
+    /// Returns the items, in rising order.
     pub fn list(&self) -> &[u32]
         ensures { result.now ≡ ⟦<SortedSet as ConceptSet>⟧.items_of self.now }
     {

@@ -1,18 +1,18 @@
-//! The set as words of bits.
+//! The set as a bitmap.
 ghost use Rattle.std.specs.Prelude.{◌≡◌, ◌<◌, ◌^◌};
 ghost use Rattle.number_lists.specs.Rising.{IsRisingBelow, numbers_where};
 ghost use Rattle.idset.specs.Sets.{other_items};
 ghost use Rattle.idset.specs.Words.{AreWordsBelow, is_set};
 
+use crate::bitmap::{
+    bitmap_of, count_marked, full_bitmap, is_marked, mark_all, numbers_of, some_numbers, unmark_all,
+};
 use crate::concept_set::ConceptSet;
 use crate::kernels::{and_words, minus_words, or_words};
-use crate::marks::{
-    count_marks, every_mark, is_marked, mark_all, marks_of, numbers_of, some_numbers, unmark_all,
-};
 use std::alloc::{AllocError, Global};
 
-/// A set as words of 64 bits, a bit for each number below the bound: the bound tells its size, an
-/// eighth of a byte a number, whatever the set holds.
+/// A set as a bitmap in words of 64 bits: it takes a bit for each number below the bound, however
+/// many items it has.
 #[derive(Drop)]
 pub struct WordSet {
     words: Vec<u64>,
@@ -31,13 +31,13 @@ impl ConceptSet for WordSet {
 
     #[tactic(auto, using(crate::proofs::Rising::rules_of_rising))]
     fn from_items(alloc: Global, items: &[u32], bound: u32) -> Result<WordSet, AllocError> {
-        let words = marks_of(alloc, items, bound)?;
+        let words = bitmap_of(alloc, items, bound)?;
         Ok(WordSet { words, bound })
     }
 
     #[tactic(auto, using(crate::proofs::Rising::rules_of_rising))]
     fn from_numbers(alloc: Global, numbers: &[u32], bound: u32) -> Result<WordSet, AllocError> {
-        let words = marks_of(alloc, numbers, bound)?;
+        let words = bitmap_of(alloc, numbers, bound)?;
         Ok(WordSet { words, bound })
     }
 
@@ -49,7 +49,7 @@ impl ConceptSet for WordSet {
 
     #[tactic(auto, using(crate::proofs::Rising::rules_of_rising))]
     fn every(alloc: Global, bound: u32) -> Result<WordSet, AllocError> {
-        let words = every_mark(alloc, bound)?;
+        let words = full_bitmap(alloc, bound)?;
         Ok(WordSet { words, bound })
     }
 
@@ -109,24 +109,28 @@ impl ConceptSet for WordSet {
     }
 
     fn count(&self) -> u32 {
-        count_marks(&self.words, self.bound)
+        count_marked(&self.words, self.bound)
     }
 }
 
 impl WordSet {
-    /// Lends the words, in the form that `from_words` takes: the lowest bit of the first word is the number 0.
+    /// Returns the words of the bitmap, in the form that `from_words` takes: the lowest bit of the
+    /// first word stands for the number 0.
     pub fn words(&self) -> &[u64]
         ensures below { AreWordsBelow (⟦<WordSet as ConceptSet>⟧.bound_of self.now) result.now }
-        ensures items { ⟦<WordSet as ConceptSet>⟧.items_of self.now ≡ numbers_where (⟦<WordSet as ConceptSet>⟧.bound_of self.now) (is_set result.now) }
+        ensures items { ⟦<WordSet as ConceptSet>⟧.items_of self.now
+            ≡ numbers_where (⟦<WordSet as ConceptSet>⟧.bound_of self.now) (is_set result.now) }
     {
         &self.words
     }
 
-    /// Removes the items of a rising list from the set.
+    /// Removes `items`, a strictly rising list of numbers below the bound, from the set.
     pub fn remove_all(&mut self, items: &[u32])
         requires { IsRisingBelow (⟦<WordSet as ConceptSet>⟧.bound_of self.old) items.now }
-        ensures items { ⟦<WordSet as ConceptSet>⟧.items_of self.new ≡ other_items (⟦<WordSet as ConceptSet>⟧.items_of self.old) items.now }
-        ensures bound { ⟦<WordSet as ConceptSet>⟧.bound_of self.new ≡ ⟦<WordSet as ConceptSet>⟧.bound_of self.old }
+        ensures items { ⟦<WordSet as ConceptSet>⟧.items_of self.new
+            ≡ other_items (⟦<WordSet as ConceptSet>⟧.items_of self.old) items.now }
+        ensures bound { ⟦<WordSet as ConceptSet>⟧.bound_of self.new
+            ≡ ⟦<WordSet as ConceptSet>⟧.bound_of self.old }
     {
         unmark_all(&mut self.words, items);
     }

@@ -1,4 +1,5 @@
-//! Tests of texts with their tokens and their refusals, as the description of the language gives them.
+//! Tests of the tokens of texts, and of refusals. The expected ones come from the description of
+//! the language.
 use ecl_lexer::{Feature, QueryFault, Token, TokenKind, lex};
 use std::alloc::{AllocError, Global};
 use std::process::Abort;
@@ -253,7 +254,7 @@ const REFUSALS: &[(&[u8], QueryFault)] = &[
     (b"|\xff|", QueryFault::Utf8),
 ];
 
-// Returns the token of a text that has only one.
+// Returns the token of a text that has exactly one.
 fn only_token(alloc: Global, text: &[u8]) -> Option<Token<'_>> {
     match lex(alloc, text) {
         Ok(tokens) => sole(&tokens),
@@ -268,7 +269,7 @@ fn sole<'a>(tokens: &[Token<'a>]) -> Option<Token<'a>> {
     }
 }
 
-// Checks the only token of a text. Blanks may follow the token.
+// Checks the kind and the end of the only token of a text. Blanks may follow the token.
 fn assert_token(rt: &impl Abort, alloc: Global, text: &[u8], kind: TokenKind, end: usize) {
     assert!(rt; end <= text.len());
     let token = Token {
@@ -321,7 +322,7 @@ fn tokens(rt: HostRuntime) {
     assert_tokens(&rt, rt.alloc(), TOKENS);
 }
 
-// Returns how many tokens a text has, or its refusal.
+// Returns how many tokens a text has, or the text's refusal.
 fn count(alloc: Global, text: &[u8]) -> Result<usize, QueryFault> {
     match lex(alloc, text) {
         Ok(tokens) => Ok(tokens.len()),
@@ -340,7 +341,7 @@ fn refusals(rt: HostRuntime) {
     assert_refused(&rt, rt.alloc(), REFUSALS);
 }
 
-// Makes a text of repeated bytes, with other bytes before and after them.
+// Returns the text `front`, then `bytes` repeated `times` times, then `back`.
 fn repeated(
     alloc: Global,
     front: &[u8],
@@ -356,7 +357,7 @@ fn repeated(
     Ok(text)
 }
 
-// Whether a text that is made first has this count of tokens, or this refusal.
+// Whether the text, once it is made, has this number of tokens, or this refusal.
 fn is_counted(
     alloc: Global,
     (front, bytes, times, back): (&[u8], &[u8], usize, &[u8]),

@@ -1,6 +1,6 @@
-//! Tests of the language, from outside: tokens, trees, the parser and plans.
+//! Tests of the language: tokens, trees, the parser and plans.
 //!
-//! They stand in a crate of their own, so that the tested crates are not proved once more with them.
+//! The tests have a crate of their own, because a crate is proved a second time with its tests.
 #![tactic(auto)]
 
 #[cfg(test)]

@@ -1,4 +1,4 @@
-//! Tests of texts that are constraints, with their trees, and of texts that are refused.
+//! Tests of the parser: texts with their trees, and texts that are refused.
 use crate::trees::{boxed, either, members, pair_of, reversed, walk};
 use constraint_tree::{
     Attribute, AttributeSet, Cardinality, Compare, Constraint, Operator, Refinement, Test,
@@ -9,7 +9,7 @@ use numerals::Decimal;
 use std::alloc::{AllocError, Global};
 use std::process::Abort;
 
-// Whether a text is read as the tree.
+// Whether the parser reads `text` as `tree`.
 fn is_answered(alloc: Global, text: &[u8], tree: &Constraint) -> bool {
     match parse(alloc, text) {
         Ok(found) => found == *tree,
@@ -21,7 +21,7 @@ fn check(rt: &impl Abort, alloc: Global, text: &[u8], tree: &Constraint) {
     assert!(rt; is_answered(alloc, text, tree), "{text:?}");
 }
 
-// Checks that a text is read as a tree that is made first.
+// Checks that the parser reads `text` as the tree, once the tree is made.
 fn check_built(
     rt: &impl Abort,
     alloc: Global,
@@ -36,7 +36,7 @@ fn refusal(alloc: Global, text: &[u8]) -> Option<QueryFault> {
     parse(alloc, text).err()
 }
 
-// Checks that a text is refused.
+// Checks that a text is refused with `fault`.
 fn check_refused(rt: &impl Abort, alloc: Global, text: &[u8], fault: QueryFault) {
     let found = refusal(alloc, text);
     assert!(rt; found == Some(fault), "{found:?}");
@@ -119,7 +119,8 @@ fn refuses_tokens_first(rt: HostRuntime) {
     );
 }
 
-// Makes a text of one byte repeated, then the text inside, and then another byte repeated.
+// Returns a text of `count` times the byte `open`, then `inside`, then `count` times the byte
+// `close`.
 fn nested(
     alloc: Global,
     count: usize,
@@ -138,7 +139,8 @@ fn nested(
     Ok(text)
 }
 
-// Checks the refusals of nested brackets, by their number, their kind, and the text inside.
+// Checks that nested brackets are refused. A row has the number of brackets, the opening bracket,
+// the text inside, the closing bracket, and the fault.
 fn check_nested(
     rt: &impl Abort,
     alloc: Global,
@@ -172,7 +174,7 @@ fn allows_so_many_brackets(rt: HostRuntime) -> Result<(), AllocError> {
     )
 }
 
-// Makes a text of `count` stars, joined by commas.
+// Returns a text of `count` stars, joined by commas.
 fn joined_stars(alloc: Global, count: usize) -> Result<Vec<u8>, AllocError> {
     let mut text = Vec::new(alloc);
     text.push(b'*')?;
@@ -190,7 +192,8 @@ fn part_count(alloc: Global, text: &[u8]) -> Option<usize> {
     }
 }
 
-// The longest text has 65,535 tokens of one byte each, and there is memory for them.
+// The longest text has 65,535 tokens of one byte each. The parser reads it, if there is memory for
+// the tokens.
 #[test]
 fn answers_the_longest_text(rt: HostRuntime) -> Result<(), AllocError> {
     let text = joined_stars(rt.alloc(), 32_768)?;
@@ -278,7 +281,7 @@ fn check_read(rt: &impl Abort, alloc: Global, texts: &[&[u8]]) {
     }
 }
 
-// Constraints of the shapes that the examples of the published specification have.
+// Reads constraints of the forms that the examples of the published specification have.
 #[test]
 fn reads_published_shapes(rt: HostRuntime) {
     check_read(
@@ -319,7 +322,7 @@ fn reads_published_shapes(rt: HostRuntime) {
     );
 }
 
-// Whether the printed text of a constraint is read as that constraint.
+// Whether the parser reads the printed text of a constraint as the same constraint.
 fn is_read_again(alloc: Global, text: &[u8]) -> Result<bool, QueryFault> {
     let constraint = parse(alloc, text)?;
     Ok(read_again(alloc, &constraint)? == constraint)

@@ -1,4 +1,5 @@
-//! Tests of the plans of worked queries, their depth and their copies, and of plans that are not equal.
+//! Tests of the plans of worked queries, of the depth and the copies of plans, and of comparing
+//! plans.
 use crate::trees::{
     SOME, attribute, boxed as boxed_query, by_value as query_by_value, either, members, pair_of,
     refined, walk,
@@ -37,7 +38,7 @@ fn walked(alloc: Global, operator: Operator, number: u64) -> Result<ConceptPlan,
     Ok(ConceptPlan::Walk(operator, one(alloc, number)?))
 }
 
-// Makes the plan of the concepts below 100005 that are in `plan`.
+// Returns the plan of the concepts below 100005 that `plan` means too.
 fn below_and(alloc: Global, plan: ConceptPlan) -> Result<ConceptPlan, AllocError> {
     let below = walked(alloc, Operator::Descendants, 100005)?;
     Ok(ConceptPlan::And(plans_of(alloc, below, plan)?))
@@ -50,7 +51,7 @@ fn lowered(
     lower(alloc, &query?)
 }
 
-// Whether two plans are equal. Either may have failed for want of memory.
+// Whether two plans are equal, unless memory for one of them was refused.
 fn are_equal(
     found: Result<ConceptPlan, AllocError>,
     wanted: Result<ConceptPlan, AllocError>,
@@ -105,7 +106,7 @@ fn lowers_by_type(alloc: Global) -> Result<bool, AllocError> {
     lowers_to(alloc, query_by_type(alloc), by_type(alloc))
 }
 
-// Makes the group plan of `{type_id=values}`.
+// Returns the group plan of `{type_id=values}`.
 fn valued(alloc: Global, type_id: u64, values: ConceptPlan) -> Result<UnitPlan, AllocError> {
     let values = boxed(alloc, values)?;
     Ok(UnitPlan::Pairs {
@@ -121,7 +122,7 @@ fn valued_below(alloc: Global) -> Result<UnitPlan, AllocError> {
     valued(alloc, 104001, values)
 }
 
-// Makes the group plan of `{104001=<<106004,105000=*}`.
+// Returns the group plan of `{104001=<<106004,105000=*}`.
 fn groups_in_braces(alloc: Global) -> Result<UnitPlan, AllocError> {
     let first = valued_below(alloc)?;
     let second = valued(alloc, 105000, ConceptPlan::All)?;
@@ -316,7 +317,7 @@ fn copies_are_equal(alloc: Global) -> Result<bool, AllocError> {
     Ok(plans && groups)
 }
 
-// Whether the plan of this operator and number equals that of `<100005`.
+// Whether the plan of this operator and concept equals that of `<100005`.
 fn is_below(alloc: Global, operator: Operator, number: u64) -> Result<bool, AllocError> {
     are_equal(
         walked(alloc, Operator::Descendants, 100005),
@@ -324,7 +325,7 @@ fn is_below(alloc: Global, operator: Operator, number: u64) -> Result<bool, Allo
     )
 }
 
-// Whether the plan of these two concepts in this order equals that of `100005,101009`.
+// Whether the plan of these two concepts, in this order, equals that of `100005,101009`.
 fn are_both(alloc: Global, first: u64, second: u64) -> Result<bool, AllocError> {
     are_equal(both(alloc, 100005, 101009), both(alloc, first, second))
 }
@@ -339,7 +340,7 @@ fn leaves_differ(alloc: Global) -> bool {
         && ValueTest::Number(Compare::Less, TWO) != ValueTest::Number(Compare::LessOrEqual, TWO)
 }
 
-// Checks plans that differ in one thing alone.
+// Checks that plans which differ in one thing are not equal.
 fn others_differ(alloc: Global) -> Result<bool, AllocError> {
     let same = [
         is_below(alloc, Operator::Descendants, 100005)?,

@@ -1,4 +1,4 @@
-//! Tests of constraints as trees: their depth and their text.
+//! Tests of constraints as trees: their depth and their printed text.
 use crate::trees::{
     SOME, attribute, boxed, by_value, either, members, pair_of, refined, reversed, walk,
 };
@@ -69,7 +69,7 @@ fn depth_of_lists(rt: HostRuntime) -> Result<(), AllocError> {
     Ok(())
 }
 
-// Whether a tree prints this text after a `|` that stands there before.
+// Whether printing `tree` appends `text` to a vector that already has a `|`.
 fn is_printed(alloc: Global, tree: &Constraint, text: &[u8]) -> Result<bool, AllocError> {
     let mut output = Vec::from_slice(alloc, b"|")?;
     tree.print(alloc, &mut output)?;
@@ -84,7 +84,7 @@ fn is_built(
     is_printed(alloc, &built?, text)
 }
 
-// Checks the text of a tree.
+// Checks the printed text of a tree.
 fn check_text(rt: &impl Abort, alloc: Global, built: Result<Constraint, AllocError>, text: &[u8]) {
     assert!(rt; is_built(alloc, built, text) == Ok(true), "{text:?}");
 }

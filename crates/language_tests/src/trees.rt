@@ -1,4 +1,4 @@
-//! Functions that make trees, for the tests.
+//! Functions that make trees for the tests.
 use constraint_tree::{Attribute, Cardinality, Constraint, Operator, Refinement, Test};
 use std::alloc::{AllocError, Global};
 

@@ -1,17 +1,20 @@
 -- Lists in blocks, one for each number of a range: filters, maps and tests of them.
 use Rattle.std.proofs.Common.{ℕ, zero, suc, ◌+◌, ◌≡◌, ◌<◌, ◌≤◌, ◌++◌, ◌∷◌, [], ◌∙◌, ◌&&◌}
-use Rattle.std.proofs.Common.{◌||◌, List, length, get_or, map, take, Bool, true, false, cond, refl, ap, subst, arith, length-append}
+use Rattle.std.proofs.Common.{◌||◌, List, length, get_or, map, take, Bool, true, false, cond, refl, ap, subst, arith}
+use Rattle.std.proofs.Common.{length-append}
 use Rattle.std.specs.Prelude.{All, Contains}
 use Rattle.std.specs.List.{filter, flat_map, list_any, range_with_len}
 use Rattle.std.proofs.lemmas.List.{get_or-map, length-map, map-append}
-use Rattle.std.proofs.lemmas.List.Elements.{All-append, All-cons, All-head, All-nil, All-tail, Contains-append_right, filter-append}
+use Rattle.std.proofs.lemmas.List.Elements.{All-append, All-cons, All-head, All-nil, All-tail, Contains-append_right}
+use Rattle.std.proofs.lemmas.List.Elements.{filter-append}
 use Rattle.std.proofs.lemmas.List.Folds.{flat_map-map, list_any-append}
 use Rattle.std.proofs.lemmas.List.FromFn.{fill_by_all, take-map-range_with_len}
 
 -- ---- filters and maps
 module _ {X : Type 0} where
-  -- filtering what `f` gives for `xs` is mapping the items of `xs` for which `f` gives what passes
-  pub filter-map : {Y : Type 0} (p : Y → Bool) (f : X → Y) (xs : List X) → filter p (map f xs) ≡ map f (filter (λ x. p (f x)) xs)
+  -- filtering `map f xs` by `p` is mapping the items `x` of `xs` for which `f x` passes `p`
+  pub filter-map : {Y : Type 0} (p : Y → Bool) (f : X → Y) (xs : List X)
+      → filter p (map f xs) ≡ map f (filter (λ x. p (f x)) xs)
   filter-map p f [] = refl
   filter-map p f (x ∷ xs) =
       let rest = filter-map p f xs in
@@ -60,7 +63,8 @@ module _ {X : Type 0} where
       λ i. here i ∷ rest i
 
   -- functions that agree on the items of a list have the same flat map of it
-  pub flat_map-within : {Y : Type 0} (f g : X → List Y) (xs : List X) → All (λ x. f x ≡ g x) xs → flat_map f xs ≡ flat_map g xs
+  pub flat_map-within : {Y : Type 0} (f g : X → List Y) (xs : List X) → All (λ x. f x ≡ g x) xs
+      → flat_map f xs ≡ flat_map g xs
   flat_map-within f g [] same = refl
   flat_map-within f g (x ∷ xs) same =
       let here : f x ≡ g x = All-head (λ x. f x ≡ g x) x xs same in
@@ -69,7 +73,8 @@ module _ {X : Type 0} where
 
   -- if `P` holds of every item of `map f xs`, `P` holds of `f x` for every `x` in `xs`
   pub All-mapped : {Y : Type 0} (P : Y → Type 0) (f : X → Y) (xs : List X) → All P (map f xs) → All (λ x. P (f x)) xs
-  All-mapped P f xs all k d below = subst P (get_or-map f xs k d (f d) below) (all k (f d) (omega (arith, below, length-map xs f)))
+  All-mapped P f xs all k d below =
+      subst P (get_or-map f xs k d (f d) below) (all k (f d) (omega (arith, below, length-map xs f)))
 
   -- tests that agree on the items of a list agree on whether some item passes
   pub any-within : (p q : X → Bool) (xs : List X) → All (λ x. p x ≡ q x) xs → list_any p xs ≡ list_any q xs
@@ -80,7 +85,8 @@ module _ {X : Type 0} where
       λ i. here i || rest i
 
   -- some item of `map f xs` passes `p` exactly if `f x` does for some `x` in `xs`
-  pub any-map : {Y : Type 0} (p : Y → Bool) (f : X → Y) (xs : List X) → list_any p (map f xs) ≡ list_any (λ x. p (f x)) xs
+  pub any-map : {Y : Type 0} (p : Y → Bool) (f : X → Y) (xs : List X)
+      → list_any p (map f xs) ≡ list_any (λ x. p (f x)) xs
   any-map p f [] = refl
   any-map p f (x ∷ xs) = ap (λ (b : Bool). p (f x) || b) (any-map p f xs)
 
@@ -89,7 +95,8 @@ module _ {X : Type 0} where
   any-filter p q [] = refl
   any-filter p q (x ∷ xs) =
       let rest = any-filter p q xs in
-      elim (q x) as (λ b. list_any p (cond b (x ∷ filter q xs) (filter q xs)) ≡ ((b && p x) || list_any (λ x. q x && p x) xs))
+      elim (q x) as (λ b. list_any p (cond b (x ∷ filter q xs) (filter q xs))
+      ≡ ((b && p x) || list_any (λ x. q x && p x) xs))
       [ true ↦ (λ i. p x || rest i) | false ↦ rest ]
 
   -- an item of a list that passes the test is in the filtered list
@@ -128,7 +135,8 @@ module _ {X : Type 0} where
   pub map-flat_map : {K Y : Type 0} (h : X → Y) (f : K → List X) (keys : List K)
       → map h (flat_map f keys) ≡ flat_map (λ key. map h (f key)) keys
   map-flat_map h f [] = refl
-  map-flat_map h f (key ∷ keys) = map-append h (f key) (flat_map f keys) ∙ ap (λ rest. map h (f key) ++ rest) (map-flat_map h f keys)
+  map-flat_map h f (key ∷ keys) = map-append h (f key) (flat_map f keys)
+      ∙ ap (λ rest. map h (f key) ++ rest) (map-flat_map h f keys)
 
   -- some item of a flat map passes the test exactly if some item of some list of it does
   pub any-flat_map : {K : Type 0} (p : X → Bool) (f : K → List X) (keys : List K)
@@ -141,7 +149,8 @@ module _ {X : Type 0} where
   pub blocks-same : (f g : ℕ → List X) (from n : ℕ) → ((k : ℕ) → k < from + n → f k ≡ g k)
       → flat_map f (range_with_len from n) ≡ flat_map g (range_with_len from n)
   blocks-same f g from zero same = refl
-  blocks-same f g from (suc n) same = λ i. same from (omega arith) i ++ blocks-same f g (from + 1) n (λ k below. same k (omega arith)) i
+  blocks-same f g from (suc n) same =
+      λ i. same from (omega arith) i ++ blocks-same f g (from + 1) n (λ k below. same k (omega arith)) i
 
   -- if `f` and `g` give equally long lists for each number of a range, their flat maps of the range are equally long
   pub blocks-long : {Y : Type 0} (f : ℕ → List X) (g : ℕ → List Y) (from n : ℕ)
@@ -188,14 +197,17 @@ items_by_place xs d = fill_by_all (λ k. get_or xs k d) xs (length xs) d refl (�
 -- the first `n` items of a list are its items at the first `n` places
 pub items_before : {X : Type 0} (xs : List X) (d : X) (n : ℕ) → n ≤ length xs
     → take n xs ≡ map (λ k. get_or xs k d) (range_with_len 0 n)
-items_before xs d n within = ap (take n) (items_by_place xs d) ∙ take-map-range_with_len (λ k. get_or xs k d) 0 (length xs) n within
+items_before xs d n within = ap (take n) (items_by_place xs d)
+    ∙ take-map-range_with_len (λ k. get_or xs k d) 0 (length xs) n within
 
 -- the flat map of a list is the flat map of its items at all places
 pub blocks_by_place : {X Y : Type 0} (f : X → List Y) (xs : List X) (d : X)
     → flat_map f xs ≡ flat_map (λ k. f (get_or xs k d)) (range_with_len 0 (length xs))
-blocks_by_place f xs d = ap (flat_map f) (items_by_place xs d) ∙ flat_map-map f (λ k. get_or xs k d) (range_with_len 0 (length xs))
+blocks_by_place f xs d = ap (flat_map f) (items_by_place xs d)
+    ∙ flat_map-map f (λ k. get_or xs k d) (range_with_len 0 (length xs))
 
 -- the flat map of the first `n` items of a list is the flat map of its items at the first `n` places
 pub blocks_before : {X Y : Type 0} (f : X → List Y) (xs : List X) (d : X) (n : ℕ) → n ≤ length xs
     → flat_map f (take n xs) ≡ flat_map (λ k. f (get_or xs k d)) (range_with_len 0 n)
-blocks_before f xs d n within = ap (flat_map f) (items_before xs d n within) ∙ flat_map-map f (λ k. get_or xs k d) (range_with_len 0 n)
+blocks_before f xs d n within = ap (flat_map f) (items_before xs d n within)
+    ∙ flat_map-map f (λ k. get_or xs k d) (range_with_len 0 n)

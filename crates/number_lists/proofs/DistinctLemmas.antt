@@ -1,5 +1,6 @@
 -- The distinct items of a list are its members, each once.
-use Rattle.std.proofs.Common.{arith, ◌≡◌, Bool, true, false, not, List, [], ◌∷◌, filter, nat_eq, refl, sym, ap, ◌∙◌, inl, inr, eqb-true}
+use Rattle.std.proofs.Common.{arith, ◌≡◌, Bool, true, false, not, List, [], ◌∷◌, filter, nat_eq, refl, sym, ap, ◌∙◌}
+use Rattle.std.proofs.Common.{inl, inr, eqb-true}
 use Rattle.std.proofs.lemmas.Bool.Decides.{nat_tests}
 use Rattle.std.proofs.lemmas.Grind.{common_steps}
 use Rattle.std.specs.Cmp.{IsEquivalence}
@@ -43,24 +44,28 @@ module _ {X : Type 0} (same : X → X → Bool) where
     beside : (q x k : X) → same q x ≡ false → same q k ≡ true → not (same x k) ≡ true
     beside q x k apart alike = ap not (is.symm x k ∙ sym (is.congr q k x alike) ∙ apart)
 
-    -- an item is the same as one of the distinct items exactly if it is the same as one of all
+    -- some item of `distinct same xs` is the same as `q` exactly if some item of `xs` is
     pub any_distinct : (q : X) (xs : List X) → list_any (same q) (distinct same xs) ≡ list_any (same q) xs
     any_distinct q [] = refl
     any_distinct q (x ∷ xs) = elim (cases_Bool (same q x)) [
       | inl here ↦ rw here refl
-      | inr apart ↦ rw apart (any-filter_same (same q) (λ y. not (same x y)) true (λ k alike. beside q x k apart alike) (distinct same xs) ∙ any_distinct q xs)
+      | inr apart ↦ rw apart (any-filter_same (same q) (λ y. not (same x y)) true (λ k alike. beside q x k apart alike)
+          (distinct same xs) ∙ any_distinct q xs)
     ]
 
-    -- if items that `same` calls the same are equal, `distinct` keeps each item of a list once
+    -- if items that `same` finds the same are equal, `distinct same xs` has no repeats and exactly the members of
+    -- `xs`
     pub keeps_each_once : ((x y : X) → same x y ≡ true → x ≡ y) → (xs : List X) → KeepsEachOnce same xs
     keeps_each_once exact xs = (
       distinct_once xs,
       λ q. (
-        λ there. Contains-from_any exact q xs (sym (any_distinct q xs) ∙ list_any-from_Contains is q (distinct same xs) there),
-        λ there. Contains-from_any exact q (distinct same xs) (any_distinct q xs ∙ list_any-from_Contains is q xs there),
+        λ there. Contains-from_any exact q xs (sym (any_distinct q xs)
+            ∙ list_any-from_Contains is q (distinct same xs) there),
+        λ there. Contains-from_any exact q (distinct same xs) (any_distinct q xs
+            ∙ list_any-from_Contains is q xs there),
       ),
     )
 
--- `distinct` keeps each number of a list once
+-- for every list of numbers, `distinct` of it has no repeats and exactly its members
 pub keeps_each_number_once : KeepsEachNumberOnce
 keeps_each_number_once numbers = keeps_each_once nat_eq nat_eq_equiv (λ x y alike. eqb-true x y alike) numbers

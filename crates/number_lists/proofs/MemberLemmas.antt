@@ -27,13 +27,14 @@ had_contained (y ∷ xs) x (suc k, within, is) = or_right (y == x) (has xs x) (h
 
 -- if the list does not contain a number, `has` fails
 pub had_not : (xs : List ℕ) (x : ℕ) → (Contains xs x → ⊥) → has xs x ≡ false
-had_not xs x none = ⊎_elim (λ (had : has xs x ≡ true). absurd (none (contains_had xs x had))) (λ (told : has xs x ≡ false). told) (cases_Bool (has xs x))
+had_not xs x none = ⊎_elim (λ (had : has xs x ≡ true). absurd (none (contains_had xs x had)))
+    (λ (told : has xs x ≡ false). told) (cases_Bool (has xs x))
 
 -- if `has` fails, the list does not contain the number
 pub not_contained : (xs : List ℕ) (x : ℕ) → has xs x ≡ false → Contains xs x → ⊥
 not_contained xs x told there = absurd (cc (told, had_contained xs x there))
 
--- `has` agrees with std's test, whose comparison has its sides the other way round
+-- `has xs n` is std's `list_any (nat_eq n) xs`, which compares with the two numbers swapped
 pub any-has : (xs : List ℕ) (n : ℕ) → list_any (nat_eq n) xs ≡ has xs n
 any-has [] n = refl
 any-has (x ∷ xs) n = λ i. nat_eq_equiv.symm n x i || any-has xs n i
@@ -43,15 +44,18 @@ pub has-append : (xs ys : List ℕ) (x : ℕ) → has (xs ++ ys) x ≡ (has xs x
 has-append xs ys x = list_any-append (λ y. y == x) xs ys
 
 -- ---- how often
--- a number stands in two joined lists as often as in the first and in the second together
+-- a number is as often in two joined lists as in the first and in the second together
 pub times-append : (number : ℕ) (xs ys : List ℕ) → times number (xs ++ ys) ≡ times number xs + times number ys
 times-append number xs ys = sum_by-append (λ x. cond (x == number) 1 0) xs ys
 
--- the item at `i` stands once more in the first `i + 1` items than in the first `i`
-pub times-own : (xs : List ℕ) (i : ℕ) → i < length xs → times (get_or xs i 0) (take (i + 1) xs) ≡ times (get_or xs i 0) (take i xs) + 1
-times-own xs i within = count_by_more_yes (λ x. x == get_or xs i 0) xs i 0 within (eq-eqb (get_or xs i 0) (get_or xs i 0) refl)
+-- the item at `i` is once more among the first `i + 1` items than among the first `i`
+pub times-own : (xs : List ℕ) (i : ℕ) → i < length xs
+    → times (get_or xs i 0) (take (i + 1) xs) ≡ times (get_or xs i 0) (take i xs) + 1
+times-own xs i within = count_by_more_yes (λ x. x == get_or xs i 0) xs i 0 within
+    (eq-eqb (get_or xs i 0) (get_or xs i 0) refl)
 
--- if the members other than `x` are those for which `P` holds, and `P x` holds, the list with `x` at its end has
--- exactly those for which `P` holds
-pub members-push : (P : ℕ → Type 0) (xs : List ℕ) (x : ℕ) → P x → ((y : ℕ) → y ≢ x → Contains xs y ↔ P y) → (y : ℕ) → Contains (xs ++ x ∷ []) y ↔ P y
+-- if `P` holds of `x`, and a number other than `x` is in the list exactly if `P` holds of it, then a number is in
+-- the list with `x` at its end exactly if `P` holds of it
+pub members-push : (P : ℕ → Type 0) (xs : List ℕ) (x : ℕ) → P x → ((y : ℕ) → y ≢ x → Contains xs y ↔ P y) → (y : ℕ)
+    → Contains (xs ++ x ∷ []) y ↔ P y
 members-push P xs x own other y = grind (arith, common_steps, nat_tests, ⊎_elim, cases_eq)

@@ -1,5 +1,6 @@
 -- The numbers below a bound that pass a test.
-use Rattle.std.proofs.Common.{ℕ, zero, suc, ◌+◌, ◌-◌, ◌<◌, ◌≤◌, ◌≡◌, Bool, true, false, ◌&&◌, ◌||◌, cond, ltb, eqb, List, [], ◌∷◌, ◌++◌}
+use Rattle.std.proofs.Common.{ℕ, zero, suc, ◌+◌, ◌-◌, ◌<◌, ◌≤◌, ◌≡◌, Bool, true, false, ◌&&◌, ◌||◌, cond, ltb, eqb}
+use Rattle.std.proofs.Common.{List, [], ◌∷◌, ◌++◌}
 use Rattle.std.proofs.Common.{length, refl, sym, ap, ◌∙◌, ⊎_elim, arith, inl, inr, append-nil, Contains}
 use Rattle.std.specs.List.{range_with_len, count_by, filter}
 use Rattle.std.proofs.lemmas.Bool.{lt-ltb, le-ltb, eq-eqb, ne_eqb, cases_lt, cases_eq}
@@ -14,7 +15,7 @@ use Rattle.number_lists.proofs.MemberLemmas.{contains_had, had_contained}
 abbrev pub numbers_from : ℕ → ℕ → (ℕ → Bool) → List ℕ
 numbers_from low count test = filter test (range_with_len low count)
 
--- tests that agree on the range keep the same numbers
+-- tests that agree on the `count` numbers from `low` on keep the same numbers of them
 pub numbers_from-agree : (low count : ℕ) (p q : ℕ → Bool) → ((n : ℕ) → low ≤ n → n < low + count → p n ≡ q n)
     → numbers_from low count p ≡ numbers_from low count q
 numbers_from-agree low zero p q agree = refl
@@ -25,7 +26,8 @@ numbers_from-agree low (suc count) p q agree =
     (λ i. cond (here i) (low ∷ rest i) (rest i))
 
 -- tests that agree below `bound` give the same list
-pub numbers_where-agree : (bound : ℕ) (p q : ℕ → Bool) → ((n : ℕ) → n < bound → p n ≡ q n) → numbers_where bound p ≡ numbers_where bound q
+pub numbers_where-agree : (bound : ℕ) (p q : ℕ → Bool) → ((n : ℕ) → n < bound → p n ≡ q n)
+    → numbers_where bound p ≡ numbers_where bound q
 numbers_where-agree bound p q agree = numbers_from-agree 0 bound p q (λ n _ below. agree n (omega arith))
 
 -- no number below `low` is in `numbers_from`
@@ -49,7 +51,8 @@ has-from low (suc count) p n above below =
           (numbers_from (low + 1) count p)) n ≡ b)
           [ true ↦ (λ i. here i || has (numbers_from (low + 1) count p) n) | false ↦ kept ]) ∙ ap p same
       | inr apart ↦
-          let rest : has (numbers_from (low + 1) count p) n ≡ p n = has-from (low + 1) count p n (omega arith) (omega arith) in
+          let rest : has (numbers_from (low + 1) count p) n ≡ p n =
+          has-from (low + 1) count p n (omega arith) (omega arith) in
           let other : eqb low n ≡ false = ne_eqb low n apart in
           (elim (p low) as (λ b. has (cond b (low ∷ numbers_from (low + 1) count p)
           (numbers_from (low + 1) count p)) n ≡ p n)
@@ -81,8 +84,10 @@ has-numbers_where_any bound p n =
       | inr past ↦ has-numbers_where_past bound p n past ∙ (λ i. sym (le-ltb n bound past) i && p n)
     ]
 
--- the numbers of two successive ranges that pass a test are those of the first and then those of the second
-pub numbers_from-add : (low count more : ℕ) (p : ℕ → Bool) → numbers_from low (count + more) p ≡ numbers_from low count p ++ numbers_from (low + count) more p
+-- the numbers of two successive ranges that pass a test are those of the first range, followed by those of the
+-- second
+pub numbers_from-add : (low count more : ℕ) (p : ℕ → Bool)
+    → numbers_from low (count + more) p ≡ numbers_from low count p ++ numbers_from (low + count) more p
 numbers_from-add low zero more p = (λ i. numbers_from (low-zero i) (zero-more i) p)
   where
     low-zero : low ≡ low + 0
@@ -104,21 +109,25 @@ numbers_from-add low (suc count) more p =
     ≡ cond b (low ∷ numbers_from (low + 1) count p) (numbers_from (low + 1) count p)
     ++ numbers_from (low + suc count) more p) [ true ↦ (λ i. low ∷ joined i) | false ↦ joined ])
 
--- the numbers below `bound + more` that pass are those below `bound` and those of the next `more`
-pub numbers_where-add : (bound more : ℕ) (p : ℕ → Bool) → numbers_where (bound + more) p ≡ numbers_where bound p ++ filter p (range_with_len bound more)
+-- the numbers below `bound + more` that pass are those below `bound`, followed by those of the next `more` numbers
+pub numbers_where-add : (bound more : ℕ) (p : ℕ → Bool)
+    → numbers_where (bound + more) p ≡ numbers_where bound p ++ filter p (range_with_len bound more)
 numbers_where-add bound more p =
     let place : 0 + bound ≡ bound = omega arith in
     numbers_from-add 0 bound more p ∙ (λ i. numbers_from 0 bound p ++ numbers_from (place i) more p)
 
--- the numbers below `bound + 1` that pass are those below `bound`, and `bound` if it passes
-pub numbers_where-more : (bound : ℕ) (p : ℕ → Bool) → numbers_where (bound + 1) p ≡ numbers_where bound p ++ cond (p bound) (bound ∷ []) []
+-- the numbers below `bound + 1` that pass are those below `bound`, followed by `bound` if it passes
+pub numbers_where-more : (bound : ℕ) (p : ℕ → Bool)
+    → numbers_where (bound + 1) p ≡ numbers_where bound p ++ cond (p bound) (bound ∷ []) []
 numbers_where-more bound p = numbers_where-add bound 1 p
 
 -- if no number of the range passes, `numbers_from` is empty
-pub numbers_from-none : (low count : ℕ) (p : ℕ → Bool) → ((n : ℕ) → low ≤ n → n < low + count → p n ≡ false) → numbers_from low count p ≡ []
+pub numbers_from-none : (low count : ℕ) (p : ℕ → Bool) → ((n : ℕ) → low ≤ n → n < low + count → p n ≡ false)
+    → numbers_from low count p ≡ []
 numbers_from-none low zero p none = refl
 numbers_from-none low (suc count) p none =
-    (λ i. cond (none low (omega arith) (omega arith) i) (low ∷ numbers_from (low + 1) count p) (numbers_from (low + 1) count p))
+    (λ i. cond (none low (omega arith) (omega arith) i) (low ∷ numbers_from (low + 1) count p)
+    (numbers_from (low + 1) count p))
     ∙ numbers_from-none (low + 1) count p (λ n above below. none n (omega arith) (omega arith))
 
 -- if no number from `bound` up to `further` passes, both bounds give the same list
@@ -127,10 +136,12 @@ pub numbers_where-skip : (bound further : ℕ) (p : ℕ → Bool) → bound ≤ 
 numbers_where-skip bound further p le none =
     let long : further ≡ bound + (further - bound) = omega arith in
     (λ i. numbers_where (long i) p) ∙ numbers_where-add bound (further - bound) p
-    ∙ ap (λ rest. numbers_where bound p ++ rest) (numbers_from-none bound (further - bound) p (λ n above below. none n above (omega arith)))
+    ∙ ap (λ rest. numbers_where bound p ++ rest)
+    (numbers_from-none bound (further - bound) p (λ n above below. none n above (omega arith)))
     ∙ append-nil (numbers_where bound p)
 
--- the least number from `bound` on that passes comes next in the list
+-- if `number` is the least number from `bound` on that passes, the numbers below `number + 1` that pass are those
+-- below `bound`, followed by `number`
 pub numbers_where-next : (bound number : ℕ) (p : ℕ → Bool) → bound ≤ number
     → ((n : ℕ) → bound ≤ n → n < number → p n ≡ false) → p number ≡ true
     → numbers_where (number + 1) p ≡ numbers_where bound p ++ number ∷ []
@@ -139,22 +150,32 @@ numbers_where-next bound number p le none here =
 
 -- ---- filtering `numbers_where`
 -- filtering the numbers that pass `p` by `q` gives those that pass both
-pub filter-numbers_where : (bound : ℕ) (p q : ℕ → Bool) → filter q (numbers_where bound p) ≡ numbers_where bound (λ n. p n && q n)
+pub filter-numbers_where : (bound : ℕ) (p q : ℕ → Bool)
+    → filter q (numbers_where bound p) ≡ numbers_where bound (λ n. p n && q n)
 filter-numbers_where bound p q = filter-twice q p (range_with_len 0 bound)
 
--- the numbers that are in `numbers_where` are `numbers_where`
-pub listed_numbers-numbers_where : (bound : ℕ) (p : ℕ → Bool) → listed_numbers bound (numbers_where bound p) ≡ numbers_where bound p
-listed_numbers-numbers_where bound p = numbers_where-agree bound (has (numbers_where bound p)) p (λ n below. has-numbers_where bound p n below)
+-- `listed_numbers bound` of the list `numbers_where bound p` is this list
+pub listed_numbers-numbers_where : (bound : ℕ) (p : ℕ → Bool)
+    → listed_numbers bound (numbers_where bound p) ≡ numbers_where bound p
+listed_numbers-numbers_where bound p =
+    numbers_where-agree bound (has (numbers_where bound p)) p (λ n below. has-numbers_where bound p n below)
 
 -- ---- the length of `numbers_where`
 -- `numbers_where` has as many items as numbers of the range pass
-pub length-numbers_where : (bound : ℕ) (p : ℕ → Bool) → length (numbers_where bound p) ≡ count_by p (range_with_len 0 bound)
+pub length-numbers_where : (bound : ℕ) (p : ℕ → Bool)
+    → length (numbers_where bound p) ≡ count_by p (range_with_len 0 bound)
 length-numbers_where bound p = length-filter p (range_with_len 0 bound)
 
 -- `numbers_where bound` has at most `bound` items
 pub length-numbers_where-le : (bound : ℕ) (p : ℕ → Bool) → length (numbers_where bound p) ≤ bound
 length-numbers_where-le bound p =
-    omega (arith, length-numbers_where bound p, count_by-le-length p (range_with_len 0 bound), length-range_with_len 0 bound)
+    omega (
+      arith,
+      length-numbers_where bound p,
+      count_by-le-length p (range_with_len 0 bound),
+      length-range_with_len 0
+          bound,
+    )
 
 -- if every number passes, `numbers_from` is the range
 numbers_from-all : (low count : ℕ) → numbers_from low count (λ _. true) ≡ range_with_len low count
@@ -169,18 +190,30 @@ numbers_where-all bound = numbers_from-all 0 bound
 pub numbers_where-none : (bound : ℕ) → numbers_where bound (λ _. false) ≡ []
 numbers_where-none bound = numbers_from-none 0 bound (λ _. false) (λ n _ _. refl)
 
--- the range below `bound + 1` is that below `bound` and `bound`
+-- the range of the numbers below `bound + 1` is that of the numbers below `bound`, followed by `bound`
 pub range_more : (bound : ℕ) → range_with_len 0 (bound + 1) ≡ range_with_len 0 bound ++ bound ∷ []
-range_more bound = sym (numbers_where-all (bound + 1)) ∙ numbers_where-more bound (λ _. true) ∙ ap (λ numbers. numbers ++ bound ∷ []) (numbers_where-all bound)
+range_more bound = sym (numbers_where-all (bound + 1)) ∙ numbers_where-more bound (λ _. true)
+    ∙ ap (λ numbers. numbers ++ bound ∷ []) (numbers_where-all bound)
 
 -- ---- the members of `numbers_where`
 -- a number below `count` that passes is in `numbers_where`
-pub where_there : (count : ℕ) (test : ℕ → Bool) (n : ℕ) → n < count → test n ≡ true → Contains (numbers_where count test) n
-where_there count test n below told = contains_had (numbers_where count test) n (has-numbers_where count test n below ∙ told)
+pub where_there : (count : ℕ) (test : ℕ → Bool) (n : ℕ) → n < count → test n ≡ true
+    → Contains (numbers_where count test) n
+where_there count test n below told =
+    contains_had (numbers_where count test) n (has-numbers_where count test n below ∙ told)
 
 -- a number in `numbers_where` is below `count` and passes
-pub there_where : (count : ℕ) (test : ℕ → Bool) (n : ℕ) → Contains (numbers_where count test) n → (n < count) × (test n ≡ true)
+pub there_where : (count : ℕ) (test : ℕ → Bool) (n : ℕ) → Contains (numbers_where count test) n
+    → (n < count) × (test n ≡ true)
 there_where count test n there = ⊎_elim
-    (λ (below : n < count). (below, sym (has-numbers_where count test n below) ∙ had_contained (numbers_where count test) n there))
-    (λ (past : count ≤ n). absurd (cc (had_contained (numbers_where count test) n there, has-numbers_where_past count test n past)))
+    (λ (below : n < count). (
+      below,
+      sym (has-numbers_where count test n below)
+          ∙ had_contained (numbers_where count test) n there,
+    ))
+    (λ (past : count ≤ n). absurd (cc (
+      had_contained (numbers_where count test) n there,
+      has-numbers_where_past count
+          test n past,
+    )))
     (cases_lt n count)

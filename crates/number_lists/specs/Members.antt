@@ -1,4 +1,4 @@
--- The members of a list of numbers: whether a number is one, and how often it stands there.
+-- The members of a list of numbers: whether a number is in it, and how often.
 use Rattle.std.specs.Prelude.{ℕ, ◌==◌, Bool, List, count_by}
 use Rattle.std.specs.List.{list_any}
 
@@ -6,6 +6,6 @@ use Rattle.std.specs.List.{list_any}
 abbrev pub has : List ℕ → ℕ → Bool
 has numbers number = list_any (λ other. other == number) numbers
 
--- how often a number stands in a list
+-- how often a number is in a list
 abbrev pub times : ℕ → List ℕ → ℕ
 times number numbers = count_by (λ other. other == number) numbers

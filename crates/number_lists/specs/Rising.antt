@@ -3,7 +3,8 @@ use Rattle.std.specs.Prelude.{ℕ, Bool, true, List, [], ◌∷◌, ◌&&◌, na
 use Rattle.std.specs.List.{range_with_len}
 use Rattle.number_lists.specs.Members.{has}
 
--- whether the items rise strictly, the first of them not below `lowest` and all of them below `bound`
+-- whether the items rise strictly, the first of them not below `lowest` and all of them below
+-- `bound`
 abbrev pub rises_within : ℕ → ℕ → List ℕ → Bool
 rises_within lowest bound [] = true
 rises_within lowest bound (item ∷ items) =
@@ -17,7 +18,8 @@ IsRisingBelow bound items = IsTrue (rises_within 0 bound items)
 abbrev pub IsRising : List ℕ → Type 0
 IsRising items = IsRisingBelow (2 ^ 32) items
 
--- the numbers below `bound` that pass a test, in rising order: a set of numbers by its membership test
+-- the numbers below `bound` that pass a test, in rising order: a set of numbers by its membership
+-- test
 abbrev pub numbers_where : ℕ → (ℕ → Bool) → List ℕ
 numbers_where bound test = filter test (range_with_len 0 bound)
 

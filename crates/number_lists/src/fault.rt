@@ -1,13 +1,13 @@
-//! The fault of lists by a key that do not grow.
+//! Why `KeyedLists::push` fails.
 
 use std::alloc::{AllocError, AllocFailed};
 
-/// Why a list was not added to lists by a key.
+/// Why `KeyedLists::push` did not add a list.
 #[derive(Clone, Copy, Debug, PartialEq, Eq)]
 pub enum PushFault {
     /// All lists together would have 2^32 items or more.
     TooManyItems,
-    /// A growth of memory was refused.
+    /// The allocator refused memory.
     Memory,
 }
 

@@ -1,5 +1,6 @@
-//! Lists of numbers: lists by a key, all in one vector, and numbers brought into rising order. Definitions and lemmas
-//! on lists of any kind, which other crates use, are here.
+//! Lists of numbers: `KeyedLists`, which has a list for each key, all in one vector, and
+//! `keep_rising`, which sorts. Definitions and lemmas on lists of any kind, which other crates use,
+//! are here as well.
 #![tactic(auto)]
 
 mod fault;

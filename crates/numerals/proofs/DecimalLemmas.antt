@@ -1,6 +1,7 @@
 -- Decimal numbers: the parts of their texts, and how the code puts them together.
 use Rattle.std.proofs.lemmas.Grind.{common_steps}
-use Rattle.std.proofs.Common.{◌≡◌, ℕ, ◌+◌, ◌-◌, ◌*◌, ◌^◌, ◌<◌, ◌≤◌, ◌==◌, true, false, List, [], ◌∷◌, length, get_or, take, drop, Option, None, Some, arith, ℤ, pos, neg_ℤ, ◌+ℤ◌, ◌-ℤ◌, ◌*ℤ◌, option_map}
+use Rattle.std.proofs.Common.{◌≡◌, ℕ, ◌+◌, ◌-◌, ◌*◌, ◌^◌, ◌<◌, ◌≤◌, ◌==◌, true, false, List, [], ◌∷◌, length, get_or}
+use Rattle.std.proofs.Common.{take, drop, Option, None, Some, arith, ℤ, pos, neg_ℤ, ◌+ℤ◌, ◌-ℤ◌, ◌*ℤ◌, option_map}
 use Rattle.std.specs.Char.{is_ascii_digit}
 use Rattle.std.specs.List.{list_all}
 use Rattle.std.specs.Str.Parse.{digits_value}
@@ -18,36 +19,52 @@ use Rattle.numerals.specs.Numbers.{is_number, number_of}
 use Rattle.text_parts.specs.Parts.{parts_at}
 use Rattle.numerals.specs.Decimals.{point, whole_of, fraction_of, number_in, unsigned_of, decimal_of}
 
--- the number that the first `i` digits write is below 10^17, if `i` is at most 17
-pub front_of_17 : (text : List ℕ) (i : ℕ) → i ≤ 17 → list_all is_ascii_digit (take i text) ≡ true → digits_value 10 (take i text) < 10 ^ 17
+-- if the first `i` bytes of a text are digits, and `i` is at most 17, their value is below 10^17
+pub front_of_17 : (text : List ℕ) (i : ℕ) → i ≤ 17 → list_all is_ascii_digit (take i text) ≡ true
+    → digits_value 10 (take i text) < 10 ^ 17
 front_of_17 text i few digits = front_small text i 17 few digits
 
--- the lemmas for `grind` on one turn of the loop that reads digits
+-- the lemmas for `grind` on one step of the loop that reads digits
 pub ruleset digit_steps = (digits_more, value_more, front_of_17)
 
--- a fraction is less than 10^18 units of 10^-18, that is less than one
+-- a fraction of 1 to 18 digits is less than 10^18 units of 10^-18, that is, less than one
 pub fraction_small : (text : List ℕ) → is_number 1 18 text ≡ true → fraction_of text < 10 ^ 18
 fraction_small text is =
-    let small : number_of text < 10 ^ length text = digits_value_short numerals text (length text) (grind (arith, nat_tests)) (omega arith) in
+    let small : number_of text < 10 ^ length text =
+    digits_value_short numerals text (length text) (grind (arith, nat_tests)) (omega arith) in
     let short : length text ≤ 18 = grind (arith, nat_tests) in
-    grind (arith, (mul-lt-mul_of_pos_right small (one-le-pow (18 - length text) 10 (omega arith))), (pow-add 10 (length text) (18 - length text)), short)
+    grind (
+      arith,
+      (mul-lt-mul_of_pos_right small (one-le-pow (18 - length text) 10 (omega arith))),
+      (pow-add 10 (length text) (18 - length text)),
+      short,
+    )
 
 -- a text of digits has no point, so it is one part
 digits_one_part : (text : List ℕ) → list_all is_ascii_digit text ≡ true → parts_at point text ≡ text ∷ []
 digits_one_part text digits = grind (arith, common_steps, nat_tests, digit_in, slice_split_none)
 
--- a whole part and a fraction give the number that is their sum
-pub number_with_fraction : (whole behind : List ℕ) → is_number 1 18 whole ≡ true → is_number 1 18 behind ≡ true
-    → number_in (whole ∷ parts_at point behind) ≡ Some (whole_of whole + fraction_of behind)
-number_with_fraction whole behind one other = grind (arith, common_steps, nat_tests, and_from, and_parts, digits_one_part)
+-- if `whole` and `following` have 1 to 18 digits each, the number with the parts `whole` and `following` is the sum
+-- of both
+pub number_with_fraction : (whole following : List ℕ) → is_number 1 18 whole ≡ true → is_number 1 18 following ≡ true
+    → number_in (whole ∷ parts_at point following) ≡ Some (whole_of whole + fraction_of following)
+number_with_fraction whole following one other =
+    grind (arith, common_steps, nat_tests, and_from, and_parts, digits_one_part)
 
--- there is no number if the text after the first point is no fraction
-pub number_without_fraction : (whole behind : List ℕ) → is_number 1 18 whole ≡ true → is_number 1 18 behind ≡ false
-    → number_in (whole ∷ parts_at point behind) ≡ None
-number_without_fraction whole behind one no_number =
-    grind (arith, (length-slice_split (λ byte. byte == point) behind), (join_with_byte-slice_split point behind), one, no_number)
+-- if the text after the first point, `following`, is not 1 to 18 digits, the text is no number
+pub number_without_fraction : (whole following : List ℕ) → is_number 1 18 whole ≡ true
+    → is_number 1 18 following ≡ false
+    → number_in (whole ∷ parts_at point following) ≡ None
+number_without_fraction whole following one no_number =
+    grind (
+      arith,
+      (length-slice_split (λ byte. byte == point) following),
+      (join_with_byte-slice_split point following),
+      one,
+      no_number,
+    )
 
--- after a minus the number is negative
+-- a text that begins with `-` is the negative of the number that the text after it is
 pub negative_of : (text : List ℕ) → 0 < length text → get_or text 0 0 ≡ 45
     → decimal_of text ≡ option_map (λ number. neg_ℤ (pos number)) (unsigned_of (drop 1 text))
 negative_of x0 some is = grind arith

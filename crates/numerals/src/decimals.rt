@@ -1,7 +1,7 @@
 //! Decimal numbers.
 
-/// A decimal number, kept as a whole number of 10^-18: at most 18 digits before the point and 18 after it (Release
-/// File Specification, "Relationship concrete values file").
+/// A decimal number with at most 18 digits before the point and 18 after it, stored as a whole
+/// number of units of 10^-18 (Release File Specification, "Relationship concrete values file").
 #[derive(Clone, Copy, Debug, PartialEq, Eq, PartialOrd, Ord)]
 pub struct Decimal(
     /// The number in units of 10^-18.

@@ -1,4 +1,5 @@
-//! Numbers that a text writes in decimal digits: whole numbers, and decimals with a sign and a fraction.
+//! Reads numbers from texts of decimal digits: whole numbers, and decimals with a sign and a
+//! fraction.
 #![tactic(auto)]
 
 mod decimals;

@@ -1,4 +1,4 @@
-//! Reading numbers that are written in digits.
+//! Reading numbers from texts of decimal digits.
 ghost use Rattle.std.specs.Prelude.{◌≡◌, ◌<◌, ◌≤◌, ◌^◌, pos, IfSome, is_some, option_map};
 ghost use Rattle.numerals.specs.Decimals.{decimal_of, fraction_of, unsigned_of};
 ghost use Rattle.numerals.specs.Numbers.{is_number, number_of};
@@ -6,8 +6,8 @@ ghost use Rattle.numerals.specs.Numbers.{is_number, number_of};
 use crate::decimals::Decimal;
 use text_parts::cut;
 
-/// Reads the number that a text of `least` to `most` ASCII digits writes; `None` for any other text. `most` is at
-/// most 18. Takes no memory.
+/// Reads a text of `least` to `most` ASCII digits as a decimal number. Returns `None` for any other
+/// text. `most` is at most 18. Takes no memory.
 #[tactic(auto, using(crate::proofs::DecimalLemmas::digit_steps))]
 pub fn digits(text: &[u8], least: usize, most: usize) -> Option<u64>
     requires { most ≤ 18 }
@@ -28,8 +28,9 @@ pub fn digits(text: &[u8], least: usize, most: usize) -> Option<u64>
     Some(number)
 }
 
-/// Reads the number that a text writes after `#`: a sign or none, 1 to 18 digits, and perhaps a point with 1 to 18
-/// more digits (Release File Specification, "Relationship concrete values file"). Takes no memory.
+/// Reads the text after the `#` of a concrete value as a decimal number: an optional sign, 1 to 18
+/// digits, and optionally a point with 1 to 18 more digits (Release File Specification,
+/// "Relationship concrete values file"). Returns `None` for any other text. Takes no memory.
 pub fn decimal(text: &[u8]) -> Option<Decimal>
     ensures { option_map (λ found. found.0) result ≡ decimal_of text.now }
 {
@@ -49,21 +50,22 @@ pub fn decimal(text: &[u8]) -> Option<Decimal>
     }
 }
 
-// Reads the number that a text without a sign writes, in units of 10^-18.
+// Reads a decimal number without a sign, in units of 10^-18. Returns `None` if `text` is none.
 #[tactic(auto, using(crate::proofs::DecimalLemmas::parts_of_number))]
 fn unsigned(text: &[u8]) -> Option<i128>
     ensures { result ≡ option_map pos (unsigned_of text.now) }
 {
-    let (whole, behind) = cut(text, b'.');
+    let (whole, following) = cut(text, b'.');
     let whole = digits(whole, 1, 18)?;
-    let fraction = match behind {
-        Some(behind) => fraction(behind)?,
+    let fraction = match following {
+        Some(following) => fraction(following)?,
         None => 0,
     };
     Some(i128::from(whole) * 1_000_000_000_000_000_000 + i128::from(fraction))
 }
 
-// Reads the fraction that the text after a point writes, in units of 10^-18.
+// Reads the 1 to 18 digits after a point as a fraction, in units of 10^-18. Returns `None` if
+// `text` has other bytes or another length.
 #[tactic(auto, using(crate::proofs::DecimalLemmas::fraction_small))]
 fn fraction(text: &[u8]) -> Option<u64>
     ensures digits { is_some result ≡ is_number 1 18 text.now }

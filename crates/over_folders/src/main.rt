@@ -1,4 +1,5 @@
-//! The program once more, for a stored run over the folders of two packages (`data`, `args`).
+//! The program again, for a stored run of `query` over the folders of two packages (`data`,
+//! `args`).
 #![tactic(auto)]
 
 use query_tool::start;

@@ -1,6 +1,7 @@
 -- Rows read backwards: from their sources to their values.
 use Rattle.std.proofs.Common.{ℕ, ◌≡◌, ◌<◌, ◌+◌, ◌∙◌, ◌∷◌, ◌++◌, [], inl, inr, ltb, arith}
-use Rattle.std.proofs.Common.{Bool, false, ◌&&◌, ◌==◌, cond, List, None, Option, Some, length, get_or, take, refl, sym, ap}
+use Rattle.std.proofs.Common.{Bool, false, ◌&&◌, ◌==◌, cond, List, None, Option, Some, length, get_or, take, refl, sym}
+use Rattle.std.proofs.Common.{ap}
 use Rattle.std.specs.Prelude.{IfSome, count_by, slice_get}
 use Rattle.std.specs.List.Sorted.{IsStrictlyIncreasing}
 use Rattle.std.proofs.lemmas.Bool.{cases_eq, eq-eqb, ne_eqb}
@@ -26,12 +27,14 @@ module _ (indexed : Indexed) (rising : IsStrictlyIncreasing indexed.concepts) (o
     (tells : TellsTypes indexed.rows one told) (bound : ℕ) (is : bound ≡ length indexed.concepts) where
   -- whether row n counts for the concept with `number` as its value
   abbrev pub counts_at : ℕ → ℕ → Bool
-  counts_at number n = at_entry (counts_for_value indexed.concepts (λ row. one row.type_id) number) (slice_get (entries_of indexed.rows) n)
+  counts_at number n = at_entry (counts_for_value indexed.concepts (λ row. one row.type_id) number)
+      (slice_get (entries_of indexed.rows) n)
 
-  -- the cells of a row tell whether it counts for the concept with `number`
+  -- read backwards, the cells of row `n` decide whether the row counts for the concept with the number `number`
   pub cells_tell : (cells : RowCells) (n number : ℕ) → n < length indexed.rows → number < length indexed.concepts
       → IfSome (slice_get (entries_of indexed.rows) n) (AreRowCells indexed cells)
-      → counts_at number n ≡ ((ltb cells.value bound && (cells.is_first && told cells.type_place)) && (cells.value == number))
+      → counts_at number n ≡ ((ltb cells.value bound && (cells.is_first && told cells.type_place))
+      && (cells.value == number))
   cells_tell cells n number within inside are = by_case (slice_get (entries_of indexed.rows) n) refl are
     where
       long : length (entries_of indexed.rows) ≡ length indexed.rows
@@ -53,13 +56,17 @@ module _ (indexed : Indexed) (rising : IsStrictlyIncreasing indexed.concepts) (o
       by_case (Some entry) at are = of_entry entry are
 
 -- one row more, for which a number is pushed or none
-module _ (counts : ℕ → Bool) (rows : List ℕ) (k : ℕ) (within : k < length rows) (value number : ℕ) (before : ℕ) (hits : List ℕ)
+module _ (counts : ℕ → Bool) (rows : List ℕ) (k : ℕ) (within : k < length rows) (value number : ℕ) (before : ℕ)
+    (hits : List ℕ)
     (so_far : times number hits ≡ before + count_by counts (take k rows)) where
-  -- if row k counts for the value that is pushed and no other number, the hits are right for one row more
-  pub pushed_more : counts (get_or rows k 0) ≡ (value == number) → times number (hits ++ value ∷ []) ≡ before + count_by counts (take (k + 1) rows)
+  -- if row `k` counts for `value` only, adding `value` to the hits of the first `k` rows gives the hits of the first `k
+  -- + 1`
+  pub pushed_more : counts (get_or rows k 0) ≡ (value == number)
+      → times number (hits ++ value ∷ []) ≡ before + count_by counts (take (k + 1) rows)
   pushed_more tells = elim (cases_eq value number) [
     | inl same ↦
-        let more : times number (value ∷ []) ≡ 1 = times-cons number value [] ∙ ap (λ (b : Bool). cond b 1 0) (eq-eqb value number same) in
+        let more : times number (value ∷ []) ≡ 1 = times-cons number value []
+        ∙ ap (λ (b : Bool). cond b 1 0) (eq-eqb value number same) in
         omega (
           arith,
           times-append number hits (value ∷ []),
@@ -68,7 +75,8 @@ module _ (counts : ℕ → Bool) (rows : List ℕ) (k : ℕ) (within : k < lengt
           count_by_more_yes counts rows k 0 within (tells ∙ eq-eqb value number same),
         )
     | inr other ↦
-        let more : times number (value ∷ []) ≡ 0 = times-cons number value [] ∙ ap (λ (b : Bool). cond b 1 0) (ne_eqb value number other) in
+        let more : times number (value ∷ []) ≡ 0 = times-cons number value []
+        ∙ ap (λ (b : Bool). cond b 1 0) (ne_eqb value number other) in
         omega (
           arith,
           times-append number hits (value ∷ []),
@@ -78,13 +86,15 @@ module _ (counts : ℕ → Bool) (rows : List ℕ) (k : ℕ) (within : k < lengt
         )
   ]
 
-  -- if row k does not count for `number`, the hits are right for one row more without a push
+  -- if row `k` does not count for `number`, the hits of the first `k` rows have `number` as often as those of the first
+  -- `k + 1`
   pub none_pushed : counts (get_or rows k 0) ≡ false → times number hits ≡ before + count_by counts (take (k + 1) rows)
   none_pushed tells = omega (arith, so_far, count_by_more_no counts rows k 0 within tells)
 
--- the rows of a source count, by their places, just as often as the entries with this source
+-- counting the rows of a source by their numbers counts the entries with this source
 pub source_counted : (indexed : Indexed) (one : ℕ → Bool) (source number : ℕ)
-    → count_by (λ n. at_entry (counts_for_value indexed.concepts (λ row. one row.type_id) number) (slice_get (entries_of indexed.rows) n))
+    → count_by (λ n. at_entry (counts_for_value indexed.concepts (λ row. one row.type_id) number)
+    (slice_get (entries_of indexed.rows) n))
     (rows_by_source indexed source)
     ≡ count_by (counts_for_value indexed.concepts (λ row. one row.type_id) number)
     (entries_where (λ row. row.source == get_or indexed.concepts source 0) indexed.rows)

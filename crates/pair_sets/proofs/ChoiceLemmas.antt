@@ -53,17 +53,21 @@ apart_from_both false b c first second = refl
 
 -- an equation can be read from either side
 swapped : (a b : ℕ) → (a == b) ≡ (b == a)
-swapped a b = both_ways (a == b) (b == a) (λ told. eq-eqb b a (sym (eqb-true a b told))) (λ told. eq-eqb a b (sym (eqb-true b a told)))
+swapped a b = both_ways (a == b) (b == a) (λ told. eq-eqb b a (sym (eqb-true a b told)))
+    (λ told. eq-eqb a b (sym (eqb-true b a told)))
 
 -- ---- the types so far
-module _ (one : ℕ → Bool) (types : List ℕ) (k : ℕ) (within : k < length types) (answer : Bool) (asked : one (get_or types k 0) ≡ answer) where
-  -- the type at place k is appended to the types so far that pass `one` exactly if it passes
+module _ (one : ℕ → Bool) (types : List ℕ) (k : ℕ) (within : k < length types) (answer : Bool)
+    (asked : one (get_or types k 0) ≡ answer) where
+  -- if `ids` has those of the first `k` types that pass `one`, adding type `k` exactly if it passes makes them those of
+  -- the first `k + 1`
   pub id_more : (ids : List ℕ) → ids ≡ filter one (take k types)
       → ids ++ cond answer (get_or types k 0 ∷ []) [] ≡ filter one (take (k + 1) types)
   id_more ids are =
       (λ i. are i ++ cond (sym asked i) (get_or types k 0 ∷ []) []) ∙ sym (filter_more one types k 0 within)
 
-  -- the place k is appended to the places so far of types that pass `one` exactly if the type there passes
+  -- if `places` has the places below `k` of types that pass `one`, adding `k` exactly if type `k` passes makes them
+  -- those below `k + 1`
   pub place_more : (places : List ℕ) → places ≡ numbers_where k (λ place. one (get_or types place 0))
       → places ++ cond answer (k ∷ []) [] ≡ numbers_where (k + 1) (λ place. one (get_or types place 0))
   place_more places are =
@@ -76,30 +80,34 @@ has_some has keys entry = list_any (λ key. has key entry) keys
 
 -- rising keys, of which no row has two
 module _ (bound : ℕ) (has : ℕ → Entry → Bool)
-    (apart : (a b : ℕ) → a < bound → b < bound → (a ≡ b → ⊥) → (entry : Entry) → (has a entry && has b entry) ≡ false) where
-  -- a row with a key below all of rising keys has none of these keys
-  not_again : (key lowest : ℕ) → key < lowest → key < bound → (keys : List ℕ) → rises_within lowest bound keys ≡ true
-      → (entry : Entry) → (has key entry && has_some has keys entry) ≡ false
-  not_again key lowest less within [] rises entry = and-false (has key entry)
-  not_again key lowest less within (next ∷ keys) rises entry =
-      let on = rises_on lowest bound next keys rises in
-      apart_from_both (has key entry) (has next entry) (has_some has keys entry)
-      (apart key next within on.below (λ same. absurd (omega (arith, less, same, on.above))) entry)
-      (not_again key (suc next) (omega (arith, less, on.above)) within keys on.rest entry)
+    (apart : (a b : ℕ) → a < bound → b < bound → (a ≡ b → ⊥) → (entry : Entry) → (has a entry && has b entry) ≡ false)
+  where
+    -- a row with a key below all of rising keys has none of these keys
+    not_again : (key lowest : ℕ) → key < lowest → key < bound → (keys : List ℕ) → rises_within lowest bound keys ≡ true
+        → (entry : Entry) → (has key entry && has_some has keys entry) ≡ false
+    not_again key lowest less within [] rises entry = and-false (has key entry)
+    not_again key lowest less within (next ∷ keys) rises entry =
+        let on = rises_on lowest bound next keys rises in
+        apart_from_both (has key entry) (has next entry) (has_some has keys entry)
+        (apart key next within on.below (λ same. absurd (omega (arith, less, same, on.above))) entry)
+        (not_again key (suc next) (omega (arith, less, on.above)) within keys on.rest entry)
 
-  -- if no row has two keys, counting the rows of rising keys, key by key, counts the rows that have one of the keys
-  pub keys_counted : (entries : List Entry) (test : Entry → Bool) (lowest : ℕ) (keys : List ℕ) → rises_within lowest bound keys ≡ true
-      → count_by test (flat_map (λ key. filter (has key) entries) keys) ≡ count_by (λ entry. has_some has keys entry && test entry) entries
-  keys_counted entries test lowest [] rises = sym (count_none (λ (entry : Entry). false) entries (λ entry. refl))
-  keys_counted entries test lowest (key ∷ keys) rises =
-      let on = rises_on lowest bound key keys rises in
-      count-append test (filter (has key) entries) (flat_map (λ key. filter (has key) entries) keys)
-      ∙ (λ i. count_kept (has key) test entries i + keys_counted entries test (suc key) keys on.rest i)
-      ∙ count_either (λ entry. has key entry && test entry) (λ entry. has_some has keys entry && test entry)
-      (λ (entry : Entry). has_some has (key ∷ keys) entry && test entry) entries
-      (λ entry. both_apart (has key entry) (has_some has keys entry) (test entry)
-      (not_again key (suc key) (omega arith) on.below keys on.rest entry))
-      (λ entry. one_of_both (has key entry) (has_some has keys entry) (test entry))
+    -- if no row has two keys, counting the rows key by key, for rising `keys`, counts the rows that have one of the
+    -- keys
+    pub keys_counted : (entries : List Entry) (test : Entry → Bool) (lowest : ℕ) (keys : List ℕ)
+        → rises_within lowest bound keys ≡ true
+        → count_by test (flat_map (λ key. filter (has key) entries) keys)
+        ≡ count_by (λ entry. has_some has keys entry && test entry) entries
+    keys_counted entries test lowest [] rises = sym (count_none (λ (entry : Entry). false) entries (λ entry. refl))
+    keys_counted entries test lowest (key ∷ keys) rises =
+        let on = rises_on lowest bound key keys rises in
+        count-append test (filter (has key) entries) (flat_map (λ key. filter (has key) entries) keys)
+        ∙ (λ i. count_kept (has key) test entries i + keys_counted entries test (suc key) keys on.rest i)
+        ∙ count_either (λ entry. has key entry && test entry) (λ entry. has_some has keys entry && test entry)
+        (λ (entry : Entry). has_some has (key ∷ keys) entry && test entry) entries
+        (λ entry. both_apart (has key entry) (has_some has keys entry) (test entry)
+        (not_again key (suc key) (omega arith) on.below keys on.rest entry))
+        (λ entry. one_of_both (has key entry) (has_some has keys entry) (test entry))
 
 -- ---- concepts as keys: the values of rows, and their sources
 -- no number of a list passes the test that is always false
@@ -118,8 +126,10 @@ module _ (concepts : List ℕ) where
 
   -- a value is the concept with one of `numbers` exactly if it is one of the concepts that they stand for
   value_of_some : (numbers : List ℕ) (value : Value)
-      → list_any (λ number. value_eq value (concept_value (get_or concepts number 0))) numbers ≡ is_within (is_one_of concepts numbers) value
-  value_of_some numbers (concept_value concept) = λ i. list_any (λ number. swapped concept (get_or concepts number 0) i) numbers
+      → list_any (λ number. value_eq value (concept_value (get_or concepts number 0))) numbers
+      ≡ is_within (is_one_of concepts numbers) value
+  value_of_some numbers (concept_value concept) =
+      λ i. list_any (λ number. swapped concept (get_or concepts number 0) i) numbers
   value_of_some numbers (number_value decimal) = none_of numbers
   value_of_some numbers (text_value text) = none_of numbers
 
@@ -137,27 +147,31 @@ module _ (concepts : List ℕ) where
 
     -- no value is the concept with two numbers
     values_apart : (a b : ℕ) → a < length concepts → b < length concepts → (a ≡ b → ⊥) → (value : Value)
-        → (value_eq value (concept_value (get_or concepts a 0)) && value_eq value (concept_value (get_or concepts b 0))) ≡ false
+        → (value_eq value (concept_value (get_or concepts a 0)) && value_eq value (concept_value (get_or concepts b 0)))
+        ≡ false
     values_apart a b a_within b_within other (concept_value concept) = one_number a b a_within b_within other concept
     values_apart a b a_within b_within other (number_value decimal) = refl
     values_apart a b a_within b_within other (text_value text) = refl
 
 -- ---- hits of rows that are read by type or by value are hits of all rows
-module _ (bound : ℕ) (belongs : ℕ → Entry → Bool) (first passes : Entry → Bool) (indexed : Indexed) (one : ℕ → Bool) (hits : List ℕ) where
+module _ (bound : ℕ) (belongs : ℕ → Entry → Bool) (first passes : Entry → Bool) (indexed : Indexed) (one : ℕ → Bool)
+    (hits : List ℕ) where
   -- whether a row counts for a number: it belongs to it, is the first with its pair, and has a type and a value that
   -- pass
   abbrev pub counts : ℕ → Entry → Bool
   counts number entry = belongs number entry && (first entry && (one entry.row.type_id && passes entry))
 
-  -- the hits of the rows of the types that pass `one` are the hits of all rows that count
+  -- the hits of the rows whose type is among the types that pass `one` are the hits of all rows that count
   pub of_types : (ids : List ℕ) → ids ≡ filter one (types_of indexed.rows)
-      → AreHits bound (λ number entry. belongs number entry && (first entry && passes entry)) (entries_with_types indexed.rows ids) hits
+      → AreHits bound (λ number entry. belongs number entry && (first entry && passes entry))
+      (entries_with_types indexed.rows ids) hits
       → AreHits bound counts (entries_of indexed.rows) hits
   of_types ids ids_are are = record {
     within = are.within;
     times = λ n inside.
         are.times n inside
-        ∙ ap (λ (all : List ℕ). count_by (λ (entry : Entry). belongs n entry && (first entry && passes entry)) (entries_with_types indexed.rows all)) ids_are
+        ∙ ap (λ (all : List ℕ). count_by (λ (entry : Entry). belongs n entry && (first entry && passes entry))
+        (entries_with_types indexed.rows all)) ids_are
         ∙ types_counted indexed.rows one (belongs n) first passes;
   }
 
@@ -172,31 +186,43 @@ module _ (bound : ℕ) (belongs : ℕ → Entry → Bool) (first passes : Entry 
     within = are.within;
     times = λ n inside.
         are.times n inside
-        ∙ keys_counted count has apart (entries_of indexed.rows) (λ (entry : Entry). belongs n entry && (first entry && one entry.row.type_id)) 0 keys rises
-        ∙ (λ i. count_by (λ (entry : Entry). moved (told entry i) (belongs n entry) (first entry) (one entry.row.type_id) i) (entries_of indexed.rows));
+        ∙ keys_counted count has apart (entries_of indexed.rows)
+        (λ (entry : Entry). belongs n entry && (first entry && one entry.row.type_id)) 0 keys rises
+        ∙ (λ i. count_by (λ (entry : Entry). moved (told entry i) (belongs n entry) (first entry)
+        (one entry.row.type_id) i) (entries_of indexed.rows));
   }
 
-module _ (bound : ℕ) (belongs : ℕ → Entry → Bool) (first : Entry → Bool) (indexed : Indexed) (rising : IsStrictlyIncreasing indexed.concepts)
+module _ (bound : ℕ) (belongs : ℕ → Entry → Bool) (first : Entry → Bool) (indexed : Indexed)
+    (rising : IsStrictlyIncreasing indexed.concepts)
     (one : ℕ → Bool) (hits numbers : List ℕ) (rises : rises_within 0 (length indexed.concepts) numbers ≡ true) where
   -- whether a value is one of the concepts `numbers`
   abbrev pub passing : Value → Bool
   passing = is_within (is_one_of indexed.concepts numbers)
 
-  -- the hits of the rows of the values `numbers` are the hits of all rows that count
-  pub of_values : AreHits bound (λ number entry. belongs number entry && (first entry && one entry.row.type_id)) (entries_with_values indexed numbers) hits
-      → AreHits bound (λ number entry. belongs number entry && (first entry && (one entry.row.type_id && passing entry.row.value)))
+  -- the hits of the rows whose value is in `numbers` are the hits of all rows that count and have such a value
+  pub of_values : AreHits bound (λ number entry. belongs number entry && (first entry && one entry.row.type_id))
+      (entries_with_values indexed numbers) hits
+      → AreHits bound (λ number entry. belongs number entry
+      && (first entry && (one entry.row.type_id && passing entry.row.value)))
       (entries_of indexed.rows) hits
   of_values are =
-      of_keys bound belongs first (λ entry. passing entry.row.value) indexed one hits (has_value indexed.concepts) (length indexed.concepts)
-      (λ a b a_within b_within other entry. values_apart indexed.concepts rising a b a_within b_within other entry.row.value)
+      of_keys bound belongs first (λ entry. passing entry.row.value) indexed one hits (has_value indexed.concepts)
+      (length indexed.concepts)
+      (λ a b a_within b_within other entry. values_apart indexed.concepts rising a b a_within b_within other
+      entry.row.value)
       numbers rises (λ entry. value_of_some indexed.concepts numbers entry.row.value) are
 
-  -- the hits of the rows of the sources `numbers` are the hits of all rows that count read backwards
-  pub of_sources : AreHits bound (λ number entry. belongs number entry && (first entry && one entry.row.type_id)) (entries_with_sources indexed numbers) hits
-      → AreHits bound (λ number entry. belongs number entry && (first entry && (one entry.row.type_id && passing (concept_value entry.row.source))))
+  -- read backwards, the hits of the rows whose source is in `numbers` are the hits of all rows that count and have such
+  -- a source
+  pub of_sources : AreHits bound (λ number entry. belongs number entry && (first entry && one entry.row.type_id))
+      (entries_with_sources indexed numbers) hits
+      → AreHits bound (λ number entry. belongs number entry
+      && (first entry && (one entry.row.type_id && passing (concept_value entry.row.source))))
       (entries_of indexed.rows) hits
   of_sources are =
-      of_keys bound belongs first (λ entry. passing (concept_value entry.row.source)) indexed one hits (has_source indexed.concepts)
+      of_keys bound belongs first (λ entry. passing (concept_value entry.row.source)) indexed one hits
+      (has_source indexed.concepts)
       (length indexed.concepts)
-      (λ a b a_within b_within other entry. one_number indexed.concepts rising a b a_within b_within other entry.row.source)
+      (λ a b a_within b_within other entry. one_number indexed.concepts rising a b a_within b_within other
+      entry.row.source)
       numbers rises (λ entry. value_of_some indexed.concepts numbers (concept_value entry.row.source)) are

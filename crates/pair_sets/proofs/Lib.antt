@@ -9,6 +9,6 @@ pub mod PassingLemmas
 pub mod RoomLemmas
 pub mod TimesLemmas
 pub mod TypeLemmas
-pub mod UnitLemmas
+pub mod GroupNumberLemmas
 pub mod VainLemmas
 pub mod ValueStepLemmas

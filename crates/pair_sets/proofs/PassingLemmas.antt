@@ -1,5 +1,6 @@
 -- Which values pass a test, by their numbers.
-use Rattle.std.proofs.Common.{ℕ, ℤ, pos, negsuc, zero, suc, ◌≡◌, ◌<◌, ◌≤◌, ◌+◌, ◌-◌, ◌==◌, ◌∙◌, ◌∷◌, ◌++◌, [], inl, inr, leb, ltb, arith, None}
+use Rattle.std.proofs.Common.{ℕ, ℤ, pos, negsuc, zero, suc, ◌≡◌, ◌<◌, ◌≤◌, ◌+◌, ◌-◌, ◌==◌, ◌∙◌, ◌∷◌, ◌++◌, [], inl, inr}
+use Rattle.std.proofs.Common.{leb, ltb, arith, None}
 use Rattle.std.proofs.Common.{Bool, true, false, not, ◌&&◌, ◌||◌, cond, List, length, get_or, map, refl, sym, ap}
 use Rattle.std.specs.Prelude.{All, int_le, int_lt, slice_index}
 use Rattle.std.specs.declared.cmp.Ordering.{Ordering}
@@ -17,7 +18,7 @@ use Rattle.constraint_tree.specs.Passing.{compares, is_number_that, is_outside, 
 use Rattle.rf2_rows.specs.Release.{Value, concept_value, number_value, text_value}
 use Rattle.held_release.specs.Numbering.{concept_number}
 use Rattle.postings.specs.Indexed.{Indexed, value_at, values_among, values_of}
-use Rattle.postings.proofs.ValueLemmas.{concept_at, decimal_at, value_behind}
+use Rattle.postings.proofs.ValueLemmas.{concept_at, decimal_at, value_after}
 use Rattle.pair_sets.specs.inside.Hits.{value_of}
 use Rattle.candidates.specs.Numbers.{is_one_of}
 use Rattle.pair_sets.specs.Tested.{meets}
@@ -25,23 +26,27 @@ use Rattle.number_lists.proofs.ListLemmas.{any_agree}
 use Rattle.candidates.proofs.Normal.{concept_number-None, same_by_number}
 
 -- ---- a concept by its number
--- the concept with number n is in a set exactly if the set has n
-pub one_by_number : (concepts : List ℕ) → IsStrictlyIncreasing concepts → (items : List ℕ) → All (λ item. item < length concepts) items
+-- the concept with the number `n` is one of `items` exactly if `items` contains `n`
+pub one_by_number : (concepts : List ℕ) → IsStrictlyIncreasing concepts → (items : List ℕ)
+    → All (λ item. item < length concepts) items
     → (n : ℕ) → n < length concepts → is_one_of concepts items (get_or concepts n 0) ≡ has items n
 one_by_number concepts rising items below n within =
     any_agree items (λ m. slice_index concepts m == get_or concepts n 0) (λ m. m == n) 0
     (λ k there. same_by_number concepts rising (get_or items k 0) n (below k 0 there) within)
 
--- a concept without a number is in no set
-pub none_by_number : (concepts : List ℕ) (items : List ℕ) → All (λ item. item < length concepts) items → (id : ℕ) → concept_number concepts id ≡ None
+-- an identifier without a number is none of `items`
+pub none_by_number : (concepts : List ℕ) (items : List ℕ) → All (λ item. item < length concepts) items → (id : ℕ)
+    → concept_number concepts id ≡ None
     → is_one_of concepts items id ≡ false
 none_by_number concepts [] below id at = refl
 none_by_number concepts (item ∷ items) below id at =
-    (λ i. ne_eqb (get_or concepts item 0) id (λ same. concept_number-None concepts id at item (below 0 0 (omega arith)) same) i || is_one_of concepts items id)
+    (λ i. ne_eqb (get_or concepts item 0) id (λ same. concept_number-None concepts id at item (below 0 0 (omega arith))
+    same) i || is_one_of concepts items id)
     ∙ none_by_number concepts items (All-tail (λ x. x < length concepts) item items below) id at
 
--- a number that is not below `bound` is not among numbers that are below it
-pub none_past : (bound : ℕ) (items : List ℕ) → All (λ item. item < bound) items → (n : ℕ) → bound ≤ n → has items n ≡ false
+-- if `items` are below `bound`, they do not contain a number `n` at or above it
+pub none_past : (bound : ℕ) (items : List ℕ) → All (λ item. item < bound) items → (n : ℕ) → bound ≤ n
+    → has items n ≡ false
 none_past bound [] below n past = refl
 none_past bound (item ∷ items) below n past =
     let first : item < bound = below 0 0 (omega arith) in
@@ -61,17 +66,19 @@ module _ (test : Value → Bool) (no_text : (text : List ℕ) → test (text_val
   texts_fail : (texts : List (List ℕ)) → All (λ value. test value ≡ false) (map text_value texts)
   texts_fail texts = All-map (λ value. test value ≡ false) text_value texts (λ k d within. no_text (get_or texts k d))
 
-  -- a number after those of the concepts has a value that does not pass, if no decimal and no text passes
-  pub behind_fails : (concepts : List ℕ) (decimals : List ℤ) (texts : List (List ℕ)) → ((decimal : ℤ) → test (number_value decimal) ≡ false)
+  -- if no decimal and no text passes, no value with a number at or above the number of concepts passes
+  pub after_fails : (concepts : List ℕ) (decimals : List ℤ) (texts : List (List ℕ))
+      → ((decimal : ℤ) → test (number_value decimal) ≡ false)
       → (n : ℕ) → length concepts ≤ n → test (value_at (values_among concepts decimals texts) n) ≡ false
-  behind_fails [] decimals texts no_decimal n past =
+  after_fails [] decimals texts no_decimal n past =
       none_at test (map number_value decimals ++ map text_value texts)
       (All-append (λ value. test value ≡ false) (map number_value decimals) (map text_value texts)
-      (All-map (λ value. test value ≡ false) number_value decimals (λ k d within. no_decimal (get_or decimals k d))) (texts_fail texts))
+      (All-map (λ value. test value ≡ false) number_value decimals (λ k d within. no_decimal (get_or decimals k d)))
+      (texts_fail texts))
       (text_value []) (no_text []) n
-  behind_fails (concept ∷ concepts) decimals texts no_decimal zero past = absurd (omega (arith, past))
-  behind_fails (concept ∷ concepts) decimals texts no_decimal (suc n) past =
-      behind_fails concepts decimals texts no_decimal n (omega (arith, past))
+  after_fails (concept ∷ concepts) decimals texts no_decimal zero past = absurd (omega (arith, past))
+  after_fails (concept ∷ concepts) decimals texts no_decimal (suc n) past =
+      after_fails concepts decimals texts no_decimal n (omega (arith, past))
 
 -- ---- the tests
 module _ (indexed : Indexed) (rising : IsStrictlyIncreasing indexed.concepts) where
@@ -83,27 +90,27 @@ module _ (indexed : Indexed) (rising : IsStrictlyIncreasing indexed.concepts) wh
   concept_here : (n : ℕ) → n < length indexed.concepts → value n ≡ concept_value (get_or indexed.concepts n 0)
   concept_here n within = concept_at indexed.concepts indexed.decimals indexed.texts n (text_value []) within
 
-  -- a set has n exactly if the value with number n is one of its concepts
+  -- `items` contains `n` exactly if the value with the number `n` is one of these concepts
   pub within_told : (items : List ℕ) → All (λ item. item < length indexed.concepts) items
       → (n : ℕ) → has items n ≡ is_within (is_one_of indexed.concepts items) (value n)
   within_told items below n = elim (cases_lt n (length indexed.concepts)) [
     | inl within ↦ sym (ap (is_within (is_one_of indexed.concepts items)) (concept_here n within)
         ∙ one_by_number indexed.concepts rising items below n within)
     | inr past ↦ none_past (length indexed.concepts) items below n past
-        ∙ sym (behind_fails (is_within (is_one_of indexed.concepts items)) (λ text. refl)
+        ∙ sym (after_fails (is_within (is_one_of indexed.concepts items)) (λ text. refl)
         indexed.concepts indexed.decimals indexed.texts (λ decimal. refl) n past)
   ]
 
-  -- n is the number of a concept that a set does not have exactly if the value with number n is a concept outside the
-  -- set
+  -- `n` is a concept that is not in `items` exactly if the value with the number `n` is a concept outside the set
   pub outside_told : (items : List ℕ) → All (λ item. item < length indexed.concepts) items
-      → (n : ℕ) → (ltb n (length indexed.concepts) && not (has items n)) ≡ is_outside (is_one_of indexed.concepts items) (value n)
+      → (n : ℕ) → (ltb n (length indexed.concepts) && not (has items n))
+      ≡ is_outside (is_one_of indexed.concepts items) (value n)
   outside_told items below n = elim (cases_lt n (length indexed.concepts)) [
     | inl within ↦ (λ i. lt-ltb n (length indexed.concepts) within i && not (has items n))
         ∙ sym (ap (is_outside (is_one_of indexed.concepts items)) (concept_here n within)
         ∙ ap not (one_by_number indexed.concepts rising items below n within))
     | inr past ↦ (λ i. le-ltb n (length indexed.concepts) past i && not (has items n))
-        ∙ sym (behind_fails (is_outside (is_one_of indexed.concepts items)) (λ text. refl)
+        ∙ sym (after_fails (is_outside (is_one_of indexed.concepts items)) (λ text. refl)
         indexed.concepts indexed.decimals indexed.texts (λ decimal. refl) n past)
   ]
 
@@ -122,7 +129,7 @@ not_both a b = elim (cases_lt a b) [
   | inr past ↦ (λ i. le-ltb a b past i && ltb b a)
 ]
 
--- an integer is at most another exactly if the other is not below it
+-- `x` is at most `y` exactly if `y` is not less than `x`
 pub int_not_more : (x y : ℤ) → int_le x y ≡ not (int_lt y x)
 int_not_more (pos a) (pos b) = not_less a b
 int_not_more (pos a) (negsuc b) = refl
@@ -140,7 +147,7 @@ int_not_both (negsuc a) (negsuc b) = not_both b a
 abbrev order_by : Bool → Bool → Ordering
 order_by less more = cond less Less (cond more Greater Equal)
 
--- two numbers compare as is asked exactly if their order meets the comparison
+-- a comparison of `x` with `y` holds exactly if it holds for their order
 pub meets_told : (compare : Compare) (x y : ℤ) → meets compare (int_cmp x y) ≡ compares compare x y
 meets_told comparison.Equal x y = refl
 meets_told comparison.NotEqual x y = differs (int_cmp x y)
@@ -182,11 +189,12 @@ module _ (compare : Compare) (number : ℤ) (indexed : Indexed) where
   abbrev asked : Value → Bool
   asked value = is_number_that compare number value
 
-  -- a concept is no number, so it does not pass
+  -- a concept fulfils no comparison with a number
   pub concept_fails : (n : ℕ) → n < length indexed.concepts → false ≡ asked (value_of indexed n)
-  concept_fails n within = sym (ap asked (concept_at indexed.concepts indexed.decimals indexed.texts n (text_value []) within))
+  concept_fails n within =
+      sym (ap asked (concept_at indexed.concepts indexed.decimals indexed.texts n (text_value []) within))
 
-  -- a number of a decimal, which follows those of the concepts, passes exactly if the decimal meets the comparison
+  -- the value with the number `k` plus the number of concepts passes exactly if decimal `k` fulfils the comparison
   pub decimal_told : (k : ℕ) → k < length indexed.decimals → (decimal : ℤ) → decimal ≡ get_or indexed.decimals k (pos 0)
       → meets compare (int_cmp decimal number) ≡ asked (value_of indexed (length indexed.concepts + k))
   decimal_told k within decimal is =
@@ -194,11 +202,14 @@ module _ (compare : Compare) (number : ℤ) (indexed : Indexed) where
       ∙ ap (λ (own : ℤ). compares compare own number) is
       ∙ sym (ap asked (decimal_at indexed.concepts indexed.decimals indexed.texts k (text_value []) (pos 0) within))
 
-  -- a number after those of the decimals has no decimal, so it does not pass
-  pub past_decimals : (k : ℕ) → length indexed.decimals ≤ k → false ≡ asked (value_of indexed (length indexed.concepts + k))
+  -- a value that comes after the decimals fulfils no comparison with a number
+  pub past_decimals : (k : ℕ) → length indexed.decimals ≤ k
+      → false ≡ asked (value_of indexed (length indexed.concepts + k))
   past_decimals k past =
-      sym (ap asked (value_behind indexed.concepts indexed.decimals indexed.texts k (text_value [])
-      ∙ get_or-append_right (map number_value indexed.decimals) (map text_value indexed.texts) (length indexed.decimals) k (text_value [])
+      sym (ap asked (value_after indexed.concepts indexed.decimals indexed.texts k (text_value [])
+      ∙ get_or-append_right (map number_value indexed.decimals) (map text_value indexed.texts) (length indexed.decimals)
+      k (text_value [])
       (length-map indexed.decimals number_value) past)
-      ∙ none_at asked (map text_value indexed.texts) (texts_fail asked (λ text. refl) indexed.texts) (text_value []) refl
+      ∙ none_at asked (map text_value indexed.texts) (texts_fail asked (λ text. refl) indexed.texts) (text_value [])
+      refl
       (k - length indexed.decimals))

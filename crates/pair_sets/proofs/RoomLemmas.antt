@@ -18,26 +18,26 @@ use Rattle.number_lists.proofs.ListLemmas.{same_place}
 use Rattle.postings.specs.Groups.{ConceptGroup, group_of, groups_in, is_in_group, rows_alone}
 use Rattle.postings.proofs.KeyLemmas.{IsTold, groups_once, groups_told_apart, in_one_group}
 use Rattle.reading.specs.Counted.{full}
-use Rattle.candidates.specs.Extents.{IsExtentOf, IsGroupExtentOf, group_row_count, rows_in_group}
-use Rattle.candidates.specs.Within.{HaveExtent, extent_told}
+use Rattle.candidates.specs.Extents.{IsStatsOf, IsGroupStatsOf, group_row_count, rows_in_group}
+use Rattle.candidates.specs.Within.{HaveStats, stats_told}
 use Rattle.candidates.specs.declared.candidates.Candidates.{Candidates}
 use Rattle.candidates.specs.declared.candidates.Candidates.TheVariants as candidates
 use Rattle.pair_sets.specs.Room.{candidate_items}
-use Rattle.pair_sets.specs.inside.Ways.{AreListedFor, candidates_listed}
+use Rattle.pair_sets.specs.inside.AccessPaths.{AreListedFor, candidates_listed}
 use Rattle.postings.specs.Indexed.{Indexed, types_of}
 use Rattle.postings.specs.Stats.{type_row_count}
 use Rattle.postings.proofs.PlaceLemmas.{length-places_from}
-use Rattle.candidates.specs.RowCounts.{extent_items, row_count_of}
+use Rattle.candidates.specs.RowCounts.{stats_items, row_count_of}
 use Rattle.candidates.proofs.Normal.{same_by_number}
 use Rattle.candidates.proofs.SumLemmas.{no_sum, two_sums}
 use Rattle.pair_sets.proofs.LeafLemmas.{count_by_keys, types_apart}
 
--- the test that is always true counts all items
+-- a test that is always true counts all items
 pub all_pass : {X : Type 0} (xs : List X) → count_by (λ x. true) xs ≡ length xs
 all_pass [] = refl
 all_pass (x ∷ xs) = omega (arith, sum_by-cons (λ x. 1) x xs, all_pass xs)
 
--- distinct types of rows have together no more rows than there are rows in all
+-- distinct types have together at most as many rows as there are, since no row has two types
 pub type_rows_few : (indexed : Indexed) (one : ℕ → Bool)
     → sum_by (type_row_count indexed) (filter one (types_of indexed.rows)) ≤ length indexed.rows
 type_rows_few indexed one =
@@ -83,16 +83,16 @@ rows_once has_key keys once (x ∷ xs) =
 module _ (count : ℕ) (test : ℕ → Bool)
     (apart : (n m : ℕ) → n < m → m < count → test n ≡ true → test m ≡ false) where
   -- if n passes, no number after it among rising numbers passes
-  none_behind : (n lowest : ℕ) (numbers : List ℕ) → n < lowest → test n ≡ true → rises_within lowest count numbers ≡ true
+  none_after : (n lowest : ℕ) (numbers : List ℕ) → n < lowest → test n ≡ true → rises_within lowest count numbers ≡ true
       → count_by test numbers ≡ 0
-  none_behind n lowest [] before passes rises = refl
-  none_behind n lowest (m ∷ numbers) before passes rises =
+  none_after n lowest [] before passes rises = refl
+  none_after n lowest (m ∷ numbers) before passes rises =
       let on = rises_on lowest count m numbers rises in
       omega (
         arith,
         sum_by-cons (λ k. cond (test k) 1 0) m numbers,
         ap (λ (b : Bool). cond {A = ℕ} b 1 0) (apart n m (omega (arith, before, on.above)) on.below passes),
-        none_behind n (suc m) numbers (omega (arith, before, on.above)) passes on.rest,
+        none_after n (suc m) numbers (omega (arith, before, on.above)) passes on.rest,
       )
 
   -- of rising numbers at most one passes
@@ -100,9 +100,10 @@ module _ (count : ℕ) (test : ℕ → Bool)
   one_passes lowest [] rises = omega arith
   one_passes lowest (n ∷ numbers) rises =
       let rest = (rises_on lowest count n numbers rises).rest in
-      by (test n) refl (none_behind n (suc n) numbers (omega arith)) (one_passes (suc n) numbers rest) rest
+      by (test n) refl (none_after n (suc n) numbers (omega arith)) (one_passes (suc n) numbers rest) rest
     where
-      by : (b : Bool) → test n ≡ b → (test n ≡ true → rises_within (suc n) count numbers ≡ true → count_by test numbers ≡ 0)
+      by : (b : Bool) → test n ≡ b
+          → (test n ≡ true → rises_within (suc n) count numbers ≡ true → count_by test numbers ≡ 0)
           → count_by test numbers ≤ 1 → rises_within (suc n) count numbers ≡ true → count_by test (n ∷ numbers) ≤ 1
       by true passes none one rest =
           omega (
@@ -112,7 +113,12 @@ module _ (count : ℕ) (test : ℕ → Bool)
             none passes rest,
           )
       by false fails none one rest =
-          omega (arith, sum_by-cons (λ k. cond (test k) 1 0) n numbers, ap (λ (b : Bool). cond {A = ℕ} b 1 0) fails, one)
+          omega (
+            arith,
+            sum_by-cons (λ k. cond (test k) 1 0) n numbers,
+            ap (λ (b : Bool). cond {A = ℕ} b 1 0) fails,
+            one,
+          )
 
 -- an identifier is that of at most one of rising numbers of concepts
 one_number : (concepts : List ℕ) → IsStrictlyIncreasing concepts → (id lowest : ℕ) (numbers : List ℕ)
@@ -124,7 +130,7 @@ one_number concepts rising id =
     ∙ same_by_number concepts rising n m (omega (arith, before, within)) within
     ∙ ne_eqb n m (λ equal. omega (arith, equal, before)))
 
--- no row has two sources, so distinct sources have together no more rows than there are in all
+-- distinct sources have together at most as many rows as there are, since no row has two sources
 pub source_rows_few : (indexed : Indexed) → IsStrictlyIncreasing indexed.concepts → (numbers : List ℕ)
     → IsRisingBelow (length indexed.concepts) numbers → sum_by (row_count_of indexed true) numbers ≤ length indexed.rows
 source_rows_few indexed rising numbers rises =
@@ -139,9 +145,10 @@ source_rows_few indexed rising numbers rises =
           (λ row. one_number indexed.concepts rising row.source 0 numbers rises) indexed.rows,
     )
 
--- no row has two values, so distinct values have together no more rows than there are in all
+-- distinct values have together at most as many rows as there are, since no row has two values
 pub value_rows_few : (indexed : Indexed) → IsStrictlyIncreasing indexed.concepts → (numbers : List ℕ)
-    → IsRisingBelow (length indexed.concepts) numbers → sum_by (row_count_of indexed false) numbers ≤ length indexed.rows
+    → IsRisingBelow (length indexed.concepts) numbers
+    → sum_by (row_count_of indexed false) numbers ≤ length indexed.rows
 value_rows_few indexed rising numbers rises =
     let test : ℕ → Attribute → Bool = λ n row. value_eq row.value (concept_value (get_or indexed.concepts n 0)) in
     let each : sum_by (row_count_of indexed false) numbers
@@ -158,21 +165,24 @@ value_rows_few indexed rising numbers rises =
     once (number_value number) = omega (arith, no_sum numbers)
     once (text_value bytes) = omega (arith, no_sum numbers)
 
--- distinct concepts have together no more rows as sources, or as values, than there are in all
+-- distinct concepts have together at most as many rows, as values or (if `back`) as sources, as there are
 pub rows_few : (indexed : Indexed) → IsStrictlyIncreasing indexed.concepts → (numbers : List ℕ)
-    → IsRisingBelow (length indexed.concepts) numbers → (back : Bool) → sum_by (row_count_of indexed back) numbers ≤ length indexed.rows
+    → IsRisingBelow (length indexed.concepts) numbers → (back : Bool)
+    → sum_by (row_count_of indexed back) numbers ≤ length indexed.rows
 rows_few indexed rising numbers rises true = source_rows_few indexed rising numbers rises
 rows_few indexed rising numbers rises false = value_rows_few indexed rising numbers rises
 
--- no row is in two groups, so distinct groups have together no more rows than there are in all
+-- distinct groups have together at most as many rows as there are, since no row is in two groups
 pub group_rows_few : (indexed : Indexed) → IsStrictlyIncreasing indexed.concepts → (numbers : List ℕ)
-    → IsRisingBelow (length (groups_in indexed)) numbers → sum_by (group_row_count indexed) numbers ≤ length indexed.rows
+    → IsRisingBelow (length (groups_in indexed)) numbers
+    → sum_by (group_row_count indexed) numbers ≤ length indexed.rows
 group_rows_few indexed rising numbers rises =
     omega (
       arith,
       ap (λ (count : ℕ → ℕ). sum_by count numbers) each,
       rows_once (λ (row : Attribute) (n : ℕ). in_some (slice_get groups n) row) numbers
-          (λ row. one_passes (length groups) (λ n. in_some (slice_get groups n) row) (apart row) 0 numbers rises) indexed.rows,
+          (λ row. one_passes (length groups) (λ n. in_some (slice_get groups n) row) (apart row) 0 numbers rises)
+          indexed.rows,
     )
   where
     release : Release
@@ -203,7 +213,8 @@ group_rows_few indexed rising numbers rises =
         → get_or groups n (group_of row) ≡ group_of row
     its_group row n within passes =
         in_one_group (get_or groups n (group_of row)) row
-        (All-get_or (λ (group : ConceptGroup). IsTold group.key) groups n (group_of row) within (groups_told_apart release indexed.concepts))
+        (All-get_or (λ (group : ConceptGroup). IsTold group.key) groups n (group_of row) within
+        (groups_told_apart release indexed.concepts))
         (ap (λ (group : Option ConceptGroup). in_some group row) (sym (group_at n (group_of row) within)) ∙ passes)
 
     apart : (row : Attribute) (n m : ℕ) → n < m → m < length groups → in_some (slice_get groups n) row ≡ true
@@ -220,24 +231,28 @@ group_rows_few indexed rising numbers rises =
                   (its_group row n (omega (arith, before, within)) passes ∙ sym (its_group row m within also)),
             ))
 
--- candidates that are concepts, and their rows, are no more items than their extent says
+-- reading candidates that are concepts, and their rows, takes at most as many items as their statistics say
 pub concepts_fit : {S : Type 0} (items_of : S → List ℕ) (indexed : Indexed) (back : Bool) (candidates : Candidates S)
-    → HaveExtent items_of (IsExtentOf indexed) candidates
-    → full (candidate_items items_of indexed (row_count_of indexed (not back)) candidates) ≤ extent_items (extent_told back candidates)
-concepts_fit items_of indexed back candidates.All extent = omega arith
-concepts_fit items_of indexed true (candidates.Within set extent) is = omega (arith, is.items, is.back_rows)
-concepts_fit items_of indexed false (candidates.Within set extent) is = omega (arith, is.items, is.rows)
+    → HaveStats items_of (IsStatsOf indexed) candidates
+    → full (candidate_items items_of indexed (row_count_of indexed (not back)) candidates)
+    ≤ stats_items (stats_told back candidates)
+concepts_fit items_of indexed back candidates.All stats = omega arith
+concepts_fit items_of indexed true (candidates.Within set stats) is = omega (arith, is.items, is.back_rows)
+concepts_fit items_of indexed false (candidates.Within set stats) is = omega (arith, is.items, is.rows)
 
--- candidates that are groups, and their rows, are no more items than their extent says
+-- reading candidates that are groups, and their rows, takes at most as many items as their statistics say
 pub groups_fit : {S : Type 0} (items_of : S → List ℕ) (indexed : Indexed) (candidates : Candidates S)
-    → HaveExtent items_of (IsGroupExtentOf indexed) candidates
-    → full (candidate_items items_of indexed (group_row_count indexed) candidates) ≤ extent_items (extent_told false candidates)
-groups_fit items_of indexed candidates.All extent = omega arith
-groups_fit items_of indexed (candidates.Within set extent) is = omega (arith, is.items, is.rows)
+    → HaveStats items_of (IsGroupStatsOf indexed) candidates
+    → full (candidate_items items_of indexed (group_row_count indexed) candidates)
+    ≤ stats_items (stats_told false candidates)
+groups_fit items_of indexed candidates.All stats = omega arith
+groups_fit items_of indexed (candidates.Within set stats) is = omega (arith, is.items, is.rows)
 
--- listing candidates and reading their rows takes no more items than `candidate_items` says
-pub asked_fit : {S : Type 0} (items_of : S → List ℕ) (indexed : Indexed) (rows : ℕ → ℕ) (candidates : Candidates S) (numbers : List ℕ)
+-- listing the candidates and reading their rows takes at most `candidate_items` items
+pub asked_fit : {S : Type 0} (items_of : S → List ℕ) (indexed : Indexed) (rows : ℕ → ℕ) (candidates : Candidates S)
+    (numbers : List ℕ)
     → AreListedFor items_of candidates numbers → sum_by rows numbers ≤ length indexed.rows
     → candidates_listed items_of candidates + sum_by rows numbers ≤ candidate_items items_of indexed rows candidates
 asked_fit items_of indexed rows candidates.All numbers listed few = omega (arith, few)
-asked_fit items_of indexed rows (candidates.Within set extent) numbers listed few = omega (arith, ap (sum_by rows) listed)
+asked_fit items_of indexed rows (candidates.Within set stats) numbers listed few =
+    omega (arith, ap (sum_by rows) listed)

@@ -12,8 +12,9 @@ use Rattle.constraint_tree.specs.declared.operator.Cardinality.{Cardinality}
 use Rattle.constraint_tree.specs.Passing.{is_up_to, lies_in}
 
 -- ---- by recursion on the list
--- a first item adds one to how often a list has it
-pub times-cons : (number x : ℕ) (xs : List ℕ) → times number (x ∷ xs) ≡ cond (x == number) (1 + times number xs) (times number xs)
+-- `x ∷ xs` has `x` once more than `xs`, and any other number as often
+pub times-cons : (number x : ℕ) (xs : List ℕ)
+    → times number (x ∷ xs) ≡ cond (x == number) (1 + times number xs) (times number xs)
 times-cons number x xs =
     sym (length-filter (λ y. y == number) (x ∷ xs))
     ∙ elim (x == number) as (λ b. length (cond b (x ∷ filter (λ y. y == number) xs) (filter (λ y. y == number) xs))
@@ -22,7 +23,7 @@ times-cons number x xs =
       | false ↦ length-filter (λ y. y == number) xs
     ]
 
--- a list has a number exactly if the number stands in it at least once
+-- a list contains a number exactly if it has it at least once
 pub has_times : (xs : List ℕ) (number : ℕ) → has xs number ≡ nat_le 1 (times number xs)
 has_times [] number = refl
 has_times (x ∷ xs) number =
@@ -44,7 +45,8 @@ there_once xs number there = leb-true 1 (times number xs) (sym (has_times xs num
 not_there : (xs : List ℕ) (number : ℕ) → has xs number ≡ false → times number xs ≡ 0
 not_there xs number absent = omega (arith, leb-false 1 (times number xs) (sym (has_times xs number) ∙ absent))
 
--- if `left` has each number once less often than `xs`, it still does if an item of `xs` is appended to both
+-- if `left` has `number` once less often than `xs`, this stays so if a number that `xs` already contains is added to
+-- both
 pub again_step : (xs left : List ℕ) (x number : ℕ) → has xs x ≡ true → times number left ≡ times number xs - 1
     → times number (left ++ x ∷ []) ≡ times number (xs ++ x ∷ []) - 1
 again_step xs left x number there so_far =
@@ -59,7 +61,8 @@ again_step xs left x number there so_far =
           = times_more number x ∙ ap (λ b. cond b 1 0) (ne_eqb x number other) in omega (arith, none, so_far)
     ]
 
--- if `left` has each number once less often than `xs`, it still does if a new item is appended to `xs` alone
+-- if `left` has `number` once less often than `xs`, this stays so if a number that `xs` does not contain is added to
+-- `xs` only
 pub first_step : (xs left : List ℕ) (x number : ℕ) → has xs x ≡ false → times number left ≡ times number xs - 1
     → times number left ≡ times number (xs ++ x ∷ []) - 1
 first_step xs left x number absent so_far = so_far ∙ by_case ∙ sym (ap (λ n. n - 1) (times-append number xs (x ∷ [])))
@@ -74,7 +77,7 @@ first_step xs left x number absent so_far = so_far ∙ by_case ∙ sym (ap (λ n
           = times_more number x ∙ ap (λ b. cond b 1 0) (ne_eqb x number other) in omega (arith, none)
     ]
 
--- a list with x appended has a number exactly if the list has it or it is x
+-- `xs ++ x ∷ []` contains a number exactly if `xs` does or it is `x`
 pub item_more : (xs : List ℕ) (x number : ℕ) → has (xs ++ x ∷ []) number ≡ (has xs number || (x == number))
 item_more [] x number = or-false (x == number)
 item_more (y ∷ xs) x number =
@@ -85,29 +88,30 @@ item_more (y ∷ xs) x number =
     apart true b c = refl
     apart false b c = refl
 
--- to append an item that a list has already changes nothing in what the list has
+-- adding a number that a list already contains does not change what the list contains
 pub marked_again : (xs : List ℕ) (x number : ℕ) → has xs x ≡ true → has xs number ≡ has (xs ++ x ∷ []) number
 marked_again xs x number there = sym (item_more xs x number ∙ by_case)
   where
     by_case : (has xs number || (x == number)) ≡ has xs number
     by_case = elim (cases_eq x number) [
       | inl same ↦
-          (λ i. ap (has xs) (sym same) i || (x == number)) ∙ (λ i. there i || (x == number)) ∙ sym there ∙ ap (has xs) same
+          (λ i. ap (has xs) (sym same) i || (x == number)) ∙ (λ i. there i || (x == number)) ∙ sym there
+          ∙ ap (has xs) same
       | inr other ↦ (λ i. has xs number || ne_eqb x number other i) ∙ or-false (has xs number)
     ]
 
--- a list of one number below `bound` has numbers below `bound` alone
+-- the list of the single number `x` is below `bound` if `x` is
 pub one_below : (bound x : ℕ) → x < bound → All (λ n. n < bound) (x ∷ [])
 one_below bound x below zero d within = below
 one_below bound x below (suc k) d within = absurd (omega (arith, within))
 
--- a number stands in a list more than `least` - 1 times exactly if it stands there at least `least` times
+-- more than `least - 1` occurrences are at least `least` occurrences
 pub beyond : (least seen : ℕ) → 1 ≤ least → nat_le 1 (seen - (least - 1)) ≡ nat_le least seen
 beyond least seen some = both_ways (nat_le 1 (seen - (least - 1))) (nat_le least seen)
     (λ told. le-leb least seen (omega (arith, leb-true 1 (seen - (least - 1)) told)))
     (λ told. le-leb 1 (seen - (least - 1)) (omega (arith, leb-true least seen told)))
 
--- if nothing of `seen` is left after `done` are taken, nothing is left after `less`, if that is at least `done`
+-- if taking `done` of `seen` leaves 0, taking `less` of them leaves 0 as well, if `less` is at least `done`
 pub none_left : (left done less seen : ℕ) → left ≡ seen - done → left ≡ 0 → done ≤ less → left ≡ seen - less
 none_left left done less seen is none most = omega arith
 
@@ -122,13 +126,13 @@ not_more most seen = elim (cases_lt most seen) [
   | inr most_there ↦ ap not (lt-leb (most + 1) seen (omega (arith, most_there))) ∙ sym (le-leb seen most most_there)
 ]
 
--- a count is at least the minimum and not above the maximum exactly if it lies in the cardinality
+-- a count that is at least the minimum and not above the maximum lies in the cardinality, and conversely
 pub up_to : (count : Cardinality) (most seen : ℕ) → count.max ≡ Some most
     → (nat_le count.min seen && not (nat_le (most + 1) seen)) ≡ lies_in count seen
 up_to count most seen is =
     ap (λ (b : Bool). nat_le count.min seen && b) (not_more most seen ∙ ap (λ (m : Option ℕ). is_up_to m seen) (sym is))
 
--- if the maximum allows a count, the count lies in the cardinality exactly if it is at least the minimum
+-- a count that the maximum allows lies in the cardinality exactly if it is at least the minimum
 pub allowed : (count : Cardinality) (seen : ℕ) → is_up_to count.max seen ≡ true
     → nat_le count.min seen ≡ lies_in count seen
 allowed count seen up = sym (and-true (nat_le count.min seen)) ∙ ap (λ (b : Bool). nat_le count.min seen && b) (sym up)

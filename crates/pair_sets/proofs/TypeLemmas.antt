@@ -1,5 +1,6 @@
 -- The places of the types that are in a set of concepts.
-use Rattle.std.proofs.Common.{ℕ, ◌≡◌, ◌<◌, ◌+◌, ◌++◌, ◌∷◌, [], ◌==◌, ◌||◌, ◌∙◌, Bool, true, false, List, length, get_or, take, inl, inr, refl, sym, ap, arith}
+use Rattle.std.proofs.Common.{ℕ, ◌≡◌, ◌<◌, ◌+◌, ◌++◌, ◌∷◌, [], ◌==◌, ◌||◌, ◌∙◌, Bool, true, false, List, length, get_or}
+use Rattle.std.proofs.Common.{take, inl, inr, refl, sym, ap, arith}
 use Rattle.std.specs.Prelude.{All, None, Option, Some, nat_eq, position}
 use Rattle.std.specs.List.{IsDistinct}
 use Rattle.std.specs.List.Sorted.{IsStrictlyIncreasing}
@@ -34,15 +35,19 @@ module _ (types : List ℕ) (apart : IsDistinct nat_eq types) where
   -- the place at which an identifier is found is the only one that it has
   only_place : (id place : ℕ) → place < length types → (found : Option ℕ) → position (nat_eq id) types ≡ found
       → is_place found place ≡ (id == get_or types place 0)
-  only_place id place within None at = sym (ne_eqb id (get_or types place 0) (λ same. concept_number-None types id at place within (sym same)))
+  only_place id place within None at =
+      sym (ne_eqb id (get_or types place 0) (λ same. concept_number-None types id at place within (sym same)))
   only_place id place within (Some p) at = elim (cases_eq p place) [
-    | inl same ↦ eq-eqb p place same ∙ sym (eq-eqb id (get_or types place 0) (named ∙ ap (λ (n : ℕ). get_or types n 0) same))
+    | inl same ↦ eq-eqb p place same
+        ∙ sym (eq-eqb id (get_or types place 0) (named ∙ ap (λ (n : ℕ). get_or types n 0) same))
     | inr other ↦
         ne_eqb p place other
         ∙ sym (ne_eqb id (get_or types place 0) (λ same. elim (cases_lt p place) [
-          | inl before ↦ eqb-false (get_or types p 0) (get_or types place 0) (apart_from_distinct nat_eq types p place 0 apart before within) (sym named ∙ same)
-          | inr behind ↦ eqb-false (get_or types place 0) (get_or types p 0)
-              (apart_from_distinct nat_eq types place p 0 apart (omega (arith, behind, other)) first.0) (sym same ∙ named)
+          | inl before ↦ eqb-false (get_or types p 0) (get_or types place 0)
+              (apart_from_distinct nat_eq types p place 0 apart before within) (sym named ∙ same)
+          | inr following ↦ eqb-false (get_or types place 0) (get_or types p 0)
+              (apart_from_distinct nat_eq types place p 0 apart (omega (arith, following, other)) first.0) (sym same
+              ∙ named)
         ]))
   ]
     where
@@ -52,54 +57,64 @@ module _ (types : List ℕ) (apart : IsDistinct nat_eq types) where
       named : id ≡ get_or types p 0
       named = eqb-true id (get_or types p 0) first.1
 
-  -- if the places tell the types among the first k concepts, with the place of concept k they tell those among the
-  -- first k + 1
-  pub places_more : (concepts numbers places : List ℕ) (k : ℕ) → k < length numbers → (id : ℕ) → id ≡ get_or concepts (get_or numbers k 0) 0
+  -- if `places` has the places of the types among the first `k` of `numbers`, adding the place of concept `k`, if it is
+  -- a type, makes it so for the first `k + 1`
+  pub places_more : (concepts numbers places : List ℕ) (k : ℕ) → k < length numbers → (id : ℕ)
+      → id ≡ get_or concepts (get_or numbers k 0) 0
       → (found : Option ℕ) → position (nat_eq id) types ≡ found
-      → ((place : ℕ) → place < length types → has places place ≡ is_one_of concepts (take k numbers) (get_or types place 0))
-      → (place : ℕ) → place < length types → has (with_place places found) place ≡ is_one_of concepts (take (k + 1) numbers) (get_or types place 0)
+      → ((place : ℕ) → place < length types
+      → has places place ≡ is_one_of concepts (take k numbers) (get_or types place 0))
+      → (place : ℕ) → place < length types
+      → has (with_place places found) place ≡ is_one_of concepts (take (k + 1) numbers) (get_or types place 0)
   places_more concepts numbers places k within id is found at told place inside =
       added found
       ∙ (λ i. told place inside i || only_place id place inside found at i)
       ∙ sym (ap (λ (xs : List ℕ). is_one_of concepts xs (get_or types place 0)) (take_more numbers k 0 within)
-      ∙ list_any-append (λ number. get_or concepts number 0 == get_or types place 0) (take k numbers) (get_or numbers k 0 ∷ [])
+      ∙ list_any-append (λ number. get_or concepts number 0 == get_or types place 0) (take k numbers)
+      (get_or numbers k 0 ∷ [])
       ∙ ap (λ (b : Bool). is_one_of concepts (take k numbers) (get_or types place 0) || b)
-      (or-false (get_or concepts (get_or numbers k 0) 0 == get_or types place 0) ∙ ap (λ (n : ℕ). n == get_or types place 0) (sym is)))
+      (or-false (get_or concepts (get_or numbers k 0) 0 == get_or types place 0)
+      ∙ ap (λ (n : ℕ). n == get_or types place 0) (sym is)))
     where
       added : (found : Option ℕ) → has (with_place places found) place ≡ (has places place || is_place found place)
       added None = sym (or-false (has places place))
       added (Some p) = item_more places p place
 
--- if the places tell the types of rows among the first k concepts, with the place of concept k they tell those among
--- the first k + 1
+-- if `places` has the places of the types of `rows` among the first `k` of `numbers`, adding the place of concept `k`,
+-- if it is a type, makes it so for the first `k + 1`
 pub places_more_of : (rows : List Attribute) (concepts numbers places : List ℕ) (k : ℕ) → k < length numbers → (id : ℕ)
     → id ≡ get_or concepts (get_or numbers k 0) 0
     → (found : Option ℕ) → position (nat_eq id) (types_of rows) ≡ found
-    → ((place : ℕ) → place < length (types_of rows) → has places place ≡ is_one_of concepts (take k numbers) (get_or (types_of rows) place 0))
+    → ((place : ℕ) → place < length (types_of rows)
+    → has places place ≡ is_one_of concepts (take k numbers) (get_or (types_of rows) place 0))
     → (place : ℕ) → place < length (types_of rows) → has (with_place places found) place
     ≡ is_one_of concepts (take (k + 1) numbers) (get_or (types_of rows) place 0)
 places_more_of rows = places_more (types_of rows) (types_apart rows)
 
--- a place at which an identifier is found is below the number of types
+-- the place at which an identifier is found is below the number of types
 pub place_below : (types : List ℕ) (id place : ℕ) → position (nat_eq id) types ≡ Some place → place < length types
 place_below types id place at = (position-Some (nat_eq id) types place 0 at).0
 
--- whether the type of a row is in a set can be told by the place of the type
-pub type_tells : (indexed : Indexed) (numbers : List ℕ) → TellsTypes indexed.rows (is_one_of indexed.concepts numbers) (is_type_in indexed numbers)
+-- whether the type of a row is in a set can be decided by the type's place
+pub type_tells : (indexed : Indexed) (numbers : List ℕ)
+    → TellsTypes indexed.rows (is_one_of indexed.concepts numbers) (is_type_in indexed numbers)
 type_tells indexed numbers place within =
     ap (is_one_at indexed.concepts numbers) (slice_get-get_or (types_of indexed.rows) place 0 within)
 
 -- types of rows, tested by the number of their concept
 module _ (indexed : Indexed) (items : List ℕ) (below : All (λ item. item < length indexed.concepts) items) where
-  -- a type that is no concept is not in a set of concepts
+  -- a type that is not a concept in force is in no set of concepts
   pub no_typed : (at : Option ℕ) → concept_of_type indexed at ≡ None → false ≡ is_one_at indexed.concepts items at
   no_typed None none = refl
   no_typed (Some id) none = sym (none_by_number indexed.concepts items below id none)
 
--- a type that is a concept is in a set exactly if the set has the number of the concept
-pub typed : (indexed : Indexed) → IsStrictlyIncreasing indexed.concepts → (items : List ℕ) → All (λ item. item < length indexed.concepts) items
-    → (at : Option ℕ) (concept : ℕ) → concept_of_type indexed at ≡ Some concept → has items concept ≡ is_one_at indexed.concepts items at
+-- a type that is a concept in force is in a set exactly if the set contains the concept's number
+pub typed : (indexed : Indexed) → IsStrictlyIncreasing indexed.concepts → (items : List ℕ)
+    → All (λ item. item < length indexed.concepts) items
+    → (at : Option ℕ) (concept : ℕ) → concept_of_type indexed at ≡ Some concept
+    → has items concept ≡ is_one_at indexed.concepts items at
 typed indexed rising items below None concept none = absurd cc
 typed indexed rising items below (Some id) concept is =
     let found = concept_number-Some indexed.concepts id concept is in
-    sym (one_by_number indexed.concepts rising items below concept found.0) ∙ ap (is_one_of indexed.concepts items) found.1
+    sym (one_by_number indexed.concepts rising items below concept found.0)
+    ∙ ap (is_one_of indexed.concepts items) found.1

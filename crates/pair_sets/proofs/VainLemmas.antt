@@ -45,7 +45,7 @@ module _ (compare : Compare) (number : ℤ) where
       All-cons (λ (row : Attribute). is_number_that compare number row.value ≡ false) row rows parts.0
       (of_rows rows parts.1)
 
-  -- if none of the decimals in the indexes meets the comparison, the value of no row passes
+  -- if no decimal of the indexes fulfils the comparison, no row's value passes
   pub no_row_passes : (release : Release) (indexed : Indexed) → IsIndexOf indexed release
       → All (λ decimal. meets compare (int_cmp decimal number) ≡ false) indexed.decimals
       → All (λ (row : Attribute). is_number_that compare number row.value ≡ false) indexed.rows
@@ -110,7 +110,7 @@ not_kept owners.Source indexed kept number entry fails =
 not_kept owners.Group indexed kept number entry fails =
     neither (is_in_some (slice_get (groups_in indexed) number) entry.row) entry.is_first_in_group fails
 
--- if no row is kept, the empty list has the hits of the rows of some types for their owners
+-- if no row is kept, the rows of any types have no hits for their owners
 pub none_kept : (owner : Owner) (indexed : Indexed) (kept : Attribute → Bool) (ids : List ℕ) (bound : ℕ)
     → All (λ (row : Attribute). kept row ≡ false) indexed.rows
     → AreHits bound (counts_for_owner owner indexed kept) (entries_with_types indexed.rows ids) []
@@ -118,7 +118,7 @@ none_kept owner indexed kept =
     none_counts indexed.rows (λ (row : Attribute). kept row ≡ false) (counts_for_owner owner indexed kept)
     (not_kept owner indexed kept)
 
--- if no row is kept, the empty list has the hits of the rows of some types for their values
+-- if no row is kept, the rows of any types have no hits for their values
 pub none_kept_back : (indexed : Indexed) (kept : Attribute → Bool) (ids : List ℕ) (bound : ℕ)
     → ((row : Attribute) → kept row ≡ false)
     → AreHits bound (counts_for_value indexed.concepts kept) (entries_with_types indexed.rows ids) []

@@ -1,5 +1,6 @@
 -- The values of attributes, as the concepts with at least one pair that is read backwards.
-use Rattle.std.proofs.Common.{ℕ, ◌≡◌, ◌+◌, ◌∙◌, ◌∷◌, [], arith, Bool, true, false, ◌&&◌, ◌||◌, cond, None, List, get_or, map, refl, ap}
+use Rattle.std.proofs.Common.{ℕ, ◌≡◌, ◌+◌, ◌∙◌, ◌∷◌, [], arith, Bool, true, false, ◌&&◌, ◌||◌, cond, None, List, get_or}
+use Rattle.std.proofs.Common.{map, refl, ap}
 use Rattle.std.specs.Prelude.{count_by, filter, nat_le}
 use Rattle.std.specs.List.{list_any}
 use Rattle.std.proofs.lemmas.Bool.{le-leb}
@@ -50,21 +51,24 @@ with_true : (b : Bool) → (b && true) ≡ b
 with_true true = refl
 with_true false = refl
 
--- the concepts with at least one pair that is read backwards along `types` to `sources` are the values of the sources
--- along the types
+-- the concepts with at least one pair, read backwards, of a type in `types` and a source in `sources` are the values of
+-- the sources along the types
 pub some_pair_is_value : (release : Release) (sources types : ℕ → Bool)
-    → numbers_in release (λ concept. has_pairs (record { min = 1; max = None }) types (is_within sources) (in_pairs release concept))
+    → numbers_in release (λ concept. has_pairs (record { min = 1; max = None }) types (is_within sources)
+    (in_pairs release concept))
     ≡ numbers_in release (is_value release sources types)
 some_pair_is_value release sources types =
     numbers_in-agree release
     (λ concept. has_pairs (record { min = 1; max = None }) types (is_within sources) (in_pairs release concept))
-    (λ concept. list_any (λ row. (sources row.source && types row.type_id) && value_eq row.value (concept_value concept)) release.attributes)
+    (λ concept. list_any (λ row. (sources row.source && types row.type_id)
+    && value_eq row.value (concept_value concept)) release.attributes)
     (λ n within. at (get_or release.concepts n 0))
     ∙ in_force_kept release (λ concept. list_any
     (λ row. (sources row.source && types row.type_id) && value_eq row.value (concept_value concept)) release.attributes)
   where
     at : (concept : ℕ) → has_pairs (record { min = 1; max = None }) types (is_within sources) (in_pairs release concept)
-        ≡ list_any (λ row. (sources row.source && types row.type_id) && value_eq row.value (concept_value concept)) release.attributes
+        ≡ list_any (λ row. (sources row.source && types row.type_id) && value_eq row.value (concept_value concept))
+        release.attributes
     at concept =
         let test : Pair → Bool = λ pair. types pair.type_id && is_within sources pair.value in
         let leads : Attribute → Bool = λ row. value_eq row.value (concept_value concept) in
@@ -73,4 +77,5 @@ some_pair_is_value release sources types =
         ∙ any_distinct test (map reverse_pair_of (filter leads release.attributes))
         ∙ any-map test reverse_pair_of (filter leads release.attributes)
         ∙ any-filter (λ row. test (reverse_pair_of row)) leads release.attributes
-        ∙ (λ i. list_any (λ (row : Attribute). shuffled (leads row) (types row.type_id) (sources row.source) i) release.attributes)
+        ∙ (λ i. list_any (λ (row : Attribute). shuffled (leads row) (types row.type_id) (sources row.source) i)
+        release.attributes)

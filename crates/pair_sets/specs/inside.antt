@@ -1,4 +1,4 @@
 -- Definitions that private functions alone need: no contract of a public call names one.
 pub mod Among
 pub mod Hits
-pub mod Ways
+pub mod AccessPaths

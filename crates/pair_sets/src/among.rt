@@ -1,4 +1,5 @@
-//! Keeps the candidates whose number of matching pairs lies in a cardinality, by the rows of the candidates.
+//! Finds which of given concepts or groups have a number of matching pairs that lies in a
+//! cardinality, by reading the rows of each.
 ghost use Rattle.std.specs.Prelude.{◌≡◌, ◌<◌, ◌&&◌, All, List, cond, count_by, not, true, IfOk, filter, length};
 ghost use Rattle.std.specs.Prelude.{slice_get};
 ghost use Rattle.std.specs.List.{sum_by};
@@ -8,7 +9,7 @@ ghost use Rattle.postings.specs.Entries.{Entry};
 ghost use Rattle.postings.specs.Groups.{groups_in};
 ghost use Rattle.postings.specs.Indexed.{types_of};
 ghost use Rattle.pair_sets.specs.inside.Among.{pairs_among as pairs_among_of, pairs_of_concept as pairs_of_concept_of};
-ghost use Rattle.pair_sets.specs.inside.Among.{rows_of_unit};
+ghost use Rattle.pair_sets.specs.inside.Among.{rows_of_group_number};
 ghost use Rattle.pair_sets.specs.inside.Hits.{has_source_in, is_type_in, value_of};
 ghost use Rattle.candidates.specs.Extents.{group_row_count};
 ghost use Rattle.candidates.specs.Numbers.{is_one_of};
@@ -25,7 +26,7 @@ use postings::{FlaggedNumber, RowCells};
 use reading::{Answer, Counter, Reader};
 use std::alloc::AllocError;
 
-// Whether `pairs` lies in a cardinality.
+// Returns whether the number `pairs` lies in the cardinality `count`.
 fn lies_in(count: Cardinality, pairs: u64) -> bool
     ensures { result ≡ lies_in_of count pairs }
 {
@@ -36,8 +37,9 @@ fn lies_in(count: Cardinality, pairs: u64) -> bool
     }
 }
 
-// Counts the rows that are the first with their pair and match. If `grouped`, each is the first in its group, and
-// otherwise in its concept. A row matches if `types` has its type and its value passes `tested`.
+// Counts the distinct matching pairs of `rows`, which are the rows of one group if `grouped`, or
+// else of one source. These are the matching rows that are the first with their pair there. A row
+// matches if its type is in `types` and its value passes `tested`.
 fn pairs_among<S: ConceptSet>(
     reader: Reader<'_>,
     rows: &[u32],
@@ -48,8 +50,9 @@ fn pairs_among<S: ConceptSet>(
     requires rows { All (λ n. n < length reader.indexes.now.rows) rows.now }
     requires types { S.bound_of types.now ≡ length reader.indexes.now.concepts }
     requires tested { IsTestBelow S.bound_of (length reader.indexes.now.concepts) tested.now }
-    ensures { result ≡ pairs_among_of reader.entry.indexes.now grouped (is_one_of reader.entry.indexes.now.concepts
-        (S.items_of types.now)) (passes_of S.items_of reader.entry.indexes.now.concepts tested.now) rows.now }
+    ensures { result ≡ pairs_among_of reader.entry.indexes.now grouped
+        (is_one_of reader.entry.indexes.now.concepts (S.items_of types.now))
+        (passes_of S.items_of reader.entry.indexes.now.concepts tested.now) rows.now }
 {
     let mut pairs = 0u64;
     for n in rows {
@@ -61,7 +64,8 @@ fn pairs_among<S: ConceptSet>(
     pairs
 }
 
-// Whether a row is the first with its pair, `types` has its type and its value passes `tested`.
+// Returns whether `row` is the first with its pair (in its group if `grouped`, else in its source),
+// its type is in `types`, and its value passes `tested`.
 fn counts<S: ConceptSet>(
     reader: Reader<'_>,
     row: RowCells,
@@ -72,8 +76,9 @@ fn counts<S: ConceptSet>(
     requires types { S.bound_of types.now ≡ length reader.indexes.now.concepts }
     requires tested { IsTestBelow S.bound_of (length reader.indexes.now.concepts) tested.now }
     ensures { result ≡ (cond grouped row.is_first_in_group row.is_first
-        && (is_type_in reader.entry.indexes.now (S.items_of types.now) row.type_place && passes_of S.items_of
-        reader.entry.indexes.now.concepts tested.now (value_of reader.entry.indexes.now row.value))) }
+        && (is_type_in reader.entry.indexes.now (S.items_of types.now) row.type_place
+        && passes_of S.items_of reader.entry.indexes.now.concepts tested.now
+        (value_of reader.entry.indexes.now row.value))) }
 {
     let first = if grouped {
         row.is_first_in_group
@@ -83,8 +88,9 @@ fn counts<S: ConceptSet>(
     first && is_typed(reader, types, row.type_place) && passes(reader, tested, row.value)
 }
 
-// Counts the rows, given by their columns, that are the first with their pair and match. A row matches if `types` has
-// its type and its source passes `tested`.
+// Counts the distinct pairs, read backwards, of the rows of one value, given by their columns of
+// sources and types (`cells`). These are the matching rows that are the first with their pair in
+// their source. A row matches if its type is in `types` and its source passes `tested`.
 fn back_pairs_among<S: ConceptSet>(
     reader: Reader<'_>,
     sources: &[FlaggedNumber],
@@ -95,12 +101,13 @@ fn back_pairs_among<S: ConceptSet>(
     requires long { length sources.now ≡ length cells.now }
     requires types { S.bound_of types.now ≡ length reader.indexes.now.concepts }
     requires tested { IsTestBelow S.bound_of (length reader.indexes.now.concepts) tested.now }
-    ensures { (entries : List Entry) → AreSources reader.entry.indexes.now.concepts entries sources.now
-        → AreTypes (types_of reader.entry.indexes.now.rows) entries cells.now → result
-        ≡ count_by (λ entry. entry.is_first && has_source_in (is_one_of reader.entry.indexes.now.concepts
-        (S.items_of types.now)) (passes_of S.items_of reader.entry.indexes.now.concepts tested.now) entry.row) entries }
+    ensures { (entries : List Entry) → AreSources reader.entry.indexes.now.concepts entries
+        sources.now → AreTypes (types_of reader.entry.indexes.now.rows) entries cells.now
+        → result ≡ count_by (λ entry. entry.is_first
+        && has_source_in (is_one_of reader.entry.indexes.now.concepts (S.items_of types.now))
+        (passes_of S.items_of reader.entry.indexes.now.concepts tested.now) entry.row) entries }
 {
-    // The concepts rise, so that none has two numbers. This call tells the prover.
+    // tells the prover that the concepts rise, so that none has two numbers
     reader.concept_count();
     let mut pairs = 0u64;
     for place in 0..sources.len() {
@@ -112,7 +119,8 @@ fn back_pairs_among<S: ConceptSet>(
     pairs
 }
 
-// Whether a row is the first with its pair, `types` has its type and its source passes `tested`.
+// Returns whether a row is the first with its pair in its source, its type is in `types`, and its
+// source passes `tested`.
 fn counts_back<S: ConceptSet>(
     reader: Reader<'_>,
     source: FlaggedNumber,
@@ -122,16 +130,17 @@ fn counts_back<S: ConceptSet>(
 ) -> bool
     requires types { S.bound_of types.now ≡ length reader.indexes.now.concepts }
     requires tested { IsTestBelow S.bound_of (length reader.indexes.now.concepts) tested.now }
-    ensures { result ≡ (source.is_first && (is_type_in reader.entry.indexes.now (S.items_of types.now) type_place
-        && passes_of S.items_of reader.entry.indexes.now.concepts tested.now
-        (value_of reader.entry.indexes.now source.number))) }
+    ensures { result ≡ (source.is_first && (is_type_in reader.entry.indexes.now
+        (S.items_of types.now) type_place && passes_of S.items_of reader.entry.indexes.now.concepts
+        tested.now (value_of reader.entry.indexes.now source.number))) }
 {
     let first = source.is_first();
     first && is_typed(reader, types, type_place) && passes(reader, tested, source.number())
 }
 
-// Counts the matching pairs of a concept: its own or, if `back`, those that are read backwards. A pair matches if
-// `types` has its type and its value passes `tested`.
+// Counts the distinct matching pairs of `concept`; if `back`, those read backwards. Counts a visit
+// for each of its rows. A pair matches if its type is in `types`, and its value (backwards: its
+// source) passes `tested`.
 fn pairs_of_concept<S: ConceptSet>(
     reader: Reader<'_>,
     back: bool,
@@ -143,7 +152,8 @@ fn pairs_of_concept<S: ConceptSet>(
     requires concept { concept < length reader.indexes.now.concepts }
     requires types { S.bound_of types.now ≡ length reader.indexes.now.concepts }
     requires tested { IsTestBelow S.bound_of (length reader.indexes.now.concepts) tested.now }
-    ensures counted { HandsOut (row_count_of reader.entry.indexes.now (not back) concept) visits.old visits.new }
+    ensures counted { HandsOut (row_count_of reader.entry.indexes.now (not back) concept) visits.old
+        visits.new }
     ensures pairs { result ≡ pairs_of_concept_of reader.entry.indexes.now back
         (is_one_of reader.entry.indexes.now.concepts (S.items_of types.now))
         (passes_of S.items_of reader.entry.indexes.now.concepts tested.now) concept }
@@ -157,8 +167,9 @@ fn pairs_of_concept<S: ConceptSet>(
     }
 }
 
-/// Keeps each concept whose number of matching pairs, its own or those read backwards, lies in `count`. A pair
-/// matches if `types` has its type and its value passes `tested`.
+/// Returns those of `concepts` whose number of distinct matching pairs (if `back`, read backwards)
+/// lies in `count`. A pair matches if its type is in `types`, and its value (backwards: its source)
+/// passes `tested`.
 pub fn concepts_among<S: ConceptSet>(
     reader: Reader<'_>,
     back: bool,
@@ -171,14 +182,14 @@ pub fn concepts_among<S: ConceptSet>(
     requires concepts { All (λ number. number < length reader.indexes.now.concepts) concepts.now }
     requires types { S.bound_of types.now ≡ length reader.indexes.now.concepts }
     requires tested { IsTestBelow S.bound_of (length reader.indexes.now.concepts) tested.now }
-    ensures within { IfOk result (λ kept. All (λ number. number < length reader.entry.indexes.now.concepts)
-        kept.items) }
+    ensures within { IfOk result (λ kept. All
+        (λ number. number < length reader.entry.indexes.now.concepts) kept.items) }
     ensures kept { IfOk result (λ kept. kept.items
         ≡ filter (λ number. lies_in_of count (pairs_of_concept_of reader.entry.indexes.now back
         (is_one_of reader.entry.indexes.now.concepts (S.items_of types.now))
         (passes_of S.items_of reader.entry.indexes.now.concepts tested.now) number)) concepts.now) }
-    ensures counted { CountsWithin (sum_by (row_count_of reader.entry.indexes.now (not back)) concepts.now) visits.old
-        visits.new }
+    ensures counted { CountsWithin (sum_by (row_count_of reader.entry.indexes.now (not back))
+        concepts.now) visits.old visits.new }
 {
     let mut kept = Vec::new(reader.alloc);
     for concept in concepts {
@@ -190,8 +201,8 @@ pub fn concepts_among<S: ConceptSet>(
     Ok(kept)
 }
 
-/// Keeps each group whose number of matching pairs lies in `count`. A pair matches if `types` has its type and its
-/// value passes `tested`.
+/// Returns those of `groups` whose number of distinct matching pairs lies in `count`. A pair
+/// matches if its type is in `types` and its value passes `tested`.
 pub fn groups_among<S: ConceptSet>(
     reader: Reader<'_>,
     count: Cardinality,
@@ -203,15 +214,15 @@ pub fn groups_among<S: ConceptSet>(
     requires groups { All (λ number. number < length (groups_in reader.indexes.now)) groups.now }
     requires types { S.bound_of types.now ≡ length reader.indexes.now.concepts }
     requires tested { IsTestBelow S.bound_of (length reader.indexes.now.concepts) tested.now }
-    ensures within { IfOk result (λ kept. All (λ number. number < length (groups_in reader.entry.indexes.now))
-        kept.items) }
-    ensures kept { IfOk result (λ kept. kept.items
-        ≡ filter (λ number. lies_in_of count (pairs_among_of reader.entry.indexes.now true
-        (is_one_of reader.entry.indexes.now.concepts (S.items_of types.now))
-        (passes_of S.items_of reader.entry.indexes.now.concepts tested.now)
-        (rows_of_unit reader.entry.indexes.now (slice_get (groups_in reader.entry.indexes.now) number)))) groups.now) }
-    ensures counted { CountsWithin (sum_by (group_row_count reader.entry.indexes.now) groups.now) visits.old
-        visits.new }
+    ensures within { IfOk result (λ kept. All
+        (λ number. number < length (groups_in reader.entry.indexes.now)) kept.items) }
+    ensures kept { IfOk result (λ kept. kept.items ≡ filter (λ number. lies_in_of count
+        (pairs_among_of reader.entry.indexes.now true (is_one_of reader.entry.indexes.now.concepts
+        (S.items_of types.now)) (passes_of S.items_of reader.entry.indexes.now.concepts tested.now)
+        (rows_of_group_number reader.entry.indexes.now
+        (slice_get (groups_in reader.entry.indexes.now) number)))) groups.now) }
+    ensures counted { CountsWithin (sum_by (group_row_count reader.entry.indexes.now) groups.now)
+        visits.old visits.new }
 {
     let mut kept = Vec::new(reader.alloc);
     for group in groups {

@@ -1,5 +1,5 @@
-//! Finds the concepts and the groups whose number of matching pairs lies in a cardinality, by the rows of values, of
-//! types or of the candidates.
+//! Finds the concepts and the groups whose number of matching pairs lies in a cardinality, by one
+//! kind of rows: those of values, those of types, or those of candidates.
 ghost use Rattle.std.specs.Prelude.{ℕ, ◌≡◌, ◌<◌, All, Bool, IfOk, false, filter, length, not};
 ghost use Rattle.std.specs.List.{range_with_len, sum_by};
 ghost use Rattle.constraint_tree.specs.Passing.{is_within};
@@ -14,7 +14,7 @@ ghost use Rattle.candidates.specs.Extents.{group_row_count};
 ghost use Rattle.candidates.specs.Groups.{groups_where};
 ghost use Rattle.candidates.specs.RowCounts.{row_count_of};
 ghost use Rattle.pair_sets.specs.Room.{candidate_items};
-ghost use Rattle.pair_sets.specs.inside.Ways.{AreListedFor, candidates_listed};
+ghost use Rattle.pair_sets.specs.inside.AccessPaths.{AreListedFor, candidates_listed};
 ghost use Rattle.candidates.specs.Numbers.{is_one_of, numbers_in};
 ghost use Rattle.pair_sets.specs.Tested.{IsTestBelow, passes_of};
 ghost use Rattle.candidates.specs.Within.{AreBelow, groups_within, may_be, numbers_within};
@@ -29,8 +29,9 @@ use idset::ConceptSet;
 use reading::{Answer, Counter, Reader};
 use std::alloc::{AllocError, Global};
 
-/// Finds, by the rows of `values`, the concepts whose number of matching pairs lies in `count`. A pair matches if
-/// `types` has its type and `values` its value or, if `back`, its source. `values` rise.
+/// Finds the concepts whose number of distinct matching pairs lies in `count`, by reading the rows
+/// of `values`. A pair matches if its type is in `types`, and its value in `values` or, if `back`,
+/// its source. `values` must rise.
 pub fn with_pairs_by_value<S: ConceptSet>(
     reader: Reader<'_>,
     back: bool,
@@ -43,20 +44,23 @@ pub fn with_pairs_by_value<S: ConceptSet>(
     requires values { IsRisingBelow (length reader.indexes.now.concepts) values.now }
     ensures counted { CountsWithin (sum_by (row_count_of reader.entry.indexes.now back) values.now)
         visits.old visits.new }
-    ensures items { IfOk result (λ found. S.items_of found ≡ numbers_in reader.entry.snapshot.now.release
-        (λ concept. has_pairs count (is_one_of reader.entry.indexes.now.concepts (S.items_of types.now))
-        (is_within (is_one_of reader.entry.indexes.now.concepts values.now)) (pairs_of reader.entry.snapshot.now.release
-        back concept))) }
-    ensures bound { IfOk result (λ found. S.bound_of found ≡ length reader.entry.snapshot.now.release.concepts) }
+    ensures items { IfOk result (λ found. S.items_of found ≡ numbers_in
+        reader.entry.snapshot.now.release (λ concept. has_pairs count (is_one_of
+        reader.entry.indexes.now.concepts (S.items_of types.now))
+        (is_within (is_one_of reader.entry.indexes.now.concepts values.now))
+        (pairs_of reader.entry.snapshot.now.release back concept))) }
+    ensures bound { IfOk result (λ found. S.bound_of found
+        ≡ length reader.entry.snapshot.now.release.concepts) }
 {
-    // all attribute rows are by source, so their sources are in force
+    // tells the prover that the source of each attribute row is in force
     reader.attribute_count();
     let hits = hits_by_value(reader, back, types, values, visits)?;
     as_often(reader.alloc, hits.as_slice(), reader.concept_count(), count)
 }
 
-/// Finds, by the rows of the types `ids`, the concepts whose number of matching pairs lies in `count`. A pair matches
-/// if `ids` has its type and its value passes `tested` or, if `back`, its source does.
+/// Finds the concepts whose number of distinct matching pairs lies in `count`, by reading the rows
+/// of the types `ids`. A pair matches if its type is among `ids`, and its value passes `tested` or,
+/// if `back`, its source does.
 pub fn with_pairs_by_type<S: ConceptSet>(
     reader: Reader<'_>,
     back: bool,
@@ -68,22 +72,23 @@ pub fn with_pairs_by_type<S: ConceptSet>(
     requires tested { IsTestBelow S.bound_of (length reader.indexes.now.concepts) tested.now }
     ensures counted { CountsWithin (sum_by (type_row_count reader.entry.indexes.now) ids.now)
         visits.old visits.new }
-    ensures items { IfOk result (λ found. (one : ℕ → Bool) → ids.now
-        ≡ filter one (types_of reader.entry.indexes.now.rows) → S.items_of found
-        ≡ numbers_in reader.entry.snapshot.now.release
-        (λ concept. has_pairs count one (passes_of S.items_of reader.entry.indexes.now.concepts tested.now)
-        (pairs_of reader.entry.snapshot.now.release back concept))) }
-    ensures bound { IfOk result (λ found. S.bound_of found ≡ length reader.entry.snapshot.now.release.concepts) }
+    ensures items { IfOk result (λ found. (one : ℕ → Bool) → ids.now ≡ filter one
+        (types_of reader.entry.indexes.now.rows) → S.items_of found ≡ numbers_in
+        reader.entry.snapshot.now.release
+        (λ concept. has_pairs count one (passes_of S.items_of reader.entry.indexes.now.concepts
+        tested.now) (pairs_of reader.entry.snapshot.now.release back concept))) }
+    ensures bound { IfOk result (λ found. S.bound_of found
+        ≡ length reader.entry.snapshot.now.release.concepts) }
 {
-    // all attribute rows are by source, so their sources are in force
+    // tells the prover that the source of each attribute row is in force
     reader.attribute_count();
     let hits = hits_by_type(reader, back, ids, tested, visits)?;
     as_often(reader.alloc, hits.as_slice(), reader.concept_count(), count)
 }
 
-/// Finds, by the rows of the candidates, those whose number of matching pairs lies in `count`. A pair matches if
-/// `types` has its type and its value passes `tested` or, if `back`, its source does. If all are candidates, all rows
-/// are read.
+/// Finds the candidates whose number of distinct matching pairs lies in `count`, by reading the
+/// candidates' rows: all rows if every concept is a candidate. A pair matches if its type is in
+/// `types`, and its value passes `tested` or, if `back`, its source does.
 pub fn with_pairs_among<S: ConceptSet>(
     reader: Reader<'_>,
     back: bool,
@@ -95,17 +100,19 @@ pub fn with_pairs_among<S: ConceptSet>(
 ) -> Result<Answer<S>, AllocError>
     requires types { S.bound_of types.now ≡ length reader.indexes.now.concepts }
     requires tested { IsTestBelow S.bound_of (length reader.indexes.now.concepts) tested.now }
-    requires candidates { AreBelow S.bound_of (length reader.snapshot.now.release.concepts) candidates.now }
+    requires candidates { AreBelow S.bound_of (length reader.snapshot.now.release.concepts)
+        candidates.now }
     ensures counted { CountsWithin (candidate_items S.items_of reader.entry.indexes.now
         (row_count_of reader.entry.indexes.now (not back)) candidates.now) visits.old visits.new }
-    ensures items { IfOk result (λ found. S.items_of found ≡ numbers_within reader.entry.snapshot.now.release
-        (may_be S.items_of candidates.now)
-        (λ concept. has_pairs count (is_one_of reader.entry.indexes.now.concepts (S.items_of types.now))
-        (passes_of S.items_of reader.entry.indexes.now.concepts tested.now) (pairs_of reader.entry.snapshot.now.release
-        back concept))) }
-    ensures bound { IfOk result (λ found. S.bound_of found ≡ length reader.entry.snapshot.now.release.concepts) }
+    ensures items { IfOk result (λ found. S.items_of found ≡ numbers_within
+        reader.entry.snapshot.now.release (may_be S.items_of candidates.now)
+        (λ concept. has_pairs count (is_one_of reader.entry.indexes.now.concepts
+        (S.items_of types.now)) (passes_of S.items_of reader.entry.indexes.now.concepts tested.now)
+        (pairs_of reader.entry.snapshot.now.release back concept))) }
+    ensures bound { IfOk result (λ found. S.bound_of found
+        ≡ length reader.entry.snapshot.now.release.concepts) }
 {
-    // all attribute rows are by source, so their sources are in force
+    // tells the prover that the source of each attribute row is in force
     reader.attribute_count();
     let concept_count = reader.concept_count();
     let asked = numbers_asked(reader.alloc, concept_count, candidates, visits)?;
@@ -113,8 +120,9 @@ pub fn with_pairs_among<S: ConceptSet>(
     Answer::from_numbers(reader.alloc, kept.as_slice(), concept_count)
 }
 
-/// Finds, by the rows of `values`, the groups whose number of matching pairs lies in `count`. A pair matches if
-/// `types` has its type and `values` its value. `values` rise.
+/// Finds the groups whose number of distinct matching pairs lies in `count`, by reading the rows of
+/// `values`. A pair matches if its type is in `types` and its value in `values`. `values` must
+/// rise.
 pub fn groups_with_pairs_by_value<S: ConceptSet>(
     reader: Reader<'_>,
     count: Cardinality,
@@ -126,18 +134,21 @@ pub fn groups_with_pairs_by_value<S: ConceptSet>(
     requires values { IsRisingBelow (length reader.indexes.now.concepts) values.now }
     ensures counted { CountsWithin (sum_by (row_count_of reader.entry.indexes.now false) values.now)
         visits.old visits.new }
-    ensures items { IfOk result (λ found. S.items_of found ≡ groups_where reader.entry.snapshot.now.release
+    ensures items { IfOk result (λ found. S.items_of found ≡ groups_where
+        reader.entry.snapshot.now.release
         (has_pairs count (is_one_of reader.entry.indexes.now.concepts (S.items_of types.now))
         (is_within (is_one_of reader.entry.indexes.now.concepts values.now)))) }
-    ensures bound { IfOk result (λ found. S.bound_of found ≡ length (all_groups reader.entry.snapshot.now.release)) }
+    ensures bound { IfOk result (λ found. S.bound_of found
+        ≡ length (all_groups reader.entry.snapshot.now.release)) }
 {
+    // tells the prover that the concepts rise
     reader.concept_count();
     let hits = group_hits_by_value(reader, types, values, visits)?;
     as_often(reader.alloc, hits.as_slice(), reader.group_count(), count)
 }
 
-/// Finds, by the rows of the types `ids`, the groups whose number of matching pairs lies in `count`. A pair matches
-/// if `ids` has its type and its value passes `tested`.
+/// Finds the groups whose number of distinct matching pairs lies in `count`, by reading the rows of
+/// the types `ids`. A pair matches if its type is among `ids` and its value passes `tested`.
 pub fn groups_with_pairs_by_type<S: ConceptSet>(
     reader: Reader<'_>,
     count: Cardinality,
@@ -152,15 +163,18 @@ pub fn groups_with_pairs_by_type<S: ConceptSet>(
         ≡ filter one (types_of reader.entry.indexes.now.rows) → S.items_of found
         ≡ groups_where reader.entry.snapshot.now.release
         (has_pairs count one (passes_of S.items_of reader.entry.indexes.now.concepts tested.now))) }
-    ensures bound { IfOk result (λ found. S.bound_of found ≡ length (all_groups reader.entry.snapshot.now.release)) }
+    ensures bound { IfOk result (λ found. S.bound_of found
+        ≡ length (all_groups reader.entry.snapshot.now.release)) }
 {
+    // tells the prover that the concepts rise
     reader.concept_count();
     let hits = group_hits_by_type(reader, ids, tested, visits)?;
     as_often(reader.alloc, hits.as_slice(), reader.group_count(), count)
 }
 
-/// Finds, by the rows of the candidates, the groups among them whose number of matching pairs lies in `count`. A pair
-/// matches if `types` has its type and its value passes `tested`. If all are candidates, all rows are read.
+/// Finds the candidate groups whose number of distinct matching pairs lies in `count`, by reading
+/// the candidates' rows: all rows if every group is a candidate. A pair matches if its type is in
+/// `types` and its value passes `tested`.
 pub fn groups_with_pairs_among<S: ConceptSet>(
     reader: Reader<'_>,
     count: Cardinality,
@@ -171,15 +185,18 @@ pub fn groups_with_pairs_among<S: ConceptSet>(
 ) -> Result<Answer<S>, AllocError>
     requires types { S.bound_of types.now ≡ length reader.indexes.now.concepts }
     requires tested { IsTestBelow S.bound_of (length reader.indexes.now.concepts) tested.now }
-    requires candidates { AreBelow S.bound_of (length (all_groups reader.snapshot.now.release)) candidates.now }
+    requires candidates { AreBelow S.bound_of (length (all_groups reader.snapshot.now.release))
+        candidates.now }
     ensures counted { CountsWithin (candidate_items S.items_of reader.entry.indexes.now
         (group_row_count reader.entry.indexes.now) candidates.now) visits.old visits.new }
-    ensures items { IfOk result (λ found. S.items_of found ≡ groups_within reader.entry.snapshot.now.release
-        (may_be S.items_of candidates.now)
+    ensures items { IfOk result (λ found. S.items_of found ≡ groups_within
+        reader.entry.snapshot.now.release (may_be S.items_of candidates.now)
         (has_pairs count (is_one_of reader.entry.indexes.now.concepts (S.items_of types.now))
         (passes_of S.items_of reader.entry.indexes.now.concepts tested.now))) }
-    ensures bound { IfOk result (λ found. S.bound_of found ≡ length (all_groups reader.entry.snapshot.now.release)) }
+    ensures bound { IfOk result (λ found. S.bound_of found
+        ≡ length (all_groups reader.entry.snapshot.now.release)) }
 {
+    // tells the prover that the concepts rise
     reader.concept_count();
     let group_count = reader.group_count();
     let asked = numbers_asked(reader.alloc, group_count, candidates, visits)?;
@@ -187,7 +204,8 @@ pub fn groups_with_pairs_among<S: ConceptSet>(
     Answer::from_numbers(reader.alloc, kept.as_slice(), group_count)
 }
 
-// Lists the numbers of the candidates, which are below `bound`.
+// Lists the candidates, all of which are below `bound`, and counts them. If every number is a
+// candidate, lists all numbers below `bound`, and counts nothing.
 fn numbers_asked<S: ConceptSet>(
     alloc: Global,
     bound: u32,
@@ -195,12 +213,13 @@ fn numbers_asked<S: ConceptSet>(
     visits: &mut Counter,
 ) -> Result<Vec<u32>, AllocError>
     requires { AreBelow S.bound_of bound candidates.now }
-    ensures counted { CountsWithin (candidates_listed S.items_of candidates.now) visits.old visits.new }
+    ensures counted { CountsWithin (candidates_listed S.items_of candidates.now) visits.old
+        visits.new }
     ensures rising { IfOk result (λ numbers. IsRisingBelow bound numbers.items) }
     ensures items { IfOk result (λ numbers. AreListedFor S.items_of candidates.now numbers.items) }
     ensures within { IfOk result (λ numbers. All (λ number. number < bound) numbers.items) }
-    ensures asked { IfOk result (λ numbers. (number : ℕ) → number < bound → has numbers.items number ≡ may_be S.items_of
-        candidates.now number) }
+    ensures asked { IfOk result (λ numbers. (number : ℕ) → number < bound
+        → has numbers.items number ≡ may_be S.items_of candidates.now number) }
 {
     match candidates {
         Candidates::All => {

@@ -1,6 +1,7 @@
-//! Chooses the way in which a leaf is read.
+//! Chooses the access path of a leaf: which rows it reads.
 //!
-//! What is read to find the way is counted as well. It is read only if the bound of the leaf has room for it.
+//! Finding the path reads items, which are counted. It reads them only if the bound of the leaf
+//! allows for them and for the rows that are read afterwards.
 ghost use Rattle.std.specs.Prelude.{ℕ, true, ◌≡◌, ◌≤◌, ◌+◌, ◌<◌, All, Bool, IfOk, IfSome, Some, length};
 ghost use Rattle.std.specs.List.{sum_by};
 ghost use Rattle.postings.specs.Indexed.{types_of};
@@ -8,63 +9,63 @@ ghost use Rattle.postings.specs.Stats.{type_row_count};
 ghost use Rattle.reading.specs.Counted.{CountsWithin, HandsOut, full, full_sum};
 ghost use Rattle.candidates.specs.Numbers.{is_one_of};
 ghost use Rattle.candidates.specs.RowCounts.{row_count_of};
-ghost use Rattle.candidates.specs.Within.{extent_told};
+ghost use Rattle.candidates.specs.Within.{stats_told};
 ghost use Rattle.pair_sets.specs.Room.{AreTold, leaf_items, type_items, types_read, value_items};
 ghost use Rattle.pair_sets.specs.Tested.{IsTestBelow, passes_of};
-ghost use Rattle.pair_sets.specs.inside.Ways.{AreAllThatPass, AreLookedUp, IsValuesWay, IsWayFor, LeavesRoom};
-ghost use Rattle.pair_sets.specs.inside.Ways.{items_by_value, looked_up, rest_beside, rest_items, values_rest};
+ghost use Rattle.pair_sets.specs.inside.AccessPaths.{AreAllThatPass, AreLookedUp, IsValuesPath, IsPathFor, LeavesRoom};
+ghost use Rattle.pair_sets.specs.inside.AccessPaths.{items_by_value, looked_up, rest_besides, rest_items, values_rest};
 
+use crate::access_paths::{AccessPath, LeafReads, PassingValues, values_are_read_before};
 use crate::tested::{Tested, count_of_test};
 use crate::types::{is_typed, types_in, types_to_read};
-use crate::ways::{LeafReads, PassingValues, Way, values_are_read_before};
-use candidates::{Candidates, Extent, are_read_before, extent_for, look_ups, rows_of_value};
+use candidates::{CandidateStats, Candidates, are_read_before, look_ups, rows_of_value, stats_for};
 use idset::ConceptSet;
 use reading::{Answer, Counter, Reader};
 use set_algebra::Choice;
 use std::alloc::AllocError;
 
-// To look up a value takes about as long as to read this many rows that stand side by side.
+// Looking up one value takes about as long as reading this many adjacent rows.
 const VALUE: u64 = 4;
 
-// If there are at least as many values as rows, divided by this, it is as fast to read all rows as the rows of the
-// values.
+// If the values are at least as many as all rows, divided by this, reading all rows is as fast as
+// reading the rows of the values.
 const SHARE: u64 = 2;
 
-/// Chooses the way in which a leaf is read. What is read to find it is counted, and leaves room for the rows that the
-/// way reads.
-pub fn leaf_way<S: ConceptSet>(
+/// Chooses which rows the leaf `reads` reads, given its types and its test. Counts what it reads to
+/// find out, and leaves room in the bound for the rows of the path.
+pub fn leaf_path<S: ConceptSet>(
     reader: Reader<'_>,
     reads: LeafReads,
     types: &Answer<S>,
     tested: Tested<S>,
     candidates: &Candidates<'_, S>,
     visits: &mut Counter,
-) -> Result<Way<S>, AllocError>
+) -> Result<AccessPath<S>, AllocError>
     requires types { S.bound_of types.now ≡ length reader.indexes.now.concepts }
     requires tested { IsTestBelow S.bound_of (length reader.indexes.now.concepts) tested }
     requires told { AreTold S.items_of reader.indexes.now reads.back tested reads.value_rows }
-    requires room { full (leaf_items S.items_of reader.indexes.now reads.back reads.choice (S.items_of types.now)
-        tested) ≤ reads.bound }
-    ensures way { IfOk result (IsWayFor S.items_of S.bound_of reader.entry.indexes.now
+    requires room { full (leaf_items S.items_of reader.indexes.now reads.back reads.choice
+        (S.items_of types.now) tested) ≤ reads.bound }
+    ensures path { IfOk result (IsPathFor S.items_of S.bound_of reader.entry.indexes.now
         (is_one_of reader.entry.indexes.now.concepts (S.items_of types.now)) tested) }
-    ensures rest { IfOk result (λ way. LeavesRoom
-        (rest_items reader.entry.indexes.now reads.back (extent_told reads.back candidates.now) way) reads.bound
-        visits.old visits.new) }
+    ensures rest { IfOk result (λ path. LeavesRoom
+        (rest_items reader.entry.indexes.now reads.back (stats_told reads.back candidates.now) path)
+        reads.bound visits.old visits.new) }
     ensures counted { CountsWithin reads.bound visits.old visits.new }
 {
-    let extent = extent_for(candidates, reads.back);
+    let stats = stats_for(candidates, reads.back);
     match reads.choice {
         Choice::ByValue if are_most(reader, reads, types, &tested) => {
-            by_type(reader, reads, types, tested, extent, visits)
+            by_type(reader, reads, types, tested, stats, visits)
         }
-        Choice::ByValue => by_value(reader, reads, tested, extent, visits),
-        Choice::ByType => by_type(reader, reads, types, tested, extent, visits),
-        Choice::Scan => by_scan(reader, reads, tested, extent, visits),
+        Choice::ByValue => by_value(reader, reads, tested, stats, visits),
+        Choice::ByType => by_type(reader, reads, types, tested, stats, visits),
+        Choice::Scan => by_scan(reader, reads, tested, stats, visits),
     }
 }
 
-// Whether so many values pass that it is faster to read the rows of all types than those of each value, and these may
-// be read.
+// Returns whether so many values pass that reading the rows of all types is faster than reading
+// those of each value, and the bound allows for that.
 fn are_most<S: ConceptSet>(
     reader: Reader<'_>,
     reads: LeafReads,
@@ -79,101 +80,106 @@ fn are_most<S: ConceptSet>(
     u64::from(count_of_test(tested)) >= rows / SHARE && whole <= reads.bound
 }
 
-// Chooses to read by value, or by the candidates if that is faster. A test that is not `Within` a set is read by a
-// scan.
+// Chooses to read by value, or by the candidates if that is faster. Scans instead if the test is
+// not `Within` a set.
 fn by_value<S: ConceptSet>(
     reader: Reader<'_>,
     reads: LeafReads,
     tested: Tested<S>,
-    candidates: Option<Extent>,
+    candidates: Option<CandidateStats>,
     visits: &mut Counter,
-) -> Result<Way<S>, AllocError>
+) -> Result<AccessPath<S>, AllocError>
     requires tested { IsTestBelow S.bound_of (length reader.indexes.now.concepts) tested }
-    requires room { full (value_items S.items_of reader.indexes.now reads.back tested) ≤ reads.bound }
-    ensures way { IfOk result (λ way. (one : ℕ → Bool) → IsWayFor S.items_of S.bound_of reader.entry.indexes.now one
-        tested way) }
-    ensures rest { IfOk result (λ way. LeavesRoom (rest_items reader.entry.indexes.now reads.back candidates way)
-        reads.bound visits.old visits.new) }
+    requires room { full (value_items S.items_of reader.indexes.now reads.back tested)
+        ≤ reads.bound }
+    ensures path { IfOk result (λ path. (one : ℕ → Bool)
+        → IsPathFor S.items_of S.bound_of reader.entry.indexes.now one tested path) }
+    ensures rest { IfOk result (λ path. LeavesRoom
+        (rest_items reader.entry.indexes.now reads.back candidates path) reads.bound visits.old
+        visits.new) }
     ensures counted { CountsWithin reads.bound visits.old visits.new }
 {
     let all = values_that_pass(reader, reads.back, &tested, visits)?;
     match all {
-        None => Ok(Way::Scan(tested)),
+        None => Ok(AccessPath::Scan(tested)),
         Some(values) => {
             if are_read_before(candidates, values.rows) {
-                return Ok(Way::ByCandidates(tested));
+                return Ok(AccessPath::ByCandidates(tested));
             }
-            Ok(Way::ByValue(values.numbers))
+            Ok(AccessPath::ByValue(values.numbers))
         }
     }
 }
 
-// Chooses to read by type, or by the candidates or a few values if that is faster.
+// Chooses to read by type, or by the candidates or by a few values if that is faster.
 fn by_type<S: ConceptSet>(
     reader: Reader<'_>,
     reads: LeafReads,
     types: &Answer<S>,
     tested: Tested<S>,
-    candidates: Option<Extent>,
+    candidates: Option<CandidateStats>,
     visits: &mut Counter,
-) -> Result<Way<S>, AllocError>
+) -> Result<AccessPath<S>, AllocError>
     requires types { S.bound_of types.now ≡ length reader.indexes.now.concepts }
     requires tested { IsTestBelow S.bound_of (length reader.indexes.now.concepts) tested }
     requires told { AreTold S.items_of reader.indexes.now reads.back tested reads.value_rows }
     requires room { full (type_items reader.indexes.now (S.items_of types.now)) ≤ reads.bound }
-    ensures way { IfOk result (IsWayFor S.items_of S.bound_of reader.entry.indexes.now
+    ensures path { IfOk result (IsPathFor S.items_of S.bound_of reader.entry.indexes.now
         (is_one_of reader.entry.indexes.now.concepts (S.items_of types.now)) tested) }
-    ensures rest { IfOk result (λ way. LeavesRoom (rest_items reader.entry.indexes.now reads.back candidates way)
-        reads.bound visits.old visits.new) }
+    ensures rest { IfOk result (λ path. LeavesRoom
+        (rest_items reader.entry.indexes.now reads.back candidates path) reads.bound visits.old
+        visits.new) }
     ensures counted { CountsWithin reads.bound visits.old visits.new }
 {
-    // 64 bits hold how many types there are, and their rows. These calls tell the prover.
+    // these calls tell the prover that the types and their rows can be counted in 64 bits
     reader.type_count();
     reader.row_count();
     let left = reads.bound.saturating_sub(types_to_read(reader, types));
     let ids = types_in(reader, types, visits)?;
     let rows = rows_of_types(reader, ids.as_slice());
     if are_read_before(candidates, rows) {
-        return Ok(Way::ByCandidates(tested));
+        return Ok(AccessPath::ByCandidates(tested));
     }
     let few = few_values(reader, reads, &tested, rows, left, visits)?;
     match few {
-        None => Ok(Way::ByType(ids, tested)),
-        Some(values) => Ok(Way::ByValue(values.numbers)),
+        None => Ok(AccessPath::ByType(ids, tested)),
+        Some(values) => Ok(AccessPath::ByValue(values.numbers)),
     }
 }
 
-// Chooses to read by a scan, or by the candidates or a few values if that is faster.
+// Chooses to scan all rows, or to read by the candidates or by a few values if that is faster.
 fn by_scan<S: ConceptSet>(
     reader: Reader<'_>,
     reads: LeafReads,
     tested: Tested<S>,
-    candidates: Option<Extent>,
+    candidates: Option<CandidateStats>,
     visits: &mut Counter,
-) -> Result<Way<S>, AllocError>
+) -> Result<AccessPath<S>, AllocError>
     requires tested { IsTestBelow S.bound_of (length reader.indexes.now.concepts) tested }
     requires told { AreTold S.items_of reader.indexes.now reads.back tested reads.value_rows }
     requires room { full (length reader.indexes.now.rows) ≤ reads.bound }
-    ensures way { IfOk result (λ way. (one : ℕ → Bool) → IsWayFor S.items_of S.bound_of reader.entry.indexes.now one
-        tested way) }
-    ensures rest { IfOk result (λ way. LeavesRoom (rest_items reader.entry.indexes.now reads.back candidates way)
-        reads.bound visits.old visits.new) }
+    ensures path { IfOk result (λ path. (one : ℕ → Bool)
+        → IsPathFor S.items_of S.bound_of reader.entry.indexes.now one tested path) }
+    ensures rest { IfOk result (λ path. LeavesRoom
+        (rest_items reader.entry.indexes.now reads.back candidates path) reads.bound visits.old
+        visits.new) }
     ensures counted { CountsWithin reads.bound visits.old visits.new }
 {
     let rows = u64::from(reader.row_count());
     if are_read_before(candidates, rows) {
-        return Ok(Way::ByCandidates(tested));
+        return Ok(AccessPath::ByCandidates(tested));
     }
     let few = few_values(reader, reads, &tested, rows, reads.bound, visits)?;
     match few {
-        None => Ok(Way::Scan(tested)),
-        Some(values) => Ok(Way::ByValue(values.numbers)),
+        None => Ok(AccessPath::Scan(tested)),
+        Some(values) => Ok(AccessPath::ByValue(values.numbers)),
     }
 }
 
-// Finds the values that pass, if it is faster to read their rows than `rows` others. `left` is how many items may
-// still be read, and has room for these others. If it is known how many rows the values have at most, no value is
-// looked up in vain, so no room is needed for them besides the others.
+// Returns the values that pass if reading their rows is faster than reading `rows` other rows.
+// `left` is how many items may still be read, and allows for the other rows. If a limit of the
+// values' rows is known (`reads.value_rows`), it decides, so no value is looked up in vain.
+// Otherwise only as many values are looked up as `left` allows besides the other rows.
 fn few_values<S: ConceptSet>(
     reader: Reader<'_>,
     reads: LeafReads,
@@ -185,10 +191,11 @@ fn few_values<S: ConceptSet>(
     requires tested { IsTestBelow S.bound_of (length reader.indexes.now.concepts) tested.now }
     requires told { AreTold S.items_of reader.indexes.now reads.back tested.now reads.value_rows }
     requires room { rows ≤ left }
-    ensures pass { IfOk result (λ few. IfSome few (λ values. AreAllThatPass reader.entry.indexes.now.concepts
+    ensures pass { IfOk result (λ few. IfSome few
+        (λ values. AreAllThatPass reader.entry.indexes.now.concepts
         (passes_of S.items_of reader.entry.indexes.now.concepts tested.now) values.numbers.items)) }
-    ensures rest { IfOk result (λ few. LeavesRoom (rest_beside reader.entry.indexes.now reads.back rows few) left
-        visits.old visits.new) }
+    ensures rest { IfOk result (λ few. LeavesRoom
+        (rest_besides reader.entry.indexes.now reads.back rows few) left visits.old visits.new) }
     ensures counted { CountsWithin left visits.old visits.new }
 {
     match reads.value_rows {
@@ -200,8 +207,8 @@ fn few_values<S: ConceptSet>(
     }
 }
 
-// Finds the values that pass, if it is faster to read them and the `own` rows that they have at most than `rows`
-// others.
+// Returns the values that pass if reading them and their rows, at most `own`, is faster than
+// reading `rows` other rows.
 fn values_told<S: ConceptSet>(
     reader: Reader<'_>,
     back: bool,
@@ -212,10 +219,11 @@ fn values_told<S: ConceptSet>(
 ) -> Result<Option<PassingValues>, AllocError>
     requires tested { IsTestBelow S.bound_of (length reader.indexes.now.concepts) tested.now }
     requires told { AreTold S.items_of reader.indexes.now back tested.now (Some own) }
-    ensures pass { IfOk result (λ few. IfSome few (λ values. AreAllThatPass reader.entry.indexes.now.concepts
+    ensures pass { IfOk result (λ few. IfSome few
+        (λ values. AreAllThatPass reader.entry.indexes.now.concepts
         (passes_of S.items_of reader.entry.indexes.now.concepts tested.now) values.numbers.items)) }
-    ensures rest { IfOk result (λ few. LeavesRoom (rest_beside reader.entry.indexes.now back rows few) rows
-        visits.old visits.new) }
+    ensures rest { IfOk result (λ few. LeavesRoom
+        (rest_besides reader.entry.indexes.now back rows few) rows visits.old visits.new) }
     ensures counted { CountsWithin rows visits.old visits.new }
 {
     if !values_are_read_before(back, u64::from(count_of_test(tested)), own, rows) {
@@ -224,8 +232,9 @@ fn values_told<S: ConceptSet>(
     values_that_pass(reader, back, tested, visits)
 }
 
-// Finds the values that pass, if they are few and it is faster to read their rows than `rows` others. At most `most`
-// of them are looked up in vain.
+// Returns the values that pass if they are few and reading their rows is faster than reading `rows`
+// other rows. Looks up at most `most` values, which was in vain if the other rows turn out to be
+// faster.
 fn values_looked_up<S: ConceptSet>(
     reader: Reader<'_>,
     back: bool,
@@ -235,10 +244,11 @@ fn values_looked_up<S: ConceptSet>(
     visits: &mut Counter,
 ) -> Result<Option<PassingValues>, AllocError>
     requires { IsTestBelow S.bound_of (length reader.indexes.now.concepts) tested.now }
-    ensures pass { IfOk result (λ few. IfSome few (λ values. AreAllThatPass reader.entry.indexes.now.concepts
+    ensures pass { IfOk result (λ few. IfSome few
+        (λ values. AreAllThatPass reader.entry.indexes.now.concepts
         (passes_of S.items_of reader.entry.indexes.now.concepts tested.now) values.numbers.items)) }
-    ensures rest { IfOk result (λ few. LeavesRoom (rest_beside reader.entry.indexes.now back rows few) (rows + most)
-        visits.old visits.new) }
+    ensures rest { IfOk result (λ few. LeavesRoom
+        (rest_besides reader.entry.indexes.now back rows few) (rows + most) visits.old visits.new) }
     ensures counted { CountsWithin most visits.old visits.new }
 {
     let count = u64::from(count_of_test(tested));
@@ -252,7 +262,8 @@ fn values_looked_up<S: ConceptSet>(
     }
 }
 
-// Finds the values that pass, if the test is `Within` a set. The items of the set are counted.
+// Returns the values that pass and the count of their rows, if the test is `Within` a set, whose
+// items are counted. Returns `None` for any other test.
 fn values_that_pass<S: ConceptSet>(
     reader: Reader<'_>,
     back: bool,
@@ -260,7 +271,8 @@ fn values_that_pass<S: ConceptSet>(
     visits: &mut Counter,
 ) -> Result<Option<PassingValues>, AllocError>
     requires { IsTestBelow S.bound_of (length reader.indexes.now.concepts) tested.now }
-    ensures pass { IfOk result (λ some. IfSome some (λ values. AreAllThatPass reader.entry.indexes.now.concepts
+    ensures pass { IfOk result (λ some. IfSome some
+        (λ values. AreAllThatPass reader.entry.indexes.now.concepts
         (passes_of S.items_of reader.entry.indexes.now.concepts tested.now) values.numbers.items)) }
     ensures found { IfOk result (AreLookedUp S.items_of reader.entry.indexes.now back tested.now) }
     ensures counted { HandsOut (looked_up S.items_of tested.now) visits.old visits.new }
@@ -275,53 +287,57 @@ fn values_that_pass<S: ConceptSet>(
     }
 }
 
-/// The rows by which the values of sources are read.
+/// Which rows are read to find the values of sources.
 #[derive(Drop)]
-pub enum ValuesWay {
-    /// Reads the rows of the sources, given by their numbers.
+pub enum ValuesPath {
+    /// Reads the rows of the sources, given by number.
     BySource(Vec<u32>),
-    /// Reads the rows of the types, given by their identifiers.
+    /// Reads the rows of the types, given by identifier.
     ByType(Vec<u64>),
 }
 
-/// Chooses by which rows the values of the sources in `sources` along the types in `types` are read. What is read to
-/// find that is counted: together with these rows, no more than there are sources and rows.
-pub fn values_way<S: ConceptSet>(
+/// Chooses whether the values that `sources` have in rows with a type in `types` are found by the
+/// rows of the sources or of the types. Counts what it reads to find out: together with the rows
+/// that are then read, at most the number of sources and of all rows.
+pub fn values_path<S: ConceptSet>(
     reader: Reader<'_>,
     sources: &Answer<S>,
     types: &Answer<S>,
     visits: &mut Counter,
-) -> Result<ValuesWay, AllocError>
+) -> Result<ValuesPath, AllocError>
     requires sources { S.bound_of sources.now ≡ length reader.indexes.now.concepts }
     requires types { S.bound_of types.now ≡ length reader.indexes.now.concepts }
-    ensures way { IfOk result (IsValuesWay (types_of reader.entry.indexes.now.rows) (S.items_of sources.now)
+    ensures path { IfOk result (IsValuesPath (types_of reader.entry.indexes.now.rows)
+        (S.items_of sources.now)
         (is_one_of reader.entry.indexes.now.concepts (S.items_of types.now))) }
-    ensures rest { IfOk result (λ way. LeavesRoom (values_rest reader.entry.indexes.now way)
-        (length (S.items_of sources.now) + length reader.entry.indexes.now.rows) visits.old visits.new) }
-    ensures counted { CountsWithin (length (S.items_of sources.now) + length reader.entry.indexes.now.rows) visits.old
-        visits.new }
+    ensures rest { IfOk result (λ path. LeavesRoom (values_rest reader.entry.indexes.now path)
+        (length (S.items_of sources.now) + length reader.entry.indexes.now.rows) visits.old
+        visits.new) }
+    ensures counted { CountsWithin (length (S.items_of sources.now)
+        + length reader.entry.indexes.now.rows) visits.old visits.new }
 {
     let count = u64::from(sources.count());
     let typed = types_to_read(reader, types);
     if count <= typed || have_few_rows(reader, count, types) {
         let (own, _) = with_rows(reader, sources, visits)?;
-        return Ok(ValuesWay::BySource(own));
+        return Ok(ValuesPath::BySource(own));
     }
     let ids = types_in(reader, types, visits)?;
     let rows = rows_of_types(reader, ids.as_slice());
     if count > rows / VALUE || typed.saturating_add(rows) > u64::from(reader.row_count()) {
-        return Ok(ValuesWay::ByType(ids));
+        return Ok(ValuesPath::ByType(ids));
     }
     let (own, items) = with_rows(reader, sources, visits)?;
     if look_ups(items) < rows {
-        Ok(ValuesWay::BySource(own))
+        Ok(ValuesPath::BySource(own))
     } else {
-        Ok(ValuesWay::ByType(ids))
+        Ok(ValuesPath::ByType(ids))
     }
 }
 
-// Whether `sources` sources have fewer rows than the types do, if each has as many as the mean concept. It returns
-// false if there are more types of rows than sources, because it tests each type against `types`.
+// Returns whether `sources` sources have fewer rows than the types in `types`, if each has as many
+// as a concept has on average. Returns false if there are more types of rows than sources, because
+// each type is tested.
 fn have_few_rows<S: ConceptSet>(reader: Reader<'_>, sources: u64, types: &Answer<S>) -> bool
     requires { S.bound_of types.now ≡ length reader.indexes.now.concepts }
 {
@@ -339,7 +355,8 @@ fn have_few_rows<S: ConceptSet>(reader: Reader<'_>, sources: u64, types: &Answer
     look_ups(sources.saturating_mul(own + 2)) < rows
 }
 
-// Returns the concepts of a set, which are counted, and how many items these and their rows are.
+// Lists the set `concepts`, and counts its items. Also returns how many items are read by these
+// sources in all: the concepts, and the rows with one of them as source.
 fn with_rows<S: ConceptSet>(
     reader: Reader<'_>,
     concepts: &Answer<S>,
@@ -353,7 +370,7 @@ fn with_rows<S: ConceptSet>(
         ≤ length reader.entry.indexes.now.rows }
     ensures counted { HandsOut (length (S.items_of concepts.now)) visits.old visits.new }
 {
-    // The concepts rise, so that no row has two numbers for its source. This call tells the prover.
+    // tells the prover that the concepts rise, so that no source has two numbers
     reader.concept_count();
     let own = concepts.items(reader.alloc, visits)?;
     let rows = rows_of_values(reader, true, own.as_slice());
@@ -361,7 +378,7 @@ fn with_rows<S: ConceptSet>(
     Ok((own, items))
 }
 
-/// Returns how many rows have one of the types `ids`; `u64::MAX` if there are more.
+/// Returns how many rows have one of the types `ids`, saturated at `u64::MAX`.
 pub fn rows_of_types(reader: Reader<'_>, ids: &[u64]) -> u64
     ensures { result ≡ full_sum (type_row_count reader.entry.indexes.now) ids.now }
 {
@@ -372,8 +389,8 @@ pub fn rows_of_types(reader: Reader<'_>, ids: &[u64]) -> u64
     rows
 }
 
-// Returns how many rows have one of `concepts` as their value or, if `back`, as their source; `u64::MAX` if there are
-// more.
+// Returns how many rows have one of `concepts` as their value or, if `back`, as their source,
+// saturated at `u64::MAX`.
 fn rows_of_values(reader: Reader<'_>, back: bool, concepts: &[u32]) -> u64
     requires { All (λ number. number < length reader.indexes.now.concepts) concepts.now }
     ensures { result ≡ full_sum (row_count_of reader.entry.indexes.now back) concepts.now }

@@ -1,4 +1,4 @@
-//! Finds the numbers that stand in a list as often as a cardinality asks.
+//! Finds the numbers whose count in a list lies in a cardinality.
 ghost use Rattle.std.specs.Prelude.{ℕ, ◌≡◌, ◌-◌, ◌<◌, All, IfOk, nat_le};
 ghost use Rattle.constraint_tree.specs.Passing.{lies_in};
 ghost use Rattle.number_lists.specs.Rising.{numbers_where};
@@ -6,12 +6,12 @@ ghost use Rattle.number_lists.specs.Members.{times};
 
 use crate::difference::without;
 use constraint_tree::Cardinality;
-use idset::{ConceptSet, is_marked, mark, marks_of};
+use idset::{ConceptSet, bitmap_of, is_marked, mark};
 use reading::Answer;
 use std::alloc::{AllocError, Global};
 
-/// Finds the numbers below `bound` that stand in `numbers` as often as `count` asks (Expression Constraint Language,
-/// "Cardinality").
+/// Finds the numbers below `bound` whose count in `numbers` lies in the cardinality `count`
+/// (Expression Constraint Language, "Cardinality").
 pub fn as_often<S: ConceptSet>(
     alloc: Global,
     numbers: &[u32],
@@ -34,7 +34,7 @@ pub fn as_often<S: ConceptSet>(
     }
 }
 
-// Finds the numbers below `bound` that stand in `numbers` at least `least` times.
+// Finds the numbers below `bound` that are in `numbers` at least `least` times.
 fn at_least<S: ConceptSet>(
     alloc: Global,
     numbers: &[u32],
@@ -56,12 +56,13 @@ fn at_least<S: ConceptSet>(
     }
 }
 
-// Takes `less` of each number from a list. What is left has each number as often as it stands there beyond that.
+// Removes the first `less` occurrences of each number from a copy of `numbers`.
 fn repeated(alloc: Global, numbers: &[u32], bound: u32, less: u64) -> Result<Vec<u32>, AllocError>
     requires within { All (λ number. number < bound) numbers.now }
     requires some { 0 < less }
     ensures within { IfOk result (λ left. All (λ number. number < bound) left.items) }
-    ensures times { IfOk result (λ left. (number : ℕ) → times number left.items ≡ times number numbers.now - less) }
+    ensures times { IfOk result (λ left. (number : ℕ)
+        → times number left.items ≡ times number numbers.now - less) }
 {
     let mut left = repeats(alloc, numbers, bound)?;
     let mut done = 1;
@@ -72,13 +73,14 @@ fn repeated(alloc: Global, numbers: &[u32], bound: u32, less: u64) -> Result<Vec
     Ok(left)
 }
 
-// Takes the first of each number from a list.
+// Removes the first occurrence of each number from a copy of `numbers`.
 fn repeats(alloc: Global, numbers: &[u32], bound: u32) -> Result<Vec<u32>, AllocError>
     requires { All (λ number. number < bound) numbers.now }
     ensures within { IfOk result (λ left. All (λ number. number < bound) left.items) }
-    ensures times { IfOk result (λ left. (number : ℕ) → times number left.items ≡ times number numbers.now - 1) }
+    ensures times { IfOk result (λ left. (number : ℕ)
+        → times number left.items ≡ times number numbers.now - 1) }
 {
-    let mut seen = marks_of(alloc, &[], bound)?;
+    let mut seen = bitmap_of(alloc, &[], bound)?;
     let mut left = Vec::new(alloc);
     for number in numbers {
         if is_marked(&seen, *number) {

@@ -1,4 +1,6 @@
-//! Lists numbers, each as often as attribute rows count for it.
+//! Lists the concepts or groups for which rows count as matching pairs. A list has a number once
+//! for each distinct matching pair, so how often it has a number is that concept's or group's
+//! number of pairs.
 ghost use Rattle.std.specs.Prelude.{ℕ, ◌≡◌, ◌<◌, ◌+◌, ◌&&◌, ◌++◌, All, Bool, List, IfOk, OnOk, count_by, false, filter};
 ghost use Rattle.std.specs.Prelude.{length, nat_lt, slice_get, true};
 ghost use Rattle.rf2_rows.specs.Release.{concept_value};
@@ -30,16 +32,16 @@ use postings::{FlaggedNumber, RowCells};
 use reading::{Answer, Counter, Reader};
 use std::alloc::AllocError;
 
-// What a row counts for: its source or its group.
+// For what a row counts: its source or its group.
 #[derive(Clone, Copy)]
 enum Owner {
     Source,
     Group,
 }
 
-/// Lists, by type, the number of the source of each row that is the first with its pair, has one of the types `ids`,
-/// and has a value that passes `tested`. If `back`, the source must pass, and the number of the value is listed if it
-/// is a concept.
+/// Lists, by reading the rows of the types `ids`, the concepts for which rows count. A row counts
+/// for its source if it is the first with its pair there, and its value passes `tested`. If `back`,
+/// a row counts for its value, if that is a concept and the row's source passes.
 pub fn hits_by_type<S: ConceptSet>(
     reader: Reader<'_>,
     back: bool,
@@ -48,12 +50,15 @@ pub fn hits_by_type<S: ConceptSet>(
     visits: &mut Counter,
 ) -> Result<Vec<u32>, AllocError>
     requires { IsTestBelow S.bound_of (length reader.indexes.now.concepts) tested.now }
-    ensures counted { CountsWithin (sum_by (type_row_count reader.entry.indexes.now) ids.now) visits.old visits.new }
-    ensures within { IfOk result (λ hits. All (λ number. number < length reader.entry.indexes.now.concepts)
-        hits.items) }
-    ensures hits { IfOk result (λ hits. (one : ℕ → Bool) → ids.now ≡ filter one (types_of reader.entry.indexes.now.rows)
-        → AreHits (length reader.entry.indexes.now.concepts) (counts_for_concept back reader.entry.indexes.now.concepts
-        one (passes_of S.items_of reader.entry.indexes.now.concepts tested.now))
+    ensures counted { CountsWithin (sum_by (type_row_count reader.entry.indexes.now) ids.now)
+        visits.old visits.new }
+    ensures within { IfOk result (λ hits. All
+        (λ number. number < length reader.entry.indexes.now.concepts) hits.items) }
+    ensures hits { IfOk result (λ hits. (one : ℕ → Bool) → ids.now ≡ filter one
+        (types_of reader.entry.indexes.now.rows)
+        → AreHits (length reader.entry.indexes.now.concepts)
+        (counts_for_concept back reader.entry.indexes.now.concepts one
+        (passes_of S.items_of reader.entry.indexes.now.concepts tested.now))
         (entries_of reader.entry.indexes.now.rows) hits.items) }
 {
     if back {
@@ -63,9 +68,10 @@ pub fn hits_by_type<S: ConceptSet>(
     }
 }
 
-/// Lists, by value, the number of the source of each row that is the first with its pair, has a type in `types`, and
-/// has one of `values` as its value. If `back`, `values` are sources, and the number of the value is listed if it is
-/// a concept. `values` rise.
+/// Lists, by reading the rows of `values`, the concepts for which rows count. A row counts for its
+/// source if it is the first with its pair there, its type is in `types`, and its value in
+/// `values`. If `back`, `values` has sources, and a row counts for its value, if that is a concept.
+/// `values` must rise.
 pub fn hits_by_value<S: ConceptSet>(
     reader: Reader<'_>,
     back: bool,
@@ -75,16 +81,17 @@ pub fn hits_by_value<S: ConceptSet>(
 ) -> Result<Vec<u32>, AllocError>
     requires types { S.bound_of types.now ≡ length reader.indexes.now.concepts }
     requires values { IsRisingBelow (length reader.indexes.now.concepts) values.now }
-    ensures counted { CountsWithin (sum_by (row_count_of reader.entry.indexes.now back) values.now) visits.old
-        visits.new }
-    ensures within { IfOk result (λ hits. All (λ number. number < length reader.entry.indexes.now.concepts)
-        hits.items) }
+    ensures counted { CountsWithin (sum_by (row_count_of reader.entry.indexes.now back) values.now)
+        visits.old visits.new }
+    ensures within { IfOk result (λ hits. All
+        (λ number. number < length reader.entry.indexes.now.concepts) hits.items) }
     ensures hits { IfOk result (λ hits. AreHits (length reader.entry.indexes.now.concepts)
-        (counts_for_concept back reader.entry.indexes.now.concepts (is_one_of reader.entry.indexes.now.concepts
-        (S.items_of types.now)) (is_within (is_one_of reader.entry.indexes.now.concepts values.now)))
+        (counts_for_concept back reader.entry.indexes.now.concepts (is_one_of
+        reader.entry.indexes.now.concepts (S.items_of types.now))
+        (is_within (is_one_of reader.entry.indexes.now.concepts values.now)))
         (entries_of reader.entry.indexes.now.rows) hits.items) }
 {
-    // The concepts rise, so that none has two numbers. This call tells the prover.
+    // tells the prover that the concepts rise, so that none has two numbers
     reader.concept_count();
     if back {
         values_by_source(reader, values, types, visits)
@@ -93,8 +100,8 @@ pub fn hits_by_value<S: ConceptSet>(
     }
 }
 
-// Lists, by type, the number of the owner of each row that is the first with its pair in its owner, has one of the
-// types `ids`, and has a value that passes `tested`.
+// Lists, by reading the rows of the types `ids`, the number of the owner of each row that is the
+// first with its pair in its owner and has a value that passes `tested`.
 fn owners_by_type<S: ConceptSet>(
     reader: Reader<'_>,
     owner: Owner,
@@ -103,15 +110,16 @@ fn owners_by_type<S: ConceptSet>(
     visits: &mut Counter,
 ) -> Result<Vec<u32>, AllocError>
     requires { IsTestBelow S.bound_of (length reader.indexes.now.concepts) tested.now }
-    ensures counted { CountsWithin (sum_by (type_row_count reader.entry.indexes.now) ids.now) visits.old visits.new }
-    ensures within { IfOk result (λ hits. All (λ number. number < owner_count owner reader.entry.indexes.now)
-        hits.items) }
+    ensures counted { CountsWithin (sum_by (type_row_count reader.entry.indexes.now) ids.now)
+        visits.old visits.new }
+    ensures within { IfOk result (λ hits. All
+        (λ number. number < owner_count owner reader.entry.indexes.now) hits.items) }
     ensures hits { IfOk result (λ hits. AreHits (owner_count owner reader.entry.indexes.now)
         (counts_for_owner owner reader.entry.indexes.now
         (λ row. passes_of S.items_of reader.entry.indexes.now.concepts tested.now row.value))
         (entries_with_types reader.entry.indexes.now.rows ids.now) hits.items) }
 {
-    // The concepts rise, so that no owner has two numbers. This call tells the prover.
+    // tells the prover that the concepts rise, so that no owner has two numbers
     reader.concept_count();
     let rows = rows_of_types(reader, ids);
     if none_passes(reader, tested, rows) {
@@ -126,8 +134,8 @@ fn owners_by_type<S: ConceptSet>(
     Ok(hits)
 }
 
-// Lists, by value, the number of the owner of each row that is the first with its pair in its owner, has one of
-// `values` as its value, and has a type in `types`.
+// Lists, by reading the rows of `values`, the number of the owner of each row that is the first
+// with its pair in its owner and has a type in `types`.
 fn owners_by_value<S: ConceptSet>(
     reader: Reader<'_>,
     owner: Owner,
@@ -137,16 +145,16 @@ fn owners_by_value<S: ConceptSet>(
 ) -> Result<Vec<u32>, AllocError>
     requires types { S.bound_of types.now ≡ length reader.indexes.now.concepts }
     requires values { All (λ number. number < length reader.indexes.now.concepts) values.now }
-    ensures counted { CountsWithin (sum_by (row_count_of reader.entry.indexes.now false) values.now) visits.old
-        visits.new }
-    ensures within { IfOk result (λ hits. All (λ number. number < owner_count owner reader.entry.indexes.now)
-        hits.items) }
+    ensures counted { CountsWithin (sum_by (row_count_of reader.entry.indexes.now false) values.now)
+        visits.old visits.new }
+    ensures within { IfOk result (λ hits. All
+        (λ number. number < owner_count owner reader.entry.indexes.now) hits.items) }
     ensures hits { IfOk result (λ hits. AreHits (owner_count owner reader.entry.indexes.now)
         (counts_for_owner owner reader.entry.indexes.now
         (λ row. is_one_of reader.entry.indexes.now.concepts (S.items_of types.now) row.type_id))
         (entries_with_values reader.entry.indexes.now values.now) hits.items) }
 {
-    // The concepts rise, so that no owner has two numbers. This call tells the prover.
+    // tells the prover that the concepts rise, so that no owner has two numbers
     reader.concept_count();
     let mut hits = Vec::new(reader.alloc);
     for value in values {
@@ -157,14 +165,16 @@ fn owners_by_value<S: ConceptSet>(
     Ok(hits)
 }
 
-// Returns the column of the owners among the columns of some rows.
+// Returns the column of the owners: `sources` or `groups`.
 fn owners_in<'a>(
     owner: Owner,
     sources: &'a [FlaggedNumber],
     groups: &'a [FlaggedNumber],
 ) -> &'a [FlaggedNumber]
-    ensures { (indexed : Indexed) (entries : List Entry) → AreSources indexed.concepts entries sources.now
-        → AreGroups (groups_in indexed) entries groups.now → AreOwners owner indexed entries result.now }
+    ensures { (indexed : Indexed) (entries : List Entry)
+        → AreSources indexed.concepts entries sources.now
+        → AreGroups (groups_in indexed) entries groups.now
+        → AreOwners owner indexed entries result.now }
 {
     match owner {
         Owner::Source => sources,
@@ -172,8 +182,8 @@ fn owners_in<'a>(
     }
 }
 
-// Lists, by type and read backwards, the number of the value of each row that is the first with its pair, has one of
-// the types `ids`, has a source that passes `tested`, and has a concept as its value.
+// Lists, by reading the rows of the types `ids` backwards, the value of each row that is the first
+// with its pair in its source, has a concept as its value, and has a source that passes `tested`.
 fn values_by_type<S: ConceptSet>(
     reader: Reader<'_>,
     ids: &[u64],
@@ -181,16 +191,19 @@ fn values_by_type<S: ConceptSet>(
     visits: &mut Counter,
 ) -> Result<Vec<u32>, AllocError>
     requires { IsTestBelow S.bound_of (length reader.indexes.now.concepts) tested.now }
-    ensures counted { CountsWithin (sum_by (type_row_count reader.entry.indexes.now) ids.now) visits.old visits.new }
-    ensures within { IfOk result (λ hits. All (λ number. number < length reader.entry.indexes.now.concepts)
-        hits.items) }
+    ensures counted { CountsWithin (sum_by (type_row_count reader.entry.indexes.now) ids.now)
+        visits.old visits.new }
+    ensures within { IfOk result (λ hits. All
+        (λ number. number < length reader.entry.indexes.now.concepts) hits.items) }
     ensures hits { IfOk result (λ hits. AreHits (length reader.entry.indexes.now.concepts)
         (counts_for_value reader.entry.indexes.now.concepts
-        (λ row. passes_of S.items_of reader.entry.indexes.now.concepts tested.now (concept_value row.source)))
-        (entries_with_types reader.entry.indexes.now.rows ids.now) hits.items) }
+        (λ row. passes_of S.items_of reader.entry.indexes.now.concepts tested.now
+        (concept_value row.source))) (entries_with_types reader.entry.indexes.now.rows ids.now)
+        hits.items) }
 {
+    // tells the prover that the concepts rise
     reader.concept_count();
-    // the source of a row is a concept, so no number is asked for
+    // the source of a row is a concept, so it fulfils no comparison with a number
     if asks_for_number(tested) {
         return Ok(Vec::new(reader.alloc));
     }
@@ -202,8 +215,8 @@ fn values_by_type<S: ConceptSet>(
     Ok(hits)
 }
 
-// Lists, by value and read backwards, the number of the value of each row that is the first with its pair, has one of
-// `sources` as its source, has a type in `types`, and has a concept as its value.
+// Lists, by reading the rows of `sources`, the value of each row that is the first with its pair in
+// its source, has a concept as its value, and has a type in `types`.
 fn values_by_source<S: ConceptSet>(
     reader: Reader<'_>,
     sources: &[u32],
@@ -212,10 +225,10 @@ fn values_by_source<S: ConceptSet>(
 ) -> Result<Vec<u32>, AllocError>
     requires types { S.bound_of types.now ≡ length reader.indexes.now.concepts }
     requires sources { All (λ number. number < length reader.indexes.now.concepts) sources.now }
-    ensures counted { CountsWithin (sum_by (row_count_of reader.entry.indexes.now true) sources.now) visits.old
-        visits.new }
-    ensures within { IfOk result (λ hits. All (λ number. number < length reader.entry.indexes.now.concepts)
-        hits.items) }
+    ensures counted { CountsWithin (sum_by (row_count_of reader.entry.indexes.now true) sources.now)
+        visits.old visits.new }
+    ensures within { IfOk result (λ hits. All
+        (λ number. number < length reader.entry.indexes.now.concepts) hits.items) }
     ensures hits { IfOk result (λ hits. AreHits (length reader.entry.indexes.now.concepts)
         (counts_for_value reader.entry.indexes.now.concepts
         (λ row. is_one_of reader.entry.indexes.now.concepts (S.items_of types.now) row.type_id))
@@ -229,8 +242,8 @@ fn values_by_source<S: ConceptSet>(
     Ok(hits)
 }
 
-/// Lists, by type, the number of the group of each row that is the first with its pair in its group, has one of the
-/// types `ids`, and has a value that passes `tested`.
+/// Lists, by reading the rows of the types `ids`, the group of each row that is the first with its
+/// pair in its group and has a value that passes `tested`.
 pub fn group_hits_by_type<S: ConceptSet>(
     reader: Reader<'_>,
     ids: &[u64],
@@ -238,19 +251,21 @@ pub fn group_hits_by_type<S: ConceptSet>(
     visits: &mut Counter,
 ) -> Result<Vec<u32>, AllocError>
     requires { IsTestBelow S.bound_of (length reader.indexes.now.concepts) tested.now }
-    ensures counted { CountsWithin (sum_by (type_row_count reader.entry.indexes.now) ids.now) visits.old visits.new }
-    ensures within { IfOk result (λ hits. All (λ number. number < length (groups_in reader.entry.indexes.now))
-        hits.items) }
-    ensures hits { IfOk result (λ hits. (one : ℕ → Bool) → ids.now ≡ filter one (types_of reader.entry.indexes.now.rows)
-        → AreHits (length (groups_in reader.entry.indexes.now)) (counts_for_group (groups_in reader.entry.indexes.now)
+    ensures counted { CountsWithin (sum_by (type_row_count reader.entry.indexes.now) ids.now)
+        visits.old visits.new }
+    ensures within { IfOk result (λ hits. All
+        (λ number. number < length (groups_in reader.entry.indexes.now)) hits.items) }
+    ensures hits { IfOk result (λ hits. (one : ℕ → Bool) → ids.now ≡ filter one
+        (types_of reader.entry.indexes.now.rows) → AreHits (length (groups_in
+        reader.entry.indexes.now)) (counts_for_group (groups_in reader.entry.indexes.now)
         (has_pair_in one (passes_of S.items_of reader.entry.indexes.now.concepts tested.now)))
         (entries_of reader.entry.indexes.now.rows) hits.items) }
 {
     owners_by_type(reader, Owner::Group, ids, tested, visits)
 }
 
-/// Lists, by value, the number of the group of each row that is the first with its pair in its group, has one of
-/// `values` as its value, and has a type in `types`. `values` rise.
+/// Lists, by reading the rows of `values`, the group of each row that is the first with its pair in
+/// its group and has a type in `types`. `values` must rise.
 pub fn group_hits_by_value<S: ConceptSet>(
     reader: Reader<'_>,
     types: &Answer<S>,
@@ -259,22 +274,23 @@ pub fn group_hits_by_value<S: ConceptSet>(
 ) -> Result<Vec<u32>, AllocError>
     requires types { S.bound_of types.now ≡ length reader.indexes.now.concepts }
     requires values { IsRisingBelow (length reader.indexes.now.concepts) values.now }
-    ensures counted { CountsWithin (sum_by (row_count_of reader.entry.indexes.now false) values.now) visits.old
-        visits.new }
-    ensures within { IfOk result (λ hits. All (λ number. number < length (groups_in reader.entry.indexes.now))
-        hits.items) }
+    ensures counted { CountsWithin (sum_by (row_count_of reader.entry.indexes.now false) values.now)
+        visits.old visits.new }
+    ensures within { IfOk result (λ hits. All
+        (λ number. number < length (groups_in reader.entry.indexes.now)) hits.items) }
     ensures hits { IfOk result (λ hits. AreHits (length (groups_in reader.entry.indexes.now))
         (counts_for_group (groups_in reader.entry.indexes.now)
         (has_pair_in (is_one_of reader.entry.indexes.now.concepts (S.items_of types.now))
         (is_within (is_one_of reader.entry.indexes.now.concepts values.now))))
         (entries_of reader.entry.indexes.now.rows) hits.items) }
 {
-    // The concepts rise, so that none has two numbers. This call tells the prover.
+    // tells the prover that the concepts rise, so that none has two numbers
     reader.concept_count();
     owners_by_value(reader, Owner::Group, values, types, visits)
 }
 
-// Pushes the number of each mark that is first and whose cell is the number of a value that passes `tested`.
+// Adds to `hits` the number of each of `marks` whose flag says that its row is the first with its
+// pair, if the row's value passes `tested`. `cells` has the numbers of the rows' values.
 fn push_passing<S: ConceptSet>(
     reader: Reader<'_>,
     hits: &mut Vec<u32>,
@@ -285,8 +301,9 @@ fn push_passing<S: ConceptSet>(
     requires long { length marks.now ≡ length cells.now }
     requires tested { IsTestBelow S.bound_of (length reader.indexes.now.concepts) tested.now }
     ensures { OnOk result (hits.new.items ≡ hits.old.items ++ picked
-        (λ mark cell. mark.is_first && passes_of S.items_of reader.entry.indexes.now.concepts tested.now
-        (value_of reader.entry.indexes.now cell)) (λ mark cell. mark.number) marks.now cells.now) }
+        (λ mark cell. mark.is_first && passes_of S.items_of reader.entry.indexes.now.concepts
+        tested.now (value_of reader.entry.indexes.now cell)) (λ mark cell. mark.number) marks.now
+        cells.now) }
 {
     for place in 0..marks.len() {
         let mark = marks[place];
@@ -297,7 +314,7 @@ fn push_passing<S: ConceptSet>(
     Ok(())
 }
 
-// Whether a row is the first with its pair, and its value passes `tested`.
+// Returns whether a row is the first with its pair, by its mark, and its value passes `tested`.
 fn has_passing<S: ConceptSet>(
     reader: Reader<'_>,
     mark: FlaggedNumber,
@@ -305,13 +322,14 @@ fn has_passing<S: ConceptSet>(
     tested: &Tested<S>,
 ) -> bool
     requires { IsTestBelow S.bound_of (length reader.indexes.now.concepts) tested.now }
-    ensures { result ≡ (mark.is_first && passes_of S.items_of reader.entry.indexes.now.concepts tested.now
-        (value_of reader.entry.indexes.now value)) }
+    ensures { result ≡ (mark.is_first && passes_of S.items_of reader.entry.indexes.now.concepts
+        tested.now (value_of reader.entry.indexes.now value)) }
 {
     mark.is_first() && passes(reader, tested, value)
 }
 
-// Pushes the number of each mark that is first and whose cell is the place of a type in `types`.
+// Adds to `hits` the number of each of `marks` whose flag says that its row is the first with its
+// pair, if the row's type is in `types`. `cells` has the places of the rows' types.
 fn push_typed<S: ConceptSet>(
     reader: Reader<'_>,
     hits: &mut Vec<u32>,
@@ -321,8 +339,9 @@ fn push_typed<S: ConceptSet>(
 ) -> Result<(), AllocError>
     requires long { length marks.now ≡ length cells.now }
     requires types { S.bound_of types.now ≡ length reader.indexes.now.concepts }
-    ensures { OnOk result (hits.new.items ≡ hits.old.items ++ picked
-        (λ mark cell. mark.is_first && is_type_in reader.entry.indexes.now (S.items_of types.now) cell)
+    ensures { OnOk result (hits.new.items ≡ hits.old.items
+        ++ picked (λ mark cell. mark.is_first
+        && is_type_in reader.entry.indexes.now (S.items_of types.now) cell)
         (λ mark cell. mark.number) marks.now cells.now) }
 {
     for place in 0..marks.len() {
@@ -334,7 +353,7 @@ fn push_typed<S: ConceptSet>(
     Ok(())
 }
 
-// Whether a row is the first with its pair, and its type is in `types`.
+// Returns whether a row is the first with its pair, by its mark, and its type is in `types`.
 fn has_type<S: ConceptSet>(
     reader: Reader<'_>,
     mark: FlaggedNumber,
@@ -342,13 +361,15 @@ fn has_type<S: ConceptSet>(
     types: &Answer<S>,
 ) -> bool
     requires { S.bound_of types.now ≡ length reader.indexes.now.concepts }
-    ensures { result ≡ (mark.is_first && is_type_in reader.entry.indexes.now (S.items_of types.now) type_place) }
+    ensures { result ≡ (mark.is_first && is_type_in reader.entry.indexes.now (S.items_of types.now)
+        type_place) }
 {
     mark.is_first() && is_typed(reader, types, type_place)
 }
 
-// Pushes each cell that is the number of a concept and whose mark is first and has the number of a source that passes
-// `tested`.
+// Adds to `hits` the number of the value of each row that is the first with its pair, if the value
+// is a concept and the row's source passes `tested`. `marks` has the rows' sources, `cells` the
+// numbers of their values.
 fn push_cells<S: ConceptSet>(
     reader: Reader<'_>,
     hits: &mut Vec<u32>,
@@ -373,7 +394,8 @@ fn push_cells<S: ConceptSet>(
     Ok(())
 }
 
-// Whether a row is the first with its pair, its value is a concept, and its source passes `tested`.
+// Returns whether a row is the first with its pair, by its mark, its value is a concept, and its
+// source passes `tested`.
 fn has_passing_source<S: ConceptSet>(
     reader: Reader<'_>,
     mark: FlaggedNumber,
@@ -388,15 +410,15 @@ fn has_passing_source<S: ConceptSet>(
     is_concept(reader, value) && has_passing(reader, mark, mark.number(), tested)
 }
 
-// Whether a value is a concept.
+// Returns whether the value with the number `value` is a concept.
 fn is_concept(reader: Reader<'_>, value: u32) -> bool
     ensures { result ≡ nat_lt value (length reader.entry.indexes.now.concepts) }
 {
     value < reader.concept_count()
 }
 
-// Pushes the number of the value of each row that is the first with its pair, has a type in `types`, and has a
-// concept as its value.
+// Adds to `hits` the number of the value of each of `rows` that is the first with its pair, if the
+// value is a concept and the row's type is in `types`.
 fn push_values<S: ConceptSet>(
     reader: Reader<'_>,
     hits: &mut Vec<u32>,
@@ -409,12 +431,12 @@ fn push_values<S: ConceptSet>(
         (λ number. number < length reader.entry.indexes.now.concepts) hits.old.items
         → All (λ number. number < length reader.entry.indexes.now.concepts) hits.new.items) }
     ensures times { OnOk result ((number : ℕ) → number < length reader.entry.indexes.now.concepts
-        → times number hits.new.items ≡ times number hits.old.items
-        + count_by (λ n. at_entry (counts_for_value reader.entry.indexes.now.concepts
-        (λ row. is_one_of reader.entry.indexes.now.concepts (S.items_of types.now) row.type_id) number)
-        (slice_get (entries_of reader.entry.indexes.now.rows) n)) rows.now) }
+        → times number hits.new.items ≡ times number hits.old.items + count_by
+        (λ n. at_entry (counts_for_value reader.entry.indexes.now.concepts
+        (λ row. is_one_of reader.entry.indexes.now.concepts (S.items_of types.now) row.type_id)
+        number) (slice_get (entries_of reader.entry.indexes.now.rows) n)) rows.now) }
 {
-    // The concepts rise, so that none has two numbers. This call tells the prover.
+    // tells the prover that the concepts rise, so that none has two numbers
     reader.concept_count();
     for n in rows {
         let row = reader.cells(*n);
@@ -425,11 +447,13 @@ fn push_values<S: ConceptSet>(
     Ok(())
 }
 
-// Whether a row is the first with its pair, its type is in `types`, and its value is a concept.
+// Returns whether `row` is the first with its pair in its source, its type is in `types`, and its
+// value is a concept.
 fn counts<S: ConceptSet>(reader: Reader<'_>, row: RowCells, types: &Answer<S>) -> bool
     requires { S.bound_of types.now ≡ length reader.indexes.now.concepts }
     ensures { result ≡ (nat_lt row.value (length reader.entry.indexes.now.concepts)
-        && (row.is_first && is_type_in reader.entry.indexes.now (S.items_of types.now) row.type_place)) }
+        && (row.is_first && is_type_in reader.entry.indexes.now (S.items_of types.now)
+        row.type_place)) }
 {
     is_concept(reader, row.value) && row.is_first && is_typed(reader, types, row.type_place)
 }

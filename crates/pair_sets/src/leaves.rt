@@ -1,5 +1,5 @@
-//! Finds the concepts and the groups whose number of matching pairs lies in a cardinality: executes one leaf of a
-//! plan.
+//! Finds the concepts and the groups whose number of matching pairs lies in a cardinality: executes
+//! one leaf of a plan.
 ghost use Rattle.std.specs.Prelude.{ℕ, false, true, ◌≡◌, ◌≤◌, ◌+◌, Bool, IfOk, filter, length};
 ghost use Rattle.std.specs.List.{sum_by};
 ghost use Rattle.postings.specs.Stats.{type_row_count};
@@ -13,28 +13,29 @@ ghost use Rattle.candidates.specs.Numbers.{is_one_of, numbers_in};
 ghost use Rattle.reading.specs.Counted.{CountsWithin, IsFound, full};
 ghost use Rattle.pair_sets.specs.Room.{AreTold, leaf_items};
 ghost use Rattle.pair_sets.specs.Tested.{IsTestBelow, passes_of};
-ghost use Rattle.pair_sets.specs.inside.Ways.{HasTypes, IsValuesWay, IsWayBelow, passes_by, rest_items, values_rest};
-ghost use Rattle.candidates.specs.Within.{AreConcepts, AreGroups, extent_told, groups_within, may_be, numbers_within};
+ghost use Rattle.pair_sets.specs.inside.AccessPaths.{HasTypes, IsValuesPath, IsPathBelow, passes_by, rest_items, values_rest};
+ghost use Rattle.candidates.specs.Within.{AreConcepts, AreGroups, stats_told, groups_within, may_be, numbers_within};
 
+use crate::access_paths::{AccessPath, LeafReads, LeafRequest};
 use crate::by_rows::{
     groups_with_pairs_among, groups_with_pairs_by_type, groups_with_pairs_by_value,
     with_pairs_among, with_pairs_by_type, with_pairs_by_value,
 };
-use crate::choice::{ValuesWay, leaf_way, values_way};
+use crate::choice::{ValuesPath, leaf_path, values_path};
 use crate::tested::Tested;
-use crate::ways::{LeafReads, LeafRequest, Way};
 use candidates::{Candidates, restricted};
 use constraint_tree::Cardinality;
 use idset::ConceptSet;
 use reading::{Answer, Counter, Reader};
 use std::alloc::AllocError;
 
-/// Finds the candidates whose number of distinct matching pairs, their own or those read backwards, lies in the
-/// cardinality of the leaf (Expression Constraint Language, "Refinements", "Cardinality" and "Reverse attributes"). A
-/// pair matches if `types` has its type and its value passes `tested`.
+/// Finds the candidates whose number of distinct matching pairs, their own or those read backwards,
+/// lies in the cardinality of the leaf (Expression Constraint Language, "Refinements",
+/// "Cardinality" and "Reverse attributes"). A pair matches if `types` has its type and its value
+/// passes `tested`.
 ///
-/// Visits are counted within the bound of the leaf, which has room for its choice. If fewer items are read than the
-/// floor of the leaf, the floor is counted.
+/// Visits are counted within the bound of the leaf, which has room for its choice. If fewer items
+/// are read than the floor of the leaf, the floor is counted.
 pub fn with_pairs_within<S: ConceptSet>(
     reader: Reader<'_>,
     back: bool,
@@ -46,17 +47,20 @@ pub fn with_pairs_within<S: ConceptSet>(
 ) -> Result<Answer<S>, AllocError>
     requires bound { S.bound_of types.now ≡ length reader.indexes.now.concepts }
     requires limits { leaf.limits.floor ≤ leaf.limits.bound }
-    requires room { full (leaf_items S.items_of reader.indexes.now back leaf.choice (S.items_of types.now) tested)
-        ≤ leaf.limits.bound }
+    requires room { full (leaf_items S.items_of reader.indexes.now back leaf.choice
+        (S.items_of types.now) tested) ≤ leaf.limits.bound }
     requires tested { IsTestBelow S.bound_of (length reader.indexes.now.concepts) tested }
     requires told { AreTold S.items_of reader.indexes.now back tested leaf.value_rows }
-    requires candidates { AreConcepts S.ConceptSet reader.snapshot.now.release reader.indexes.now candidates.now }
+    requires candidates { AreConcepts S.ConceptSet reader.snapshot.now.release reader.indexes.now
+        candidates.now }
     ensures counted { CountsWithin leaf.limits.bound visits.old visits.new }
-    ensures found { IfOk result (IsFound S.ConceptSet (length reader.entry.snapshot.now.release.concepts)
+    ensures found { IfOk result
+        (IsFound S.ConceptSet (length reader.entry.snapshot.now.release.concepts)
         (numbers_within reader.entry.snapshot.now.release (may_be S.items_of candidates.now)
-        (λ concept. has_pairs leaf.count (is_one_of reader.entry.indexes.now.concepts (S.items_of types.now))
-        (passes_of S.items_of reader.entry.indexes.now.concepts tested) (pairs_of reader.entry.snapshot.now.release back
-        concept))) leaf.limits.floor visits.old visits.new) }
+        (λ concept. has_pairs leaf.count (is_one_of reader.entry.indexes.now.concepts
+        (S.items_of types.now)) (passes_of S.items_of reader.entry.indexes.now.concepts tested)
+        (pairs_of reader.entry.snapshot.now.release back concept))) leaf.limits.floor visits.old
+        visits.new) }
 {
     let reads = LeafReads {
         choice: leaf.choice,
@@ -65,18 +69,18 @@ pub fn with_pairs_within<S: ConceptSet>(
         value_rows: leaf.value_rows,
     };
     let since = visits.count();
-    let way = leaf_way(reader, reads, types, tested, candidates, visits)?;
-    let found = with_pairs_by(reader, &way, back, leaf.count, types, candidates, visits)?;
+    let path = leaf_path(reader, reads, types, tested, candidates, visits)?;
+    let found = with_pairs_by(reader, &path, back, leaf.count, types, candidates, visits)?;
     visits.fill(since, leaf.limits.floor);
     Ok(found)
 }
 
-/// Finds the candidates among the groups whose number of distinct matching pairs lies in the cardinality of the leaf
-/// (Expression Constraint Language, "Attribute groups" and "Cardinality"). A pair matches if `types` has its type and
-/// its value passes `tested`.
+/// Finds the candidates among the groups whose number of distinct matching pairs lies in the
+/// cardinality of the leaf (Expression Constraint Language, "Attribute groups" and "Cardinality").
+/// A pair matches if `types` has its type and its value passes `tested`.
 ///
-/// Visits are counted within the bound of the leaf, which has room for its choice. If fewer items are read than the
-/// floor of the leaf, the floor is counted.
+/// Visits are counted within the bound of the leaf, which has room for its choice. If fewer items
+/// are read than the floor of the leaf, the floor is counted.
 pub fn groups_with_pairs_within<S: ConceptSet>(
     reader: Reader<'_>,
     leaf: LeafRequest,
@@ -87,17 +91,19 @@ pub fn groups_with_pairs_within<S: ConceptSet>(
 ) -> Result<Answer<S>, AllocError>
     requires bound { S.bound_of types.now ≡ length reader.indexes.now.concepts }
     requires limits { leaf.limits.floor ≤ leaf.limits.bound }
-    requires room { full (leaf_items S.items_of reader.indexes.now false leaf.choice (S.items_of types.now) tested)
-        ≤ leaf.limits.bound }
+    requires room { full (leaf_items S.items_of reader.indexes.now false leaf.choice
+        (S.items_of types.now) tested) ≤ leaf.limits.bound }
     requires tested { IsTestBelow S.bound_of (length reader.indexes.now.concepts) tested }
     requires told { AreTold S.items_of reader.indexes.now false tested leaf.value_rows }
-    requires candidates { AreGroups S.ConceptSet reader.snapshot.now.release reader.indexes.now candidates.now }
+    requires candidates { AreGroups S.ConceptSet reader.snapshot.now.release reader.indexes.now
+        candidates.now }
     ensures counted { CountsWithin leaf.limits.bound visits.old visits.new }
-    ensures found { IfOk result (IsFound S.ConceptSet (length (all_groups reader.entry.snapshot.now.release))
-        (groups_within reader.entry.snapshot.now.release (may_be S.items_of candidates.now)
-        (has_pairs leaf.count (is_one_of reader.entry.indexes.now.concepts (S.items_of types.now))
-        (passes_of S.items_of reader.entry.indexes.now.concepts tested)))
-        leaf.limits.floor visits.old visits.new) }
+    ensures found { IfOk result (IsFound S.ConceptSet (length (all_groups
+        reader.entry.snapshot.now.release)) (groups_within reader.entry.snapshot.now.release
+        (may_be S.items_of candidates.now) (has_pairs leaf.count
+        (is_one_of reader.entry.indexes.now.concepts (S.items_of types.now))
+        (passes_of S.items_of reader.entry.indexes.now.concepts tested))) leaf.limits.floor
+        visits.old visits.new) }
 {
     let reads = LeafReads {
         choice: leaf.choice,
@@ -106,16 +112,16 @@ pub fn groups_with_pairs_within<S: ConceptSet>(
         value_rows: leaf.value_rows,
     };
     let since = visits.count();
-    let way = leaf_way(reader, reads, types, tested, candidates, visits)?;
-    let found = groups_with_pairs_by(reader, &way, leaf.count, types, candidates, visits)?;
+    let path = leaf_path(reader, reads, types, tested, candidates, visits)?;
+    let found = groups_with_pairs_by(reader, &path, leaf.count, types, candidates, visits)?;
     visits.fill(since, leaf.limits.floor);
     Ok(found)
 }
 
-/// Finds the values of the attributes whose source is in `sources` and whose type is in `types` (Expression
-/// Constraint Language, "Refinements", dotted attributes). It reads the rows of the sources if there are no more
-/// sources than types, or if the sources have fewer rows than the types. Visits are counted: no more than there are
-/// sources and rows.
+/// Finds the values of the attributes whose source is in `sources` and whose type is in `types`
+/// (Expression Constraint Language, "Refinements", dotted attributes). It reads the rows of the
+/// sources if there are no more sources than types, or if the sources have fewer rows than the
+/// types. Visits are counted: no more than there are sources and rows.
 pub fn values_along<S: ConceptSet>(
     reader: Reader<'_>,
     sources: Answer<S>,
@@ -124,42 +130,48 @@ pub fn values_along<S: ConceptSet>(
 ) -> Result<Answer<S>, AllocError>
     requires sources { S.bound_of sources ≡ length reader.indexes.now.concepts }
     requires types { S.bound_of types.now ≡ length reader.indexes.now.concepts }
-    ensures counted { CountsWithin (length (S.items_of sources) + length reader.entry.indexes.now.rows) visits.old
-        visits.new }
-    ensures found { IfOk result (IsFound S.ConceptSet (length reader.entry.snapshot.now.release.concepts)
+    ensures counted { CountsWithin (length (S.items_of sources)
+        + length reader.entry.indexes.now.rows) visits.old visits.new }
+    ensures found { IfOk result
+        (IsFound S.ConceptSet (length reader.entry.snapshot.now.release.concepts)
         (numbers_in reader.entry.snapshot.now.release (is_value reader.entry.snapshot.now.release
-        (is_one_of reader.entry.indexes.now.concepts (S.items_of sources)) (is_one_of reader.entry.indexes.now.concepts
-        (S.items_of types.now)))) 0 visits.old visits.new) }
+        (is_one_of reader.entry.indexes.now.concepts (S.items_of sources))
+        (is_one_of reader.entry.indexes.now.concepts (S.items_of types.now)))) 0 visits.old
+        visits.new) }
 {
-    let way = values_way(reader, &sources, types, visits)?;
-    let found = values_by(reader, way, sources, types, visits)?;
+    let path = values_path(reader, &sources, types, visits)?;
+    let found = values_by(reader, path, sources, types, visits)?;
     Ok(found)
 }
 
-// Finds the values by the rows of the sources or of the types, as `way` says.
+// Finds the values by the rows of the sources or of the types, as `path` says.
 fn values_by<S: ConceptSet>(
     reader: Reader<'_>,
-    way: ValuesWay,
+    path: ValuesPath,
     sources: Answer<S>,
     types: &Answer<S>,
     visits: &mut Counter,
 ) -> Result<Answer<S>, AllocError>
     requires sources { S.bound_of sources ≡ length reader.indexes.now.concepts }
     requires types { S.bound_of types.now ≡ length reader.indexes.now.concepts }
-    requires way { IsValuesWay (types_of reader.indexes.now.rows) (S.items_of sources)
-        (is_one_of reader.indexes.now.concepts (S.items_of types.now)) way }
-    ensures items { IfOk result (λ found. S.items_of found ≡ numbers_in reader.entry.snapshot.now.release
-        (is_value reader.entry.snapshot.now.release (is_one_of reader.entry.indexes.now.concepts (S.items_of sources))
+    requires path { IsValuesPath (types_of reader.indexes.now.rows) (S.items_of sources)
+        (is_one_of reader.indexes.now.concepts (S.items_of types.now)) path }
+    ensures items { IfOk result (λ found. S.items_of found ≡ numbers_in
+        reader.entry.snapshot.now.release
+        (is_value reader.entry.snapshot.now.release
+        (is_one_of reader.entry.indexes.now.concepts (S.items_of sources))
         (is_one_of reader.entry.indexes.now.concepts (S.items_of types.now)))) }
-    ensures bound { IfOk result (λ found. S.bound_of found ≡ length reader.entry.snapshot.now.release.concepts) }
-    ensures counted { CountsWithin (values_rest reader.entry.indexes.now way) visits.old visits.new }
+    ensures bound { IfOk result (λ found. S.bound_of found
+        ≡ length reader.entry.snapshot.now.release.concepts) }
+    ensures counted { CountsWithin (values_rest reader.entry.indexes.now path) visits.old
+        visits.new }
 {
-    match way {
-        ValuesWay::BySource(own) => {
+    match path {
+        ValuesPath::BySource(own) => {
             let found = values_by_source(reader, own.as_slice(), types, visits)?;
             Ok(found)
         }
-        ValuesWay::ByType(ids) => {
+        ValuesPath::ByType(ids) => {
             let found = values_by_type(reader, sources, ids.as_slice(), visits)?;
             Ok(found)
         }
@@ -174,12 +186,14 @@ fn values_by_type<S: ConceptSet>(
     visits: &mut Counter,
 ) -> Result<Answer<S>, AllocError>
     requires sources { S.bound_of sources ≡ length reader.indexes.now.concepts }
-    ensures counted { CountsWithin (sum_by (type_row_count reader.entry.indexes.now) ids.now) visits.old visits.new }
+    ensures counted { CountsWithin (sum_by (type_row_count reader.entry.indexes.now) ids.now)
+        visits.old visits.new }
     ensures items { IfOk result (λ found. (one : ℕ → Bool) → ids.now
         ≡ filter one (types_of reader.entry.indexes.now.rows) → S.items_of found
         ≡ numbers_in reader.entry.snapshot.now.release (is_value reader.entry.snapshot.now.release
         (is_one_of reader.entry.indexes.now.concepts (S.items_of sources)) one)) }
-    ensures bound { IfOk result (λ found. S.bound_of found ≡ length reader.entry.snapshot.now.release.concepts) }
+    ensures bound { IfOk result (λ found. S.bound_of found
+        ≡ length reader.entry.snapshot.now.release.concepts) }
 {
     let some = Cardinality { min: 1, max: None };
     let tested = Tested::Within(sources);
@@ -195,58 +209,64 @@ fn values_by_source<S: ConceptSet>(
 ) -> Result<Answer<S>, AllocError>
     requires sources { IsRisingBelow (length reader.indexes.now.concepts) sources.now }
     requires types { S.bound_of types.now ≡ length reader.indexes.now.concepts }
-    ensures counted { CountsWithin (sum_by (row_count_of reader.entry.indexes.now true) sources.now) visits.old
-        visits.new }
-    ensures items { IfOk result (λ found. S.items_of found ≡ numbers_in reader.entry.snapshot.now.release
-        (is_value reader.entry.snapshot.now.release (is_one_of reader.entry.indexes.now.concepts sources.now)
+    ensures counted { CountsWithin (sum_by (row_count_of reader.entry.indexes.now true) sources.now)
+        visits.old visits.new }
+    ensures items { IfOk result (λ found. S.items_of found ≡ numbers_in
+        reader.entry.snapshot.now.release
+        (is_value reader.entry.snapshot.now.release
+        (is_one_of reader.entry.indexes.now.concepts sources.now)
         (is_one_of reader.entry.indexes.now.concepts (S.items_of types.now)))) }
-    ensures bound { IfOk result (λ found. S.bound_of found ≡ length reader.entry.snapshot.now.release.concepts) }
+    ensures bound { IfOk result (λ found. S.bound_of found
+        ≡ length reader.entry.snapshot.now.release.concepts) }
 {
     let some = Cardinality { min: 1, max: None };
     with_pairs_by_value(reader, true, some, types, sources, visits)
 }
 
-/// Finds the candidates whose number of distinct matching pairs, their own or those read backwards, lies in `count`.
-/// A pair matches if `types` has its type and its value passes in the way `way`. Each read is a counted visit.
+/// Finds the candidates whose number of distinct matching pairs, their own or those read backwards,
+/// lies in `count`. A pair matches if `types` has its type and its value passes in the way `path`.
+/// Each read is a counted visit.
 pub fn with_pairs_by<S: ConceptSet>(
     reader: Reader<'_>,
-    way: &Way<S>,
+    path: &AccessPath<S>,
     back: bool,
     count: Cardinality,
     types: &Answer<S>,
     candidates: &Candidates<'_, S>,
     visits: &mut Counter,
 ) -> Result<Answer<S>, AllocError>
-    requires way { IsWayBelow S.bound_of (length reader.indexes.now.concepts) way.now }
+    requires path { IsPathBelow S.bound_of (length reader.indexes.now.concepts) path.now }
     requires ids { HasTypes (types_of reader.indexes.now.rows)
-        (is_one_of reader.indexes.now.concepts (S.items_of types.now)) way.now }
+        (is_one_of reader.indexes.now.concepts (S.items_of types.now)) path.now }
     requires types { S.bound_of types.now ≡ length reader.indexes.now.concepts }
-    requires candidates { AreConcepts S.ConceptSet reader.snapshot.now.release reader.indexes.now candidates.now }
-    ensures counted { CountsWithin (rest_items reader.entry.indexes.now back (extent_told back candidates.now) way.now)
-        visits.old visits.new }
-    ensures items { IfOk result (λ found. S.items_of found ≡ numbers_within reader.entry.snapshot.now.release
-        (may_be S.items_of candidates.now)
-        (λ concept. has_pairs count (is_one_of reader.entry.indexes.now.concepts (S.items_of types.now))
-        (passes_by S.items_of reader.entry.indexes.now.concepts way.now) (pairs_of reader.entry.snapshot.now.release
-        back concept))) }
-    ensures bound { IfOk result (λ found. S.bound_of found ≡ length reader.entry.snapshot.now.release.concepts) }
+    requires candidates { AreConcepts S.ConceptSet reader.snapshot.now.release reader.indexes.now
+        candidates.now }
+    ensures counted { CountsWithin (rest_items reader.entry.indexes.now back
+        (stats_told back candidates.now) path.now) visits.old visits.new }
+    ensures items { IfOk result (λ found. S.items_of found ≡ numbers_within
+        reader.entry.snapshot.now.release (may_be S.items_of candidates.now)
+        (λ concept. has_pairs count (is_one_of reader.entry.indexes.now.concepts
+        (S.items_of types.now)) (passes_by S.items_of reader.entry.indexes.now.concepts path.now)
+        (pairs_of reader.entry.snapshot.now.release back concept))) }
+    ensures bound { IfOk result (λ found. S.bound_of found
+        ≡ length reader.entry.snapshot.now.release.concepts) }
 {
-    match way {
-        Way::ByCandidates(tested) => {
+    match path {
+        AccessPath::ByCandidates(tested) => {
             let found = with_pairs_among(reader, back, count, types, tested, candidates, visits)?;
             Ok(found)
         }
-        Way::ByValue(values) => {
+        AccessPath::ByValue(values) => {
             let some = with_pairs_by_value(reader, back, count, types, values, visits)?;
             let found = restricted(reader, some, candidates)?;
             Ok(found)
         }
-        Way::ByType(ids, tested) => {
+        AccessPath::ByType(ids, tested) => {
             let some = with_pairs_by_type(reader, back, count, ids, tested, visits)?;
             let found = restricted(reader, some, candidates)?;
             Ok(found)
         }
-        Way::Scan(tested) => {
+        AccessPath::Scan(tested) => {
             let all = Candidates::All;
             let some: Answer<S> = with_pairs_among(
                 reader, back, count, types, tested, &all, visits,
@@ -257,45 +277,48 @@ pub fn with_pairs_by<S: ConceptSet>(
     }
 }
 
-/// Finds the candidates among the groups whose number of distinct matching pairs lies in `count`. A pair matches if
-/// `types` has its type and its value passes in the way `way`. Each read is a counted visit.
+/// Finds the candidates among the groups whose number of distinct matching pairs lies in `count`. A
+/// pair matches if `types` has its type and its value passes in the way `path`. Each read is a
+/// counted visit.
 pub fn groups_with_pairs_by<S: ConceptSet>(
     reader: Reader<'_>,
-    way: &Way<S>,
+    path: &AccessPath<S>,
     count: Cardinality,
     types: &Answer<S>,
     candidates: &Candidates<'_, S>,
     visits: &mut Counter,
 ) -> Result<Answer<S>, AllocError>
-    requires way { IsWayBelow S.bound_of (length reader.indexes.now.concepts) way.now }
+    requires path { IsPathBelow S.bound_of (length reader.indexes.now.concepts) path.now }
     requires ids { HasTypes (types_of reader.indexes.now.rows)
-        (is_one_of reader.indexes.now.concepts (S.items_of types.now)) way.now }
+        (is_one_of reader.indexes.now.concepts (S.items_of types.now)) path.now }
     requires types { S.bound_of types.now ≡ length reader.indexes.now.concepts }
-    requires candidates { AreGroups S.ConceptSet reader.snapshot.now.release reader.indexes.now candidates.now }
-    ensures counted { CountsWithin (rest_items reader.entry.indexes.now false (extent_told false candidates.now)
-        way.now) visits.old visits.new }
-    ensures items { IfOk result (λ found. S.items_of found ≡ groups_within reader.entry.snapshot.now.release
-        (may_be S.items_of candidates.now)
+    requires candidates { AreGroups S.ConceptSet reader.snapshot.now.release reader.indexes.now
+        candidates.now }
+    ensures counted { CountsWithin (rest_items reader.entry.indexes.now false
+        (stats_told false candidates.now) path.now) visits.old visits.new }
+    ensures items { IfOk result (λ found. S.items_of found ≡ groups_within
+        reader.entry.snapshot.now.release (may_be S.items_of candidates.now)
         (has_pairs count (is_one_of reader.entry.indexes.now.concepts (S.items_of types.now))
-        (passes_by S.items_of reader.entry.indexes.now.concepts way.now))) }
-    ensures bound { IfOk result (λ found. S.bound_of found ≡ length (all_groups reader.entry.snapshot.now.release)) }
+        (passes_by S.items_of reader.entry.indexes.now.concepts path.now))) }
+    ensures bound { IfOk result (λ found. S.bound_of found
+        ≡ length (all_groups reader.entry.snapshot.now.release)) }
 {
-    match way {
-        Way::ByCandidates(tested) => {
+    match path {
+        AccessPath::ByCandidates(tested) => {
             let found = groups_with_pairs_among(reader, count, types, tested, candidates, visits)?;
             Ok(found)
         }
-        Way::ByValue(values) => {
+        AccessPath::ByValue(values) => {
             let some = groups_with_pairs_by_value(reader, count, types, values, visits)?;
             let found = restricted(reader, some, candidates)?;
             Ok(found)
         }
-        Way::ByType(ids, tested) => {
+        AccessPath::ByType(ids, tested) => {
             let some = groups_with_pairs_by_type(reader, count, ids, tested, visits)?;
             let found = restricted(reader, some, candidates)?;
             Ok(found)
         }
-        Way::Scan(tested) => {
+        AccessPath::Scan(tested) => {
             let all = Candidates::All;
             let some: Answer<S> = groups_with_pairs_among(
                 reader, count, types, tested, &all, visits,

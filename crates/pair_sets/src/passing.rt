@@ -1,4 +1,4 @@
-//! Whether a value passes a test, by the number of the value.
+//! Tests whether values, given by number, pass the test of a leaf.
 ghost use Rattle.std.specs.Prelude.{◌≡◌, All, false, length, true};
 ghost use Rattle.std.specs.Ordering.{int_cmp};
 ghost use Rattle.rf2_rows.specs.Release.{Attribute};
@@ -13,14 +13,15 @@ use reading::Reader;
 use rf2_rows::Decimal;
 use std::cmp::Ordering;
 
-/// Whether a value passes a test (Expression Constraint Language, "Refinements"). The set of the test is not read,
-/// but tested for the value, so nothing is counted. `value` may be any number.
+/// Returns whether the value with the number `value` passes `tested` (Expression Constraint
+/// Language, "Refinements"). The set of the test is only tested for membership, so nothing is
+/// counted. Any `value` is allowed.
 pub fn passes<S: ConceptSet>(reader: Reader<'_>, tested: &Tested<S>, value: u32) -> bool
     requires { IsTestBelow S.bound_of (length reader.indexes.now.concepts) tested.now }
     ensures { result ≡ passes_of S.items_of reader.entry.indexes.now.concepts tested.now
         (value_of reader.entry.indexes.now value) }
 {
-    // The concepts rise, so that none has two numbers. This call tells the prover.
+    // tells the prover that the concepts rise, so that none has two numbers
     let concepts = reader.concept_count();
     match tested {
         Tested::Within(set) => set.has(value),
@@ -29,11 +30,13 @@ pub fn passes<S: ConceptSet>(reader: Reader<'_>, tested: &Tested<S>, value: u32)
     }
 }
 
-/// Whether it is known that the value of no row passes a test. That can be known of a test with a number that none of
-/// the decimals of all rows meets. The decimals are compared only if there are at most `rows` of them.
+/// Returns true if it is certain that no row has a value that passes `tested`. This is found only
+/// for a comparison with a number, if no decimal of any row fulfils it. The decimals are compared
+/// only if there are at most `rows` of them.
 pub fn none_passes<S: ConceptSet>(reader: Reader<'_>, tested: &Tested<S>, rows: u64) -> bool
-    ensures { result ≡ true → All (λ (row : Attribute). passes_of S.items_of reader.entry.indexes.now.concepts
-        tested.now row.value ≡ false) reader.entry.indexes.now.rows }
+    ensures { result ≡ true → All (λ (row : Attribute). passes_of S.items_of
+        reader.entry.indexes.now.concepts tested.now row.value ≡ false)
+        reader.entry.indexes.now.rows }
 {
     match tested {
         Tested::Number(compare, number) => {
@@ -43,7 +46,7 @@ pub fn none_passes<S: ConceptSet>(reader: Reader<'_>, tested: &Tested<S>, rows: 
     }
 }
 
-// Whether none of the decimals of all rows compares with `number` as is asked.
+// Returns whether no decimal of any row fulfils the comparison with `number`.
 fn none_meets(reader: Reader<'_>, compare: Compare, number: Decimal) -> bool
     ensures { result ≡ true → All (λ decimal. meets_of compare (int_cmp decimal number.0) ≡ false)
         reader.entry.indexes.now.decimals }
@@ -56,7 +59,8 @@ fn none_meets(reader: Reader<'_>, compare: Compare, number: Decimal) -> bool
     true
 }
 
-// Whether a value is a number that compares with `number` as is asked.
+// Returns whether the value with the number `value` is a decimal that fulfils the comparison with
+// `number`.
 fn is_number(reader: Reader<'_>, compare: Compare, number: Decimal, value: u32) -> bool
     ensures { result ≡ is_number_that compare number.0 (value_of reader.entry.indexes.now value) }
 {
@@ -64,7 +68,7 @@ fn is_number(reader: Reader<'_>, compare: Compare, number: Decimal, value: u32) 
     if value < concepts {
         return false;
     }
-    // the decimals follow the concepts
+    // values are numbered: first the concepts, then the decimals
     let place = value - concepts;
     if place >= reader.decimal_count() {
         return false;
@@ -72,7 +76,7 @@ fn is_number(reader: Reader<'_>, compare: Compare, number: Decimal, value: u32) 
     meets(compare, reader.compare_decimal(place, number))
 }
 
-// Whether two numbers in the order `order` compare as is asked.
+// Returns whether a comparison holds for two numbers whose order is `order`.
 fn meets(compare: Compare, order: Ordering) -> bool
     ensures { result ≡ meets_of compare order }
 {

@@ -1,4 +1,4 @@
-//! What a leaf tests of the values of its pairs.
+//! The test of a leaf for the values of its pairs.
 ghost use Rattle.std.specs.Prelude.{ℕ, ◌≡◌, List, false, true};
 ghost use Rattle.rf2_rows.specs.Release.{concept_value};
 ghost use Rattle.pair_sets.specs.Tested.{found_for, passes_of};
@@ -11,15 +11,15 @@ use rf2_rows::Decimal;
 /// Which values pass (Expression Constraint Language, "Refinements").
 #[derive(Drop)]
 pub enum Tested<S> {
-    /// The concepts in a set pass.
+    /// The concepts in the set pass.
     Within(Answer<S>),
-    /// The concepts that are not in a set pass.
+    /// The concepts that are not in the set pass.
     Outside(Answer<S>),
-    /// The numbers pass that compare with a number as is asked.
+    /// The decimals pass for which the comparison with this number holds.
     Number(Compare, Decimal),
 }
 
-/// Whether a test asks for numbers, so that no concept passes.
+/// Returns whether the test is a comparison with a number, which no concept passes.
 pub fn asks_for_number<S: ConceptSet>(tested: &Tested<S>) -> bool
     ensures { result ≡ true → (concepts : List ℕ) (concept : ℕ)
         → passes_of S.items_of concepts tested.now (concept_value concept) ≡ false }
@@ -30,7 +30,7 @@ pub fn asks_for_number<S: ConceptSet>(tested: &Tested<S>) -> bool
     }
 }
 
-/// Returns how many concepts the set of a test has; 0 for a test of numbers.
+/// Returns how many concepts the set of the test has; 0 for a comparison with a number.
 pub fn count_of_test<S: ConceptSet>(tested: &Tested<S>) -> u32
     ensures { result ≡ found_for S.items_of tested.now }
 {

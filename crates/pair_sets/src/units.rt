@@ -1,4 +1,4 @@
-//! Finds the concepts whose number of groups lies in a cardinality.
+//! Finds the concepts whose number of groups lies in a cardinality, and the groups of concepts.
 ghost use Rattle.std.specs.Prelude.{ℕ, ◌≡◌, ◌≤◌, ◌<◌, ◌+◌, ◌-◌, ◌++◌, true, All, IfOk, OnOk, length, map, slice_get};
 ghost use Rattle.std.specs.Prelude.{slice_index};
 ghost use Rattle.postings.specs.Groups.{all_groups, groups_before, groups_in};
@@ -18,8 +18,9 @@ use idset::ConceptSet;
 use reading::{Answer, Counter, Reader};
 use std::alloc::AllocError;
 
-/// Finds the concepts whose number of groups in `groups` lies in `count` (Release File Specification, "Relationship
-/// file", relationshipGroup; Expression Constraint Language, "Cardinality").
+/// Finds the concepts whose number of groups among `groups` lies in `count` (Release File
+/// Specification, "Relationship file", relationshipGroup; Expression Constraint Language,
+/// "Cardinality"). Counts each of `groups`.
 pub fn with_groups<S: ConceptSet>(
     reader: Reader<'_>,
     count: Cardinality,
@@ -27,26 +28,30 @@ pub fn with_groups<S: ConceptSet>(
     visits: &mut Counter,
 ) -> Result<Answer<S>, AllocError>
     requires bound { S.bound_of groups.now ≡ length (all_groups reader.snapshot.now.release) }
-    ensures items { IfOk result (λ found. S.items_of found ≡ numbers_where
-        (length reader.entry.snapshot.now.release.concepts)
-        (λ number. lies_in count (groups_owned reader.entry.snapshot.now.release (S.items_of groups.now) number))) }
-    ensures bound { IfOk result (λ found. S.bound_of found ≡ length reader.entry.snapshot.now.release.concepts) }
+    ensures items { IfOk result (λ found. S.items_of found
+        ≡ numbers_where (length reader.entry.snapshot.now.release.concepts)
+        (λ number. lies_in count (groups_owned reader.entry.snapshot.now.release
+        (S.items_of groups.now) number))) }
+    ensures bound { IfOk result (λ found. S.bound_of found
+        ≡ length reader.entry.snapshot.now.release.concepts) }
     ensures counted { HandsOut (length (S.items_of groups.now)) visits.old visits.new }
 {
-    // The concepts rise, so that each has its groups once. This call tells the prover.
+    // tells the prover that the concepts rise, so that each has its groups once
     let concept_count = reader.concept_count();
     let numbers = groups.items(reader.alloc, visits)?;
     let concepts = concepts_of(reader, numbers.as_slice())?;
     as_often(reader.alloc, concepts.as_slice(), concept_count, count)
 }
 
-// Lists the concept of each group.
+// Lists the concept of each of `groups`, in their order; a concept comes once for each of its
+// groups.
 fn concepts_of(reader: Reader<'_>, groups: &[u32]) -> Result<Vec<u32>, AllocError>
     requires { All (λ group. group < length (groups_in reader.indexes.now)) groups.now }
-    ensures within { IfOk result (λ found. All (λ concept. concept < length reader.entry.indexes.now.concepts)
-        found.items) }
-    ensures concepts { IfOk result (λ found. map (slice_index reader.entry.indexes.now.concepts) found.items
-        ≡ map (λ group. concept_in (slice_get (groups_in reader.entry.indexes.now) group)) groups.now) }
+    ensures within { IfOk result (λ found. All
+        (λ concept. concept < length reader.entry.indexes.now.concepts) found.items) }
+    ensures concepts { IfOk result (λ found. map (slice_index reader.entry.indexes.now.concepts)
+        found.items ≡ map (λ group. concept_in
+        (slice_get (groups_in reader.entry.indexes.now) group)) groups.now) }
 {
     let mut found = Vec::new(reader.alloc);
     for group in groups {
@@ -55,21 +60,22 @@ fn concepts_of(reader: Reader<'_>, groups: &[u32]) -> Result<Vec<u32>, AllocErro
     Ok(found)
 }
 
-/// Finds the groups of `concepts`.
+/// Finds all groups of `concepts`. Counts each of `concepts`.
 pub fn groups_of<S: ConceptSet>(
     reader: Reader<'_>,
     concepts: &Answer<S>,
     visits: &mut Counter,
 ) -> Result<Answer<S>, AllocError>
     requires bound { S.bound_of concepts.now ≡ length reader.snapshot.now.release.concepts }
-    ensures groups { IfOk result (λ groups. HaveGroupsOf reader.entry.snapshot.now.release (S.items_of concepts.now)
-        (S.items_of groups)) }
-    ensures few { IfOk result (λ groups. length (S.items_of groups) ≤ sum_by (group_count_of reader.entry.indexes.now)
-        (S.items_of concepts.now)) }
-    ensures bound { IfOk result (λ groups. S.bound_of groups ≡ length (all_groups reader.entry.snapshot.now.release)) }
+    ensures groups { IfOk result (λ groups. HaveGroupsOf reader.entry.snapshot.now.release
+        (S.items_of concepts.now) (S.items_of groups)) }
+    ensures few { IfOk result (λ groups. length (S.items_of groups)
+        ≤ sum_by (group_count_of reader.entry.indexes.now) (S.items_of concepts.now)) }
+    ensures bound { IfOk result (λ groups. S.bound_of groups
+        ≡ length (all_groups reader.entry.snapshot.now.release)) }
     ensures counted { HandsOut (length (S.items_of concepts.now)) visits.old visits.new }
 {
-    // The concepts rise, so that each has its groups once. This call tells the prover.
+    // tells the prover that the concepts rise, so that each has its groups once
     reader.concept_count();
     let own = concepts.items(reader.alloc, visits)?;
     let numbers = numbers_of_groups(reader, own.as_slice())?;
@@ -79,13 +85,14 @@ pub fn groups_of<S: ConceptSet>(
 // Lists the numbers of the groups of `concepts`.
 fn numbers_of_groups(reader: Reader<'_>, concepts: &[u32]) -> Result<Vec<u32>, AllocError>
     requires { All (λ concept. concept < length reader.indexes.now.concepts) concepts.now }
-    ensures within { IfOk result (λ found. All (λ group. group < length (groups_in reader.entry.indexes.now))
-        found.items) }
-    ensures few { IfOk result (λ found. length found.items ≡ sum_by (group_count_of reader.entry.indexes.now)
-        concepts.now) }
+    ensures within { IfOk result (λ found. All
+        (λ group. group < length (groups_in reader.entry.indexes.now)) found.items) }
+    ensures few { IfOk result (λ found. length found.items
+        ≡ sum_by (group_count_of reader.entry.indexes.now) concepts.now) }
     ensures all { IfOk result (λ found. (concept group : ℕ) → has concepts.now concept ≡ true
-        → length (groups_before reader.entry.indexes.now concept) ≤ group → group
-        < length (groups_before reader.entry.indexes.now (concept + 1)) → has found.items group ≡ true) }
+        → length (groups_before reader.entry.indexes.now concept) ≤ group
+        → group < length (groups_before reader.entry.indexes.now (concept + 1))
+        → has found.items group ≡ true) }
 {
     let mut found = Vec::new(reader.alloc);
     for concept in concepts {
@@ -95,9 +102,10 @@ fn numbers_of_groups(reader: Reader<'_>, concepts: &[u32]) -> Result<Vec<u32>, A
     Ok(found)
 }
 
-// Pushes the numbers from `start` on and below `end`.
+// Adds the numbers from `start` up to, but without, `end`.
 fn push_range(found: &mut Vec<u32>, start: u32, end: u32) -> Result<(), AllocError>
-    ensures { OnOk result (found.new.items ≡ found.old.items ++ range_with_len start (end - start)) }
+    ensures { OnOk result (found.new.items ≡ found.old.items
+        ++ range_with_len start (end - start)) }
 {
     for number in start..end {
         found.push(number)?;

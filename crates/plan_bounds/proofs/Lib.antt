@@ -7,4 +7,4 @@ pub mod LoopLemmas
 pub mod PartLemmas
 pub mod Rules
 pub mod SizeLemmas
-pub mod TallyLemmas
+pub mod SizeSummaryLemmas

@@ -1,11 +1,13 @@
--- The alternatives of a leaf, which is a node that counts pairs of concepts or of groups: which it offers, how many rows each
--- of them reads, how much the leaf finds and visits at most, and which is chosen.
+-- The alternatives of a leaf (a node that counts pairs of concepts or of groups): which choices it
+-- offers, how many rows each reads, how much the leaf then finds and visits at most, and which is
+-- chosen.
 use Rattle.std.specs.Prelude.{ℕ, ◌+◌, ◌≡◌, ◌≤◌, ◌&&◌, Bool, true, if◌then◌else◌, IsTrue, min, nat_le}
 use Rattle.set_algebra.specs.declared.choice.Choice.{Choice}
 use Rattle.set_algebra.specs.declared.choice.Choice.TheVariants.{ByValue, ByType, Scan}
 use Rattle.plan_bounds.specs.declared.leaf.Leaf.{Leaf}
 
--- whether a leaf offers a choice: by value it can be answered only if its test says within which set a value is
+-- whether a leaf offers a choice. It offers `ByValue` only if its test is `Within`, and always the
+-- others
 abbrev pub offers : Bool → Choice → Bool
 offers is_within ByValue = is_within
 offers is_within ByType = true
@@ -17,12 +19,13 @@ leaf_rows leaf ByValue = leaf.value_rows
 leaf_rows leaf ByType = leaf.type_rows
 leaf_rows leaf Scan = leaf.rows
 
--- how many items are read besides: all, if the minimum is 0, because an item without a passing pair is then found
--- among all
+-- how many concepts or groups are visited in addition: all, if the minimum is 0, because those
+-- without a matching pair are then found among all
 abbrev pub passed_over : Bool → ℕ → ℕ
 passed_over none_pass all = if none_pass then all else 0
 
--- how many of `all` are found by `found` rows or groups at most: all if the minimum is 0
+-- how many of `all` concepts or groups are found at most, if `found` rows or groups were read: all
+-- if the minimum is 0, and otherwise at most `found`
 abbrev pub found_by : Bool → ℕ → ℕ → ℕ
 found_by none_pass all found = if none_pass then all else min all found
 
@@ -30,16 +33,19 @@ found_by none_pass all found = if none_pass then all else min all found
 abbrev pub leaf_size : Leaf → Choice → ℕ
 leaf_size leaf choice = found_by leaf.none_pass leaf.all (leaf_rows leaf choice)
 
--- how many items the leaf visits at most under a choice, besides its sub-plans
+-- how many items the leaf visits at most under a choice, without the visits of its types and its
+-- test
 abbrev pub leaf_bound : Leaf → Choice → ℕ
 leaf_bound leaf ByValue = (leaf.value_size + leaf.value_rows) + passed_over leaf.none_pass leaf.all
 leaf_bound leaf ByType = (leaf.type_size + leaf.type_rows) + passed_over leaf.none_pass leaf.all
 leaf_bound leaf Scan = leaf.all + leaf.rows
 
--- the offered choice with the least bound; of equal bounds the first in the order of `rank`
+-- the choice with the least bound among those that the leaf offers; of equal bounds the first in
+-- the order of `rank`
 abbrev pub least_choice : Leaf → Choice
 least_choice leaf =
-    if leaf.is_within && (nat_le (leaf_bound leaf ByValue) (leaf_bound leaf ByType) && nat_le (leaf_bound leaf ByValue) (leaf_bound leaf Scan))
+    if leaf.is_within && (nat_le (leaf_bound leaf ByValue) (leaf_bound leaf ByType)
+    && nat_le (leaf_bound leaf ByValue) (leaf_bound leaf Scan))
     then ByValue
     else (if nat_le (leaf_bound leaf ByType) (leaf_bound leaf Scan) then ByType else Scan)
 
@@ -49,11 +55,14 @@ rank ByValue = 0
 rank ByType = 1
 rank Scan = 2
 
--- a choice that the leaf offers and, of all choices that it offers, the first with the least bound
+-- `choice` is the one that the leaf takes: among the choices that it offers, the first with the
+-- least bound
 pub record IsLeast (leaf : Leaf) (choice : Choice) : Type 0 where
   -- the leaf offers the choice
   pub offered : IsTrue (offers leaf.is_within choice)
   -- no choice that the leaf offers has a smaller bound
-  pub least : (other : Choice) → IsTrue (offers leaf.is_within other) → leaf_bound leaf choice ≤ leaf_bound leaf other
+  pub least : (other : Choice) → IsTrue (offers leaf.is_within other)
+      → leaf_bound leaf choice ≤ leaf_bound leaf other
   -- each offered choice with an equal bound comes later in the order of `rank`, or is this choice
-  pub first : (other : Choice) → IsTrue (offers leaf.is_within other) → leaf_bound leaf other ≡ leaf_bound leaf choice → rank choice ≤ rank other
+  pub first : (other : Choice) → IsTrue (offers leaf.is_within other)
+      → leaf_bound leaf other ≡ leaf_bound leaf choice → rank choice ≤ rank other

@@ -1,4 +1,5 @@
--- The counts of a release that a node of a plan needs: the lists of a concept, and the rows of a type or a value.
+-- The counts of a release from which the size and the bound of a node follow: the lists of a
+-- concept, and the rows of a type or a value.
 use Rattle.std.specs.Prelude.{ℕ, ◌==◌, Bool, true, false, if◌then◌else◌, List, Option, None, Some, length}
 use Rattle.constraint_tree.specs.declared.operator.Cardinality.{Cardinality}
 use Rattle.constraint_tree.specs.declared.operator.Operator.{Operator}
@@ -7,7 +8,7 @@ use Rattle.constraint_tree.specs.declared.operator.Operator.TheVariants.{Childre
 use Rattle.constraint_tree.specs.declared.operator.Operator.TheVariants.{Parents, ParentsOrSelf, Top, Bottom}
 use Rattle.set_algebra.specs.Physical.{Physical, physical_empty, physical_all, physical_one, physical_walk}
 use Rattle.set_algebra.specs.Physical.{physical_members, physical_and, physical_or, physical_minus, physical_values}
-use Rattle.set_algebra.specs.Physical.{physical_pairs, physical_units, PhysicalTest, physical_within}
+use Rattle.set_algebra.specs.Physical.{physical_pairs, physical_groups, PhysicalTest, physical_within}
 use Rattle.set_algebra.specs.Physical.{physical_outside, physical_number}
 use Rattle.number_lists.specs.KeyedLists.{list_of}
 use Rattle.held_release.specs.Numbering.{concept_number}
@@ -16,16 +17,18 @@ use Rattle.postings.specs.Indexed.{Indexed, rows_by_source, rows_by_value}
 use Rattle.postings.specs.Stats.{stats_in, type_row_count}
 use Rattle.plan_bounds.specs.declared.leaf.Leaf.{Leaf}
 
--- what `count` says of a concept's number, or 0 of a concept that is not in force
+-- the result of `count` for a concept's number, or 0 for a concept that is not in force, which has
+-- no number
 abbrev pub counted : (ℕ → ℕ) → Option ℕ → ℕ
 counted count (Some number) = count number
 counted count None = 0
 
--- what `count` says of the concept with identifier `id`, or 0 if it is not in force
+-- the result of `count` for the number of the concept with identifier `id`, or 0 if it is not in
+-- force
 abbrev pub of_concept : Indexed → (ℕ → ℕ) → ℕ → ℕ
 of_concept indexed count id = counted count (concept_number indexed.concepts id)
 
--- the lists that an operator reads
+-- the lists of all concepts that a hierarchy operator reads
 abbrev pub lists_along : Hierarchy → Operator → List (List ℕ)
 lists_along hierarchy Descendants = hierarchy.descendants
 lists_along hierarchy DescendantsOrSelf = hierarchy.descendants
@@ -38,12 +41,14 @@ lists_along hierarchy ParentsOrSelf = hierarchy.parents
 lists_along hierarchy Top = hierarchy.ancestors
 lists_along hierarchy Bottom = hierarchy.descendants
 
--- how long the list of the concept `id` is that an operator reads
+-- the length of the list that a hierarchy operator reads for the concept with identifier `id`, or 0
+-- if it is not in force
 abbrev pub list_length : Indexed → Operator → ℕ → ℕ
 list_length indexed operator id =
-    of_concept indexed (λ number. length (list_of (lists_along indexed.hierarchy operator) number)) id
+    of_concept indexed (λ number. length (list_of (lists_along indexed.hierarchy operator) number))
+    id
 
--- how long all lists that an operator reads are together
+-- the total length of the lists that a hierarchy operator reads for all concepts
 abbrev pub lists_length : Indexed → Operator → ℕ
 lists_length indexed Descendants = (stats_in indexed).r
 lists_length indexed DescendantsOrSelf = (stats_in indexed).r
@@ -56,7 +61,7 @@ lists_length indexed ParentsOrSelf = (stats_in indexed).l
 lists_length indexed Top = (stats_in indexed).r
 lists_length indexed Bottom = (stats_in indexed).r
 
--- whether an operator finds the concepts of its operand besides those that it leads to
+-- whether a hierarchy operator also finds the concepts of its operand themselves
 abbrev pub leads_to_self : Operator → Bool
 leads_to_self Descendants = false
 leads_to_self DescendantsOrSelf = true
@@ -69,7 +74,8 @@ leads_to_self ParentsOrSelf = true
 leads_to_self Top = false
 leads_to_self Bottom = false
 
--- whether an operator only keeps some of the concepts of its operand (`!!>`, `!!<`)
+-- whether a hierarchy operator keeps a part of the concepts of its operand and adds none (`!!>`,
+-- `!!<`)
 abbrev pub is_extreme : Operator → Bool
 is_extreme Descendants = false
 is_extreme DescendantsOrSelf = false
@@ -82,16 +88,17 @@ is_extreme ParentsOrSelf = false
 is_extreme Top = true
 is_extreme Bottom = true
 
--- how many components a reference set has
+-- how many members the reference set with identifier `id` has
 abbrev pub member_count : Indexed → ℕ → ℕ
 member_count indexed id = of_concept indexed (λ number. length (list_of indexed.members number)) id
 
--- how many rows have the concept `id` as their value, or, read backwards, as their source
+-- how many rows have the concept with identifier `id` as their value; with `back`, as their source
 abbrev pub value_row_count : Indexed → Bool → ℕ → ℕ
 value_row_count indexed back id =
-    of_concept indexed (λ number. length (if back then rows_by_source indexed number else rows_by_value indexed number)) id
+    of_concept indexed (λ number. length
+    (if back then rows_by_source indexed number else rows_by_value indexed number)) id
 
--- the concept that a plan names, if the plan is one concept
+-- the identifier in a plan if the plan is `physical_one`, or else `None`
 abbrev pub one_of : Physical → Option ℕ
 one_of physical_empty = None
 one_of physical_all = None
@@ -103,9 +110,10 @@ one_of (physical_or parts) = None
 one_of (physical_minus first second) = None
 one_of (physical_values start names) = None
 one_of (physical_pairs back count types test choice) = None
-one_of (physical_units count units) = None
+one_of (physical_groups count units) = None
 
--- how many of `all` rows a set leaves at most: none if it is empty, the rows of its concept if it is one, else all
+-- how many of `all` rows, at most, have a type or a value that a plan finds: none for the empty
+-- plan, `count` of the identifier for a plan of one concept, and otherwise all
 abbrev pub rows_left : (ℕ → ℕ) → ℕ → Physical → ℕ
 rows_left count all physical_empty = 0
 rows_left count all physical_all = all
@@ -117,26 +125,27 @@ rows_left count all (physical_or parts) = all
 rows_left count all (physical_minus first second) = all
 rows_left count all (physical_values start names) = all
 rows_left count all (physical_pairs back plan_count types test choice) = all
-rows_left count all (physical_units plan_count units) = all
+rows_left count all (physical_groups plan_count units) = all
 
--- how many rows have a type of the leaf, at most
+-- how many rows, at most, have a type that `types` finds
 abbrev pub type_rows : Indexed → Physical → ℕ
 type_rows indexed types = rows_left (type_row_count indexed) (length indexed.rows) types
 
--- how many rows have a value that passes the test, at most; read backwards, a source
+-- how many rows, at most, have a value that passes the test; with `back`, a source that passes it
 abbrev pub value_rows : Indexed → Bool → PhysicalTest → ℕ
-value_rows indexed back (physical_within values) = rows_left (value_row_count indexed back) (length indexed.rows) values
+value_rows indexed back (physical_within values) =
+    rows_left (value_row_count indexed back) (length indexed.rows) values
 value_rows indexed back (physical_outside values) = length indexed.rows
 value_rows indexed back (physical_number compare number) = length indexed.rows
 
--- whether a test says within which set a value is
+-- whether a test is `Within`
 abbrev pub is_within : PhysicalTest → Bool
 is_within (physical_within values) = true
 is_within (physical_outside values) = false
 is_within (physical_number compare number) = false
 
--- the counts of a leaf among `all` concepts or groups, if its types find at most `type_size` and the plan of its test
--- at most `value_size`
+-- the counts of a leaf over `all` concepts or groups, if its types find at most `type_size`
+-- concepts and the plan of its test at most `value_size`
 abbrev pub leaf_of : Indexed → ℕ → Bool → Cardinality → Physical → PhysicalTest → ℕ → ℕ → Leaf
 leaf_of indexed all back count types test type_size value_size = record {
   all = all;

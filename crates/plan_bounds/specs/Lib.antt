@@ -9,4 +9,4 @@ pub mod Nodes
 pub mod Offered
 pub mod PlanWithChoices
 pub mod Sizes
-pub mod Tallies
+pub mod SizeSummaries

@@ -1,4 +1,5 @@
-//! Counts, from the indexes of a release, what a node of a plan finds and visits.
+//! Computes from the indexes of a release how much one node of a plan finds and how many items it
+//! visits.
 ghost use Rattle.std.specs.Prelude.{◌≡◌, ◌==◌, ◌<◌, ◌+◌, ◌*◌, if◌then◌else◌, min, ◌^◌, length};
 ghost use Rattle.number_lists.specs.KeyedLists.{list_of};
 ghost use Rattle.set_algebra.specs.Physical.{physical_of, physical_test_of};
@@ -15,42 +16,45 @@ ghost use Rattle.postings.specs.Stats.{type_row_count as type_row_count_of};
 ghost use Rattle.plan_bounds.specs.Sizes.{members_size, values_size, walk_size};
 
 use crate::leaf::Leaf;
-use crate::tally::Tally;
+use crate::summary::SizeSummary;
 use constraint_tree::{Cardinality, Operator};
 use postings::Lengths;
 use set_algebra::{ConceptPlan, ValueTest};
 
-/// How much a node finds at most, and how many items it visits at most, besides its sub-plans.
+/// How much a node finds at most, and how many items it visits at most. The visits of its children
+/// are not counted.
 #[derive(Clone, Copy, Debug)]
 pub struct NodeCost {
-    /// In concepts or groups; exact.
+    /// How many concepts or groups the node finds at most. It is never capped.
     pub size: u64,
-    /// The own bound, or `u64::MAX` if it is larger.
+    /// The bound of the node without its children, or `u64::MAX` if it is larger.
     pub bound: u64,
 }
 
-/// Returns how many concepts are in force.
+/// Returns the number of concepts in force.
 pub fn concepts(lengths: Lengths<'_>) -> u64
     ensures { result ≡ length lengths.entry.indexes.now.concepts }
 {
     lengths.concept_count() as u64
 }
 
-/// Returns how many groups all concepts have.
+/// Returns the number of groups of all concepts.
 pub fn groups(lengths: Lengths<'_>) -> u64
     ensures { result ≡ length (groups_in lengths.entry.indexes.now) }
 {
     lengths.group_count() as u64
 }
 
-/// Computes the cost of a `Walk` node whose operand finds at most `size` concepts.
+/// Returns the cost of a `Walk` node with `operator` and `operand`. `size` is how many concepts the
+/// operand finds at most. An operand that names one concept needs that concept's list alone.
 pub fn cost_of_walk(
     lengths: Lengths<'_>,
     operator: Operator,
     operand: &ConceptPlan,
     size: u64,
 ) -> NodeCost
-    ensures size { result.size ≡ walk_size lengths.entry.indexes.now operator (one_of (physical_of operand.now)) size }
+    ensures size { result.size ≡ walk_size lengths.entry.indexes.now operator
+        (one_of (physical_of operand.now)) size }
     ensures bound { result.bound ≡ capped (walk_bound lengths.entry.indexes.now operator
         (one_of (physical_of operand.now)) size) }
 {
@@ -69,10 +73,12 @@ pub fn cost_of_walk(
     }
 }
 
-// Returns how many concepts an operator finds at most from one concept whose list has `length` entries.
+// Returns how many concepts `operator` finds at most for one concept whose list has `length`
+// entries.
 fn found_from_one(operator: Operator, length: u64) -> u64
     requires { length < 2 ^ 63 }
-    ensures { result ≡ (if is_extreme_of operator then 1 else length + (if leads_to_self_of operator then 1 else 0)) }
+    ensures { result ≡ (if is_extreme_of operator then 1 else length
+        + (if leads_to_self_of operator then 1 else 0)) }
 {
     if is_extreme(operator) {
         1
@@ -83,9 +89,10 @@ fn found_from_one(operator: Operator, length: u64) -> u64
     }
 }
 
-// Returns how many concepts an operator finds at most from `size` concepts.
+// Returns how many concepts `operator` finds at most for a set of `size` concepts.
 fn found_from(lengths: Lengths<'_>, operator: Operator, size: u64) -> u64
-    ensures { result ≡ (if is_extreme_of operator then size else length lengths.entry.indexes.now.concepts) }
+    ensures { result ≡ (if is_extreme_of operator then size else length
+        lengths.entry.indexes.now.concepts) }
 {
     if is_extreme(operator) {
         size
@@ -94,7 +101,7 @@ fn found_from(lengths: Lengths<'_>, operator: Operator, size: u64) -> u64
     }
 }
 
-/// Tests whether an operator only keeps some of the concepts of its operand (`!!>`, `!!<`).
+/// Whether `operator` keeps a part of the concepts of its operand and adds none (`!!>`, `!!<`).
 pub fn is_extreme(operator: Operator) -> bool
     ensures { result ≡ is_extreme_of operator }
 {
@@ -111,7 +118,7 @@ pub fn is_extreme(operator: Operator) -> bool
     }
 }
 
-// Tests whether an operator finds the concepts of its operand besides those that it leads to.
+// Whether `operator` also finds the concepts of its operand themselves (`<<`, `<<!`, `>>`, `>>!`).
 fn leads_to_self(operator: Operator) -> bool
     ensures { result ≡ leads_to_self_of operator }
 {
@@ -129,7 +136,8 @@ fn leads_to_self(operator: Operator) -> bool
     }
 }
 
-/// Returns how long the list of concept `id` is that `operator` reads; 0 if the concept is not in force.
+/// Returns the length of the list that `operator` reads for the concept with identifier `id`: its
+/// descendants for `<`, its children for `<!`, and so on. Returns 0 if the concept is not in force.
 pub fn list_length(lengths: Lengths<'_>, operator: Operator, id: u64) -> u64
     ensures length { result ≡ list_length_of lengths.entry.indexes.now operator id }
     ensures small { result < 2 ^ 63 }
@@ -140,10 +148,11 @@ pub fn list_length(lengths: Lengths<'_>, operator: Operator, id: u64) -> u64
     }
 }
 
-// Returns how long the list of the concept with number `number` is that `operator` reads.
+// Returns the length of the list that `operator` reads for the concept with number `number`.
 fn length_along(lengths: Lengths<'_>, operator: Operator, number: u32) -> u64
     requires { number < length lengths.indexes.now.concepts }
-    ensures length { result ≡ length (list_of (lists_along lengths.entry.indexes.now.hierarchy operator) number) }
+    ensures length { result ≡ length (list_of
+        (lists_along lengths.entry.indexes.now.hierarchy operator) number) }
     ensures small { result < 2 ^ 63 }
 {
     match operator {
@@ -158,7 +167,7 @@ fn length_along(lengths: Lengths<'_>, operator: Operator, number: u32) -> u64
     }
 }
 
-// Returns how long all lists that `operator` reads are together.
+// Returns the total length of the lists that `operator` reads for all concepts.
 fn lists_length(lengths: Lengths<'_>, operator: Operator) -> u64
     ensures { result ≡ lists_length_of lengths.entry.indexes.now operator }
 {
@@ -176,11 +185,13 @@ fn lists_length(lengths: Lengths<'_>, operator: Operator) -> u64
     }
 }
 
-/// Computes the cost of a `Members` node whose operand finds at most `size` reference sets.
+/// Returns the cost of a `Members` node with `operand`. `size` is how many reference sets the
+/// operand finds at most.
 pub fn cost_of_members(lengths: Lengths<'_>, operand: &ConceptPlan, size: u64) -> NodeCost
-    ensures size { result.size ≡ members_size lengths.entry.indexes.now (one_of (physical_of operand.now)) }
-    ensures bound { result.bound ≡ capped (members_bound lengths.entry.indexes.now (one_of (physical_of operand.now))
-        size) }
+    ensures size { result.size ≡ members_size lengths.entry.indexes.now
+        (one_of (physical_of operand.now)) }
+    ensures bound { result.bound ≡ capped
+        (members_bound lengths.entry.indexes.now (one_of (physical_of operand.now)) size) }
 {
     match one(operand) {
         Some(id) => {
@@ -200,7 +211,7 @@ pub fn cost_of_members(lengths: Lengths<'_>, operand: &ConceptPlan, size: u64) -
     }
 }
 
-/// Returns how many components reference set `id` has; 0 if it is not in force.
+/// Returns how many members the reference set with identifier `id` has, or 0 if it is not in force.
 pub fn member_count(lengths: Lengths<'_>, id: u64) -> u64
     ensures count { result ≡ member_count_of lengths.entry.indexes.now id }
     ensures small { result < 2 ^ 63 }
@@ -211,7 +222,8 @@ pub fn member_count(lengths: Lengths<'_>, id: u64) -> u64
     }
 }
 
-/// Computes the cost of a `Values` node with `types` types whose start finds at most `size` concepts.
+/// Returns the cost of a `Values` node with `types` types in its list. `size` is how many concepts
+/// its start finds at most.
 pub fn cost_of_values(lengths: Lengths<'_>, types: u64, size: u64) -> NodeCost
     ensures size { result.size ≡ values_size lengths.entry.indexes.now types size }
     ensures bound { result.bound ≡ capped (values_bound lengths.entry.indexes.now types size) }
@@ -228,8 +240,9 @@ pub fn cost_of_values(lengths: Lengths<'_>, types: u64, size: u64) -> NodeCost
     }
 }
 
-/// Computes the cost of a `Units` node among `all` concepts whose group plan finds at most `size` groups.
-pub fn cost_of_units(count: Cardinality, all: u64, size: u64) -> NodeCost
+/// Returns the cost of a `Units` node with the cardinality `count`. `all` is the number of
+/// concepts; `size` is how many groups the node's plan of groups finds at most.
+pub fn cost_of_groups(count: Cardinality, all: u64, size: u64) -> NodeCost
     ensures size { result.size ≡ found_by (count.min == 0) all size }
     ensures bound { result.bound ≡ capped (size + passed_over (count.min == 0) all) }
 {
@@ -246,9 +259,9 @@ pub fn cost_of_units(count: Cardinality, all: u64, size: u64) -> NodeCost
     }
 }
 
-/// Computes the cost of an `And` node. Its factor is 2 because the node reads what each part found and what is
-/// left after each part.
-pub fn cost_of_all(parts: &Tally) -> NodeCost
+/// Returns the cost of an `And` node whose parts have the sizes `parts`. The factor of the bound is
+/// 2 because the node may read what each part found twice.
+pub fn cost_of_and(parts: &SizeSummary) -> NodeCost
     ensures size { result.size ≡ parts.now.least }
     ensures bound { result.bound ≡ capped (parts.now.sum * 2) }
 {
@@ -258,9 +271,10 @@ pub fn cost_of_all(parts: &Tally) -> NodeCost
     }
 }
 
-/// Computes the cost of an `Or` node of `count` parts. Its factor is `count` because the node reads what is left
-/// before each part.
-pub fn cost_of_some(all: u64, parts: &Tally, count: u64) -> NodeCost
+/// Returns the cost of an `Or` node of `count` parts that have the sizes `parts`, over `all`
+/// concepts or groups. The factor of the bound is `count` because after each part the node reads
+/// what this part found, and again what the parts before it found.
+pub fn cost_of_or(all: u64, parts: &SizeSummary, count: u64) -> NodeCost
     ensures size { result.size ≡ min all parts.now.sum }
     ensures bound { result.bound ≡ capped (parts.now.sum * count) }
 {
@@ -270,8 +284,9 @@ pub fn cost_of_some(all: u64, parts: &Tally, count: u64) -> NodeCost
     }
 }
 
-/// Computes the cost of a `Minus` node whose parts find at most `first` and `second`.
-pub fn cost_of_first(first: u64, second: u64) -> NodeCost
+/// Returns the cost of a `Minus` node whose parts find at most `first` and `second` concepts or
+/// groups.
+pub fn cost_of_minus(first: u64, second: u64) -> NodeCost
     ensures size { result.size ≡ first }
     ensures bound { result.bound ≡ capped (first + second) }
 {
@@ -281,8 +296,8 @@ pub fn cost_of_first(first: u64, second: u64) -> NodeCost
     }
 }
 
-/// Makes the counts of a leaf among `all` concepts or groups. `sizes` are those of its types and of the plan of
-/// its test.
+/// Returns the counts of a leaf over `all` concepts or groups. `sizes` has how many types the plan
+/// of its types finds at most, and how many values the plan of its test.
 pub fn counts_of_leaf(
     lengths: Lengths<'_>,
     all: u64,
@@ -311,7 +326,8 @@ pub fn counts_of_leaf(
     }
 }
 
-// Returns how many rows have a value that passes `test`, at most; read backwards, a source.
+// Returns how many rows, at most, have a value that passes `test`; with `back`, a source that
+// passes it.
 fn value_rows(lengths: Lengths<'_>, back: bool, test: &ValueTest) -> u64
     ensures { result ≡ value_rows_of lengths.entry.indexes.now back (physical_test_of test.now) }
 {
@@ -321,7 +337,8 @@ fn value_rows(lengths: Lengths<'_>, back: bool, test: &ValueTest) -> u64
     }
 }
 
-// Returns how many rows have a value that `values` finds, at most; read backwards, a source.
+// Returns how many rows, at most, have a value that `values` finds; with `back`, a source that it
+// finds.
 fn rows_of_values(lengths: Lengths<'_>, back: bool, values: &ConceptPlan) -> u64
     ensures { result ≡ rows_left (value_row_count_of lengths.entry.indexes.now back)
         (length lengths.entry.indexes.now.rows) (physical_of values.now) }
@@ -341,7 +358,8 @@ fn rows_of_values(lengths: Lengths<'_>, back: bool, values: &ConceptPlan) -> u64
     }
 }
 
-/// Returns how many rows have concept `id` as their value, or, read backwards, as their source.
+/// Returns how many rows have the concept with identifier `id` as their value; with `back`, as
+/// their source.
 pub fn value_row_count(lengths: Lengths<'_>, back: bool, id: u64) -> u64
     ensures { result ≡ value_row_count_of lengths.entry.indexes.now back id }
 {
@@ -357,7 +375,7 @@ pub fn value_row_count(lengths: Lengths<'_>, back: bool, id: u64) -> u64
     }
 }
 
-// Returns how many rows have a type that `types` finds, at most.
+// Returns how many rows, at most, have a type that `types` finds.
 fn type_rows(lengths: Lengths<'_>, types: &ConceptPlan) -> u64
     ensures { result ≡ type_rows_of lengths.entry.indexes.now (physical_of types.now) }
 {
@@ -376,7 +394,7 @@ fn type_rows(lengths: Lengths<'_>, types: &ConceptPlan) -> u64
     }
 }
 
-/// Returns the concept that a plan names, if the plan is one concept.
+/// Returns the identifier in `plan` if the plan is `One`, or else `None`.
 pub fn one(plan: &ConceptPlan) -> Option<u64>
     ensures { result ≡ one_of (physical_of plan.now) }
 {

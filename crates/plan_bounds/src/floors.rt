@@ -1,6 +1,6 @@
-//! The floor of a plan, node by node.
+//! Computes the floor of a plan, node by node.
 ghost use Rattle.std.specs.Prelude.{◌≡◌, ◌+◌, if◌then◌else◌};
-ghost use Rattle.set_algebra.specs.Physical.{physical_of, physical_test_of, physical_units_list_of, physical_units_of};
+ghost use Rattle.set_algebra.specs.Physical.{physical_of, physical_test_of, physical_groups_list_of, physical_groups_of};
 ghost use Rattle.set_algebra.specs.Physical.{physicals_of};
 ghost use Rattle.held_release.specs.Numbering.{concept_number};
 ghost use Rattle.plan_bounds.specs.Bounds.{capped};
@@ -15,8 +15,8 @@ use constraint_tree::Operator;
 use postings::Lengths;
 use set_algebra::{Choice, ConceptPlan, UnitPlan, ValueTest};
 
-/// Computes how many items a plan of concepts visits at least: the sum over its nodes, or `u64::MAX` if it is
-/// larger. It allocates nothing.
+/// Returns how many items `plan` visits at least if no node is skipped: the sum of the floors of
+/// its nodes, or `u64::MAX` if it is larger. It allocates nothing.
 #[cycle(floor)]
 #[tactic(auto, using(crate::proofs::Rules::costing))]
 pub fn plan_floor(plan: &ConceptPlan, lengths: Lengths<'_>) -> u64
@@ -46,22 +46,26 @@ pub fn plan_floor(plan: &ConceptPlan, lengths: Lengths<'_>) -> u64
             choice,
             ..
         } => pairs_floor(*back, types, test, *choice, lengths),
-        ConceptPlan::Units { units, .. } => unit_floor(units, lengths),
+        ConceptPlan::Units { units, .. } => group_plan_floor(units, lengths),
     }
 }
 
-/// Computes how many items a plan of groups visits at least: the sum over its nodes, or `u64::MAX` if it is
-/// larger. It allocates nothing.
+/// Returns how many items the plan of groups `plan` visits at least if no node is skipped: the sum
+/// of the floors of its nodes, or `u64::MAX` if it is larger. It allocates nothing.
 #[cycle(floor)]
 #[tactic(auto, using(crate::proofs::Rules::costing))]
-pub fn unit_floor(plan: &UnitPlan, lengths: Lengths<'_>) -> u64
-    ensures { result ≡ capped (group_sum (floor_number lengths.entry.indexes.now) (physical_units_of plan.now)) }
+pub fn group_plan_floor(plan: &UnitPlan, lengths: Lengths<'_>) -> u64
+    ensures { result ≡ capped (group_sum (floor_number lengths.entry.indexes.now)
+        (physical_groups_of plan.now)) }
 {
     match plan {
         UnitPlan::Nothing | UnitPlan::Every => 0,
-        UnitPlan::And(parts) | UnitPlan::Or(parts) => unit_parts_floor(parts, lengths),
+        UnitPlan::And(parts) | UnitPlan::Or(parts) => group_parts_floor(parts, lengths),
         UnitPlan::Minus(first, second) => {
-            together(unit_floor(first, lengths), unit_floor(second, lengths))
+            together(
+                group_plan_floor(first, lengths),
+                group_plan_floor(second, lengths),
+            )
         }
         UnitPlan::Pairs {
             types,
@@ -72,7 +76,8 @@ pub fn unit_floor(plan: &UnitPlan, lengths: Lengths<'_>) -> u64
     }
 }
 
-// Computes the floor of a leaf, of concepts or of groups, with its types and its test.
+// Returns the floor of a leaf, of concepts or of groups, together with those of its types and its
+// test.
 #[cycle(floor)]
 fn pairs_floor(
     back: bool,
@@ -82,17 +87,19 @@ fn pairs_floor(
     lengths: Lengths<'_>,
 ) -> u64
     ensures { result ≡ capped (leaf_floor_of lengths.entry.indexes.now back (physical_of types.now)
-        (physical_test_of test.now) choice + (floor_of lengths.entry.indexes.now (physical_of types.now) + test_sum
-        (floor_number lengths.entry.indexes.now) (physical_test_of test.now))) }
+        (physical_test_of test.now) choice
+        + (floor_of lengths.entry.indexes.now (physical_of types.now)
+        + test_sum (floor_number lengths.entry.indexes.now) (physical_test_of test.now))) }
 {
     let inner = together(plan_floor(types, lengths), test_floor(test, lengths));
     together(leaf_floor(lengths, back, types, test, choice), inner)
 }
 
-// Computes the floor of the plan of a test; 0 if the test has no plan.
+// Returns the floor of the plan of `test`, or 0 if the test has no plan.
 #[cycle(floor)]
 fn test_floor(test: &ValueTest, lengths: Lengths<'_>) -> u64
-    ensures { result ≡ capped (test_sum (floor_number lengths.entry.indexes.now) (physical_test_of test.now)) }
+    ensures { result ≡ capped (test_sum (floor_number lengths.entry.indexes.now)
+        (physical_test_of test.now)) }
 {
     match test {
         ValueTest::Within(operand) | ValueTest::Outside(operand) => plan_floor(operand, lengths),
@@ -100,10 +107,11 @@ fn test_floor(test: &ValueTest, lengths: Lengths<'_>) -> u64
     }
 }
 
-// Adds up the floors of sibling plans of concepts.
+// Returns the sum of the floors of the plans `parts`.
 #[cycle(floor)]
 fn parts_floor(parts: &[ConceptPlan], lengths: Lengths<'_>) -> u64
-    ensures { result ≡ capped (plans_sum (floor_number lengths.entry.indexes.now) (physicals_of parts.now)) }
+    ensures { result ≡ capped (plans_sum (floor_number lengths.entry.indexes.now)
+        (physicals_of parts.now)) }
 {
     let mut floor = 0u64;
     for part in parts {
@@ -112,27 +120,29 @@ fn parts_floor(parts: &[ConceptPlan], lengths: Lengths<'_>) -> u64
     floor
 }
 
-// Adds up the floors of sibling plans of groups.
+// Returns the sum of the floors of the plans of groups `parts`.
 #[cycle(floor)]
-fn unit_parts_floor(parts: &[UnitPlan], lengths: Lengths<'_>) -> u64
+fn group_parts_floor(parts: &[UnitPlan], lengths: Lengths<'_>) -> u64
     ensures { result ≡ capped (groups_sum (floor_number lengths.entry.indexes.now)
-        (physical_units_list_of parts.now)) }
+        (physical_groups_list_of parts.now)) }
 {
     let mut floor = 0u64;
     for part in parts {
-        floor = floor.saturating_add(unit_floor(part, lengths));
+        floor = floor.saturating_add(group_plan_floor(part, lengths));
     }
     floor
 }
 
-// Adds two floors, saturating at `u64::MAX`.
+// Adds two floors; the sum is at most `u64::MAX`.
 fn together(one: u64, other: u64) -> u64
     ensures { result ≡ capped (one + other) }
 {
     one.saturating_add(other)
 }
 
-/// Returns the own floor of a `Walk` node: the length of the list of its one concept in force, else 0.
+/// Returns the floor of a `Walk` node without its operand's. If `operand` names one concept in
+/// force, it is the length of the list that `operator` reads for it. For any other operand, and for
+/// `!!>` and `!!<`, it is 0.
 pub fn walk_floor(lengths: Lengths<'_>, operator: Operator, operand: &ConceptPlan) -> u64
     ensures { result ≡ (if is_extreme_of operator then 0 else of_one lengths.entry.indexes.now
         (one_of (physical_of operand.now)) (list_length_of lengths.entry.indexes.now operator)) }
@@ -146,7 +156,8 @@ pub fn walk_floor(lengths: Lengths<'_>, operator: Operator, operand: &ConceptPla
     }
 }
 
-/// Returns the own floor of a `Members` node: the components of its one reference set in force, else 0.
+/// Returns the floor of a `Members` node without its operand's: how many members the reference set
+/// has, if `operand` names one in force, or else 0.
 pub fn members_floor(lengths: Lengths<'_>, operand: &ConceptPlan) -> u64
     ensures { result ≡ of_one lengths.entry.indexes.now (one_of (physical_of operand.now))
         (member_count_of lengths.entry.indexes.now) }
@@ -157,8 +168,9 @@ pub fn members_floor(lengths: Lengths<'_>, operand: &ConceptPlan) -> u64
     }
 }
 
-/// Returns the own floor of a leaf: all rows in a scan, else those of the one concept in force that its test or
-/// its types are.
+/// Returns the floor of a leaf without those of its types and its test. By `Scan` it is the number
+/// of all rows. By `ByValue` it is the number of rows with the test's value, and by `ByType` with
+/// the leaf's type, if that plan names one concept in force, or else 0.
 pub fn leaf_floor(
     lengths: Lengths<'_>,
     back: bool,
@@ -180,7 +192,8 @@ pub fn leaf_floor(
     }
 }
 
-// Returns how many rows have the one value, or, read backwards, the one source that `test` is within; else 0.
+// Returns how many rows have the value that `test` allows (with `back`, the source), if the plan of
+// a `Within` test names one concept in force, or else 0.
 fn value_floor(lengths: Lengths<'_>, back: bool, test: &ValueTest) -> u64
     ensures { result ≡ within_floor lengths.entry.indexes.now back (physical_test_of test.now) }
 {
@@ -193,7 +206,7 @@ fn value_floor(lengths: Lengths<'_>, back: bool, test: &ValueTest) -> u64
     }
 }
 
-// Returns `count` if concept `id` is in force, else 0.
+// Returns `count` if the concept with identifier `id` is in force, or else 0.
 fn in_force(lengths: Lengths<'_>, id: u64, count: u64) -> u64
     ensures { result ≡ if_in_force (concept_number lengths.entry.indexes.now.concepts id) count }
 {

@@ -1,14 +1,16 @@
-//! Laws about the definitions of this crate: functions that do nothing, each with the law as its contract.
+//! Laws about the definitions of this crate: functions that do nothing, whose contracts are the
+//! laws.
 ghost use Rattle.plan_bounds.specs.Floors.{FloorWithinBound};
 ghost use Rattle.plan_bounds.specs.Found.{FindsWithinSize};
 
-/// Law: no plan has a floor above its bound, whatever its choices.
+/// No plan has a floor above its bound, whatever choices its leaves have.
 pub fn floor_within_bound()
     ensures { FloorWithinBound }
 {}
 
-/// Law: no plan finds more concepts of a release than its size, and no plan of groups more groups, whatever the
-/// choices and whichever rows are read.
+/// If the concepts of a release rise and each attribute row has a source in force, no plan finds
+/// more concepts than its size, and no plan of groups more groups, whatever choices its leaves have
+/// and whichever rows they read.
 pub fn finds_within_size()
     ensures { FindsWithinSize }
 {}

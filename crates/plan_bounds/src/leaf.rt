@@ -1,4 +1,4 @@
-//! The alternatives of a leaf: how many rows each reads, and which is chosen.
+//! The alternatives of a leaf, how many rows each reads, and the choice with the least bound.
 ghost use Rattle.std.specs.Prelude.{◌≡◌};
 ghost use Rattle.plan_bounds.specs.Bounds.{capped};
 ghost use Rattle.plan_bounds.specs.Alternatives.{least_choice as least_choice_of, leaf_bound, leaf_size};
@@ -6,29 +6,31 @@ ghost use Rattle.plan_bounds.specs.Alternatives.{least_choice as least_choice_of
 use crate::counts::NodeCost;
 use set_algebra::Choice;
 
-/// The counts on which the choice of a leaf rests; all are exact.
+/// The counts from which a leaf's size and bounds follow. None is capped.
 #[derive(Clone, Copy, Debug)]
 pub struct Leaf {
-    /// How many concepts, or groups, the leaf is among.
+    /// How many concepts, or for a leaf of groups how many groups, the release has.
     pub all: u64,
-    /// Whether the leaf finds those of which no pair passes: its minimum is 0.
+    /// Whether the leaf also finds concepts or groups without a matching pair: the minimum of its
+    /// count is 0.
     pub none_pass: bool,
-    /// How many rows the indexes have.
+    /// How many attribute rows the indexes have.
     pub rows: u64,
-    /// How many rows have a value that passes the test, at most.
+    /// At most this many rows have a value that passes the test; for a leaf read backwards, a
+    /// source.
     pub value_rows: u64,
-    /// How many rows have a type of the leaf, at most.
+    /// At most this many rows have a type of the leaf.
     pub type_rows: u64,
-    /// How many values pass the test, at most, if it says within which set a value is.
+    /// How many values the plan of the test finds at most, or 0 if the test has no plan.
     pub value_size: u64,
-    /// How many types the leaf has, at most.
+    /// How many types the plan of the types finds at most.
     pub type_size: u64,
-    /// Whether the test says within which set a value is.
+    /// Whether the test is `Within`. Only then the leaf offers `ByValue`.
     pub is_within: bool,
 }
 
 impl Leaf {
-    /// Returns how many concepts, or groups, the leaf finds at most under `choice`.
+    /// Returns how many concepts or groups the leaf finds at most under `choice`.
     pub fn size(&self, choice: Choice) -> u64
         ensures { result ≡ leaf_size self.now choice }
     {
@@ -44,8 +46,9 @@ impl Leaf {
         }
     }
 
-    /// Returns how many items the leaf visits at most under `choice`, besides its sub-plans. The result has 128
-    /// bits because the sum of three numbers of 64 bits may need 66.
+    /// Returns how many items the leaf visits at most under `choice`. The visits of its types and
+    /// its test are not counted. The result has 128 bits because the sum of three numbers of 64
+    /// bits may need 66.
     pub fn bound(&self, choice: Choice) -> u128
         ensures { result ≡ leaf_bound self.now choice }
     {
@@ -61,7 +64,8 @@ impl Leaf {
         }
     }
 
-    /// Returns the size of the leaf under `choice`, and its own bound or `u64::MAX` if the bound is larger.
+    /// Returns the size of the leaf under `choice`, and its bound, or `u64::MAX` if the bound is
+    /// larger.
     pub fn cost(&self, choice: Choice) -> NodeCost
         ensures size { result.size ≡ leaf_size self.now choice }
         ensures bound { result.bound ≡ capped (leaf_bound self.now choice) }
@@ -72,8 +76,8 @@ impl Leaf {
         }
     }
 
-    /// Returns the offered choice with the least bound. Of equal bounds it takes the first of `ByValue`, `ByType`
-    /// and `Scan`.
+    /// Returns the choice with the least bound among those that the leaf offers. Of equal bounds it
+    /// takes the first of `ByValue`, `ByType` and `Scan`.
     pub fn least(&self) -> Choice
         ensures { result ≡ least_choice_of self.now }
     {

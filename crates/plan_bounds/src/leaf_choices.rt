@@ -1,19 +1,20 @@
 //! Lists the choices of the leaves of a plan.
 ghost use Rattle.std.specs.Prelude.{◌≡◌, ◌++◌, ◌∷◌, OnOk};
-ghost use Rattle.set_algebra.specs.Physical.{physical_of, physical_test_of, physical_units_list_of, physical_units_of};
+ghost use Rattle.set_algebra.specs.Physical.{physical_of, physical_test_of, physical_groups_list_of, physical_groups_of};
 ghost use Rattle.set_algebra.specs.Physical.{physicals_of};
-ghost use Rattle.plan_bounds.specs.Leaves.{choices_in, choices_in_each, choices_in_each_units, choices_in_test};
-ghost use Rattle.plan_bounds.specs.Leaves.{choices_in_units};
+ghost use Rattle.plan_bounds.specs.Leaves.{choices_in, choices_in_each, choices_in_each_groups, choices_in_test};
+ghost use Rattle.plan_bounds.specs.Leaves.{choices_in_groups};
 
 use set_algebra::{Choice, ConceptPlan, UnitPlan, ValueTest};
 use std::alloc::AllocError;
 
-/// Appends the choices of a plan of concepts to `choices`, a node before its children. The error is want of
-/// memory.
+/// Appends to `choices` the choice of each leaf of `plan`, a leaf before those below it. Returns
+/// `AllocError` if memory runs out.
 #[cycle(choices)]
 #[tactic(auto, using(crate::proofs::Rules::costing))]
 pub fn add_choices(plan: &ConceptPlan, choices: &mut Vec<Choice>) -> Result<(), AllocError>
-    ensures { OnOk result (choices.new.items ≡ choices.old.items ++ choices_in (physical_of plan.now)) }
+    ensures { OnOk result (choices.new.items ≡ choices.old.items
+        ++ choices_in (physical_of plan.now)) }
 {
     match plan {
         ConceptPlan::Empty | ConceptPlan::All | ConceptPlan::One(_) => Ok(()),
@@ -35,22 +36,24 @@ pub fn add_choices(plan: &ConceptPlan, choices: &mut Vec<Choice>) -> Result<(), 
             choice,
             ..
         } => add_leaf(types, test, *choice, choices),
-        ConceptPlan::Units { units, .. } => add_units(units, choices),
+        ConceptPlan::Units { units, .. } => add_groups(units, choices),
     }
 }
 
-// Appends the choices of a plan of groups, a node before its children.
+// Appends to `choices` the choice of each leaf of the plan of groups `plan`, a leaf before those
+// below it.
 #[cycle(choices)]
 #[tactic(auto, using(crate::proofs::Rules::costing))]
-fn add_units(plan: &UnitPlan, choices: &mut Vec<Choice>) -> Result<(), AllocError>
-    ensures { OnOk result (choices.new.items ≡ choices.old.items ++ choices_in_units (physical_units_of plan.now)) }
+fn add_groups(plan: &UnitPlan, choices: &mut Vec<Choice>) -> Result<(), AllocError>
+    ensures { OnOk result (choices.new.items ≡ choices.old.items
+        ++ choices_in_groups (physical_groups_of plan.now)) }
 {
     match plan {
         UnitPlan::Nothing | UnitPlan::Every => Ok(()),
-        UnitPlan::And(parts) | UnitPlan::Or(parts) => add_each_units(parts, choices),
+        UnitPlan::And(parts) | UnitPlan::Or(parts) => add_each_groups(parts, choices),
         UnitPlan::Minus(first, second) => {
-            add_units(first, choices)?;
-            add_units(second, choices)
+            add_groups(first, choices)?;
+            add_groups(second, choices)
         }
         UnitPlan::Pairs {
             types,
@@ -61,7 +64,8 @@ fn add_units(plan: &UnitPlan, choices: &mut Vec<Choice>) -> Result<(), AllocErro
     }
 }
 
-// Appends the choice of a leaf, and then those of its types and its test.
+// Appends `choice`, that of a leaf, and then the choices of the leaves of its types and of its
+// test.
 #[cycle(choices)]
 fn add_leaf(
     types: &ConceptPlan,
@@ -80,10 +84,11 @@ fn add_leaf(
     }
 }
 
-// Appends the choices of sibling plans of concepts.
+// Appends the choices of the leaves of the plans `parts`, plan by plan.
 #[cycle(choices)]
 fn add_each(parts: &[ConceptPlan], choices: &mut Vec<Choice>) -> Result<(), AllocError>
-    ensures { OnOk result (choices.new.items ≡ choices.old.items ++ choices_in_each (physicals_of parts.now)) }
+    ensures { OnOk result (choices.new.items ≡ choices.old.items
+        ++ choices_in_each (physicals_of parts.now)) }
 {
     for part in parts {
         add_choices(part, choices)?;
@@ -91,14 +96,14 @@ fn add_each(parts: &[ConceptPlan], choices: &mut Vec<Choice>) -> Result<(), Allo
     Ok(())
 }
 
-// Appends the choices of sibling plans of groups.
+// Appends the choices of the leaves of the plans of groups `parts`, plan by plan.
 #[cycle(choices)]
-fn add_each_units(parts: &[UnitPlan], choices: &mut Vec<Choice>) -> Result<(), AllocError>
-    ensures { OnOk result (choices.new.items ≡ choices.old.items ++ choices_in_each_units
-        (physical_units_list_of parts.now)) }
+fn add_each_groups(parts: &[UnitPlan], choices: &mut Vec<Choice>) -> Result<(), AllocError>
+    ensures { OnOk result (choices.new.items ≡ choices.old.items ++ choices_in_each_groups
+        (physical_groups_list_of parts.now)) }
 {
     for part in parts {
-        add_units(part, choices)?;
+        add_groups(part, choices)?;
     }
     Ok(())
 }

@@ -1,6 +1,8 @@
-//! How much a plan finds at most, and how many items it visits, at least and at most, under its choices.
+//! Computes how much a plan finds at most, and how many items it visits at least and at most, with
+//! the choices that its leaves have.
 //!
-//! The crate computes this for each node, for a whole plan, and for one node whose parts have been executed.
+//! The functions compute this for a whole plan, for one node before the execution, and for one node
+//! whose children have been executed.
 #![tactic(auto)]
 
 mod costs;
@@ -12,18 +14,18 @@ mod leaf_choices;
 mod limits;
 mod node_parts;
 mod physical;
-mod tally;
+mod summary;
 
 pub use crate::counts::{
-    NodeCost, concepts, cost_of_all, cost_of_first, cost_of_members, cost_of_some, cost_of_units,
+    NodeCost, concepts, cost_of_and, cost_of_groups, cost_of_members, cost_of_minus, cost_of_or,
     cost_of_values, cost_of_walk, counts_of_leaf, groups, list_length, member_count,
     value_row_count,
 };
-pub use crate::floors::{plan_floor, unit_floor};
+pub use crate::floors::{group_plan_floor, plan_floor};
 pub use crate::laws::{finds_within_size, floor_within_bound};
 pub use crate::leaf::Leaf;
-pub use crate::limits::{leaf_limits, members_limits, plan_size, unit_size, walk_limits};
+pub use crate::limits::{group_plan_size, leaf_limits, members_limits, plan_size, walk_limits};
 pub use crate::node_parts::{LeafParts, WalkParts};
 pub use crate::physical::{PhysicalPlan, bound, floor};
-pub use crate::tally::Tally;
+pub use crate::summary::SizeSummary;
 pub use set_algebra::{Choice, NodeLimits};

@@ -1,19 +1,19 @@
-//! Nodes of a plan that borrow their parts.
+//! Nodes of a plan, with references to their parts.
 
 use constraint_tree::{Cardinality, Operator};
 use set_algebra::{Choice, ConceptPlan, ValueTest};
 
-/// A leaf: a node that counts distinct pairs of a type and a value, of concepts or of groups (Expression Constraint
-/// Language, "Refinements").
+/// A leaf: a node that counts the distinct pairs of a concept or of a group that match (Expression
+/// Constraint Language, "Refinements").
 #[derive(Clone, Copy)]
 pub struct LeafParts<'a> {
-    /// How many pairs must pass ("Cardinality").
+    /// How many pairs must match ("Cardinality").
     pub count: Cardinality,
     /// The plan of the types.
     pub types: &'a ConceptPlan,
     /// The test of the values.
     pub test: &'a ValueTest,
-    /// The rows from which the leaf is answered.
+    /// Which attribute rows answer the leaf.
     pub choice: Choice,
 }
 
@@ -22,6 +22,6 @@ pub struct LeafParts<'a> {
 pub struct WalkParts<'a> {
     /// The hierarchy operator.
     pub operator: Operator,
-    /// The plan of the concepts that the operator starts from.
+    /// The plan of the set to which the operator is applied.
     pub operand: &'a ConceptPlan,
 }

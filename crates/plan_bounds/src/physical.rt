@@ -1,4 +1,4 @@
-//! A plan with its choices, and how many items it visits.
+//! A plan with the choices of its leaves, and how many items it visits.
 ghost use Rattle.std.specs.Prelude.{◌≡◌, IfOk};
 ghost use Rattle.set_algebra.specs.Physical.{physical_of};
 ghost use Rattle.plan_bounds.specs.Bounds.{bound as bound_of, capped};
@@ -14,8 +14,8 @@ use set_algebra::{Choice, ConceptPlan};
 use std::alloc::{AllocError, Global};
 use std::marker::Model;
 
-/// A plan with a choice for each of its leaves. The choice says whether the leaf reads the rows of its values, the
-/// rows of its types, or all rows. What a plan means does not depend on its choices.
+/// A plan with a choice for each of its leaves: whether the executor reads the rows of the leaf's
+/// values, the rows of its types, or all rows. The choices do not change what the plan means.
 #[derive(Drop)]
 pub struct PhysicalPlan {
     plan: ConceptPlan,
@@ -40,19 +40,20 @@ impl Model for PhysicalPlan {
 }
 
 impl PhysicalPlan {
-    /// Makes a plan whose leaves offer their choices, and lists these choices. The error is want of memory; the
-    /// plan is then dropped.
+    /// Makes a physical plan of `plan`, and lists the choices that its leaves have. Each leaf must
+    /// offer its choice. Returns `AllocError` if memory runs out; then the plan is lost.
     pub fn new(alloc: Global, plan: ConceptPlan) -> Result<PhysicalPlan, AllocError>
         requires offered { AreOffered (physical_of plan) }
         ensures plan { IfOk result (λ physical. physical.plan ≡ plan) }
-        ensures choices { IfOk result (λ physical. physical.choices ≡ choices_in (physical_of plan)) }
+        ensures choices { IfOk result (λ physical. physical.choices
+            ≡ choices_in (physical_of plan)) }
     {
         let mut choices = Vec::new(alloc);
         add_choices(&plan, &mut choices)?;
         Ok(PhysicalPlan { plan, choices })
     }
 
-    /// Returns the plan.
+    /// Returns the plan, each leaf of which offers its choice.
     pub fn plan(&self) -> &ConceptPlan
         ensures plan { result.now ≡ self.now.plan }
         ensures offered { AreOffered (physical_of self.now.plan) }
@@ -60,9 +61,9 @@ impl PhysicalPlan {
         &self.plan
     }
 
-    /// Returns the choices of its leaves, which are the nodes that count pairs of concepts or of groups. A node
-    /// comes before its children, these come in their order, and the types of a leaf come before its test. Each
-    /// leaf offers its choice.
+    /// Returns the choices of the leaves, the nodes that count pairs of concepts or of groups. A
+    /// node comes before its children, children come in their order, and the types of a leaf come
+    /// before its test.
     pub fn choices(&self) -> &[Choice]
         ensures choices { result.now ≡ self.now.choices }
         ensures leaves { self.now.choices ≡ choices_in (physical_of self.now.plan) }
@@ -71,16 +72,16 @@ impl PhysicalPlan {
     }
 }
 
-/// Computes how many items a plan visits at most: the sum of the bounds of its nodes, or `u64::MAX` if it is
-/// larger. It allocates nothing.
+/// Returns how many items the plan visits at most: the sum of the bounds of its nodes, or
+/// `u64::MAX` if it is larger. It allocates nothing.
 pub fn bound(physical: &PhysicalPlan, indexes: &Indexes) -> u64
     ensures { result ≡ capped (bound_of indexes.now (physical_of physical.now.plan)) }
 {
     cost(physical.plan(), indexes.lengths()).bound
 }
 
-/// Computes how many items a plan visits at least if no node is skipped: the sum of the floors of its nodes, or
-/// `u64::MAX` if it is larger. It allocates nothing.
+/// Returns how many items the plan visits at least if no node is skipped: the sum of the floors of
+/// its nodes, or `u64::MAX` if it is larger. It allocates nothing.
 pub fn floor(physical: &PhysicalPlan, indexes: &Indexes) -> u64
     ensures { result ≡ capped (floor_of indexes.now (physical_of physical.now.plan)) }
 {

@@ -1,5 +1,5 @@
--- A plan whose leaves take requested choices: its logical plan does not change, and its leaves have the choices of
--- the list, if they offer them.
+-- A plan whose leaves took requested choices: its logical plan is the same, and each leaf has its choice of the list,
+-- if it offers it.
 use Rattle.std.proofs.Common.{◌≡◌, ◌++◌, ◌∷◌, [], ◌∙◌, Bool, cond, inl, inr, List, Option, Some, None, drop, refl, sym}
 use Rattle.std.proofs.Common.{ap, subst, append-nil, append_assoc}
 use Rattle.std.specs.Prelude.{IsTrue}
@@ -7,19 +7,21 @@ use Rattle.std.proofs.lemmas.Bool.{cases_Bool}
 use Rattle.set_algebra.specs.declared.choice.Choice.{Choice}
 use Rattle.set_algebra.specs.Physical.{Physical, physical_empty, physical_all, physical_one, physical_walk}
 use Rattle.set_algebra.specs.Physical.{physical_members, physical_and, physical_or, physical_minus, physical_values}
-use Rattle.set_algebra.specs.Physical.{physical_pairs, physical_units, Physicals, no_physicals, physical_then}
-use Rattle.set_algebra.specs.Physical.{PhysicalUnits, physical_nothing, physical_every, physical_units_and}
-use Rattle.set_algebra.specs.Physical.{physical_units_or, physical_units_minus, physical_units_pairs, PhysicalUnitsList}
-use Rattle.set_algebra.specs.Physical.{no_physical_units, physical_units_then, PhysicalTest, physical_within}
-use Rattle.set_algebra.specs.Physical.{physical_outside, physical_number, logical, logical_test, logical_units}
-use Rattle.set_algebra.specs.Physical.{logical_units_list, logicals}
+use Rattle.set_algebra.specs.Physical.{physical_pairs, physical_groups, Physicals, no_physicals, physical_then}
+use Rattle.set_algebra.specs.Physical.{PhysicalGroups, physical_nothing, physical_every, physical_groups_and}
+use Rattle.set_algebra.specs.Physical.{physical_groups_or, physical_groups_minus, physical_groups_pairs}
+use Rattle.set_algebra.specs.Physical.{PhysicalGroupsList}
+use Rattle.set_algebra.specs.Physical.{no_physical_groups, physical_groups_then, PhysicalTest, physical_within}
+use Rattle.set_algebra.specs.Physical.{physical_outside, physical_number, logical, logical_test, logical_groups}
+use Rattle.set_algebra.specs.Physical.{logical_groups_list, logicals}
 use Rattle.set_algebra.specs.Plan.{walk_plan, members_plan, and_plan, or_plan, minus_plan, values_plan, pairs_plan}
-use Rattle.set_algebra.specs.Plan.{units_plan, plan_then, and_units, or_units, minus_units, pairs_units, unit_plan_then}
+use Rattle.set_algebra.specs.Plan.{groups_plan, plan_then, and_group_plan, or_group_plan, minus_group_plan}
+use Rattle.set_algebra.specs.Plan.{pairs_group_plan, group_plan_then}
 use Rattle.set_algebra.specs.Plan.{within_plan, outside_plan}
 use Rattle.plan_bounds.specs.Alternatives.{offers}
 use Rattle.plan_bounds.specs.Counts.{is_within}
-use Rattle.plan_bounds.specs.Leaves.{choices_in, choices_in_each, choices_in_each_units, choices_in_test}
-use Rattle.plan_bounds.specs.Leaves.{choices_in_units}
+use Rattle.plan_bounds.specs.Leaves.{choices_in, choices_in_each, choices_in_each_groups, choices_in_test}
+use Rattle.plan_bounds.specs.Leaves.{choices_in_groups}
 use Rattle.plan_bounds.specs.Offered.{AreOffered, EachLeaf, GroupEach, GroupsEach, IsOffered, PlansEach, TestEach}
 use Rattle.planner.specs.Asked.{asked_or, each_asked_or, first_of, group_within, groups_within, plans_within}
 use Rattle.planner.specs.Asked.{test_within, within_tests}
@@ -28,7 +30,7 @@ use Rattle.planner.specs.inside.AskedInPlace.{test_with_asked, with_asked}
 
 -- ---- the logical plan does not change
 mutual
-  -- requested choices do not change the logical plan of a plan of concepts
+  -- requested choices change the choices of a plan of concepts alone: the logical plan stays the same
   pub logical-asked : (asked : List Choice) (plan : Physical) → logical (with_asked asked plan).plan ≡ logical plan
   logical-asked asked physical_empty = refl
   logical-asked asked physical_all = refl
@@ -44,7 +46,7 @@ mutual
   logical-asked asked (physical_pairs back count types test choice) =
       λ i. pairs_plan back count (logical-asked (drop 1 asked) types i)
       (logical_test-asked (with_asked (drop 1 asked) types).rest test i)
-  logical-asked asked (physical_units count units) = ap (units_plan count) (logical_units-asked asked units)
+  logical-asked asked (physical_groups count units) = ap (groups_plan count) (logical_groups-asked asked units)
 
   -- requested choices do not change the logical plans of several plans of concepts
   logicals-asked : (asked : List Choice) (parts : Physicals) → logicals (all_with_asked asked parts).plan
@@ -54,26 +56,27 @@ mutual
       λ i. plan_then (logical-asked asked first i) (logicals-asked (with_asked asked first).rest rest i)
 
   -- requested choices do not change the logical plan of a plan of groups
-  logical_units-asked : (asked : List Choice) (plan : PhysicalUnits) → logical_units (group_with_asked asked plan).plan
-      ≡ logical_units plan
-  logical_units-asked asked physical_nothing = refl
-  logical_units-asked asked physical_every = refl
-  logical_units-asked asked (physical_units_and parts) = ap and_units (logical_units_list-asked asked parts)
-  logical_units-asked asked (physical_units_or parts) = ap or_units (logical_units_list-asked asked parts)
-  logical_units-asked asked (physical_units_minus first second) =
-      λ i. minus_units (logical_units-asked asked first i)
-      (logical_units-asked (group_with_asked asked first).rest second i)
-  logical_units-asked asked (physical_units_pairs count types test choice) =
-      λ i. pairs_units count (logical-asked (drop 1 asked) types i)
+  logical_groups-asked : (asked : List Choice) (plan : PhysicalGroups)
+      → logical_groups (group_with_asked asked plan).plan
+      ≡ logical_groups plan
+  logical_groups-asked asked physical_nothing = refl
+  logical_groups-asked asked physical_every = refl
+  logical_groups-asked asked (physical_groups_and parts) = ap and_group_plan (logical_groups_list-asked asked parts)
+  logical_groups-asked asked (physical_groups_or parts) = ap or_group_plan (logical_groups_list-asked asked parts)
+  logical_groups-asked asked (physical_groups_minus first second) =
+      λ i. minus_group_plan (logical_groups-asked asked first i)
+      (logical_groups-asked (group_with_asked asked first).rest second i)
+  logical_groups-asked asked (physical_groups_pairs count types test choice) =
+      λ i. pairs_group_plan count (logical-asked (drop 1 asked) types i)
       (logical_test-asked (with_asked (drop 1 asked) types).rest test i)
 
   -- requested choices do not change the logical plans of several plans of groups
-  logical_units_list-asked : (asked : List Choice) (parts : PhysicalUnitsList)
-      → logical_units_list (groups_with_asked asked parts).plan ≡ logical_units_list parts
-  logical_units_list-asked asked no_physical_units = refl
-  logical_units_list-asked asked (physical_units_then first rest) =
-      λ i. unit_plan_then (logical_units-asked asked first i)
-      (logical_units_list-asked (group_with_asked asked first).rest rest i)
+  logical_groups_list-asked : (asked : List Choice) (parts : PhysicalGroupsList)
+      → logical_groups_list (groups_with_asked asked parts).plan ≡ logical_groups_list parts
+  logical_groups_list-asked asked no_physical_groups = refl
+  logical_groups_list-asked asked (physical_groups_then first rest) =
+      λ i. group_plan_then (logical_groups-asked asked first i)
+      (logical_groups_list-asked (group_with_asked asked first).rest rest i)
 
   -- requested choices do not change the logical plan of a test
   logical_test-asked : (asked : List Choice) (test : PhysicalTest) → logical_test (test_with_asked asked test).plan
@@ -100,15 +103,15 @@ leaf-offers within (Some choice) own offered = elim (cases_Bool (offers within c
 ]
 
 -- a leaf offers the choice that it takes after its test has taken choices, if it offered the one that it had
-leaf-asked : (asked behind : List Choice) (test : PhysicalTest) (own : Choice) → IsTrue (offers (is_within test) own)
-    → IsTrue (offers (is_within (test_with_asked behind test).plan) (asked_or (is_within test) (first_of asked) own))
-leaf-asked asked behind test own offered =
+leaf-asked : (asked following : List Choice) (test : PhysicalTest) (own : Choice) → IsTrue (offers (is_within test) own)
+    → IsTrue (offers (is_within (test_with_asked following test).plan) (asked_or (is_within test) (first_of asked) own))
+leaf-asked asked following test own offered =
     subst (λ (within : Bool). IsTrue (offers within (asked_or (is_within test) (first_of asked) own)))
-    (sym (is_within-asked behind test))
+    (sym (is_within-asked following test))
     (leaf-offers (is_within test) (first_of asked) own offered)
 
 mutual
-  -- the leaves of a plan offer the choices that they take, if they offered those that they had
+  -- if each leaf of a plan offers its choice, this is so too after the leaves took requested choices
   pub asked_are_offered : (asked : List Choice) (plan : Physical) → AreOffered plan
       → AreOffered (with_asked asked plan).plan
   asked_are_offered asked physical_empty own = tt
@@ -131,7 +134,7 @@ mutual
     asked_are_offered (drop 1 asked) types own.1,
     offered_in_test (with_asked (drop 1 asked) types).rest test own.2,
   )
-  asked_are_offered asked (physical_units count units) own = offered_in_group asked units own
+  asked_are_offered asked (physical_groups count units) own = offered_in_group asked units own
 
   -- the leaves of several plans of concepts offer the choices that they take, if they offered those that they had
   offered_in_all : (asked : List Choice) (parts : Physicals) → PlansEach IsOffered parts
@@ -143,27 +146,27 @@ mutual
   )
 
   -- the leaves of a plan of groups offer the choices that they take, if they offered those that they had
-  offered_in_group : (asked : List Choice) (plan : PhysicalUnits) → GroupEach IsOffered plan
+  offered_in_group : (asked : List Choice) (plan : PhysicalGroups) → GroupEach IsOffered plan
       → GroupEach IsOffered (group_with_asked asked plan).plan
   offered_in_group asked physical_nothing own = tt
   offered_in_group asked physical_every own = tt
-  offered_in_group asked (physical_units_and parts) own = offered_in_groups asked parts own
-  offered_in_group asked (physical_units_or parts) own = offered_in_groups asked parts own
-  offered_in_group asked (physical_units_minus first second) own = (
+  offered_in_group asked (physical_groups_and parts) own = offered_in_groups asked parts own
+  offered_in_group asked (physical_groups_or parts) own = offered_in_groups asked parts own
+  offered_in_group asked (physical_groups_minus first second) own = (
     offered_in_group asked first own.0,
     offered_in_group (group_with_asked asked first).rest second own.1,
   )
-  offered_in_group asked (physical_units_pairs count types test choice) own = (
+  offered_in_group asked (physical_groups_pairs count types test choice) own = (
     leaf-asked asked (with_asked (drop 1 asked) types).rest test choice own.0,
     asked_are_offered (drop 1 asked) types own.1,
     offered_in_test (with_asked (drop 1 asked) types).rest test own.2,
   )
 
   -- the leaves of several plans of groups offer the choices that they take, if they offered those that they had
-  offered_in_groups : (asked : List Choice) (parts : PhysicalUnitsList) → GroupsEach IsOffered parts
+  offered_in_groups : (asked : List Choice) (parts : PhysicalGroupsList) → GroupsEach IsOffered parts
       → GroupsEach IsOffered (groups_with_asked asked parts).plan
-  offered_in_groups asked no_physical_units own = tt
-  offered_in_groups asked (physical_units_then first rest) own = (
+  offered_in_groups asked no_physical_groups own = tt
+  offered_in_groups asked (physical_groups_then first rest) own = (
     offered_in_group asked first own.0,
     offered_in_groups (group_with_asked asked first).rest rest own.1,
   )
@@ -223,7 +226,7 @@ mutual
       takes_leaf asked _ (is_within test) choice _ _ _
       (takes_both (drop 1 asked) (with_asked (drop 1 asked) types).rest _ _ _ _ _ _ _ (takes (drop 1 asked) types)
       (takes_test (with_asked (drop 1 asked) types).rest test)) more_tests more
-  takes asked (physical_units count units) more_tests more = takes_group asked units more_tests more
+  takes asked (physical_groups count units) more_tests more = takes_group asked units more_tests more
 
   -- the leaves of several plans of concepts take the choices that `all_with_asked` gives them
   takes_all : (asked : List Choice) (parts : Physicals)
@@ -235,28 +238,28 @@ mutual
       (takes_all (with_asked asked first).rest rest) more_tests more
 
   -- the leaves of a plan of groups take the choices that `group_with_asked` gives them
-  takes_group : (asked : List Choice) (plan : PhysicalUnits)
-      → Takes asked (group_within plan) (choices_in_units plan) (choices_in_units (group_with_asked asked plan).plan)
+  takes_group : (asked : List Choice) (plan : PhysicalGroups)
+      → Takes asked (group_within plan) (choices_in_groups plan) (choices_in_groups (group_with_asked asked plan).plan)
       (group_with_asked asked plan).rest
   takes_group asked physical_nothing more_tests more = refl
   takes_group asked physical_every more_tests more = refl
-  takes_group asked (physical_units_and parts) more_tests more = takes_groups asked parts more_tests more
-  takes_group asked (physical_units_or parts) more_tests more = takes_groups asked parts more_tests more
-  takes_group asked (physical_units_minus first second) more_tests more =
+  takes_group asked (physical_groups_and parts) more_tests more = takes_groups asked parts more_tests more
+  takes_group asked (physical_groups_or parts) more_tests more = takes_groups asked parts more_tests more
+  takes_group asked (physical_groups_minus first second) more_tests more =
       takes_both asked (group_with_asked asked first).rest _ _ _ _ _ _ _ (takes_group asked first)
       (takes_group (group_with_asked asked first).rest second) more_tests more
-  takes_group asked (physical_units_pairs count types test choice) more_tests more =
+  takes_group asked (physical_groups_pairs count types test choice) more_tests more =
       takes_leaf asked _ (is_within test) choice _ _ _
       (takes_both (drop 1 asked) (with_asked (drop 1 asked) types).rest _ _ _ _ _ _ _ (takes (drop 1 asked) types)
       (takes_test (with_asked (drop 1 asked) types).rest test)) more_tests more
 
   -- the leaves of several plans of groups take the choices that `groups_with_asked` gives them
-  takes_groups : (asked : List Choice) (parts : PhysicalUnitsList)
-      → Takes asked (groups_within parts) (choices_in_each_units parts)
-      (choices_in_each_units (groups_with_asked asked parts).plan)
+  takes_groups : (asked : List Choice) (parts : PhysicalGroupsList)
+      → Takes asked (groups_within parts) (choices_in_each_groups parts)
+      (choices_in_each_groups (groups_with_asked asked parts).plan)
       (groups_with_asked asked parts).rest
-  takes_groups asked no_physical_units more_tests more = refl
-  takes_groups asked (physical_units_then first rest) more_tests more =
+  takes_groups asked no_physical_groups more_tests more = refl
+  takes_groups asked (physical_groups_then first rest) more_tests more =
       takes_both asked (group_with_asked asked first).rest _ _ _ _ _ _ _ (takes_group asked first)
       (takes_groups (group_with_asked asked first).rest rest) more_tests more
 
@@ -268,8 +271,8 @@ mutual
   takes_test asked (physical_outside operand) more_tests more = takes asked operand more_tests more
   takes_test asked (physical_number compare number) more_tests more = refl
 
--- the choices of a plan that takes requested choices are the requested ones, leaf by leaf, or the leaf's own if it
--- does not offer them
+-- after the leaves of a plan took requested choices, each leaf has its entry of `asked` if there is one and it offers
+-- it, and otherwise the choice that it had
 pub choices-asked : (asked : List Choice) (plan : Physical)
     → choices_in (with_asked asked plan).plan ≡ each_asked_or (within_tests plan) asked (choices_in plan)
 choices-asked asked plan =

@@ -4,15 +4,20 @@ use Rattle.std.proofs.Common.{ℕ, ◌≡◌, ◌∙◌, Bool, List, false, refl
 use Rattle.constraint_tree.specs.declared.operator.Cardinality.{Cardinality}
 use Rattle.set_algebra.specs.declared.choice.Choice.{Choice}
 use Rattle.set_algebra.specs.declared.plan.ConceptPlan.{ConceptPlan}
-use Rattle.set_algebra.specs.Physical.{Physical, PhysicalTest, physical_of, logical, logical_test, logical_units, logical_units_list, logicals}
-use Rattle.set_algebra.specs.Plan.{Plan, plan_of, empty_plan, all_plan, one_plan, walk_plan, members_plan, and_plan, or_plan, minus_plan}
-use Rattle.set_algebra.specs.Plan.{values_plan, pairs_plan, units_plan, Plans, no_plans, plan_then}
-use Rattle.set_algebra.specs.Plan.{PlanOfUnits, nothing_unit, every_unit, and_units, or_units, minus_units, pairs_units}
-use Rattle.set_algebra.specs.Plan.{PlansOfUnits, no_unit_plans, unit_plan_then, TestPlan, within_plan, outside_plan, number_plan}
+use Rattle.set_algebra.specs.Physical.{Physical, PhysicalTest, physical_of, logical, logical_test, logical_groups}
+use Rattle.set_algebra.specs.Physical.{logical_groups_list, logicals}
+use Rattle.set_algebra.specs.Plan.{Plan, plan_of, empty_plan, all_plan, one_plan, walk_plan, members_plan, and_plan}
+use Rattle.set_algebra.specs.Plan.{or_plan, minus_plan}
+use Rattle.set_algebra.specs.Plan.{values_plan, pairs_plan, groups_plan, Plans, no_plans, plan_then}
+use Rattle.set_algebra.specs.Plan.{PlanOfGroups, nothing_group, every_group, and_group_plan, or_group_plan}
+use Rattle.set_algebra.specs.Plan.{minus_group_plan, pairs_group_plan}
+use Rattle.set_algebra.specs.Plan.{PlansOfGroups, no_group_plans, group_plan_then, TestPlan, within_plan, outside_plan}
+use Rattle.set_algebra.specs.Plan.{number_plan}
 use Rattle.set_algebra.proofs.PhysicalLemmas.{logical-physical_of}
 use Rattle.postings.specs.Indexed.{Indexed}
 use Rattle.plan_bounds.specs.Alternatives.{least_choice}
-use Rattle.plan_bounds.specs.Offered.{AreLeast, AreOffered, EachLeaf, GroupEach, GroupsEach, IsLeastAt, IsOffered, LeafFact, PlansEach}
+use Rattle.plan_bounds.specs.Offered.{AreLeast, AreOffered, EachLeaf, GroupEach, GroupsEach, IsLeastAt, IsOffered}
+use Rattle.plan_bounds.specs.Offered.{LeafFact, PlansEach}
 use Rattle.plan_bounds.specs.Offered.{TestEach, all_concepts, every_group_in}
 use Rattle.plan_bounds.specs.Sizes.{leaf_at}
 use Rattle.planner.specs.Chosen.{all_chosen, chosen, group_chosen, groups_chosen, test_chosen}
@@ -23,7 +28,7 @@ use Rattle.planner.proofs.LeastLemmas.{least_is_least}
 module _ (indexed : Indexed) where
   -- ---- the logical plan is the one that was given
   mutual
-    -- the logical plan of a plan with its chosen choices is the given plan
+    -- the plan with the choices of least bound has the given plan as its logical plan
     pub logical-chosen : (plan : Plan) → logical (chosen indexed plan) ≡ plan
     logical-chosen empty_plan = refl
     logical-chosen all_plan = refl
@@ -34,8 +39,9 @@ module _ (indexed : Indexed) where
     logical-chosen (or_plan parts) = ap or_plan (logicals-chosen parts)
     logical-chosen (minus_plan first second) = λ i. minus_plan (logical-chosen first i) (logical-chosen second i)
     logical-chosen (values_plan start names) = λ i. values_plan (logical-chosen start i) (logicals-chosen names i)
-    logical-chosen (pairs_plan back count types test) = λ i. pairs_plan back count (logical-chosen types i) (logical_test-chosen test i)
-    logical-chosen (units_plan count units) = ap (units_plan count) (logical_units-chosen units)
+    logical-chosen (pairs_plan back count types test) =
+        λ i. pairs_plan back count (logical-chosen types i) (logical_test-chosen test i)
+    logical-chosen (groups_plan count units) = ap (groups_plan count) (logical_groups-chosen units)
 
     -- the logical plans of several plans with their chosen choices are the given plans
     logicals-chosen : (parts : Plans) → logicals (all_chosen indexed parts) ≡ parts
@@ -43,19 +49,21 @@ module _ (indexed : Indexed) where
     logicals-chosen (plan_then first rest) = λ i. plan_then (logical-chosen first i) (logicals-chosen rest i)
 
     -- the logical plan of a plan of groups with its chosen choices is the given plan
-    logical_units-chosen : (plan : PlanOfUnits) → logical_units (group_chosen indexed plan) ≡ plan
-    logical_units-chosen nothing_unit = refl
-    logical_units-chosen every_unit = refl
-    logical_units-chosen (and_units parts) = ap and_units (logical_units_list-chosen parts)
-    logical_units-chosen (or_units parts) = ap or_units (logical_units_list-chosen parts)
-    logical_units-chosen (minus_units first second) = λ i. minus_units (logical_units-chosen first i) (logical_units-chosen second i)
-    logical_units-chosen (pairs_units count types test) = λ i. pairs_units count (logical-chosen types i) (logical_test-chosen test i)
+    logical_groups-chosen : (plan : PlanOfGroups) → logical_groups (group_chosen indexed plan) ≡ plan
+    logical_groups-chosen nothing_group = refl
+    logical_groups-chosen every_group = refl
+    logical_groups-chosen (and_group_plan parts) = ap and_group_plan (logical_groups_list-chosen parts)
+    logical_groups-chosen (or_group_plan parts) = ap or_group_plan (logical_groups_list-chosen parts)
+    logical_groups-chosen (minus_group_plan first second) =
+        λ i. minus_group_plan (logical_groups-chosen first i) (logical_groups-chosen second i)
+    logical_groups-chosen (pairs_group_plan count types test) =
+        λ i. pairs_group_plan count (logical-chosen types i) (logical_test-chosen test i)
 
     -- the logical plans of several plans of groups with their chosen choices are the given plans
-    logical_units_list-chosen : (parts : PlansOfUnits) → logical_units_list (groups_chosen indexed parts) ≡ parts
-    logical_units_list-chosen no_unit_plans = refl
-    logical_units_list-chosen (unit_plan_then first rest) =
-        λ i. unit_plan_then (logical_units-chosen first i) (logical_units_list-chosen rest i)
+    logical_groups_list-chosen : (parts : PlansOfGroups) → logical_groups_list (groups_chosen indexed parts) ≡ parts
+    logical_groups_list-chosen no_group_plans = refl
+    logical_groups_list-chosen (group_plan_then first rest) =
+        λ i. group_plan_then (logical_groups-chosen first i) (logical_groups_list-chosen rest i)
 
     -- the logical plan of a test with its chosen choices is the given test
     logical_test-chosen : (test : TestPlan) → logical_test (test_chosen indexed test) ≡ test
@@ -84,7 +92,7 @@ module _ (indexed : Indexed) where
         each_leaf types,
         each_leaf_of_test test,
       )
-      each_leaf (units_plan count units) = each_leaf_of_group units
+      each_leaf (groups_plan count units) = each_leaf_of_group units
 
       -- a statement that holds of any leaf with its least choice holds of each leaf of several plans of concepts
       each_leaf_of_all : (parts : Plans) → PlansEach Holds (all_chosen indexed parts)
@@ -92,22 +100,22 @@ module _ (indexed : Indexed) where
       each_leaf_of_all (plan_then first rest) = (each_leaf first, each_leaf_of_all rest)
 
       -- a statement that holds of any leaf with its least choice holds of each leaf of a plan of groups
-      each_leaf_of_group : (plan : PlanOfUnits) → GroupEach Holds (group_chosen indexed plan)
-      each_leaf_of_group nothing_unit = tt
-      each_leaf_of_group every_unit = tt
-      each_leaf_of_group (and_units parts) = each_leaf_of_groups parts
-      each_leaf_of_group (or_units parts) = each_leaf_of_groups parts
-      each_leaf_of_group (minus_units first second) = (each_leaf_of_group first, each_leaf_of_group second)
-      each_leaf_of_group (pairs_units count types test) = (
+      each_leaf_of_group : (plan : PlanOfGroups) → GroupEach Holds (group_chosen indexed plan)
+      each_leaf_of_group nothing_group = tt
+      each_leaf_of_group every_group = tt
+      each_leaf_of_group (and_group_plan parts) = each_leaf_of_groups parts
+      each_leaf_of_group (or_group_plan parts) = each_leaf_of_groups parts
+      each_leaf_of_group (minus_group_plan first second) = (each_leaf_of_group first, each_leaf_of_group second)
+      each_leaf_of_group (pairs_group_plan count types test) = (
         holds every_group_in false count (chosen indexed types) (test_chosen indexed test),
         each_leaf types,
         each_leaf_of_test test,
       )
 
       -- a statement that holds of any leaf with its least choice holds of each leaf of several plans of groups
-      each_leaf_of_groups : (parts : PlansOfUnits) → GroupsEach Holds (groups_chosen indexed parts)
-      each_leaf_of_groups no_unit_plans = tt
-      each_leaf_of_groups (unit_plan_then first rest) = (each_leaf_of_group first, each_leaf_of_groups rest)
+      each_leaf_of_groups : (parts : PlansOfGroups) → GroupsEach Holds (groups_chosen indexed parts)
+      each_leaf_of_groups no_group_plans = tt
+      each_leaf_of_groups (group_plan_then first rest) = (each_leaf_of_group first, each_leaf_of_groups rest)
 
       -- a statement that holds of any leaf with its least choice holds of each leaf of the plan of a test
       each_leaf_of_test : (test : TestPlan) → TestEach Holds (test_chosen indexed test)
@@ -115,24 +123,27 @@ module _ (indexed : Indexed) where
       each_leaf_of_test (outside_plan operand) = each_leaf operand
       each_leaf_of_test (number_plan compare number) = tt
 
-  -- the choice of each leaf of a chosen plan is the first of the least bound
+  -- in the plan with the choices of least bound, the choice of each leaf is the first with the least bound
   pub chosen_are_least : (plan : Plan) → AreLeast indexed (chosen indexed plan)
   chosen_are_least plan =
       each_leaf (IsLeastAt indexed)
       (λ all back count types test. least_is_least (leaf_at indexed (all indexed) back count types test)) plan
 
-  -- each leaf of a chosen plan offers its choice
+  -- in the plan with the choices of least bound, each leaf offers its choice
   pub chosen_are_offered : (plan : Plan) → AreOffered (chosen indexed plan)
   chosen_are_offered plan =
       each_leaf IsOffered
       (λ all back count types test. (least_is_least (leaf_at indexed (all indexed) back count types test)).offered) plan
 
-  -- a plan of the code that has become the chosen plan has the logical plan that it had
+  -- if a plan in the code got the choices of least bound, its logical plan is the one that it had
   pub plan_kept : (plan : Plan) (new : ConceptPlan) → physical_of new ≡ chosen indexed plan → plan_of new ≡ plan
   plan_kept plan new is = sym (logical-physical_of new) ∙ ap logical is ∙ logical-chosen plan
 
-  -- a plan of the code that has become the chosen plan with requested choices has the logical plan that it had
-  pub asked_plan_kept : (asked : List Choice) (plan : Plan) (chosen_plan new : ConceptPlan) → physical_of chosen_plan ≡ chosen indexed plan
+  -- if a plan in the code got the choices of least bound and then requested choices, its logical plan is the one that
+  -- it had
+  pub asked_plan_kept : (asked : List Choice) (plan : Plan) (chosen_plan new : ConceptPlan)
+      → physical_of chosen_plan ≡ chosen indexed plan
       → physical_of new ≡ (with_asked asked (physical_of chosen_plan)).plan → plan_of new ≡ plan
   asked_plan_kept asked plan chosen_plan new chosen_is is =
-      sym (logical-physical_of new) ∙ ap logical is ∙ logical-asked asked (physical_of chosen_plan) ∙ ap logical chosen_is ∙ logical-chosen plan
+      sym (logical-physical_of new) ∙ ap logical is ∙ logical-asked asked (physical_of chosen_plan)
+      ∙ ap logical chosen_is ∙ logical-chosen plan

@@ -1,5 +1,6 @@
 -- The choice that a leaf takes is one that it offers, and of the offered ones the first with the least bound.
-use Rattle.std.proofs.Common.{ℕ, ◌≡◌, ◌≤◌, ◌<◌, ◌&&◌, ◌∙◌, ◌⊎◌, Bool, true, false, cond, inl, inr, refl, sym, ap, subst, arith}
+use Rattle.std.proofs.Common.{ℕ, ◌≡◌, ◌≤◌, ◌<◌, ◌&&◌, ◌∙◌, ◌⊎◌, Bool, true, false, cond, inl, inr, refl, sym, ap, subst}
+use Rattle.std.proofs.Common.{arith}
 use Rattle.std.specs.Prelude.{IsTrue, nat_le}
 use Rattle.std.proofs.lemmas.Bool.{and_parts, cases_Bool, leb-false, leb-true}
 use Rattle.set_algebra.specs.declared.choice.Choice.{Choice}
@@ -26,7 +27,8 @@ module _ (leaf : Leaf) where
   scan = leaf_bound leaf Scan
 
   -- by value is the least choice if the leaf offers it and its bound is at most the other two
-  by_value_is_least : IsTrue leaf.is_within → leaf_bound leaf ByValue ≤ leaf_bound leaf ByType → leaf_bound leaf ByValue ≤ leaf_bound leaf Scan
+  by_value_is_least : IsTrue leaf.is_within → leaf_bound leaf ByValue ≤ leaf_bound leaf ByType
+      → leaf_bound leaf ByValue ≤ leaf_bound leaf Scan
       → IsLeast leaf ByValue
   by_value_is_least offered first second = record {
     offered = offered;
@@ -44,16 +46,20 @@ module _ (leaf : Leaf) where
   IsWorse bound = IsTrue leaf.is_within → bound < leaf_bound leaf ByValue
 
   -- by type is the least choice if its bound is at most that of a scan and by value is worse
-  by_type_is_least : IsWorse (leaf_bound leaf ByType) → leaf_bound leaf ByType ≤ leaf_bound leaf Scan → IsLeast leaf ByType
+  by_type_is_least : IsWorse (leaf_bound leaf ByType) → leaf_bound leaf ByType ≤ leaf_bound leaf Scan
+      → IsLeast leaf ByType
   by_type_is_least worse second = record { offered = refl; least = least; first = first }
     where
       least : (other : Choice) → IsTrue (offers leaf.is_within other) → leaf_bound leaf ByType ≤ leaf_bound leaf other
-      least ByValue there = let more : leaf_bound leaf ByType < leaf_bound leaf ByValue = worse there in omega (arith, more)
+      least ByValue there = let more : leaf_bound leaf ByType < leaf_bound leaf ByValue =
+          worse there in omega (arith, more)
       least ByType there = omega arith
       least Scan there = second
 
-      first : (other : Choice) → IsTrue (offers leaf.is_within other) → leaf_bound leaf other ≡ leaf_bound leaf ByType → rank ByType ≤ rank other
-      first ByValue there same = let more : leaf_bound leaf ByType < leaf_bound leaf ByValue = worse there in absurd (omega (arith, more, same))
+      first : (other : Choice) → IsTrue (offers leaf.is_within other) → leaf_bound leaf other ≡ leaf_bound leaf ByType
+          → rank ByType ≤ rank other
+      first ByValue there same = let more : leaf_bound leaf ByType < leaf_bound leaf ByValue =
+          worse there in absurd (omega (arith, more, same))
       first ByType there same = omega arith
       first Scan there same = omega arith
 
@@ -62,16 +68,19 @@ module _ (leaf : Leaf) where
   scan_is_least worse second = record { offered = refl; least = least; first = first }
     where
       least : (other : Choice) → IsTrue (offers leaf.is_within other) → leaf_bound leaf Scan ≤ leaf_bound leaf other
-      least ByValue there = let more : leaf_bound leaf Scan < leaf_bound leaf ByValue = worse there in omega (arith, more)
+      least ByValue there = let more : leaf_bound leaf Scan < leaf_bound leaf ByValue =
+          worse there in omega (arith, more)
       least ByType there = omega (arith, second)
       least Scan there = omega arith
 
-      first : (other : Choice) → IsTrue (offers leaf.is_within other) → leaf_bound leaf other ≡ leaf_bound leaf Scan → rank Scan ≤ rank other
-      first ByValue there same = let more : leaf_bound leaf Scan < leaf_bound leaf ByValue = worse there in absurd (omega (arith, more, same))
+      first : (other : Choice) → IsTrue (offers leaf.is_within other) → leaf_bound leaf other ≡ leaf_bound leaf Scan
+          → rank Scan ≤ rank other
+      first ByValue there same = let more : leaf_bound leaf Scan < leaf_bound leaf ByValue =
+          worse there in absurd (omega (arith, more, same))
       first ByType there same = absurd (omega (arith, second, same))
       first Scan there same = omega arith
 
-  -- `least_choice` of a leaf is its least choice, whatever its bounds are
+  -- `least_choice leaf` is the first choice with the least bound among those that the leaf offers
   pub least_is_least : IsLeast leaf (least_choice leaf)
   least_is_least =
       elim (cases_Bool (leaf.is_within && (nat_le value by_type && nat_le value scan))) [

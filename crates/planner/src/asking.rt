@@ -1,6 +1,6 @@
-//! Puts requested choices into the leaves of a plan.
+//! Puts the choices that a caller asks for into the leaves of a plan.
 ghost use Rattle.std.specs.Prelude.{◌≡◌, drop};
-ghost use Rattle.set_algebra.specs.Physical.{physical_of, physical_test_of, physical_units_list_of, physical_units_of};
+ghost use Rattle.set_algebra.specs.Physical.{physical_of, physical_test_of, physical_groups_list_of, physical_groups_of};
 ghost use Rattle.set_algebra.specs.Physical.{physicals_of};
 ghost use Rattle.plan_bounds.specs.Counts.{is_within};
 ghost use Rattle.planner.specs.Asked.{asked_or, first_of};
@@ -9,9 +9,10 @@ ghost use Rattle.planner.specs.inside.AskedInPlace.{test_with_asked, with_asked}
 
 use set_algebra::{Choice, ConceptPlan, UnitPlan, ValueTest};
 
-/// Gives each leaf of a plan of concepts the first choice of `asked` that no leaf before it has taken. A leaf that
-/// does not offer this choice keeps its own, and the choice counts as taken. Returns the rest of `asked`. It goes
-/// through the plan once and allocates nothing.
+/// Gives the leaves of `plan` the choices of `asked`, in order: a leaf before the leaves below it,
+/// its types before its test, and siblings from the first to the last. A leaf that does not offer
+/// its choice keeps the one that it has, and uses up the entry of `asked` all the same. Returns the
+/// choices that no leaf took. It visits each node once and allocates nothing.
 #[cycle(put)]
 #[tactic(auto, using(crate::proofs::Rules::choosing))]
 pub fn put_asked<'a>(plan: &mut ConceptPlan, asked: &'a [Choice]) -> &'a [Choice]
@@ -40,25 +41,27 @@ pub fn put_asked<'a>(plan: &mut ConceptPlan, asked: &'a [Choice]) -> &'a [Choice
             choice,
             ..
         } => put_in_leaf(types, test, choice, asked),
-        ConceptPlan::Units { units, .. } => put_in_units(units, asked),
+        ConceptPlan::Units { units, .. } => put_in_groups(units, asked),
     }
 }
 
-// Gives the leaves of a plan of groups the choices of `asked`. Returns the rest.
+// Gives the leaves of the plan of groups `plan` the choices of `asked`, as `put_asked` does.
+// Returns the choices that no leaf took.
 #[cycle(put)]
 #[tactic(auto, using(crate::proofs::Rules::choosing))]
-fn put_in_units<'a>(plan: &mut UnitPlan, asked: &'a [Choice]) -> &'a [Choice]
-    ensures plan { physical_units_of plan.new ≡ (group_with_asked asked.now (physical_units_of plan.old)).plan }
-    ensures rest { result.now ≡ (group_with_asked asked.now (physical_units_of plan.old)).rest }
+fn put_in_groups<'a>(plan: &mut UnitPlan, asked: &'a [Choice]) -> &'a [Choice]
+    ensures plan { physical_groups_of plan.new
+        ≡ (group_with_asked asked.now (physical_groups_of plan.old)).plan }
+    ensures rest { result.now ≡ (group_with_asked asked.now (physical_groups_of plan.old)).rest }
 {
     match plan {
         UnitPlan::Nothing => asked,
         UnitPlan::Every => asked,
-        UnitPlan::And(parts) => put_in_each_units(parts, asked),
-        UnitPlan::Or(parts) => put_in_each_units(parts, asked),
+        UnitPlan::And(parts) => put_in_each_groups(parts, asked),
+        UnitPlan::Or(parts) => put_in_each_groups(parts, asked),
         UnitPlan::Minus(first, second) => {
-            let rest = put_in_units(first, asked);
-            put_in_units(second, rest)
+            let rest = put_in_groups(first, asked);
+            put_in_groups(second, rest)
         }
         UnitPlan::Pairs {
             types,
@@ -69,7 +72,9 @@ fn put_in_units<'a>(plan: &mut UnitPlan, asked: &'a [Choice]) -> &'a [Choice]
     }
 }
 
-// Gives a leaf the first choice of `asked`, and the later ones to its types and its test. Returns the rest.
+// Gives a leaf, whose choice is `choice`, the first choice of `asked` if it offers it. Gives the
+// later choices to the leaves of its types, and then to those of its test. Returns the choices that
+// no leaf took.
 #[cycle(put)]
 fn put_in_leaf<'a>(
     types: &mut ConceptPlan,
@@ -77,12 +82,15 @@ fn put_in_leaf<'a>(
     choice: &mut Choice,
     asked: &'a [Choice],
 ) -> &'a [Choice]
-    ensures types { physical_of types.new ≡ (with_asked (drop 1 asked.now) (physical_of types.old)).plan }
+    ensures types { physical_of types.new
+        ≡ (with_asked (drop 1 asked.now) (physical_of types.old)).plan }
     ensures test { physical_test_of test.new
         ≡ (test_with_asked (with_asked (drop 1 asked.now) (physical_of types.old)).rest
         (physical_test_of test.old)).plan }
-    ensures choice { choice.new ≡ asked_or (is_within (physical_test_of test.old)) (first_of asked.now) choice.old }
-    ensures rest { result.now ≡ (test_with_asked (with_asked (drop 1 asked.now) (physical_of types.old)).rest
+    ensures choice { choice.new ≡ asked_or (is_within (physical_test_of test.old))
+        (first_of asked.now) choice.old }
+    ensures rest { result.now ≡ (test_with_asked
+        (with_asked (drop 1 asked.now) (physical_of types.old)).rest
         (physical_test_of test.old)).rest }
 {
     *choice = own_choice(test, asked, *choice);
@@ -90,10 +98,12 @@ fn put_in_leaf<'a>(
     put_in_test(test, rest)
 }
 
-// Gives the leaves of the plan of a test the choices of `asked`. Returns the rest.
+// Gives the leaves of the plan of `test` the choices of `asked`. Returns the choices that no leaf
+// took.
 #[cycle(put)]
 fn put_in_test<'a>(test: &mut ValueTest, asked: &'a [Choice]) -> &'a [Choice]
-    ensures test { physical_test_of test.new ≡ (test_with_asked asked.now (physical_test_of test.old)).plan }
+    ensures test { physical_test_of test.new
+        ≡ (test_with_asked asked.now (physical_test_of test.old)).plan }
     ensures rest { result.now ≡ (test_with_asked asked.now (physical_test_of test.old)).rest }
 {
     match test {
@@ -103,10 +113,12 @@ fn put_in_test<'a>(test: &mut ValueTest, asked: &'a [Choice]) -> &'a [Choice]
     }
 }
 
-// Gives the leaves of sibling plans of concepts the choices of `asked`. Returns the rest.
+// Gives the leaves of the plans `parts` the choices of `asked`, plan by plan. Returns the choices
+// that no leaf took.
 #[cycle(put)]
 fn put_in_each<'a>(parts: &mut Vec<ConceptPlan>, asked: &'a [Choice]) -> &'a [Choice]
-    ensures parts { physicals_of parts.new.items ≡ (all_with_asked asked.now (physicals_of parts.old.items)).plan }
+    ensures parts { physicals_of parts.new.items
+        ≡ (all_with_asked asked.now (physicals_of parts.old.items)).plan }
     ensures rest { result.now ≡ (all_with_asked asked.now (physicals_of parts.old.items)).rest }
 {
     let mut rest = asked;
@@ -116,21 +128,24 @@ fn put_in_each<'a>(parts: &mut Vec<ConceptPlan>, asked: &'a [Choice]) -> &'a [Ch
     rest
 }
 
-// Gives the leaves of sibling plans of groups the choices of `asked`. Returns the rest.
+// Gives the leaves of the plans of groups `parts` the choices of `asked`, plan by plan. Returns the
+// choices that no leaf took.
 #[cycle(put)]
-fn put_in_each_units<'a>(parts: &mut Vec<UnitPlan>, asked: &'a [Choice]) -> &'a [Choice]
-    ensures parts { physical_units_list_of parts.new.items
-        ≡ (groups_with_asked asked.now (physical_units_list_of parts.old.items)).plan }
-    ensures rest { result.now ≡ (groups_with_asked asked.now (physical_units_list_of parts.old.items)).rest }
+fn put_in_each_groups<'a>(parts: &mut Vec<UnitPlan>, asked: &'a [Choice]) -> &'a [Choice]
+    ensures parts { physical_groups_list_of parts.new.items
+        ≡ (groups_with_asked asked.now (physical_groups_list_of parts.old.items)).plan }
+    ensures rest { result.now ≡ (groups_with_asked asked.now
+        (physical_groups_list_of parts.old.items)).rest }
 {
     let mut rest = asked;
     for place in 0..parts.len() {
-        rest = put_in_units(&mut parts[place], rest);
+        rest = put_in_groups(&mut parts[place], rest);
     }
     rest
 }
 
-// Returns the first choice of `asked` if a leaf with this test offers it, else `other`.
+// Returns the first choice of `asked` if a leaf with the test `test` offers it, or else `other`.
+// Each leaf offers `ByType` and `Scan`; only one with a `Within` test offers `ByValue`.
 fn own_choice(test: &ValueTest, asked: &[Choice], other: Choice) -> Choice
     ensures { result ≡ asked_or (is_within (physical_test_of test.now)) (first_of asked.now) other }
 {
@@ -144,7 +159,7 @@ fn own_choice(test: &ValueTest, asked: &[Choice], other: Choice) -> Choice
     }
 }
 
-// Returns the choices after the first.
+// Returns `choices` without the first, or the empty list if `choices` is empty.
 fn after_first(choices: &[Choice]) -> &[Choice]
     ensures { result.now ≡ drop 1 choices.now }
 {

@@ -1,54 +1,57 @@
-//! Lists the own bounds of all nodes of a plan, a node before its children.
+//! Lists the bound of each node of a plan, a node before its children. The bound of a node does not
+//! contain the bounds of its children.
 ghost use Rattle.std.specs.Prelude.{◌≡◌, ◌<◌, ◌++◌, ◌∷◌, [], IfOk, OnOk, length};
 ghost use Rattle.std.specs.List.{slice_set};
 ghost use Rattle.set_algebra.specs.Physical.{physical_and, physical_members, physical_minus, physical_of, physical_or};
 ghost use Rattle.set_algebra.specs.Physical.{physical_test_of};
-ghost use Rattle.set_algebra.specs.Physical.{physical_units, physical_units_and, physical_units_list_of};
-ghost use Rattle.set_algebra.specs.Physical.{physical_units_minus};
-ghost use Rattle.set_algebra.specs.Physical.{physical_units_of, physical_units_or, physical_values, physical_walk};
+ghost use Rattle.set_algebra.specs.Physical.{physical_groups, physical_groups_and, physical_groups_list_of};
+ghost use Rattle.set_algebra.specs.Physical.{physical_groups_minus};
+ghost use Rattle.set_algebra.specs.Physical.{physical_groups_of, physical_groups_or, physical_values, physical_walk};
 ghost use Rattle.set_algebra.specs.Physical.{physicals_of};
 ghost use Rattle.plan_bounds.specs.Bounds.{own_bounds, own_list};
 ghost use Rattle.plan_bounds.specs.Nodes.{group_list, groups_list, plans_list, test_list};
 ghost use Rattle.plan_bounds.specs.Sizes.{group_size, group_sizes, size as size_of, sizes, test_size};
 ghost use Rattle.planner.specs.inside.ListedNodes.{IsGroupNode, IsLeafNode, IsNode};
-ghost use Rattle.plan_bounds.specs.Tallies.{IsTallyOf};
+ghost use Rattle.plan_bounds.specs.SizeSummaries.{IsSummaryOf};
 
 use constraint_tree::{Cardinality, Operator};
 use plan_bounds::{
-    NodeCost, Tally, concepts, cost_of_all, cost_of_first, cost_of_members, cost_of_some,
-    cost_of_units, cost_of_values, cost_of_walk, counts_of_leaf, groups,
+    NodeCost, SizeSummary, concepts, cost_of_and, cost_of_groups, cost_of_members, cost_of_minus,
+    cost_of_or, cost_of_values, cost_of_walk, counts_of_leaf, groups,
 };
 use postings::Lengths;
 use set_algebra::{Choice, ConceptPlan, UnitPlan, ValueTest};
 use std::alloc::AllocError;
 
-/// Appends the own bounds of a plan of concepts to `bounds`. Returns how many concepts the plan finds at most. The
-/// error is want of memory.
+/// Appends to `bounds` the bound of each node of `plan`, a node before its children. Returns how
+/// many concepts `plan` finds at most, or `AllocError` if memory runs out.
 #[cycle(list)]
 pub fn list(
     plan: &ConceptPlan,
     lengths: Lengths<'_>,
     bounds: &mut Vec<u64>,
 ) -> Result<u64, AllocError>
-    ensures bounds { OnOk result (bounds.new.items ≡ bounds.old.items ++ own_bounds lengths.entry.indexes.now
-        (physical_of plan.now)) }
-    ensures size { IfOk result (λ size. size ≡ size_of lengths.entry.indexes.now (physical_of plan.now)) }
+    ensures bounds { OnOk result (bounds.new.items ≡ bounds.old.items
+        ++ own_bounds lengths.entry.indexes.now (physical_of plan.now)) }
+    ensures size { IfOk result (λ size. size
+        ≡ size_of lengths.entry.indexes.now (physical_of plan.now)) }
 {
     let at = open(bounds)?;
-    let node = list_behind(plan, lengths, bounds)?;
+    let node = list_after(plan, lengths, bounds)?;
     Ok(closed(bounds, at, node))
 }
 
-// Appends the own bounds of the sub-plans of a plan of concepts. Returns the cost of its top node.
+// Appends the bounds of the nodes below the root of `plan`. Returns the size and the bound of the
+// root.
 #[cycle(list)]
 #[tactic(auto, using(crate::proofs::Rules::listing))]
-fn list_behind(
+fn list_after(
     plan: &ConceptPlan,
     lengths: Lengths<'_>,
     bounds: &mut Vec<u64>,
 ) -> Result<NodeCost, AllocError>
-    ensures { IfOk result (λ node. IsNode lengths.entry.indexes.now (physical_of plan.now) bounds.old.items
-        bounds.new.items node) }
+    ensures { IfOk result (λ node. IsNode lengths.entry.indexes.now (physical_of plan.now)
+        bounds.old.items bounds.new.items node) }
 {
     match plan {
         ConceptPlan::Empty => Ok(without_parts(0)),
@@ -70,11 +73,11 @@ fn list_behind(
             let all = concepts(lengths);
             list_pairs(all, *back, *count, types, test, *choice, lengths, bounds)
         }
-        ConceptPlan::Units { count, units } => { list_of_units(*count, units, lengths, bounds) }
+        ConceptPlan::Units { count, units } => { list_of_groups(*count, units, lengths, bounds) }
     }
 }
 
-// Appends the own bounds of the operand of a `Walk` node. Returns the cost of the node.
+// Appends the bounds of the operand of a `Walk` node. Returns the cost of the node.
 #[cycle(list)]
 fn list_walk(
     operator: Operator,
@@ -82,60 +85,60 @@ fn list_walk(
     lengths: Lengths<'_>,
     bounds: &mut Vec<u64>,
 ) -> Result<NodeCost, AllocError>
-    ensures { IfOk result (λ node. IsNode lengths.entry.indexes.now (physical_walk operator (physical_of operand.now))
-        bounds.old.items bounds.new.items node) }
+    ensures { IfOk result (λ node. IsNode lengths.entry.indexes.now
+        (physical_walk operator (physical_of operand.now)) bounds.old.items bounds.new.items node) }
 {
     let inner = list(operand, lengths, bounds)?;
     let own = cost_of_walk(lengths, operator, operand, inner);
     Ok(own)
 }
 
-// Appends the own bounds of the operand of a `Members` node. Returns the cost of the node.
+// Appends the bounds of the operand of a `Members` node. Returns the cost of the node.
 #[cycle(list)]
 fn list_members(
     operand: &ConceptPlan,
     lengths: Lengths<'_>,
     bounds: &mut Vec<u64>,
 ) -> Result<NodeCost, AllocError>
-    ensures { IfOk result (λ node. IsNode lengths.entry.indexes.now (physical_members (physical_of operand.now))
-        bounds.old.items bounds.new.items node) }
+    ensures { IfOk result (λ node. IsNode lengths.entry.indexes.now
+        (physical_members (physical_of operand.now)) bounds.old.items bounds.new.items node) }
 {
     let inner = list(operand, lengths, bounds)?;
     let own = cost_of_members(lengths, operand, inner);
     Ok(own)
 }
 
-// Appends the own bounds of the parts of an `And` node of concepts. Returns the cost of the node.
+// Appends the bounds of the parts of an `And` node of concepts. Returns the cost of the node.
 #[cycle(list)]
 fn list_and(
     parts: &[ConceptPlan],
     lengths: Lengths<'_>,
     bounds: &mut Vec<u64>,
 ) -> Result<NodeCost, AllocError>
-    ensures { IfOk result (λ node. IsNode lengths.entry.indexes.now (physical_and (physicals_of parts.now))
-        bounds.old.items bounds.new.items node) }
+    ensures { IfOk result (λ node. IsNode lengths.entry.indexes.now
+        (physical_and (physicals_of parts.now)) bounds.old.items bounds.new.items node) }
 {
     let inner = list_parts(parts, concepts(lengths), lengths, bounds)?;
-    Ok(cost_of_all(&inner))
+    Ok(cost_of_and(&inner))
 }
 
-// Appends the own bounds of the parts of an `Or` node of concepts. Returns the cost of the node.
+// Appends the bounds of the parts of an `Or` node of concepts. Returns the cost of the node.
 #[cycle(list)]
 fn list_or(
     parts: &[ConceptPlan],
     lengths: Lengths<'_>,
     bounds: &mut Vec<u64>,
 ) -> Result<NodeCost, AllocError>
-    ensures { IfOk result (λ node. IsNode lengths.entry.indexes.now (physical_or (physicals_of parts.now))
-        bounds.old.items bounds.new.items node) }
+    ensures { IfOk result (λ node. IsNode lengths.entry.indexes.now
+        (physical_or (physicals_of parts.now)) bounds.old.items bounds.new.items node) }
 {
     let all = concepts(lengths);
     let inner = list_parts(parts, all, lengths, bounds)?;
-    let own = cost_of_some(all, &inner, parts.len() as u64);
+    let own = cost_of_or(all, &inner, parts.len() as u64);
     Ok(own)
 }
 
-// Appends the own bounds of both parts of a `Minus` node of concepts. Returns the cost of the node.
+// Appends the bounds of both parts of a `Minus` node of concepts. Returns the cost of the node.
 #[cycle(list)]
 fn list_minus(
     first: &ConceptPlan,
@@ -143,15 +146,16 @@ fn list_minus(
     lengths: Lengths<'_>,
     bounds: &mut Vec<u64>,
 ) -> Result<NodeCost, AllocError>
-    ensures { IfOk result (λ node. IsNode lengths.entry.indexes.now (physical_minus (physical_of first.now)
-        (physical_of second.now)) bounds.old.items bounds.new.items node) }
+    ensures { IfOk result (λ node. IsNode lengths.entry.indexes.now
+        (physical_minus (physical_of first.now) (physical_of second.now)) bounds.old.items
+        bounds.new.items node) }
 {
     let left = list(first, lengths, bounds)?;
     let right = list(second, lengths, bounds)?;
-    Ok(cost_of_first(left, right))
+    Ok(cost_of_minus(left, right))
 }
 
-// Appends the own bounds of the start and the types of a `Values` node. Returns the cost of the node.
+// Appends the bounds of the start and the types of a `Values` node. Returns the cost of the node.
 #[cycle(list)]
 fn list_values(
     start: &ConceptPlan,
@@ -159,8 +163,9 @@ fn list_values(
     lengths: Lengths<'_>,
     bounds: &mut Vec<u64>,
 ) -> Result<NodeCost, AllocError>
-    ensures { IfOk result (λ node. IsNode lengths.entry.indexes.now (physical_values (physical_of start.now)
-        (physicals_of names.now)) bounds.old.items bounds.new.items node) }
+    ensures { IfOk result (λ node. IsNode lengths.entry.indexes.now
+        (physical_values (physical_of start.now) (physicals_of names.now)) bounds.old.items
+        bounds.new.items node) }
 {
     let from = list(start, lengths, bounds)?;
     let types = list_parts(names, 0, lengths, bounds)?;
@@ -168,8 +173,8 @@ fn list_values(
     Ok(own)
 }
 
-// Appends the own bounds of the types and the test of a leaf, of concepts or of groups. Returns the cost of the
-// leaf.
+// Appends the bounds of the types and the test of a leaf, of concepts or of groups. `all` is the
+// number of concepts, or of groups, in the release. Returns the cost of the leaf.
 #[cycle(list)]
 fn list_pairs(
     all: u64,
@@ -181,8 +186,9 @@ fn list_pairs(
     lengths: Lengths<'_>,
     bounds: &mut Vec<u64>,
 ) -> Result<NodeCost, AllocError>
-    ensures { IfOk result (λ node. IsLeafNode lengths.entry.indexes.now all back count (physical_of types.now)
-        (physical_test_of test.now) choice bounds.old.items bounds.new.items node) }
+    ensures { IfOk result (λ node. IsLeafNode lengths.entry.indexes.now all back count
+        (physical_of types.now) (physical_test_of test.now) choice bounds.old.items bounds.new.items
+        node) }
 {
     let of_types = list(types, lengths, bounds)?;
     let of_test = list_test(test, lengths, bounds)?;
@@ -191,57 +197,60 @@ fn list_pairs(
     Ok(leaf.cost(choice))
 }
 
-// Appends the own bounds of the group plan of a `Units` node. Returns the cost of the node.
+// Appends the bounds of the plan of groups of a `Units` node. Returns the cost of the node.
 #[cycle(list)]
-fn list_of_units(
+fn list_of_groups(
     count: Cardinality,
     units: &UnitPlan,
     lengths: Lengths<'_>,
     bounds: &mut Vec<u64>,
 ) -> Result<NodeCost, AllocError>
     ensures { IfOk result (λ node. IsNode lengths.entry.indexes.now
-        (physical_units count (physical_units_of units.now))
+        (physical_groups count (physical_groups_of units.now))
         bounds.old.items bounds.new.items node) }
 {
-    let inner = list_units(units, lengths, bounds)?;
-    let own = cost_of_units(count, concepts(lengths), inner);
+    let inner = list_groups(units, lengths, bounds)?;
+    let own = cost_of_groups(count, concepts(lengths), inner);
     Ok(own)
 }
 
-// Appends the own bounds of a plan of groups. Returns how many groups the plan finds at most.
+// Appends the bound of each node of the plan of groups `plan`, a node before its children. Returns
+// how many groups it finds at most.
 #[cycle(list)]
-fn list_units(
+fn list_groups(
     plan: &UnitPlan,
     lengths: Lengths<'_>,
     bounds: &mut Vec<u64>,
 ) -> Result<u64, AllocError>
     ensures bounds { OnOk result (bounds.new.items ≡ bounds.old.items
         ++ group_list (own_list lengths.entry.indexes.now)
-        (physical_units_of plan.now)) }
-    ensures size { IfOk result (λ size. size ≡ group_size lengths.entry.indexes.now (physical_units_of plan.now)) }
+        (physical_groups_of plan.now)) }
+    ensures size { IfOk result (λ size. size
+        ≡ group_size lengths.entry.indexes.now (physical_groups_of plan.now)) }
 {
     let at = open(bounds)?;
-    let node = list_units_behind(plan, lengths, bounds)?;
+    let node = list_groups_after(plan, lengths, bounds)?;
     Ok(closed(bounds, at, node))
 }
 
-// Appends the own bounds of the sub-plans of a plan of groups. Returns the cost of its top node.
+// Appends the bounds of the nodes below the root of the plan of groups `plan`. Returns the size and
+// the bound of the root.
 #[cycle(list)]
 #[tactic(auto, using(crate::proofs::Rules::listing))]
-fn list_units_behind(
+fn list_groups_after(
     plan: &UnitPlan,
     lengths: Lengths<'_>,
     bounds: &mut Vec<u64>,
 ) -> Result<NodeCost, AllocError>
-    ensures { IfOk result (λ node. IsGroupNode lengths.entry.indexes.now (physical_units_of plan.now) bounds.old.items
-        bounds.new.items node) }
+    ensures { IfOk result (λ node. IsGroupNode lengths.entry.indexes.now
+        (physical_groups_of plan.now) bounds.old.items bounds.new.items node) }
 {
     match plan {
         UnitPlan::Nothing => Ok(without_parts(0)),
         UnitPlan::Every => Ok(without_parts(groups(lengths))),
-        UnitPlan::And(parts) => list_units_and(parts, lengths, bounds),
-        UnitPlan::Or(parts) => list_units_or(parts, lengths, bounds),
-        UnitPlan::Minus(first, second) => { list_units_minus(first, second, lengths, bounds) }
+        UnitPlan::And(parts) => list_groups_and(parts, lengths, bounds),
+        UnitPlan::Or(parts) => list_groups_or(parts, lengths, bounds),
+        UnitPlan::Minus(first, second) => { list_groups_minus(first, second, lengths, bounds) }
         UnitPlan::Pairs {
             count,
             types,
@@ -254,54 +263,55 @@ fn list_units_behind(
     }
 }
 
-// Appends the own bounds of the parts of an `And` node of groups. Returns the cost of the node.
+// Appends the bounds of the parts of an `And` node of groups. Returns the cost of the node.
 #[cycle(list)]
-fn list_units_and(
+fn list_groups_and(
     parts: &[UnitPlan],
     lengths: Lengths<'_>,
     bounds: &mut Vec<u64>,
 ) -> Result<NodeCost, AllocError>
-    ensures { IfOk result (λ node. IsGroupNode lengths.entry.indexes.now (physical_units_and
-        (physical_units_list_of parts.now)) bounds.old.items bounds.new.items node) }
+    ensures { IfOk result (λ node. IsGroupNode lengths.entry.indexes.now (physical_groups_and
+        (physical_groups_list_of parts.now)) bounds.old.items bounds.new.items node) }
 {
-    let inner = list_unit_parts(parts, groups(lengths), lengths, bounds)?;
-    Ok(cost_of_all(&inner))
+    let inner = list_group_parts(parts, groups(lengths), lengths, bounds)?;
+    Ok(cost_of_and(&inner))
 }
 
-// Appends the own bounds of the parts of an `Or` node of groups. Returns the cost of the node.
+// Appends the bounds of the parts of an `Or` node of groups. Returns the cost of the node.
 #[cycle(list)]
-fn list_units_or(
+fn list_groups_or(
     parts: &[UnitPlan],
     lengths: Lengths<'_>,
     bounds: &mut Vec<u64>,
 ) -> Result<NodeCost, AllocError>
-    ensures { IfOk result (λ node. IsGroupNode lengths.entry.indexes.now (physical_units_or
-        (physical_units_list_of parts.now)) bounds.old.items bounds.new.items node) }
+    ensures { IfOk result (λ node. IsGroupNode lengths.entry.indexes.now (physical_groups_or
+        (physical_groups_list_of parts.now)) bounds.old.items bounds.new.items node) }
 {
     let all = groups(lengths);
-    let inner = list_unit_parts(parts, all, lengths, bounds)?;
-    let own = cost_of_some(all, &inner, parts.len() as u64);
+    let inner = list_group_parts(parts, all, lengths, bounds)?;
+    let own = cost_of_or(all, &inner, parts.len() as u64);
     Ok(own)
 }
 
-// Appends the own bounds of both parts of a `Minus` node of groups. Returns the cost of the node.
+// Appends the bounds of both parts of a `Minus` node of groups. Returns the cost of the node.
 #[cycle(list)]
-fn list_units_minus(
+fn list_groups_minus(
     first: &UnitPlan,
     second: &UnitPlan,
     lengths: Lengths<'_>,
     bounds: &mut Vec<u64>,
 ) -> Result<NodeCost, AllocError>
-    ensures { IfOk result (λ node. IsGroupNode lengths.entry.indexes.now (physical_units_minus
-        (physical_units_of first.now) (physical_units_of second.now)) bounds.old.items bounds.new.items node) }
+    ensures { IfOk result (λ node. IsGroupNode lengths.entry.indexes.now
+        (physical_groups_minus (physical_groups_of first.now) (physical_groups_of second.now))
+        bounds.old.items bounds.new.items node) }
 {
-    let left = list_units(first, lengths, bounds)?;
-    let right = list_units(second, lengths, bounds)?;
-    Ok(cost_of_first(left, right))
+    let left = list_groups(first, lengths, bounds)?;
+    let right = list_groups(second, lengths, bounds)?;
+    Ok(cost_of_minus(left, right))
 }
 
-// Appends the own bounds of the plan of a test. Returns how many concepts that plan finds at most; 0 if the test
-// has no plan.
+// Appends the bounds of the plan of `test`. Returns how many concepts that plan finds at most, or 0
+// if the test has no plan.
 #[cycle(list)]
 fn list_test(
     test: &ValueTest,
@@ -311,7 +321,8 @@ fn list_test(
     ensures bounds { OnOk result (bounds.new.items ≡ bounds.old.items
         ++ test_list (own_list lengths.entry.indexes.now)
         (physical_test_of test.now)) }
-    ensures size { IfOk result (λ size. size ≡ test_size lengths.entry.indexes.now (physical_test_of test.now)) }
+    ensures size { IfOk result (λ size. size
+        ≡ test_size lengths.entry.indexes.now (physical_test_of test.now)) }
 {
     match test {
         ValueTest::Within(operand) | ValueTest::Outside(operand) => {
@@ -321,50 +332,53 @@ fn list_test(
     }
 }
 
-// Appends the own bounds of sibling plans of concepts. Returns the tally of their sizes.
+// Appends the bounds of the plans `parts`, plan by plan. Returns the summary of their sizes; if
+// there are no parts, `all` stands for their least size.
 #[cycle(list)]
 fn list_parts(
     parts: &[ConceptPlan],
     all: u64,
     lengths: Lengths<'_>,
     bounds: &mut Vec<u64>,
-) -> Result<Tally, AllocError>
+) -> Result<SizeSummary, AllocError>
     ensures bounds { OnOk result (bounds.new.items ≡ bounds.old.items
         ++ plans_list (own_list lengths.entry.indexes.now)
         (physicals_of parts.now)) }
-    ensures tally { IfOk result (λ tally. IsTallyOf all (sizes lengths.entry.indexes.now (physicals_of parts.now))
-        tally) }
+    ensures summary { IfOk result (λ summary. IsSummaryOf all
+        (sizes lengths.entry.indexes.now (physicals_of parts.now)) summary) }
 {
-    let mut tally = Tally::none(all);
+    let mut summary = SizeSummary::none(all);
     for place in 0..parts.len() {
         let part = list(&parts[place], lengths, bounds)?;
-        tally = tally.with(place as u64, part);
+        summary = summary.with(place as u64, part);
     }
-    Ok(tally)
+    Ok(summary)
 }
 
-// Appends the own bounds of sibling plans of groups. Returns the tally of their sizes.
+// Appends the bounds of the plans of groups `parts`, plan by plan. Returns the summary of their
+// sizes; if there are no parts, `all` stands for their least size.
 #[cycle(list)]
-fn list_unit_parts(
+fn list_group_parts(
     parts: &[UnitPlan],
     all: u64,
     lengths: Lengths<'_>,
     bounds: &mut Vec<u64>,
-) -> Result<Tally, AllocError>
+) -> Result<SizeSummary, AllocError>
     ensures bounds { OnOk result (bounds.new.items ≡ bounds.old.items ++ groups_list
-        (own_list lengths.entry.indexes.now) (physical_units_list_of parts.now)) }
-    ensures tally { IfOk result (λ tally. IsTallyOf all (group_sizes lengths.entry.indexes.now
-        (physical_units_list_of parts.now)) tally) }
+        (own_list lengths.entry.indexes.now) (physical_groups_list_of parts.now)) }
+    ensures summary { IfOk result (λ summary. IsSummaryOf all (group_sizes lengths.entry.indexes.now
+        (physical_groups_list_of parts.now)) summary) }
 {
-    let mut tally = Tally::none(all);
+    let mut summary = SizeSummary::none(all);
     for place in 0..parts.len() {
-        let part = list_units(&parts[place], lengths, bounds)?;
-        tally = tally.with(place as u64, part);
+        let part = list_groups(&parts[place], lengths, bounds)?;
+        summary = summary.with(place as u64, part);
     }
-    Ok(tally)
+    Ok(summary)
 }
 
-// Reserves a place for the bound of a node, before those of its children. Returns the place.
+// Appends a 0 that `closed` later replaces by the bound of a node, so that it stands before those
+// of its children. Returns the index of the 0.
 fn open(bounds: &mut Vec<u64>) -> Result<usize, AllocError>
     ensures bounds { OnOk result (bounds.new.items ≡ bounds.old.items ++ 0 ∷ []) }
     ensures at { IfOk result (λ at. at ≡ length bounds.old.items) }
@@ -374,8 +388,8 @@ fn open(bounds: &mut Vec<u64>) -> Result<usize, AllocError>
     Ok(at)
 }
 
-// Writes the bound of a node at its place `at`, after its sub-plans have added theirs. Returns the size of the
-// node.
+// Writes the bound of `node` at the index `at`, which `open` returned, after the bounds of its
+// children were appended. Returns the size of the node.
 fn closed(bounds: &mut Vec<u64>, at: usize, node: NodeCost) -> u64
     requires { at < length bounds.old.items }
     ensures bounds { bounds.new.items ≡ slice_set bounds.old.items at node.bound }
@@ -385,7 +399,8 @@ fn closed(bounds: &mut Vec<u64>, at: usize, node: NodeCost) -> u64
     node.size
 }
 
-// Makes the cost of a node that has no sub-plans and reads nothing.
+// Returns the cost of a node without children that reads nothing and finds `size` concepts or
+// groups.
 fn without_parts(size: u64) -> NodeCost
     ensures size { result.size ≡ size }
     ensures bound { result.bound ≡ 0 }

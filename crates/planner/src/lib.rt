@@ -1,4 +1,4 @@
-//! Chooses how a plan is executed, so that the bound of each leaf is least.
+//! Chooses which attribute rows answer each leaf of a plan, so that the leaf's bound is least.
 #![tactic(auto)]
 
 mod asking;
@@ -11,5 +11,6 @@ pub use crate::laws::worked_bounds_hold;
 pub use crate::physical::{choose, choose_with, own_bounds};
 pub use plan_bounds::{
     Choice, NodeLimits, PhysicalPlan, bound, finds_within_size, floor, floor_within_bound,
-    leaf_limits, members_limits, plan_floor, plan_size, unit_floor, unit_size, walk_limits,
+    group_plan_floor, group_plan_size, leaf_limits, members_limits, plan_floor, plan_size,
+    walk_limits,
 };

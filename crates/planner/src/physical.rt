@@ -1,4 +1,5 @@
-//! Makes a plan with the choices of least bound, or with requested ones.
+//! Makes a physical plan: a plan with the choices of least bound, or with those that a caller asks
+//! for.
 ghost use Rattle.std.specs.Prelude.{◌≡◌, IfOk};
 ghost use Rattle.set_algebra.specs.Physical.{physical_of};
 ghost use Rattle.set_algebra.specs.Plan.{plan_of};
@@ -15,18 +16,19 @@ use postings::Indexes;
 use set_algebra::{Choice, ConceptPlan};
 use std::alloc::{AllocError, Global};
 
-/// Makes a plan with the choices of least bound: each leaf takes the alternative with the least bound, after the
-/// leaves of its sub-plans have chosen. Of equal bounds it takes the first of `ByValue`, `ByType` and `Scan`. Only
-/// the choices in the leaves change. It goes through the plan once. The error is want of memory; the plan is then
-/// dropped.
+/// Gives each leaf of `plan` the choice with the least bound over `indexes`, after the leaves below
+/// it have theirs. Of equal bounds a leaf takes the first of `ByValue`, `ByType` and `Scan`. Only
+/// the choices change. Returns `AllocError` if memory runs out; then the plan is lost.
 pub fn choose(
     alloc: Global,
     plan: ConceptPlan,
     indexes: &Indexes,
 ) -> Result<PhysicalPlan, AllocError>
     ensures plan { IfOk result (λ physical. plan_of physical.plan ≡ plan_of plan) }
-    ensures chosen { IfOk result (λ physical. physical_of physical.plan ≡ chosen_plan indexes.now (plan_of plan)) }
-    ensures choices { IfOk result (λ physical. physical.choices ≡ least_choices indexes.now (plan_of plan)) }
+    ensures chosen { IfOk result (λ physical. physical_of physical.plan
+        ≡ chosen_plan indexes.now (plan_of plan)) }
+    ensures choices { IfOk result (λ physical. physical.choices
+        ≡ least_choices indexes.now (plan_of plan)) }
     ensures least { IfOk result (λ physical. AreLeast indexes.now (physical_of physical.plan)) }
 {
     let mut chosen = plan;
@@ -35,9 +37,10 @@ pub fn choose(
     Ok(physical)
 }
 
-/// Makes a plan with the choices of `asked`: each leaf takes the choice at its place, if the list has one and the
-/// leaf offers it, else the one that `choose` gives it. Only the choices in the leaves change. The error is want
-/// of memory; the plan is then dropped.
+/// Gives the leaves of `plan` the choices of `asked`, in the order of `PhysicalPlan::choices`. A
+/// leaf that does not offer its choice, or for which `asked` has none, gets the one that `choose`
+/// gives it. Only the choices change. Returns `AllocError` if memory runs out; then the plan is
+/// lost.
 pub fn choose_with(
     alloc: Global,
     plan: ConceptPlan,
@@ -45,7 +48,8 @@ pub fn choose_with(
     indexes: &Indexes,
 ) -> Result<PhysicalPlan, AllocError>
     ensures plan { IfOk result (λ physical. plan_of physical.plan ≡ plan_of plan) }
-    ensures choices { IfOk result (λ physical. physical.choices ≡ choices_with indexes.now asked.now (plan_of plan)) }
+    ensures choices { IfOk result (λ physical. physical.choices
+        ≡ choices_with indexes.now asked.now (plan_of plan)) }
 {
     let mut chosen = plan;
     assign_choices(&mut chosen, indexes.lengths());
@@ -54,14 +58,16 @@ pub fn choose_with(
     Ok(physical)
 }
 
-/// Lists how many items each node of a plan visits at most besides its children, or `u64::MAX` if that is more.
-/// Nodes of concepts and of groups are listed, a node before its children. The error is want of memory.
+/// Returns for each node of the plan, a node before its children, how many items it visits at most,
+/// or `u64::MAX` if that is more. The visits of its children are not counted. Returns `AllocError`
+/// if memory runs out.
 pub fn own_bounds(
     alloc: Global,
     physical: &PhysicalPlan,
     indexes: &Indexes,
 ) -> Result<Vec<u64>, AllocError>
-    ensures { IfOk result (λ bounds. bounds.items ≡ own_bounds_of indexes.now (physical_of physical.now.plan)) }
+    ensures { IfOk result (λ bounds. bounds.items
+        ≡ own_bounds_of indexes.now (physical_of physical.now.plan)) }
 {
     let mut bounds = Vec::new(alloc);
     list(physical.plan(), indexes.lengths(), &mut bounds)?;

@@ -1,4 +1,5 @@
-//! Tests of the choices and bounds of plans over the sample release, without choices asked for.
+//! Tests of the choices and the bounds of plans over the sample release, if the caller asks for no
+//! choices.
 use ecl_parser::parse;
 use planner::{Choice, PhysicalPlan, bound, choose, floor, own_bounds};
 use postings::Indexes;
@@ -10,7 +11,8 @@ use std::alloc::{AllocError, Global};
 use std::process::Abort;
 use std::test::Fail;
 
-// A query, its choices, its nodes' own bounds (a node before its children), the sum of these, and its floor.
+// A query, the choices of its leaves, the own bounds of its nodes (a node before its children), the
+// sum of these, and the floor of the plan.
 struct Row {
     line: &'static [u8],
     choices: &'static [Choice],
@@ -58,14 +60,14 @@ const ROWS: [Row; 5] = [
     },
 ];
 
-/// Makes the indexes of the sample release.
+/// Returns the indexes of the sample release.
 pub fn sample_indexes(alloc: Global) -> Result<Indexes, LoadFault> {
     let files: [NamedBytes<'static>; 5] = sample_files();
     let snapshot = Snapshot::load(alloc, &files, "en", Limits::standard())?;
     Ok(Indexes::build(alloc, &snapshot)?)
 }
 
-/// Makes the plan of a query.
+/// Returns the plan of a query.
 pub fn plan_of(alloc: Global, line: &[u8]) -> Result<ConceptPlan, AllocError> {
     match parse(alloc, line) {
         Ok(constraint) => lower(alloc, &constraint),

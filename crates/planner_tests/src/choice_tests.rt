@@ -1,4 +1,4 @@
-//! Tests of the choices of plans over the sample release, with choices asked for.
+//! Tests of the choices of plans over the sample release, if the caller asks for choices.
 use crate::bound_tests::{plan_of, sample_indexes};
 use planner::{Choice, bound, choose_with};
 use postings::Indexes;
@@ -6,7 +6,8 @@ use std::alloc::{AllocError, Global};
 use std::process::Abort;
 use std::test::Fail;
 
-// A query, the choices that are asked for, the choices that it gets, and its bound under these.
+// A query, the choices that the caller asks for, the choices that the leaves get, and the bound of
+// the plan with these.
 struct Row {
     line: &'static [u8],
     asked: &'static [Choice],

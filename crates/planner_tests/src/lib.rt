@@ -1,7 +1,7 @@
-//! Tests of plans with their choices over the sample release, from outside: which choices they get, and how much
-//! they visit.
+//! Tests of plans over the sample release: which choices their leaves get, and how many items they
+//! visit.
 //!
-//! They stand in a crate of their own, so that the tested crates are not proved once more with them.
+//! The tests have a crate of their own, because a crate is proved a second time with its tests.
 #![tactic(auto)]
 
 #[cfg(test)]

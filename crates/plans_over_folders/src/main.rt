@@ -1,4 +1,5 @@
-//! The program once more, for a stored run that tells plans over the folder of a package (`data`, `args`).
+//! The program again, for a stored run that prints plans over the folder of a package (`data`,
+//! `args`).
 #![tactic(auto)]
 
 use query_tool::start;

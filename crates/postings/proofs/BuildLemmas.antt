@@ -21,13 +21,16 @@ use Rattle.postings.specs.declared.row_indexes.RowIndexes.{RowIndexes}
 use Rattle.postings.specs.declared.rows.CodedRow.{CodedRow}
 
 -- ---- a row by its numbers
-module _ (concepts types ids : List ℕ) (values : List Value) (coded : List CodedRow) (n : ℕ) (row : CodedRow) (below : n < length coded)
+module _ (concepts types ids : List ℕ) (values : List Value) (coded : List CodedRow) (n : ℕ) (row : CodedRow)
+    (below : n < length coded)
     (is : row ≡ get_or coded n row) where
-  -- the row that its numbers stand for is the one at its place
-  pub row_told : (id : ℕ) (value : LentValue) → ids ≡ types → row.type_place < length types → id ≡ get_or ids row.type_place id
+  -- decoding the numbers of coded row `n` (its type by `ids`, its value by `values`) gives attribute row `n`
+  pub row_told : (id : ℕ) (value : LentValue) → ids ≡ types → row.type_place < length types
+      → id ≡ get_or ids row.type_place id
       → value_lent value ≡ value_at values row.value
       → slice_get (map (row_coded concepts types values) coded) n
-      ≡ Some (with_source concepts (attribute_of (record { source = row.source; type_id = id; group = row.group; value = value })))
+      ≡ Some (with_source concepts (attribute_of
+      (record { source = row.source; type_id = id; group = row.group; value = value })))
   row_told id value same type_place typed valued =
       let stands : Attribute = row_coded concepts types values row in
       let named : get_or types row.type_place 0 ≡ id = get_or_default types row.type_place 0 id type_place
@@ -37,27 +40,33 @@ module _ (concepts types ids : List ℕ) (values : List Value) (coded : List Cod
       ∙ ap (λ (found : Attribute). Some found) (
       get_or-map (row_coded concepts types values) coded n row stands below
       ∙ ap (row_coded concepts types values) (sym is)
-      ∙ (λ i. record { source = slice_index concepts row.source; type_id = named i; group = row.group; value = sym valued i })
+      ∙ (λ i. record {
+        source = slice_index concepts row.source;
+        type_id = named i;
+        group = row.group;
+        value = sym valued i;
+      })
       )
 
 -- ---- the rows that the indexes stand for
--- the rows that the indexes stand for are those that they are made of
+-- decoding the rows that the indexes of `rows` keep gives `rows`
 pub rows_told : (concepts all : List ℕ) (rows : List Attribute) (indexes : RowIndexes) → all ≡ concepts
     → AreRowIndexes concepts rows indexes
     → rows_coded all indexes.types indexes.values (rows_kept indexes) ≡ rows
 rows_told concepts all rows indexes same are =
     ap (λ (ids : List ℕ). rows_coded ids indexes.types indexes.values (rows_kept indexes)) same ∙ are.coded.stand_for
 
--- the indexes of rows are those of the rows that they stand for
+-- indexes built from `rows` are also the indexes of the rows that they encode
 pub indexes_of_own : (concepts all : List ℕ) (rows : List Attribute) (indexes : RowIndexes) → all ≡ concepts
     → AreRowIndexes concepts rows indexes
     → AreRowIndexes all (rows_coded all indexes.types indexes.values (rows_kept indexes)) indexes
 indexes_of_own concepts all rows indexes same are =
-    subst (λ (found : List Attribute). AreRowIndexes all found indexes) (sym (rows_told concepts all rows indexes same are))
+    subst (λ (found : List Attribute). AreRowIndexes all found indexes)
+    (sym (rows_told concepts all rows indexes same are))
     (subst (λ (ids : List ℕ). AreRowIndexes ids rows indexes) (sym same) are)
 
 -- ---- the members
--- there is a list of members for each concept
+-- lists by reference set, made for each of `count` concepts, are as many as the concepts
 pub length-members : (concepts all : List ℕ) (count : ℕ) (rows : List (ℕ × ℕ)) (lists : List (List ℕ)) → all ≡ concepts
     → count ≡ length concepts → lists ≡ lists_where count (is_child rows)
     → length lists ≡ length all
@@ -65,10 +74,12 @@ length-members concepts all count rows lists same counted are =
     ap (λ (found : List (List ℕ)). length found) are ∙ length-where count (is_child rows) ∙ counted
     ∙ ap (λ (ids : List ℕ). length ids) (sym same)
 
--- lists by the concept numbers in the member rows are those by the identifiers
+-- if the pairs `rows` of concept numbers encode `members`, lists of components by the numbers in `rows` are the lists
+-- by the identifiers in `members`
 pub members_told : (concepts : List ℕ) (count : ℕ) (rows members : List (ℕ × ℕ)) (lists : List (List ℕ))
     → IsStrictlyIncreasing concepts → count ≡ length concepts
-    → IsWithin (length concepts) rows → map (row_of_numbers concepts) rows ≡ members → lists ≡ lists_where count (is_child rows)
+    → IsWithin (length concepts) rows → map (row_of_numbers concepts) rows ≡ members
+    → lists ≡ lists_where count (is_child rows)
     → lists ≡ lists_where (length concepts) (λ refset component. is_child members (slice_index concepts refset)
     (slice_index concepts component))
 members_told concepts count rows members lists rises counted within named are =

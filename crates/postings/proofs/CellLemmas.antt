@@ -3,7 +3,8 @@ use Rattle.std.proofs.Common.{ℕ, ◌+◌, ◌-◌, ◌≡◌, ◌<◌, ◌++�
 use Rattle.std.proofs.Common.{get_or, map, take, drop, refl, sym, ap, arith, length-append}
 use Rattle.std.specs.Prelude.{All, slice_get, slice_index, slice_index_or}
 use Rattle.std.specs.List.{concat, filter, slice_range}
-use Rattle.std.proofs.lemmas.List.{drop-map, drop_at, drop_more, get_or-map, length-map, take-append-drop, take-map, take_at}
+use Rattle.std.proofs.lemmas.List.{drop-map, drop_at, drop_more, get_or-map, length-map, take-append-drop, take-map}
+use Rattle.std.proofs.lemmas.List.{take_at}
 use Rattle.std.proofs.lemmas.List.Elements.{All-map, All-same, All-tail}
 use Rattle.rf2_rows.specs.Release.{Attribute, Value, concept_value}
 use Rattle.number_lists.specs.KeyedLists.{list_of}
@@ -18,35 +19,38 @@ use Rattle.postings.proofs.IndexLemmas.{rows_of_entries}
 use Rattle.postings.proofs.PlaceLemmas.{places_where-map, places_where-within, rows_at_places}
 
 -- ---- the part of a key
--- the items of all lists from the end of the lists before `k` to the end of list `k` are list `k`
+-- in the joined `lists`, list `k` is the slice from the total length of the lists before it to the total length
+-- including it
 pub span_list : (lists : List (List ℕ)) (k : ℕ) → k < length lists
-    → slice_range (concat lists) (length (concat (take k lists))) (length (concat (take (k + 1) lists))) ≡ list_of lists k
+    → slice_range (concat lists) (length (concat (take k lists))) (length (concat (take (k + 1) lists)))
+    ≡ list_of lists k
 span_list lists k within =
     let before = concat (take k lists) in
     let list = get_or lists k [] in
-    let behind = concat (drop (k + 1) lists) in
+    let following = concat (drop (k + 1) lists) in
     let count = length (concat (take (k + 1) lists)) - length before in
-    let whole : concat lists ≡ before ++ (list ++ behind) =
+    let whole : concat lists ≡ before ++ (list ++ following) =
     ap concat (sym (take-append-drop k lists)) ∙ concat-append (take k lists) (drop k lists)
     ∙ ap (λ (rest : List (List ℕ)). before ++ concat rest) (drop_more lists k [] within) in
     let long : length list ≡ count =
     omega (arith, ap (λ (xs : List ℕ). length xs) (concat-take_more lists k within), length-append before list) in
     ap (λ (xs : List ℕ). slice_range xs (length before) (length (concat (take (k + 1) lists)))) whole
-    ∙ ap (λ (xs : List ℕ). take count xs) (drop_at before (list ++ behind) (length before) refl)
-    ∙ take_at list behind count long
+    ∙ ap (λ (xs : List ℕ). take count xs) (drop_at before (list ++ following) (length before) refl)
+    ∙ take_at list following count long
 
 -- a part of `map f xs` is `map f` of that part of `xs`
-range_map : {X Y : Type 0} (f : X → Y) (xs : List X) (from to : ℕ) → slice_range (map f xs) from to ≡ map f (slice_range xs from to)
+range_map : {X Y : Type 0} (f : X → Y) (xs : List X) (from to : ℕ)
+    → slice_range (map f xs) from to ≡ map f (slice_range xs from to)
 range_map f xs from to = ap (take (to - from)) (drop-map f from xs) ∙ take-map f (to - from) (drop from xs)
 
--- the cells of a key in a column made by `f` are `f` of the items of its list
+-- if a column has `f` of each item of the joined `lists`, its cells for key `k` are `f` of the items of list `k`
 pub cells_list : {X : Type 0} (lists : List (List ℕ)) (f : ℕ → X) (k : ℕ) → k < length lists
     → cells_of lists (map f (concat lists)) k ≡ map f (list_of lists k)
 cells_list lists f k within =
     range_map f (concat lists) (length (concat (take k lists))) (length (concat (take (k + 1) lists)))
     ∙ ap (map f) (span_list lists k within)
 
--- a column with a cell for each place is as long as all lists
+-- a column with one cell for each item of the joined `lists` is as long as these
 pub long_cells : {X : Type 0} (lists : List (List ℕ)) (marks cells : List X)
     → IsColumn marks (concat lists) cells
     → (d : X) → length cells ≡ length (concat lists)
@@ -54,8 +58,9 @@ long_cells {X} lists marks cells are d =
     ap (λ (xs : List X). length xs) (are d) ∙ length-map (concat lists) (λ place. slice_index_or marks place d)
 
 -- ---- columns at some places
--- two columns that agree on all items agree on the items at `places`
-pub restricted : {X E A : Type 0} (g : X → A) (h : E → A) (marks : List X) (entries : List E) → map g marks ≡ map h entries
+-- if `g` of each mark equals `h` of the entry at the same place, this holds also for the marks and entries at `places`
+pub restricted : {X E A : Type 0} (g : X → A) (h : E → A) (marks : List X) (entries : List E)
+    → map g marks ≡ map h entries
     → (places : List ℕ) → All (λ place. place < length marks) places → (d : X) (e : E)
     → map g (map (λ place. get_or marks place d) places) ≡ map h (map (λ place. get_or entries place e) places)
 restricted g h marks entries same [] within d e = refl
@@ -67,10 +72,11 @@ restricted {X} {E} {A} g h marks entries same (place ∷ places) within d e =
     sym (get_or-map g marks place d (g d) there)
     ∙ ap (λ (xs : List A). get_or xs place (g d)) same
     ∙ get_or-map h entries place e (g d) (omega (arith, there, long)) in
-    let rest = restricted g h marks entries same places (All-tail (λ place. place < length marks) place places within) d e in
+    let rest = restricted g h marks entries same places (All-tail (λ place. place < length marks) place places within) d
+    e in
     λ i. here i ∷ rest i
 
--- a property of all items holds of the items at `places`
+-- a property of all of `marks` holds for those at `places`
 pub all_at : {X : Type 0} (P : X → Type 0) (marks : List X) → All P marks → (places : List ℕ)
     → All (λ place. place < length marks) places → (d : X)
     → All P (map (λ place. get_or marks place d) places)
@@ -91,10 +97,12 @@ module _ (rows : List Attribute) (test : Attribute → Bool) (lists : List (List
   -- the entries at the places of the rows that pass are those whose rows pass
   entries_there : (e : Entry) → map (λ place. get_or (entries_of rows) place e) (places_where test rows)
       ≡ filter passes (entries_of rows)
-  entries_there e = ap (map (λ place. get_or (entries_of rows) place e)) (sym entry_places) ∙ rows_at_places passes (entries_of rows) e
+  entries_there e = ap (map (λ place. get_or (entries_of rows) place e)) (sym entry_places)
+      ∙ rows_at_places passes (entries_of rows) e
 
   -- the cells of the key are the items at the places of the rows that pass
-  cells_there : {X : Type 0} (marks cells : List X) (d : X) → cells ≡ map (λ place. slice_index_or marks place d) (concat lists)
+  cells_there : {X : Type 0} (marks cells : List X) (d : X)
+      → cells ≡ map (λ place. slice_index_or marks place d) (concat lists)
       → cells_of lists cells k ≡ map (λ place. get_or marks place d) (places_where test rows)
   cells_there {X} marks cells d are =
       ap (λ (xs : List X). cells_of lists xs k) are
@@ -127,7 +135,8 @@ module _ (rows : List Attribute) (test : Attribute → Bool) (lists : List (List
   a_mark = record { number = 0; is_first = true }
 
   -- if a column tells something of each entry, its cells of the key tell that of the entries whose rows pass
-  said : {X A : Type 0} (g : X → A) (h : Entry → A) (marks cells : List X) (d : X) → map g marks ≡ map h (entries_of rows)
+  said : {X A : Type 0} (g : X → A) (h : Entry → A) (marks cells : List X) (d : X)
+      → map g marks ≡ map h (entries_of rows)
       → cells ≡ map (λ place. slice_index_or marks place d) (concat lists)
       → map g (cells_of lists cells k) ≡ map h (filter passes (entries_of rows))
   said g h marks cells d same are =
@@ -138,33 +147,41 @@ module _ (rows : List Attribute) (test : Attribute → Bool) (lists : List (List
   -- a property of all items of a column holds of its cells of the key
   kept : {X A : Type 0} (P : X → Type 0) (g : X → A) (h : Entry → A) (marks cells : List X) (d : X)
       → map g marks ≡ map h (entries_of rows)
-      → cells ≡ map (λ place. slice_index_or marks place d) (concat lists) → All P marks → All P (cells_of lists cells k)
+      → cells ≡ map (λ place. slice_index_or marks place d) (concat lists) → All P marks
+      → All P (cells_of lists cells k)
   kept P g h marks cells d same are holds =
-      All-same P (cells_of lists cells k) (map (λ place. get_or marks place d) (places_where test rows)) (cells_there marks cells d are)
+      All-same P (cells_of lists cells k) (map (λ place. get_or marks place d) (places_where test rows))
+      (cells_there marks cells d are)
       (all_at P marks holds (places_where test rows) (places_there g h marks same) d)
 
-  -- if a column has the sources of all rows, its cells of the key have those of the rows that pass
+  -- list `k` has the places of the rows that pass `test`. If `marks` has the sources of all rows, then the cells of key
+  -- `k` in a column made from `marks` are the sources of the rows that pass
   pub sources_at : (concepts : List ℕ) (marks cells : List Flagged) → AreSources concepts (entries_of rows) marks
       → IsColumn marks (concat lists) cells
       → AreSources concepts (filter (λ (entry : Entry). test entry.row) (entries_of rows)) (cells_of lists cells k)
   sources_at concepts marks cells are column =
       let source : Flagged → ℕ = λ (mark : Flagged). slice_index concepts mark.number in
       record {
-        within = kept (λ (mark : Flagged). mark.number < length concepts) source (λ (entry : Entry). entry.row.source) marks cells a_mark
+        within = kept (λ (mark : Flagged). mark.number < length concepts) source (λ (entry : Entry). entry.row.source)
+            marks cells a_mark
             are.sources (column a_mark) are.within;
         sources = said source (λ (entry : Entry). entry.row.source) marks cells a_mark are.sources (column a_mark);
-        firsts = said (λ (mark : Flagged). mark.is_first) (λ (entry : Entry). entry.is_first) marks cells a_mark are.firsts (column a_mark);
+        firsts = said (λ (mark : Flagged). mark.is_first) (λ (entry : Entry). entry.is_first) marks cells a_mark
+            are.firsts (column a_mark);
       }
 
-  -- if a column has the groups of all rows, its cells of the key have those of the rows that pass
+  -- list `k` has the places of the rows that pass `test`. If `marks` has the groups of all rows, then the cells of key
+  -- `k` in a column made from `marks` are the groups of the rows that pass
   pub groups_at : (groups : List ConceptGroup) (marks cells : List Flagged) → AreGroups groups (entries_of rows) marks
       → IsColumn marks (concat lists) cells
       → AreGroups groups (filter (λ (entry : Entry). test entry.row) (entries_of rows)) (cells_of lists cells k)
   groups_at groups marks cells are column =
       record {
-        groups = said (λ (mark : Flagged). slice_get groups mark.number) (λ (entry : Entry). Some (group_of entry.row)) marks cells a_mark
+        groups = said (λ (mark : Flagged). slice_get groups mark.number) (λ (entry : Entry). Some (group_of entry.row))
+            marks cells a_mark
             are.groups (column a_mark);
-        firsts = said (λ (mark : Flagged). mark.is_first) (λ (entry : Entry). entry.is_first_in_group) marks cells a_mark are.firsts
+        firsts = said (λ (mark : Flagged). mark.is_first) (λ (entry : Entry). entry.is_first_in_group) marks cells
+            a_mark are.firsts
             (column a_mark);
       }
 
@@ -180,18 +197,22 @@ module _ (rows : List Attribute) (test : Attribute → Bool) (lists : List (List
     said tell field numbers cells 0 told (column 0),
   )
 
-  -- if a column has the values of all rows, its cells of the key have those of the rows that pass
+  -- list `k` has the places of the rows that pass `test`. If `numbers` has the values of all rows, then the cells of
+  -- key `k` in a column made from `numbers` are the values of the rows that pass
   pub values_at : (values : List Value) (numbers cells : List ℕ) → AreValues values (entries_of rows) numbers
       → IsColumn numbers (concat lists) cells
       → AreValues values (filter (λ (entry : Entry). test entry.row) (entries_of rows)) (cells_of lists cells k)
   values_at values numbers cells are column =
-      let here = numbers_at (length values) (value_at values) (λ entry. entry.row.value) numbers cells are.within are.values column in
+      let here = numbers_at (length values) (value_at values) (λ entry. entry.row.value) numbers cells are.within
+      are.values column in
       record { within = here.0; values = here.1 }
 
-  -- if a column has the types of all rows, its cells of the key have those of the rows that pass
+  -- list `k` has the places of the rows that pass `test`. If `numbers` has the types of all rows, then the cells of key
+  -- `k` in a column made from `numbers` are the types of the rows that pass
   pub types_at : (types : List ℕ) (numbers cells : List ℕ) → AreTypes types (entries_of rows) numbers
       → IsColumn numbers (concat lists) cells
       → AreTypes types (filter (λ (entry : Entry). test entry.row) (entries_of rows)) (cells_of lists cells k)
   types_at types numbers cells are column =
-      let here = numbers_at (length types) (slice_index types) (λ entry. entry.row.type_id) numbers cells are.within are.types column in
+      let here = numbers_at (length types) (slice_index types) (λ entry. entry.row.type_id) numbers cells are.within
+      are.types column in
       record { within = here.0; types = here.1 }

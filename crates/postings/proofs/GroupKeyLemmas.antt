@@ -1,4 +1,5 @@
--- The groups of coded rows are the groups of the rows that they stand for: their keys, their numbers, and the rows that each has.
+-- The groups of coded rows are the groups of the rows that they stand for: their keys, their numbers, and the rows that
+-- each has.
 use Rattle.std.proofs.Common.{ℕ, ◌+◌, ◌-◌, ◌==◌, ◌≡◌, ◌<◌, ◌++◌, ◌∙◌, not, List, length, get_or, map}
 use Rattle.std.proofs.Common.{Bool, true, false, cond, nat_eq, refl, sym, ap, arith, length-append}
 use Rattle.std.specs.Prelude.{Contains}
@@ -15,7 +16,8 @@ use Rattle.number_lists.proofs.WhereLemmas.{numbers_where-agree}
 use Rattle.number_lists.specs.RisingOrder.{rising}
 use Rattle.number_lists.proofs.ListLemmas.{both_ways, some_item_passes}
 use Rattle.number_lists.proofs.MemberLemmas.{contains_had, had_contained}
-use Rattle.postings.specs.inside.Coded.{code_eq, group_codes, ungrouped_pairs, numbers_of_groups, pair_code, place_in_source, row_coded}
+use Rattle.postings.specs.inside.Coded.{code_eq, group_codes, ungrouped_pairs, numbers_of_groups, pair_code}
+use Rattle.postings.specs.inside.Coded.{place_in_source, row_coded}
 use Rattle.postings.specs.Groups.{GroupKey, key_of, numbered, ungrouped}
 use Rattle.postings.specs.Indexed.{value_at}
 use Rattle.postings.specs.declared.rows.CodedRow.{CodedRow}
@@ -25,7 +27,7 @@ use Rattle.postings.proofs.OnceLemmas.{distinct-keeps, position-within}
 use Rattle.postings.proofs.RisingLemmas.{rising_is_listed, some_bound}
 use Rattle.number_lists.proofs.RisingOrderLemmas.{has-rising}
 
--- a list has the same members in rising order if its repeats are removed first
+-- bringing `numbers` into rising order, each once, gives the same if repeats are removed first
 pub rising_distinct : (numbers : List ℕ) → rising (distinct nat_eq numbers) ≡ rising numbers
 rising_distinct numbers =
     let bound = some_bound numbers in
@@ -33,8 +35,10 @@ rising_distinct numbers =
     rising_is_listed bound.0 (distinct nat_eq numbers) low
     ∙ numbers_where-agree bound.0 (has (distinct nat_eq numbers)) (has numbers)
     (λ number less. both_ways (has (distinct nat_eq numbers) number) (has numbers number)
-    (λ told. had_contained numbers number (((keeps_each_number_once numbers).1 number).0 (contains_had (distinct nat_eq numbers) number told)))
-    (λ told. had_contained (distinct nat_eq numbers) number (((keeps_each_number_once numbers).1 number).1 (contains_had numbers number told))))
+    (λ told. had_contained numbers number (((keeps_each_number_once numbers).1 number).0
+    (contains_had (distinct nat_eq numbers) number told)))
+    (λ told. had_contained (distinct nat_eq numbers) number
+    (((keeps_each_number_once numbers).1 number).1 (contains_had numbers number told))))
     ∙ sym (rising_is_listed bound.0 numbers bound.1)
 
 -- two pairs of numbers that `code_eq` finds the same are equal
@@ -52,15 +56,18 @@ code_itself one = and_from (one.0 == one.0) (one.1 == one.1) (eq-eqb one.0 one.0
 -- a row with a group number has it among the numbers of its source
 number_place : (rows : List CodedRow) (row : CodedRow) → Contains rows row → (row.group == 0) ≡ false
     → (position_or_len (λ group. row.group == group) (numbers_of_groups rows) < length (numbers_of_groups rows))
-    × (get_or (numbers_of_groups rows) (position_or_len (λ group. row.group == group) (numbers_of_groups rows)) 0 ≡ row.group)
+    × (get_or (numbers_of_groups rows) (position_or_len (λ group. row.group == group) (numbers_of_groups rows)) 0
+    ≡ row.group)
 number_place rows row there some =
     let numbers = filter (λ group. not (group == 0)) (map (λ (row : CodedRow). row.group) rows) in
-    let among : Contains numbers row.group = Contains-filter (λ group. not (group == 0)) (map (λ (row : CodedRow). row.group) rows)
+    let among : Contains numbers row.group =
+    Contains-filter (λ group. not (group == 0)) (map (λ (row : CodedRow). row.group) rows)
     row.group (ap not some) (Contains-map (λ (row : CodedRow). row.group) rows row there) in
     let listed : has (numbers_of_groups rows) row.group ≡ true =
     has-rising numbers row.group ∙ had_contained numbers row.group among in
     let found : list_any (λ group. row.group == group) (numbers_of_groups rows) ≡ true =
-    some_item_passes (λ group. row.group == group) (numbers_of_groups rows) row.group (contains_had (numbers_of_groups rows) row.group listed)
+    some_item_passes (λ group. row.group == group) (numbers_of_groups rows) row.group
+    (contains_had (numbers_of_groups rows) row.group listed)
     (eq-eqb row.group row.group refl) in
     let within = position-within (λ group. row.group == group) (numbers_of_groups rows) found in (
       within,
@@ -72,14 +79,17 @@ number_place rows row there some =
 -- a row without a group number has its pair among the pairs of its source that have none
 pair_place : (rows : List CodedRow) (row : CodedRow) → Contains rows row → (row.group == 0) ≡ true
     → (position_or_len (code_eq (pair_code row)) (ungrouped_pairs rows) < length (ungrouped_pairs rows))
-    × (get_or (ungrouped_pairs rows) (position_or_len (code_eq (pair_code row)) (ungrouped_pairs rows)) (0, 0) ≡ pair_code row)
+    × (get_or (ungrouped_pairs rows) (position_or_len (code_eq (pair_code row)) (ungrouped_pairs rows)) (0, 0)
+    ≡ pair_code row)
 pair_place rows row there none =
     let ungrouped_own = filter (λ (row : CodedRow). row.group == 0) rows in
     let among : Contains (ungrouped_pairs rows) (pair_code row) =
     distinct-keeps code_eq same_code (map pair_code ungrouped_own) (pair_code row)
-    (Contains-map pair_code ungrouped_own row (Contains-filter (λ (row : CodedRow). row.group == 0) rows row none there)) in
+    (Contains-map pair_code ungrouped_own row (Contains-filter (λ (row : CodedRow). row.group == 0) rows row none
+    there)) in
     let found : list_any (code_eq (pair_code row)) (ungrouped_pairs rows) ≡ true =
-    some_item_passes (code_eq (pair_code row)) (ungrouped_pairs rows) (pair_code row) among (code_itself (pair_code row)) in
+    some_item_passes (code_eq (pair_code row)) (ungrouped_pairs rows) (pair_code row) among
+    (code_itself (pair_code row)) in
     let within = position-within (code_eq (pair_code row)) (ungrouped_pairs rows) found in (
       within,
       sym (same_code (pair_code row) (get_or (ungrouped_pairs rows)
@@ -102,7 +112,8 @@ module _ (types : List ℕ) (values : List Value) where
   codes_with numbers pairs = map (λ group. (group, (0, 0))) numbers ++ map (λ (pair : ℕ × ℕ). (0, pair)) pairs
 
   -- there are as many keys as numbers and pairs
-  length-keys_with : (numbers : List ℕ) (pairs : List (ℕ × ℕ)) → length (keys_with numbers pairs) ≡ length numbers + length pairs
+  length-keys_with : (numbers : List ℕ) (pairs : List (ℕ × ℕ))
+      → length (keys_with numbers pairs) ≡ length numbers + length pairs
   length-keys_with numbers pairs =
       omega (
         arith,
@@ -118,7 +129,8 @@ module _ (types : List ℕ) (values : List Value) where
   length-codes_with numbers pairs =
       omega (
         arith,
-        length-append {A = ℕ × (ℕ × ℕ)} (map (λ group. (group, (0, 0))) numbers) (map (λ (pair : ℕ × ℕ). (0, pair)) pairs),
+        length-append {A = ℕ × (ℕ × ℕ)} (map (λ group. (group, (0, 0))) numbers)
+            (map (λ (pair : ℕ × ℕ). (0, pair)) pairs),
         length-map {B = ℕ × (ℕ × ℕ)} numbers (λ group. (group, (0, 0))),
         length-map {B = ℕ × (ℕ × ℕ)} pairs (λ (pair : ℕ × ℕ). (0, pair)),
       )
@@ -148,7 +160,8 @@ module _ (types : List ℕ) (values : List Value) where
           let p = position_or_len (code_eq (pair_code row)) pairs in
           let found = of_pair none in (
             omega (arith, found.0, length-keys_with numbers pairs),
-            λ d. get_or-append_right (map numbered numbers) (map ungrouped (map pair_at pairs)) (length numbers) (length numbers + p) d
+            λ d. get_or-append_right (map numbered numbers) (map ungrouped (map pair_at pairs)) (length numbers)
+                (length numbers + p) d
                 (length-map {B = GroupKey} numbers numbered) (omega arith)
                 ∙ ap (λ (n : ℕ). get_or (map ungrouped (map pair_at pairs)) n d) (past (length numbers) p)
                 ∙ get_or-map ungrouped (map pair_at pairs) p (pair_at (0, 0)) d
@@ -172,14 +185,17 @@ module _ (types : List ℕ) (values : List Value) where
   abbrev pub keys_coded : List CodedRow → List GroupKey
   keys_coded rows = keys_with (numbers_of_groups rows) (ungrouped_pairs rows)
 
-  -- the groups of a source have as many keys as codes
+  -- the rows of one source have as many group keys as group codes
   pub length-keys_coded : (rows : List CodedRow) → length (keys_coded rows) ≡ length (group_codes rows)
   length-keys_coded rows = length-keys_with (numbers_of_groups rows) (ungrouped_pairs rows)
       ∙ sym (length-codes_with (numbers_of_groups rows) (ungrouped_pairs rows))
 
-  -- the key of a row's group stands at the place of the group in its source
+  -- among the group keys of one source's `rows`, the key of the group of `row` is at the place of that group in its
+  -- source
   pub key_at_place : (concepts : List ℕ) (rows : List CodedRow) (row : CodedRow) → Contains rows row
       → (place_in_source rows row < length (keys_coded rows))
-      × ((d : GroupKey) → get_or (keys_coded rows) (place_in_source rows row) d ≡ key_of (row_coded concepts types values row))
-  key_at_place concepts rows row there = key_at concepts (numbers_of_groups rows) (ungrouped_pairs rows) row (number_place rows row there)
+      × ((d : GroupKey) → get_or (keys_coded rows) (place_in_source rows row) d
+      ≡ key_of (row_coded concepts types values row))
+  key_at_place concepts rows row there =
+      key_at concepts (numbers_of_groups rows) (ungrouped_pairs rows) row (number_place rows row there)
       (pair_place rows row there)

@@ -1,11 +1,13 @@
 -- Each group has a row.
-use Rattle.std.proofs.Common.{ℕ, ◌==◌, ◌≡◌, ◌<◌, ◌&&◌, ◌||◌, ◌∷◌, [], ◌∙◌, Bool, true, false, cond, not, List, length, get_or, map}
+use Rattle.std.proofs.Common.{ℕ, ◌==◌, ◌≡◌, ◌<◌, ◌&&◌, ◌||◌, ◌∷◌, [], ◌∙◌, Bool, true, false, cond, not, List, length}
+use Rattle.std.proofs.Common.{get_or, map}
 use Rattle.std.proofs.Common.{refl, sym, ap, arith}
 use Rattle.std.specs.Prelude.{All, Contains, nat_eq}
 use Rattle.std.specs.List.{filter, list_any}
 use Rattle.std.proofs.lemmas.Bool.{and_from, eq-eqb, true≢false}
 use Rattle.std.proofs.lemmas.List.{get_or-map}
-use Rattle.std.proofs.lemmas.List.Elements.{All-append, All-contains, All-contains_itself, All-filter, All-map, Contains-get_or, filter_passes}
+use Rattle.std.proofs.lemmas.List.Elements.{All-append, All-contains, All-contains_itself, All-filter, All-map}
+use Rattle.std.proofs.lemmas.List.Elements.{Contains-get_or, filter_passes}
 use Rattle.rf2_rows.specs.Groups.{group_numbers, pairs_in}
 use Rattle.rf2_rows.specs.Pairs.{pair_eq, pair_of, rows_of}
 use Rattle.rf2_rows.specs.Release.{Attribute, Release}
@@ -35,12 +37,14 @@ module _ (release : Release) (concept : ℕ) where
 
   -- the rows of the concept that pass a test have it as their source
   own_passes : (test : Attribute → Bool) → All (λ row. is_own row ≡ true) (filter test (rows_of release concept))
-  own_passes test = All-filter test (λ row. is_own row ≡ true) (rows_of release concept) (filter_passes is_own release.attributes)
+  own_passes test = All-filter test (λ row. is_own row ≡ true) (rows_of release concept)
+      (filter_passes is_own release.attributes)
 
   -- each group with a number has a row
   number_has : All (λ number. HasRow (numbered number)) (rising (group_numbers release concept))
   number_has k d below =
-      All-contains (λ number. HasRow (numbered number)) (group_numbers release concept) (get_or (rising (group_numbers release concept)) k d)
+      All-contains (λ number. HasRow (numbered number)) (group_numbers release concept)
+      (get_or (rising (group_numbers release concept)) k d)
       (All-distinct nat_eq (λ number. HasRow (numbered number)) numbers
       (All-filter (λ group. not (group == 0)) (λ number. HasRow (numbered number))
       (map (λ (row : Attribute). row.group) (rows_of release concept))
@@ -55,8 +59,10 @@ module _ (release : Release) (concept : ℕ) where
       each k d below =
           let row : Attribute = get_or (rows_of release concept) k d in
           some_item_passes (is_in_group (group_with concept (numbered row.group))) release.attributes row
-          ((All-filter is_own (Contains release.attributes) release.attributes (All-contains_itself release.attributes)) k d below)
-          (and_from (is_own row) (row.group == row.group) (filter_passes is_own release.attributes k d below) (eq-eqb row.group row.group refl))
+          ((All-filter is_own (Contains release.attributes) release.attributes (All-contains_itself release.attributes))
+          k d below)
+          (and_from (is_own row) (row.group == row.group) (filter_passes is_own release.attributes k d below)
+          (eq-eqb row.group row.group refl))
 
   -- each group of a pair has a row
   pair_has : All (λ pair. HasRow (ungrouped pair)) (pairs_in release concept 0)
@@ -73,23 +79,28 @@ module _ (release : Release) (concept : ℕ) where
           some_item_passes (is_in_group (group_with concept (ungrouped (pair_of row)))) release.attributes row
           (own_there alone k d below)
           (and_from (is_own row) (alone row && pair_eq (pair_of row) (pair_of row)) (own_passes alone k d below)
-          (and_from (alone row) (pair_eq (pair_of row) (pair_of row)) (filter_passes alone (rows_of release concept) k d below)
+          (and_from (alone row) (pair_eq (pair_of row) (pair_of row))
+          (filter_passes alone (rows_of release concept) k d below)
           ((tells_same_pair (pair_of row) (pair_of row)).1 refl)))
 
   -- each group of the concept has a row
   keys_have : All HasRow (keys_of release concept)
   keys_have =
-      All-append HasRow (map numbered (rising (group_numbers release concept))) (map ungrouped (pairs_in release concept 0))
+      All-append HasRow (map numbered (rising (group_numbers release concept)))
+      (map ungrouped (pairs_in release concept 0))
       (All-map HasRow numbered (rising (group_numbers release concept)) number_has)
       (All-map HasRow ungrouped (pairs_in release concept 0) pair_has)
 
 -- ---- the groups of some concepts
--- each group of `concepts` has a row
+-- each group of `concepts` contains at least one attribute row of the release
 pub groups_have : (release : Release) (concepts : List ℕ)
-    → All (λ (group : ConceptGroup). list_any (is_in_group group) release.attributes ≡ true) (groups_among release concepts)
+    → All (λ (group : ConceptGroup). list_any (is_in_group group) release.attributes ≡ true)
+    (groups_among release concepts)
 groups_have release concepts =
-    All-flat_map (λ (group : ConceptGroup). list_any (is_in_group group) release.attributes ≡ true) (groups_at release) concepts
-    (λ concept there. All-map (λ (group : ConceptGroup). list_any (is_in_group group) release.attributes ≡ true) (group_with concept)
+    All-flat_map (λ (group : ConceptGroup). list_any (is_in_group group) release.attributes ≡ true) (groups_at release)
+    concepts
+    (λ concept there. All-map (λ (group : ConceptGroup). list_any (is_in_group group) release.attributes ≡ true)
+    (group_with concept)
     (keys_of release concept) (keys_have release concept))
 
 -- ---- the first row that passes a test
@@ -97,20 +108,21 @@ some_left : {X : Type 0} (test : X → Bool) (xs : List X) → list_any test xs 
 some_left test [] any = absurd (true≢false (sym any))
 some_left test (x ∷ xs) any = by (test x) refl (λ later. some_left test xs later)
   where
-    by : (b : Bool) → test x ≡ b → (list_any test xs ≡ true → 0 < length (filter test xs)) → 0 < length (cond b (x ∷ filter test xs) (filter test xs))
+    by : (b : Bool) → test x ≡ b → (list_any test xs ≡ true → 0 < length (filter test xs))
+        → 0 < length (cond b (x ∷ filter test xs) (filter test xs))
     by true is rest = omega arith
     by false is rest = rest (ap (λ (b : Bool). b || list_any test xs) (sym is) ∙ any)
 
 module _ {X : Type 0} (test : X → Bool) (xs : List X) (any : list_any test xs ≡ true) where
-  -- if an item passes, there is a place of one that does
+  -- if an item passes, the list of places of passing items is not empty
   pub some_place : 0 < length (places_where test xs)
   some_place = omega (arith, length-places_from test 0 xs, some_left test xs any)
 
-  -- if an item passes, the place of the first that does is in the list
+  -- if an item passes, the first place of a passing item is below the length of the list
   pub first_within : (d : ℕ) → get_or (places_where test xs) 0 d < length xs
   first_within d = places_where-within test xs 0 d some_place
 
-  -- if an item passes, the item at the first place passes
+  -- if an item passes, the item at the first place of a passing item passes
   pub first_passes : (d : ℕ) (x : X) → test (get_or xs (get_or (places_where test xs) 0 d) x) ≡ true
   first_passes d x =
       ap test (sym (get_or-map (λ place. get_or xs place x) (places_where test xs) 0 d x some_place)

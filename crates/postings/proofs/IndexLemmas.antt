@@ -1,6 +1,7 @@
 -- What the look-ups of the indexes find.
 use Rattle.std.proofs.Common.{ℕ, zero, suc, ◌+◌, ◌==◌, ◌≡◌, ◌≤◌, ◌<◌, ◌||◌, ◌∷◌, ◌++◌, []}
-use Rattle.std.proofs.Common.{◌∙◌, Bool, true, false, cond, List, Option, Some, None, length, get_or, map, nat_eq, not, refl, sym, ap}
+use Rattle.std.proofs.Common.{◌∙◌, Bool, true, false, cond, List, Option, Some, None, length, get_or, map, nat_eq, not}
+use Rattle.std.proofs.Common.{refl, sym, ap}
 use Rattle.std.proofs.Common.{arith, zero-add}
 use Rattle.std.specs.List.{filter, list_any, position, range_with_len, slice_get}
 use Rattle.std.specs.Prelude.{IfSome}
@@ -20,12 +21,13 @@ use Rattle.postings.specs.Places.{places_from, places_where}
 use Rattle.postings.proofs.DistinctLemmas.{length-distinct}
 
 -- ---- lists by numbers
--- the list of a key below `count` is there, and is what `give` gives for the key
+-- if `lists` has `give` of each key below `count`, the list of such a key exists and is `give key`
 pub list_at : (lists : List (List ℕ)) (give : ℕ → List ℕ) (count key : ℕ) → lists ≡ map give (range_with_len 0 count)
     → key < count → (key < length lists) × (list_of lists key ≡ give key)
 list_at lists give count key is below = (
   omega (arith, below, ap (λ (all : List (List ℕ)). length all) is, length-map-range_with_len give 0 count),
-  ap (λ (all : List (List ℕ)). list_of all key) is ∙ get_or-map-range_with_len give 0 count key key [] below (zero-add key),
+  ap (λ (all : List (List ℕ)). list_of all key) is
+      ∙ get_or-map-range_with_len give 0 count key key [] below (zero-add key),
 )
 
 -- ---- types that no row has
@@ -66,11 +68,11 @@ module _ (rows : List Attribute) (id : ℕ) (none : list_any (nat_eq id) (types_
   missing : list_any (nat_eq id) (types_in rows) ≡ false
   missing = sym (any_distinct nat_eq nat_eq_equiv id (types_in rows)) ∙ none
 
-  -- no row has a type that is none of the types of the rows
+  -- if `id` is not among the types of `rows`, no row has this type
   pub none_by_type : places_where (λ (row : Attribute). row.type_id == id) rows ≡ []
   none_by_type = no_places id 0 rows missing
 
-  -- no entry has a type that is none of the types of the rows
+  -- if `id` is not among the types of `rows`, no entry has this type
   pub none_with_type : entries_with_type rows id ≡ []
   none_with_type = no_entries id [] rows missing
 
@@ -80,20 +82,25 @@ module _ (keys : List ℕ) (rows : List Attribute) (id type_place : ℕ) (all : 
   told : (type_place < length keys) × (nat_eq id (get_or keys type_place 0) ≡ true)
   told = let first = position-Some (nat_eq id) keys type_place 0 found in (first.0, first.1)
 
-  -- the place found for a type is one in the list of types
+  -- the place that is found for a type is below the number of types
   pub type_place_below : type_place < length (types_of rows)
   type_place_below = omega (arith, told.0, ap (λ (xs : List ℕ). length xs) all)
 
-  -- the type at the place found for a type is that type
+  -- the type at the place that is found for `id` is `id`
   pub type_there : get_or (types_of rows) type_place 0 ≡ id
   type_there = (λ i. get_or (sym all i) type_place 0) ∙ sym (eqb-true id (get_or keys type_place 0) told.1)
 
--- there are no more types than rows
+-- there are at most as many distinct types as rows
 pub few_types : (rows : List Attribute) → length (types_of rows) ≤ length rows
-few_types rows = omega (arith, length-distinct nat_eq (types_in rows), length-map rows (λ (row : Attribute). row.type_id))
+few_types rows = omega (
+  arith,
+  length-distinct nat_eq (types_in rows),
+  length-map rows
+      (λ (row : Attribute). row.type_id),
+)
 
 -- ---- items by their places
--- if an item stands at place `n`, `slice_get` finds one, and what holds of the item holds of it
+-- if `n` is below the length of `xs`, `slice_get` finds item `n`, which has each property that item `n` has
 pub if_there : {X : Type 0} (xs : List X) (n : ℕ) → n < length xs → (P : X → Type 0) → ((d : X) → P (get_or xs n d))
     → IfSome (slice_get xs n) P
 if_there [] n within P holds = absurd (omega (arith, within))
@@ -105,13 +112,16 @@ length-entries_after : (before rows : List Attribute) → length (entries_after 
 length-entries_after before [] = refl
 length-entries_after before (row ∷ rows) = ap suc (length-entries_after (before ++ row ∷ []) rows)
 
--- the rows of the entries are the rows that they are made of
-pub rows_of_entries : (before rows : List Attribute) → map (λ (entry : Entry). entry.row) (entries_after before rows) ≡ rows
+-- the rows of the entries of `rows` are `rows`
+pub rows_of_entries : (before rows : List Attribute) → map (λ (entry : Entry). entry.row) (entries_after before rows)
+    ≡ rows
 rows_of_entries before [] = refl
-rows_of_entries before (row ∷ rows) = ap (λ (rest : List Attribute). row ∷ rest) (rows_of_entries (before ++ row ∷ []) rows)
+rows_of_entries before (row ∷ rows) =
+    ap (λ (rest : List Attribute). row ∷ rest) (rows_of_entries (before ++ row ∷ []) rows)
 
-module _ (groups : List ConceptGroup) (rows : List Attribute) (marks : List Flagged) (are : AreGroups groups (entries_of rows) marks) where
-  -- there is a mark with the group for each row
+module _ (groups : List ConceptGroup) (rows : List Attribute) (marks : List Flagged)
+    (are : AreGroups groups (entries_of rows) marks) where
+  -- a column of groups has one mark for each row
   pub length-groups : length marks ≡ length rows
   length-groups =
       sym (length-map marks (λ (mark : Flagged). slice_get groups mark.number))
@@ -119,22 +129,25 @@ module _ (groups : List ConceptGroup) (rows : List Attribute) (marks : List Flag
       ∙ length-map (entries_of rows) (λ (entry : Entry). Some (group_of entry.row))
       ∙ length-entries_after [] rows
 
-  -- the mark of a row leads to the group of the row
+  -- in a column of groups, the mark of row `n` has the number of that row's group
   pub group_at : (n : ℕ) (row : Attribute) (mark : Flagged) → n < length rows
       → slice_get groups (get_or marks n mark).number ≡ Some (group_of (get_or rows n row))
   group_at n row mark within =
       let entry : Entry = record { row = row; is_first = true; is_first_in_group = true } in
       let entries = entries_of rows in
-      sym (get_or-map (λ (mark : Flagged). slice_get groups mark.number) marks n mark None (omega (arith, within, length-groups)))
+      sym (get_or-map (λ (mark : Flagged). slice_get groups mark.number) marks n mark None
+      (omega (arith, within, length-groups)))
       ∙ ap (λ (xs : List (Option ConceptGroup)). get_or xs n None) are.groups
       ∙ get_or-map (λ (entry : Entry). Some (group_of entry.row)) entries n entry None
       (omega (arith, within, length-entries_after [] rows))
       ∙ ap (λ (found : Attribute). Some (group_of found))
-      (sym (get_or-map (λ (entry : Entry). entry.row) entries n entry row (omega (arith, within, length-entries_after [] rows)))
+      (sym (get_or-map (λ (entry : Entry). entry.row) entries n entry row
+      (omega (arith, within, length-entries_after [] rows)))
       ∙ ap (λ (xs : List Attribute). get_or xs n row) (rows_of_entries [] rows))
 
--- there is a mark with the source for each row
-pub length-sources : (concepts : List ℕ) (rows : List Attribute) (marks : List Flagged) → AreSources concepts (entries_of rows) marks
+-- a column of sources has one mark for each row
+pub length-sources : (concepts : List ℕ) (rows : List Attribute) (marks : List Flagged)
+    → AreSources concepts (entries_of rows) marks
     → length marks ≡ length rows
 length-sources concepts rows marks are =
     sym (length-map marks (λ (mark : Flagged). mark.is_first))

@@ -5,7 +5,8 @@ use Rattle.std.specs.Prelude.{All, Contains}
 use Rattle.std.specs.List.{filter}
 use Rattle.std.specs.List.Sorted.{IsStrictlyIncreasing}
 use Rattle.std.proofs.lemmas.Bool.{and_from, and_parts, eq-eqb, eqb-true, not-true}
-use Rattle.std.proofs.lemmas.List.Elements.{All-append, All-contains, All-map, All-weaker, Contains-get_or, filter_passes}
+use Rattle.std.proofs.lemmas.List.Elements.{All-append, All-contains, All-map, All-weaker, Contains-get_or}
+use Rattle.std.proofs.lemmas.List.Elements.{filter_passes}
 use Rattle.std.proofs.lemmas.List.Kept.{AllPairs-from_increasing}
 use Rattle.std.proofs.lemmas.Map.Keys.{apart_from_distinct}
 use Rattle.rf2_rows.specs.Groups.{group_numbers, pairs_in}
@@ -16,7 +17,8 @@ use Rattle.rf2_rows.proofs.PairLemmas.{keeps_each_pair_once, tells_same_pair}
 use Rattle.number_lists.specs.RisingOrder.{rising}
 use Rattle.number_lists.proofs.RisingOrderLemmas.{keeps_rising}
 use Rattle.number_lists.proofs.PlaceLemmas.{place_of, place_of-get_or}
-use Rattle.postings.specs.Groups.{ConceptGroup, GroupKey, all_groups, group_of, groups_among, has_key, is_in_group, key_of, keys_of}
+use Rattle.postings.specs.Groups.{ConceptGroup, GroupKey, all_groups, group_of, groups_among, has_key, is_in_group}
+use Rattle.postings.specs.Groups.{key_of, keys_of}
 use Rattle.postings.specs.Groups.{numbered, ungrouped}
 use Rattle.number_lists.proofs.BlockLemmas.{All-flat_map, blocks_by_place}
 use Rattle.postings.proofs.OnceLemmas.{AllPairs-append, AllPairs-blocks, AllPairs-map}
@@ -49,28 +51,32 @@ none_numbered : (pairs : List Pair) → All (λ key. is_numbered key ≡ false) 
 unfolding is_numbered
 none_numbered pairs = All-map (λ key. is_numbered key ≡ false) ungrouped pairs (λ k d below. refl)
 
--- no key of a concept stands twice
+-- the list of the group keys of a concept has no repeats
 pub keys_once : (release : Release) (concept : ℕ) → IsOnce (keys_of release concept)
 keys_once release concept =
-    AllPairs-append (λ x y. x ≢ y) (map numbered (rising (group_numbers release concept))) (map ungrouped (pairs_in release concept 0))
+    AllPairs-append (λ x y. x ≢ y) (map numbered (rising (group_numbers release concept)))
+    (map ungrouped (pairs_in release concept 0))
     (AllPairs-map (λ x y. x < y) (λ x y. x ≢ y) numbered (λ x y less same. let is : x ≡ y = cc in absurd (omega arith))
     (rising (group_numbers release concept))
-    (AllPairs-from_increasing (rising (group_numbers release concept)) (keeps_rising (group_numbers release concept)).0))
+    (AllPairs-from_increasing (rising (group_numbers release concept))
+    (keeps_rising (group_numbers release concept)).0))
     (AllPairs-map (λ x y. pair_eq x y ≡ false) (λ x y. x ≢ y) ungrouped
-    (λ x y apart same. let is : x ≡ y = cc in absurd (cc (apart, (tells_same_pair x y).1 is))) (pairs_in release concept 0)
+    (λ x y apart same. let is : x ≡ y = cc in absurd (cc (apart, (tells_same_pair x y).1 is)))
+    (pairs_in release concept 0)
     (λ i j d less below. apart_from_distinct pair_eq (pairs_in release concept 0) i j d
     (keeps_each_pair_once (map pair_of (filter (λ row. row.group == 0) (rows_of release concept)))).0 less below))
     (λ x there. All-weaker (λ y. is_numbered y ≡ false) (λ y. x ≢ y)
     (λ y is same. absurd (cc (all_numbered (rising (group_numbers release concept)) x there, is, ap is_numbered same)))
     (map ungrouped (pairs_in release concept 0)) (none_numbered (pairs_in release concept 0)))
 
--- no group of a release stands twice
+-- if the concepts of a release rise strictly, its list of all groups has no repeats
 pub groups_once : (release : Release) → IsStrictlyIncreasing release.concepts → IsOnce (all_groups release)
 groups_once release increases =
     subst IsOnce (sym (blocks_by_place (groups_at release) release.concepts 0))
     (AllPairs-blocks (λ x y. x ≢ y) (λ k. groups_at release (id k)) 0 (length release.concepts)
     (λ k below. AllPairs-map (λ x y. x ≢ y) (λ x y. x ≢ y) (group_with (id k))
-    (λ x y apart same. apart (ap (λ (group : ConceptGroup). group.key) same)) (keys_of release (id k)) (keys_once release (id k)))
+    (λ x y apart same. apart (ap (λ (group : ConceptGroup). group.key) same)) (keys_of release (id k))
+    (keys_once release (id k)))
     (λ k l less below x there. All-weaker (λ (y : ConceptGroup). y.concept ≡ id l) (λ y. x ≢ y)
     (λ y is same. absurd (distinct_places k l less (omega arith)
     (sym (of_concept k x there) ∙ ap (λ (group : ConceptGroup). group.concept) same ∙ is)))
@@ -80,14 +86,17 @@ groups_once release increases =
     id k = get_or release.concepts k 0
 
     all_of : (k : ℕ) → All (λ (group : ConceptGroup). group.concept ≡ id k) (groups_at release (id k))
-    all_of k = All-map (λ (group : ConceptGroup). group.concept ≡ id k) (group_with (id k)) (keys_of release (id k)) (λ j d below. refl)
+    all_of k = All-map (λ (group : ConceptGroup). group.concept ≡ id k) (group_with (id k)) (keys_of release (id k))
+        (λ j d below. refl)
 
     of_concept : (k : ℕ) (x : ConceptGroup) → Contains (groups_at release (id k)) x → x.concept ≡ id k
-    of_concept k x there = All-contains (λ (group : ConceptGroup). group.concept ≡ id k) (groups_at release (id k)) x (all_of k) there
+    of_concept k x there = All-contains (λ (group : ConceptGroup). group.concept ≡ id k) (groups_at release (id k)) x
+        (all_of k) there
 
     distinct_places : (k l : ℕ) → k < l → l < length release.concepts → id k ≢ id l
     distinct_places k l less below same =
-        let is : k ≡ l = sym (place_of-get_or release.concepts increases k (omega arith)) ∙ ap (place_of release.concepts) same
+        let is : k ≡ l = sym (place_of-get_or release.concepts increases k (omega arith))
+        ∙ ap (place_of release.concepts) same
         ∙ place_of-get_or release.concepts increases l below in
         omega arith
 
@@ -97,10 +106,11 @@ abbrev pub IsTold : GroupKey → Type 0
 IsTold (numbered number) = (number == 0) ≡ false
 IsTold (ungrouped pair) = Unit {0}
 
--- the numbers of the keys of a concept are not 0
+-- no group key of a concept has the group number 0
 pub keys_told : (release : Release) (concept : ℕ) → All IsTold (keys_of release concept)
 keys_told release concept =
-    All-append IsTold (map numbered (rising (group_numbers release concept))) (map ungrouped (pairs_in release concept 0))
+    All-append IsTold (map numbered (rising (group_numbers release concept)))
+    (map ungrouped (pairs_in release concept 0))
     (All-map IsTold numbered (rising (group_numbers release concept))
     (λ k d below. number (get_or (rising (group_numbers release concept)) k d)
     (Contains-get_or (rising (group_numbers release concept)) k d below)))
@@ -114,27 +124,30 @@ keys_told release concept =
         let among : Contains numbers n = ((keeps_each_number_once numbers).1 n).0
         (((keeps_rising (group_numbers release concept)).1 n).0 there) in
         not-true (n == 0) (All-contains (λ group. not (group == 0) ≡ true) numbers n
-        (filter_passes (λ group. not (group == 0)) (map (λ (row : Attribute). row.group) (rows_of release concept))) among)
+        (filter_passes (λ group. not (group == 0)) (map (λ (row : Attribute). row.group) (rows_of release concept)))
+        among)
 
--- the numbers of the groups of `concepts` are not 0
+-- no group of `concepts` has the group number 0
 pub groups_told_apart : (release : Release) (concepts : List ℕ)
     → All (λ (group : ConceptGroup). IsTold group.key) (groups_among release concepts)
 groups_told_apart release concepts =
     All-flat_map (λ (group : ConceptGroup). IsTold group.key) (groups_at release) concepts
-    (λ concept there. All-map (λ (group : ConceptGroup). IsTold group.key) (group_with concept) (keys_of release concept)
+    (λ concept there. All-map (λ (group : ConceptGroup). IsTold group.key) (group_with concept)
+    (keys_of release concept)
     (keys_told release concept))
 
 -- ---- the rows of a group
--- a row is in the group that it belongs to
+-- a row is in the group of the row
 pub in_own_group : (row : Attribute) → is_in_group (group_of row) row ≡ true
 in_own_group row = and_from (row.source == row.source) (has_key (key_of row) row) (eq-eqb row.source row.source refl)
     (by (row.group == 0) refl)
   where
     by : (b : Bool) → (row.group == 0) ≡ b → has_key (cond b (ungrouped (pair_of row)) (numbered row.group)) row ≡ true
-    by true is = and_from (row.group == 0) (pair_eq (pair_of row) (pair_of row)) is ((tells_same_pair (pair_of row) (pair_of row)).1 refl)
+    by true is = and_from (row.group == 0) (pair_eq (pair_of row) (pair_of row)) is
+        ((tells_same_pair (pair_of row) (pair_of row)).1 refl)
     by false is = eq-eqb row.group row.group refl
 
--- a group that contains a row is that row's own group
+-- a group (with a number other than 0, or with a pair) that contains a row is that row's own group
 pub in_one_group : (group : ConceptGroup) (row : Attribute) → IsTold group.key → is_in_group group row ≡ true
     → group ≡ group_of row
 in_one_group group row told passes =

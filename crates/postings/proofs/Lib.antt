@@ -36,5 +36,5 @@ pub mod SourcesToldLemmas
 pub mod SpanLemmas
 pub mod StatsLemmas
 pub mod TableLemmas
-pub mod UnitLemmas
+pub mod GroupNumberLemmas
 pub mod ValueLemmas

@@ -8,15 +8,17 @@ use Rattle.postings.specs.inside.Coded.{code_eq, marks_after}
 use Rattle.postings.specs.Columns.{Flagged}
 use Rattle.postings.specs.declared.rows.CodedRow.{CodedRow}
 
--- the test of two pairs of numbers is an equivalence
+-- the equality test of pairs of numbers is an equivalence
 pub code_eq_equiv : IsEquivalence code_eq
-code_eq_equiv = and_equiv (on_equiv (λ (code : ℕ × ℕ). code.0) nat_eq_equiv) (on_equiv (λ (code : ℕ × ℕ). code.1) nat_eq_equiv)
+code_eq_equiv = and_equiv (on_equiv (λ (code : ℕ × ℕ). code.0) nat_eq_equiv)
+    (on_equiv (λ (code : ℕ × ℕ). code.1) nat_eq_equiv)
 
 module _ (same : CodedRow → CodedRow → Bool) where
-  -- one row more has its mark at the end
+  -- the marks of `rows ++ row ∷ []` are those of `rows`, with the mark of `row` at the end
   pub marks_after-more : (number : CodedRow → ℕ) (before rows : List CodedRow) (row : CodedRow)
       → marks_after same number before (rows ++ row ∷ [])
-      ≡ marks_after same number before rows ++ record { number = number row; is_first = not (list_any (same row) (before ++ rows)) }
+      ≡ marks_after same number before rows
+      ++ record { number = number row; is_first = not (list_any (same row) (before ++ rows)) }
       ∷ []
   marks_after-more number before [] row = λ i. record
       { number = number row; is_first = not (list_any (same row) (sym (append-nil before) i)) } ∷ []
@@ -26,11 +28,13 @@ module _ (same : CodedRow → CodedRow → Bool) where
       ++ record { number = number row; is_first = not (list_any (same row) (before ++ first ∷ rows)) } ∷ [] =
       marks_after-more number (before ++ first ∷ []) rows row
       ∙ (λ i. marks_after same number (before ++ first ∷ []) rows
-      ++ record { number = number row; is_first = not (list_any (same row) (append_assoc before (first ∷ []) rows i)) } ∷ []) in
+      ++ record { number = number row; is_first = not (list_any (same row) (append_assoc before (first ∷ []) rows i)) }
+      ∷ []) in
       ap (λ marks. record { number = number first; is_first = not (list_any (same first) before) } ∷ marks) rest
 
-  -- the marks of the first `i + 1` rows are those of the first `i`, and the mark of row `i` at the end
-  pub marks_more : (number : CodedRow → ℕ) (rows : List CodedRow) (i : ℕ) (d : CodedRow) (mark : Flagged) → i < length rows
+  -- the marks of the first `i + 1` rows are those of the first `i`, with the mark of row `i` at the end
+  pub marks_more : (number : CodedRow → ℕ) (rows : List CodedRow) (i : ℕ) (d : CodedRow) (mark : Flagged)
+      → i < length rows
       → mark.number ≡ number (get_or rows i d) → mark.is_first ≡ not (list_any (same (get_or rows i d)) (take i rows))
       → marks_after same number [] (take i rows) ++ mark ∷ [] ≡ marks_after same number [] (take (i + 1) rows)
   marks_more number rows i d mark within numbered first =

@@ -9,7 +9,7 @@ use Rattle.ancestor_index.specs.HierarchyLists.{is_child}
 use Rattle.ancestor_index.proofs.ClosureLemmas.{list_of-where}
 use Rattle.postings.specs.Indexed.{members_of}
 
--- the components of a reference set rise
+-- if there are fewer concepts than 2^32, the list of components of each reference set rises
 pub members_rise : (release : Release) (refset : ℕ) → refset < length release.concepts
     → length release.concepts < 2 ^ 32
     → IsRising (list_of (members_of release) refset)
@@ -18,5 +18,6 @@ members_rise release refset below small =
     let is_member : ℕ → ℕ → _ =
     λ set component. is_child release.members (get_or release.concepts set 0) (get_or release.concepts component 0) in
     rising_fits count (list_of (members_of release) refset)
-    (subst (IsRisingBelow count) (sym (list_of-where count is_member refset below)) (numbers_where-rising count (is_member refset)))
+    (subst (IsRisingBelow count) (sym (list_of-where count is_member refset below))
+    (numbers_where-rising count (is_member refset)))
     small

@@ -14,9 +14,10 @@ further concepts rises i (suc gap) within =
     subst (λ (n : ℕ). get_or concepts i 0 ≤ get_or concepts n 0) next
     (omega (arith, further concepts rises i gap (omega (arith, within)), rises (i + gap) (omega (arith, within))))
 
--- in a strictly rising list an identifier is at most any later one
+-- in a strictly rising list, the concept at place `i` is at most the one at place `j` if `i` is at most `j`
 pub rises_on : (concepts : List ℕ) → IsStrictlyIncreasing concepts → (i j : ℕ) → i ≤ j → j < length concepts
     → get_or concepts i 0 ≤ get_or concepts j 0
 rises_on concepts rises i j above within =
     let same : i + (j - i) ≡ j = omega arith in
-    subst (λ (n : ℕ). get_or concepts i 0 ≤ get_or concepts n 0) same (further concepts rises i (j - i) (omega (arith, same, within)))
+    subst (λ (n : ℕ). get_or concepts i 0 ≤ get_or concepts n 0) same
+    (further concepts rises i (j - i) (omega (arith, same, within)))

@@ -1,6 +1,7 @@
 -- The places of the items of a list that pass a test.
 use Rattle.std.proofs.Common.{ℕ, suc, ◌+◌, ◌==◌, ◌≡◌, ◌<◌, ◌++◌, ◌∷◌, [], ◌∙◌, Bool, true, false, cond}
-use Rattle.std.proofs.Common.{List, length, get_or, map, take, refl, sym, ap, subst, arith, length-take, add-zero, zero-add}
+use Rattle.std.proofs.Common.{List, length, get_or, map, take, refl, sym, ap, subst, arith, length-take, add-zero}
+use Rattle.std.proofs.Common.{zero-add}
 use Rattle.std.specs.Prelude.{All}
 use Rattle.std.specs.List.{count_by, filter}
 use Rattle.std.proofs.lemmas.List.{get_or_default, take_more}
@@ -18,7 +19,8 @@ use Rattle.postings.specs.declared.rows.CodedRow.{CodedRow}
 
 -- ---- the places are numbers below the length
 module _ {X : Type 0} where
-  -- from a first place on, the places are the numbers at which the items pass
+  -- if `read` of `place + k` is item `k`, the places of passing items, counted from `place`, are the numbers there for
+  -- which `read` passes
   pub places_from-numbers : (read : ℕ → X) (test : X → Bool) (place : ℕ) (xs : List X)
       → ((k : ℕ) (d : X) → k < length xs → read (place + k) ≡ get_or xs k d)
       → places_from place test xs ≡ numbers_from place (length xs) (λ at. test (read at))
@@ -26,30 +28,31 @@ module _ {X : Type 0} where
   places_from-numbers read test place (x ∷ xs) reads =
       let here : test x ≡ test (read place) = ap test (sym (reads 0 x (omega arith)) ∙ ap read (add-zero place)) in
       let rest : places_from (place + 1) test xs ≡ numbers_from (place + 1) (length xs) (λ at. test (read at)) =
-      places_from-numbers read test (place + 1) xs (λ k d within. ap read (omega arith) ∙ reads (suc k) d (omega arith)) in
+      places_from-numbers read test (place + 1) xs (λ k d within. ap read (omega arith)
+      ∙ reads (suc k) d (omega arith)) in
       λ i. cond (here i) (place ∷ rest i) (rest i)
 
-  -- the places of the items that pass are the numbers below the length at which the items do
+  -- the places of passing items are the numbers below the length at which the item passes
   pub places_where-numbers : (test : X → Bool) (xs : List X) (d : X)
       → places_where test xs ≡ numbers_where (length xs) (λ place. test (get_or xs place d))
   places_where-numbers test xs d =
       places_from-numbers (λ place. get_or xs place d) test 0 xs
       (λ k e within. ap (λ at. get_or xs at d) (zero-add k) ∙ get_or_default xs k d e within)
 
-  -- the places rise strictly, below the length
+  -- the places of passing items rise strictly, and are below the length
   pub places_where-rising : (test : X → Bool) (xs : List X) → IsRisingBelow (length xs) (places_where test xs)
   places_where-rising test [] = refl
   places_where-rising test (x ∷ xs) =
       subst (IsRisingBelow (length (x ∷ xs))) (sym (places_where-numbers test (x ∷ xs) x))
       (numbers_where-rising (length (x ∷ xs)) (λ place. test (get_or (x ∷ xs) place x)))
 
-  -- each place of an item that passes is below the length
+  -- each place of a passing item is below the length
   pub places_where-within : (test : X → Bool) (xs : List X) → All (λ place. place < length xs) (places_where test xs)
   places_where-within test xs k d within =
       subst (λ place. place < length xs) (get_or_default (places_where test xs) k 0 d within)
       (get_or-below 0 (length xs) (places_where test xs) k (places_where-rising test xs) within)
 
-  -- a number below the length is among the places exactly if the item there passes
+  -- for `place` below the length: it is among the places of passing items exactly if the item there passes
   pub has-places_where : (test : X → Bool) (xs : List X) (place : ℕ) (d : X) → place < length xs
       → has (places_where test xs) place ≡ test (get_or xs place d)
   has-places_where test xs place d within =
@@ -58,7 +61,7 @@ module _ {X : Type 0} where
 
 -- ---- other tests and other items
 module _ {X : Type 0} where
-  -- tests that agree on the items give equal places, from any first place on
+  -- two tests that agree on all items of `xs` find the same places, counted from `place`
   pub places_from-agree : (one other : X → Bool) (place : ℕ) (xs : List X) → All (λ x. one x ≡ other x) xs
       → places_from place one xs ≡ places_from place other xs
   places_from-agree one other place [] agree = refl
@@ -66,36 +69,39 @@ module _ {X : Type 0} where
       let rest = places_from-agree one other (place + 1) xs (All-tail (λ x. one x ≡ other x) x xs agree) in
       λ i. cond (agree 0 x (omega arith) i) (place ∷ rest i) (rest i)
 
-  -- tests that agree on the items give equal places
+  -- two tests that agree on all items of `xs` find the same places
   pub places_where-agree : (one other : X → Bool) (xs : List X) → All (λ x. one x ≡ other x) xs
       → places_where one xs ≡ places_where other xs
   places_where-agree one other xs agree = places_from-agree one other 0 xs agree
 
-  -- the places of what `f` makes of the items are the places of the items that pass after `f`, from any first place
-  -- on
+  -- the places at which `map f xs` passes are those at which `f` of the items of `xs` passes, counted from `place`
   pub places_from-map : {Y : Type 0} (f : X → Y) (test : Y → Bool) (place : ℕ) (xs : List X)
       → places_from place test (map f xs) ≡ places_from place (λ x. test (f x)) xs
   places_from-map f test place [] = refl
-  places_from-map f test place (x ∷ xs) = ap (λ rest. cond (test (f x)) (place ∷ rest) rest) (places_from-map f test (place + 1) xs)
+  places_from-map f test place (x ∷ xs) =
+      ap (λ rest. cond (test (f x)) (place ∷ rest) rest) (places_from-map f test (place + 1) xs)
 
-  -- the places of what `f` makes of the items are the places of the items that pass after `f`
+  -- the places at which `map f xs` passes are those at which `f` of the items of `xs` passes
   pub places_where-map : {Y : Type 0} (f : X → Y) (test : Y → Bool) (xs : List X)
       → places_where test (map f xs) ≡ places_where (λ x. test (f x)) xs
   places_where-map f test xs = places_from-map f test 0 xs
 
-  -- the places in `xs ++ ys` are those in `xs`, and then those in `ys`
+  -- the places of passing items in `xs ++ ys` are those in `xs`, then those in `ys` counted on from the length of `xs`
   pub places_from-append : (test : X → Bool) (place : ℕ) (xs ys : List X)
       → places_from place test (xs ++ ys) ≡ places_from place test xs ++ places_from (place + length xs) test ys
   places_from-append test place [] ys = ap (λ at. places_from at test ys) (sym (add-zero place))
   places_from-append test place (x ∷ xs) ys =
       let next : place + 1 + length xs ≡ place + length (x ∷ xs) = omega arith in
-      let rest = places_from-append test (place + 1) xs ys ∙ ap (λ at. places_from (place + 1) test xs ++ places_from at test ys) next in
-      elim (test x) as (λ b. cond b (place ∷ places_from (place + 1) test (xs ++ ys)) (places_from (place + 1) test (xs ++ ys))
+      let rest = places_from-append test (place + 1) xs ys
+      ∙ ap (λ at. places_from (place + 1) test xs ++ places_from at test ys) next in
+      elim (test x) as (λ b. cond b (place ∷ places_from (place + 1) test (xs ++ ys))
+      (places_from (place + 1) test (xs ++ ys))
       ≡ cond b (place ∷ places_from (place + 1) test xs) (places_from (place + 1) test xs)
       ++ places_from (place + length (x ∷ xs)) test ys)
       [ true ↦ ap (λ places. place ∷ places) rest | false ↦ rest ]
 
-  -- one item more has its place at the end, if it passes
+  -- the places of passing items among the first `i + 1` are those among the first `i`, with `i` at the end if item `i`
+  -- passes
   pub places_where-more : (test : X → Bool) (xs : List X) (i : ℕ) (d : X) → i < length xs
       → places_where test (take (i + 1) xs) ≡ places_where test (take i xs) ++ cond (test (get_or xs i d)) (i ∷ []) []
   places_where-more test xs i d within =
@@ -113,19 +119,21 @@ module _ {X : Type 0} where
   rows_from read test place [] reads = refl
   rows_from read test place (x ∷ xs) reads =
       let first : read place ≡ x = ap read (sym (add-zero place)) ∙ reads 0 x (omega arith) in
-      let rest = rows_from read test (place + 1) xs (λ k d within. ap read (omega arith) ∙ reads (suc k) d (omega arith)) in
-      elim (test x) as (λ b. map read (cond b (place ∷ places_from (place + 1) test xs) (places_from (place + 1) test xs))
+      let rest = rows_from read test (place + 1) xs (λ k d within. ap read (omega arith)
+      ∙ reads (suc k) d (omega arith)) in
+      elim (test x) as (λ b. map read (cond b (place ∷ places_from (place + 1) test xs)
+      (places_from (place + 1) test xs))
       ≡ cond b (x ∷ filter test xs) (filter test xs))
       [ true ↦ (λ i. first i ∷ rest i) | false ↦ rest ]
 
-  -- the items at the places of those that pass are those that pass
+  -- reading `xs` at the places of passing items gives the passing items
   pub rows_at_places : (test : X → Bool) (xs : List X) (d : X)
       → map (λ place. get_or xs place d) (places_where test xs) ≡ filter test xs
   rows_at_places test xs d =
       rows_from (λ place. get_or xs place d) test 0 xs
       (λ k e within. ap (λ at. get_or xs at d) (zero-add k) ∙ get_or_default xs k d e within)
 
-  -- there are as many places as items that pass
+  -- there are as many places as passing items
   pub length-places_from : (test : X → Bool) (place : ℕ) (xs : List X)
       → length (places_from place test xs) ≡ length (filter test xs)
   length-places_from test place [] = refl
@@ -134,23 +142,24 @@ module _ {X : Type 0} where
       ≡ length (cond b (x ∷ filter test xs) (filter test xs)))
       [ true ↦ ap suc (length-places_from test (place + 1) xs) | false ↦ length-places_from test (place + 1) xs ]
 
-  -- there are as many places as `count_by` counts items
+  -- there are as many places of passing items as `count_by` counts
   pub length-places_where : (test : X → Bool) (xs : List X) → length (places_where test xs) ≡ count_by test xs
   length-places_where test xs = length-places_from test 0 xs ∙ length-filter test xs
 
 -- ---- the places by keys
 
--- there is a list for each key below the count
+-- the lists of places by key have one list for each key below `count`
 pub length-places_by : (count : ℕ) (keys : List ℕ) → length (places_by count keys) ≡ count
 length-places_by count keys = length-map-range_with_len (λ key. places_where (λ other. other == key) keys) 0 count
 
--- the list of a key has the places of the items that have the key
+-- the list of `key` has the places of `keys` that have this key
 pub list_of-places_by : (count : ℕ) (keys : List ℕ) (key : ℕ) → key < count
     → list_of (places_by count keys) key ≡ places_where (λ other. other == key) keys
-list_of-places_by count keys key below = get_or-map-range_with_len (λ key. places_where (λ other. other == key) keys) 0 count key key []
+list_of-places_by count keys key below =
+    get_or-map-range_with_len (λ key. places_where (λ other. other == key) keys) 0 count key key []
     below (zero-add key)
 
--- the rows at the places of a source are its rows
+-- reading `rows` at the places in the list of `source` gives the rows of that source
 pub rows_of_source : (rows : List CodedRow) (count source : ℕ) (d : CodedRow) → source < count
     → map (λ place. get_or rows place d) (list_of (places_by count (map (λ (row : CodedRow). row.source) rows)) source)
     ≡ of_source rows source
@@ -162,7 +171,7 @@ rows_of_source rows count source d below =
     ap (map (λ place. get_or rows place d)) places
     ∙ rows_at_places (λ (row : CodedRow). row.source == source) rows d
 
--- the places of a key are below the number of keys
+-- each place in the list of `key` is below the length of `keys`
 pub list_of-places_by-within : (count : ℕ) (keys : List ℕ) (key : ℕ) → key < count
     → All (λ place. place < length keys) (list_of (places_by count keys) key)
 list_of-places_by-within count keys key below =

@@ -21,22 +21,23 @@ rises_within-put lowest bound id (x ∷ xs) above below rises =
       | inr (inl less) ↦ rw (lt-ltb id x less) (rises_from_on lowest bound id (x ∷ xs) above below
           (rises_from_on (suc id) bound x xs less on.below on.rest))
       | inr (inr more) ↦ rw (le-ltb id x (omega arith), ne_eqb id x (λ same. omega arith))
-          (rises_from_on lowest bound x (put id xs) on.above on.below (rises_within-put (suc x) bound id xs more below on.rest))
+          (rises_from_on lowest bound x (put id xs) on.above on.below
+          (rises_within-put (suc x) bound id xs more below on.rest))
     ]
 
--- numbers below a bound rise below it when they are brought in order
+-- `rising xs` rises and stays below `bound` if all of `xs` are below `bound`
 pub rising-rises : (bound : ℕ) (xs : List ℕ) → All (λ id. id < bound) xs → IsRisingBelow bound (rising xs)
 rising-rises bound [] below = refl
 rising-rises bound (x ∷ xs) below =
     rises_within-put 0 bound x (rising xs) (omega arith) (All-head (λ id. id < bound) x xs below)
     (rising-rises bound xs (All-tail (λ id. id < bound) x xs below))
 
--- the numbers below a bound that are in a list below it are its members in rising order
+-- if all of `xs` are below `bound`, `rising xs` is the list of the numbers below `bound` that are in `xs`
 pub rising_is_listed : (bound : ℕ) (xs : List ℕ) → All (λ id. id < bound) xs → rising xs ≡ listed_numbers bound xs
 rising_is_listed bound xs below = rising_is_where bound (rising xs) (has xs) (rising-rises bound xs below)
     (λ n _. has-rising xs n)
 
--- all numbers of a list are below some bound
+-- there is a bound above all numbers of `xs`
 pub some_bound : (xs : List ℕ) → (bound : ℕ) × All (λ id. id < bound) xs
 some_bound [] = (0, All-nil (λ id. id < 0))
 some_bound (x ∷ xs) =
@@ -46,7 +47,8 @@ some_bound (x ∷ xs) =
           (All-weaker (λ id. id < rest.0) (λ id. id < suc x + rest.0) (λ id below. omega (arith, below)) xs rest.1),
     )
 
--- a list that has the listed numbers of `xs` below each bound of `xs` is `xs` in rising order
+-- if for each bound above all of `xs` the list `ys` has the numbers below it that are in `xs`, then `ys` is `rising xs`
 pub listed_is_rising : (xs ys : List ℕ) → ((bound : ℕ) → All (λ id. id < bound) xs → ys ≡ listed_numbers bound xs)
     → ys ≡ rising xs
-listed_is_rising xs ys listed = let bound = some_bound xs in listed bound.0 bound.1 ∙ sym (rising_is_listed bound.0 xs bound.1)
+listed_is_rising xs ys listed = let bound = some_bound xs in listed bound.0 bound.1
+    ∙ sym (rising_is_listed bound.0 xs bound.1)

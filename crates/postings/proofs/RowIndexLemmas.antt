@@ -9,7 +9,8 @@ use Rattle.rf2_rows.specs.Release.{Attribute, Release, Value}
 use Rattle.number_lists.proofs.DistinctLemmas.{keeps_each_number_once}
 use Rattle.held_release.specs.AttributesBySource.{attributes_by_source}
 use Rattle.number_lists.proofs.ListLemmas.{same_maps}
-use Rattle.postings.specs.inside.Coded.{AreCodedRows, AreRowMarks, IsBySource, IsCoded, all_group_marks, all_source_marks}
+use Rattle.postings.specs.inside.Coded.{AreCodedRows, AreRowMarks, IsBySource, IsCoded, all_group_marks}
+use Rattle.postings.specs.inside.Coded.{all_source_marks}
 use Rattle.postings.specs.inside.Coded.{row_coded}
 use Rattle.postings.specs.Columns.{AreGroups, AreSources, Flagged}
 use Rattle.postings.specs.Entries.{entries_of}
@@ -55,36 +56,41 @@ module _ (release : Release) (rises : IsStrictlyIncreasing release.concepts) (co
   exact : (v w : ℕ) → v < length all → w < length all → value_eq (value_at all v) (value_at all w) ≡ (v == w)
   exact = values_exact release.concepts coded.values rises are.tables.rising
 
-  -- the rows of numbers stand source by source
+  -- the coded rows are ordered by source
   pub is_sorted : IsBySource (length release.concepts) codes
   is_sorted = by_source_coded release.concepts types all rises once exact codes are.within rows (sym are.stand_for)
       (by_source_again release rises rows refl)
 
-  -- there are as many rows of numbers as attribute rows
+  -- there are as many coded rows as attribute rows
   pub length-codes : length codes ≡ length rows
-  length-codes = sym (length-map codes (row_coded release.concepts types all)) ∙ ap (λ (xs : List Attribute). length xs) are.stand_for
+  length-codes = sym (length-map codes (row_coded release.concepts types all))
+      ∙ ap (λ (xs : List Attribute). length xs) are.stand_for
 
-  -- there are less than 2^31 rows of numbers
+  -- there are fewer than 2^31 coded rows
   pub few_codes : length codes < 2 ^ 31
   few_codes = omega (arith, length-codes, are.few)
 
-  -- the marks of the rows with their sources tell the sources of the attribute rows
+  -- the marks of the coded rows with their sources are a column of sources for the attribute rows
   pub sources_are : AreSources release.concepts (entries_of rows) (all_source_marks codes (length release.concepts))
-  sources_are = sources_told release.concepts types all rises once exact codes are.within rows (sym are.stand_for) is_sorted
+  sources_are = sources_told release.concepts types all rises once exact codes are.within rows (sym are.stand_for)
+      is_sorted
 
-  -- the marks of the rows with their groups tell the groups of the attribute rows
+  -- the marks of the coded rows with their groups are a column of groups for the attribute rows
   pub groups_are : AreGroups (all_groups (rows_alone release.concepts rows)) (entries_of rows)
       (all_group_marks codes (length release.concepts))
-  groups_are = groups_told release.concepts types all rises once exact codes are.within rows (sym are.stand_for) is_sorted
+  groups_are = groups_told release.concepts types all rises once exact codes are.within rows (sym are.stand_for)
+      is_sorted
 
-  -- there is a mark with the source for each row
+  -- there is one mark with a source for each coded row
   pub length-source_marks : length (all_source_marks codes (length release.concepts)) ≡ length codes
-  length-source_marks = length-sources release.concepts rows (all_source_marks codes (length release.concepts)) sources_are
+  length-source_marks = length-sources release.concepts rows (all_source_marks codes (length release.concepts))
+      sources_are
       ∙ sym length-codes
 
-  -- there is a mark with the group for each row
+  -- there is one mark with a group for each coded row
   pub length-group_marks : length (all_group_marks codes (length release.concepts)) ≡ length codes
-  length-group_marks = length-groups (all_groups (rows_alone release.concepts rows)) rows (all_group_marks codes (length release.concepts))
+  length-group_marks = length-groups (all_groups (rows_alone release.concepts rows)) rows
+      (all_group_marks codes (length release.concepts))
       groups_are ∙ sym length-codes
 
   -- the places by a key are those of the rows that pass a test, if the test tells the key
@@ -96,28 +102,32 @@ module _ (release : Release) (rises : IsStrictlyIncreasing release.concepts) (co
       same_maps (λ k. places_where (λ other. other == k) (map key codes)) (λ k. places_where (test k) rows) 0 count
       (λ k from below.
       places_where-map key (λ other. other == k) codes
-      ∙ places_where-agree (λ (row : CodedRow). key row == k) (λ (row : CodedRow). test k (row_coded release.concepts types all row))
+      ∙ places_where-agree (λ (row : CodedRow). key row == k)
+      (λ (row : CodedRow). test k (row_coded release.concepts types all row))
       codes (λ i d inside. tells k (get_or codes i d) (omega (arith, below)) (are.within i d inside))
       ∙ sym (places_where-map (row_coded release.concepts types all) (test k) codes)
       ∙ ap (places_where (test k)) are.stand_for)
 
-  -- the places by the numbers of sources are the numbers of the rows of each source
+  -- listing coded rows by the numbers of their sources gives, for each concept, the numbers of the rows with it as
+  -- source
   pub by_source_are : places_by (length release.concepts) (map (λ (row : CodedRow). row.source) codes)
-      ≡ map (λ concept. places_where (has_source release.concepts concept) rows) (range_with_len 0 (length release.concepts))
+      ≡ map (λ concept. places_where (has_source release.concepts concept) rows)
+      (range_with_len 0 (length release.concepts))
   by_source_are =
       by_key (λ row. row.source) (length release.concepts) (has_source release.concepts)
       (λ k row below is. sym (rising_apart release.concepts rises row.source k is.source below))
 
-  -- the places by the places of types are the numbers of the rows of each type
+  -- listing coded rows by the places of their types gives, for each type, the numbers of the rows with it
   pub by_type_are : places_by (length types) (map (λ (row : CodedRow). row.type_place) codes)
       ≡ map (λ place. places_where (has_type types place) rows) (range_with_len 0 (length types))
   by_type_are =
       by_key (λ row. row.type_place) (length types) (has_type types)
       (λ k row below is. sym (same_type types once row.type_place k is.type_place below))
 
-  -- the places by the numbers of values are, for each concept, the numbers of the rows whose value it is
+  -- listing coded rows by the numbers of their values gives, for each concept, the numbers of the rows with it as value
   pub by_value_are : places_by (length release.concepts) (map (λ (row : CodedRow). row.value) codes)
-      ≡ map (λ concept. places_where (has_value release.concepts concept) rows) (range_with_len 0 (length release.concepts))
+      ≡ map (λ concept. places_where (has_value release.concepts concept) rows)
+      (range_with_len 0 (length release.concepts))
   by_value_are =
       by_key (λ row. row.value) (length release.concepts) (has_value release.concepts)
       (λ k row below is. sym (value_of_concept release.concepts coded.values rises row.value k is.value below))
@@ -131,13 +141,15 @@ module _ (release : Release) (rises : IsStrictlyIncreasing release.concepts) (co
     long : length starts ≡ length release.concepts + 1
     long = omega (arith, marked.starts_len)
 
-    -- the start of a concept is the number of groups of the concepts before it
+    -- the start of `concept` is the number of groups of the concepts before it
     pub starts_are : (concept : ℕ) → concept ≤ length release.concepts
-        → get_or starts concept 0 ≡ length (groups_among (rows_alone release.concepts rows) (take concept release.concepts))
+        → get_or starts concept 0
+        ≡ length (groups_among (rows_alone release.concepts rows) (take concept release.concepts))
     starts_are concept near = marked.starts concept near
-        ∙ sym (starts_told release.concepts types all rises once exact codes are.within rows (sym are.stand_for) concept near)
+        ∙ sym (starts_told release.concepts types all rises once exact codes are.within rows (sym are.stand_for) concept
+        near)
 
-    -- the last start is the number of all groups
+    -- the last of the starts is the number of all groups
     pub starts_last : get_or starts (length starts - 1) 0 ≡ length (all_groups (rows_alone release.concepts rows))
     starts_last =
         let last : length starts - 1 ≡ length release.concepts = omega (arith, long) in
@@ -146,7 +158,7 @@ module _ (release : Release) (rises : IsStrictlyIncreasing release.concepts) (co
         ∙ ap (λ (xs : List ℕ). length (groups_among (rows_alone release.concepts rows) xs))
         (take_all (length release.concepts) release.concepts (omega arith))
 
-    -- there are no more groups than rows
+    -- there are at most as many groups as coded rows
     pub few_groups : length (all_groups (rows_alone release.concepts rows)) ≤ length codes
     few_groups =
         omega (
@@ -160,10 +172,13 @@ module _ (release : Release) (rises : IsStrictlyIncreasing release.concepts) (co
         last : length starts - 1 ≡ length release.concepts
         last = omega (arith, long)
 
-    -- the places by the group numbers of the marks are the numbers of the rows of each group
+    -- listing the marks by their group numbers gives, for each group, the numbers of its rows
     pub group_rows_are : places_by (get_or starts (length starts - 1) 0)
         (map (λ (mark : Flagged). mark.number) (all_group_marks codes (length release.concepts)))
-        ≡ map (λ (group : ConceptGroup). places_where (is_in_group group) rows) (all_groups (rows_alone release.concepts rows))
+        ≡ map (λ (group : ConceptGroup). places_where (is_in_group group) rows)
+        (all_groups (rows_alone release.concepts rows))
     group_rows_are =
-        ap (λ (n : ℕ). places_by n (map (λ (mark : Flagged). mark.number) (all_group_marks codes (length release.concepts)))) starts_last
-        ∙ group_rows_told release.concepts types all rises once exact codes are.within rows (sym are.stand_for) is_sorted
+        ap (λ (n : ℕ). places_by n (map (λ (mark : Flagged). mark.number)
+        (all_group_marks codes (length release.concepts)))) starts_last
+        ∙ group_rows_told release.concepts types all rises once exact codes are.within rows (sym are.stand_for)
+        is_sorted

@@ -27,7 +27,8 @@ use Rattle.postings.specs.declared.rows.CodedRows.{CodedRows}
 use Rattle.postings.proofs.CellLemmas.{groups_at, long_cells, sources_at, types_at, values_at}
 use Rattle.postings.proofs.IndexLemmas.{list_at, rows_of_entries}
 use Rattle.postings.proofs.RowIndexLemmas.{by_type_are, by_value_are, few_codes, few_groups, group_rows_are, groups_are}
-use Rattle.postings.proofs.RowIndexLemmas.{length-group_marks, length-source_marks, sources_are, starts_are, starts_last}
+use Rattle.postings.proofs.RowIndexLemmas.{length-group_marks, length-source_marks, sources_are, starts_are}
+use Rattle.postings.proofs.RowIndexLemmas.{starts_last}
 
 module _ (release : Release) (rises : IsStrictlyIncreasing release.concepts) (coded : CodedRows)
     (are : AreCodedRows release.concepts (attributes_by_source release) coded) where
@@ -60,23 +61,26 @@ module _ (release : Release) (rises : IsStrictlyIncreasing release.concepts) (co
   values_told : AreValues all (entries_of rows) (map (λ (row : CodedRow). row.value) codes)
   values_told = record {
     within = All-map (λ number. number < length all) (λ (row : CodedRow). row.value) codes
-        (All-weaker (IsCoded release.concepts types all) (λ (row : CodedRow). row.value < length all) (λ row is. is.value) codes
+        (All-weaker (IsCoded release.concepts types all) (λ (row : CodedRow). row.value < length all)
+        (λ row is. is.value) codes
         are.within);
     values = map-map (value_at all) (λ (row : CodedRow). row.value) codes
         ∙ field_of (λ row. value_at all row.value) (λ row. row.value) (λ row. refl);
   }
 
   types_told : AreTypes (types_of rows) (entries_of rows) (map (λ (row : CodedRow). row.type_place) codes)
-  types_told = subst (λ (xs : List ℕ). AreTypes xs (entries_of rows) (map (λ (row : CodedRow). row.type_place) codes)) are.types
+  types_told = subst (λ (xs : List ℕ). AreTypes xs (entries_of rows) (map (λ (row : CodedRow). row.type_place) codes))
+      are.types
       (record {
         within = All-map (λ place. place < length types) (λ (row : CodedRow). row.type_place) codes
-            (All-weaker (IsCoded release.concepts types all) (λ (row : CodedRow). row.type_place < length types) (λ row is. is.type_place)
+            (All-weaker (IsCoded release.concepts types all) (λ (row : CodedRow). row.type_place < length types)
+            (λ row is. is.type_place)
             codes are.within);
         types = map-map (λ place. get_or types place 0) (λ (row : CodedRow). row.type_place) codes
             ∙ field_of (λ row. get_or types row.type_place 0) (λ row. row.type_id) (λ row. refl);
       })
 
-  -- the place of the type of each row is below the number of types
+  -- the place of each row's type is below the number of types
   pub type_places_below : (count : ℕ) → count ≡ length types
       → All (λ place. place < count) (map (λ (row : CodedRow). row.type_place) codes)
   type_places_below count same =
@@ -86,12 +90,13 @@ module _ (release : Release) (rises : IsStrictlyIncreasing release.concepts) (co
 
   module _ (marks : RowMarks) (marked : AreRowMarks (length release.concepts) codes marks) where
     marks_told : AreSources release.concepts (entries_of rows) marks.sources.items
-    marks_told = subst (AreSources release.concepts (entries_of rows)) (sym marked.sources) (sources_are release rises coded are)
+    marks_told = subst (AreSources release.concepts (entries_of rows)) (sym marked.sources)
+        (sources_are release rises coded are)
 
     groups_told : AreGroups groups (entries_of rows) marks.groups.items
     groups_told = subst (AreGroups groups (entries_of rows)) (sym marked.groups) (groups_are release rises coded are)
 
-    -- each row has a key, another cell and its marks
+    -- columns of keys, of other cells and of marks made from the coded rows are equally long
     pub of_one_length : (keys cells : List ℕ) (key cell : CodedRow → ℕ) → keys ≡ map key codes → cells ≡ map cell codes
         → AreOfOneLength keys cells marks
     of_one_length keys cells key cell keys_are cells_are =
@@ -99,82 +104,101 @@ module _ (release : Release) (rises : IsStrictlyIncreasing release.concepts) (co
         record {
           few = omega (arith, long, few_codes release rises coded are);
           others = ap (λ (xs : List ℕ). length xs) cells_are ∙ length-map codes cell ∙ sym long;
-          sources = omega (arith, long, ap (λ (xs : List Flagged). length xs) marked.sources, length-source_marks release rises coded are);
-          groups = omega (arith, long, ap (λ (xs : List Flagged). length xs) marked.groups, length-group_marks release rises coded are);
+          sources = omega (
+            arith,
+            long,
+            ap (λ (xs : List Flagged). length xs) marked.sources,
+            length-source_marks
+                release rises coded are,
+          );
+          groups = omega (
+            arith,
+            long,
+            ap (λ (xs : List Flagged). length xs) marked.groups,
+            length-group_marks release
+                rises coded are,
+          );
         }
 
-    module _ (lists : RowsByKey) (count : ℕ) (keys others : List ℕ) (made : AreRowLists count keys others marks lists) where
-      cells_with : {X : Type 0} (cells column : List X) → IsColumn cells (concat (places_by count keys)) column
-          → IsColumn cells (concat lists.rows) column
-      cells_with cells column told d =
-          told d ∙ ap (λ (all : List (List ℕ)). map (λ place. get_or cells place d) (concat all)) (sym made.rows)
+    module _ (lists : RowsByKey) (count : ℕ) (keys others : List ℕ) (made : AreRowLists count keys others marks lists)
+      where
+        cells_with : {X : Type 0} (cells column : List X) → IsColumn cells (concat (places_by count keys)) column
+            → IsColumn cells (concat lists.rows) column
+        cells_with cells column told d =
+            told d ∙ ap (λ (all : List (List ℕ)). map (λ place. get_or cells place d) (concat all)) (sym made.rows)
 
-      source_cells : IsColumn marks.sources.items (concat lists.rows) lists.sources.items
-      source_cells = cells_with marks.sources.items lists.sources.items made.sources
+        source_cells : IsColumn marks.sources.items (concat lists.rows) lists.sources.items
+        source_cells = cells_with marks.sources.items lists.sources.items made.sources
 
-      other_cells : IsColumn others (concat lists.rows) lists.others.items
-      other_cells = cells_with others lists.others.items made.others
+        other_cells : IsColumn others (concat lists.rows) lists.others.items
+        other_cells = cells_with others lists.others.items made.others
 
-      group_cells : IsColumn marks.groups.items (concat lists.rows) lists.groups.items
-      group_cells = cells_with marks.groups.items lists.groups.items made.groups
+        group_cells : IsColumn marks.groups.items (concat lists.rows) lists.groups.items
+        group_cells = cells_with marks.groups.items lists.groups.items made.groups
 
-      mark : Flagged
-      mark = record { number = 0; is_first = true }
+        mark : Flagged
+        mark = record { number = 0; is_first = true }
 
-      -- lists that have for each key the rows that pass its test are lists by that test, with their columns
-      lists_told : (n : ℕ) (test : ℕ → Attribute → Bool) (AreOthers : List Entry → List ℕ → Type 0)
-          → lists.rows ≡ map (λ key. places_where (test key) rows) (range_with_len 0 n)
-          → ((key : ℕ) → key < length lists.rows → list_of lists.rows key ≡ places_where (test key) rows
-          → AreOthers (entries_where (test key) rows) (cells_of lists.rows lists.others.items key))
-          → AreListsBy release.concepts rows n test AreOthers lists
-      lists_told n test AreOthers each others_are = record {
-        long = record {
-          sources = long_cells lists.rows marks.sources.items lists.sources.items source_cells mark;
-          others = long_cells lists.rows others lists.others.items other_cells 0;
-          groups = long_cells lists.rows marks.groups.items lists.groups.items group_cells mark;
-        };
-        each = each;
-        sources = λ key less.
-            let here = at key less in
-            sources_at rows (test key) lists.rows key here.0 here.1 release.concepts marks.sources.items lists.sources.items
-            marks_told source_cells;
-        others = λ key less. others_are key (at key less).0 (at key less).1;
-        groups = λ key less.
-            let here = at key less in
-            groups_at rows (test key) lists.rows key here.0 here.1 groups marks.groups.items lists.groups.items groups_told group_cells;
-      }
-        where
-          at : (key : ℕ) → key < n → (key < length lists.rows) × (list_of lists.rows key ≡ places_where (test key) rows)
-          at key less = list_at lists.rows (λ key. places_where (test key) rows) n key each less
+        -- lists that have for each key the rows that pass its test are lists by that test, with their columns
+        lists_told : (n : ℕ) (test : ℕ → Attribute → Bool) (AreOthers : List Entry → List ℕ → Type 0)
+            → lists.rows ≡ map (λ key. places_where (test key) rows) (range_with_len 0 n)
+            → ((key : ℕ) → key < length lists.rows → list_of lists.rows key ≡ places_where (test key) rows
+            → AreOthers (entries_where (test key) rows) (cells_of lists.rows lists.others.items key))
+            → AreListsBy release.concepts rows n test AreOthers lists
+        lists_told n test AreOthers each others_are = record {
+          long = record {
+            sources = long_cells lists.rows marks.sources.items lists.sources.items source_cells mark;
+            others = long_cells lists.rows others lists.others.items other_cells 0;
+            groups = long_cells lists.rows marks.groups.items lists.groups.items group_cells mark;
+          };
+          each = each;
+          sources = λ key less.
+              let here = at key less in
+              sources_at rows (test key) lists.rows key here.0 here.1 release.concepts marks.sources.items
+              lists.sources.items
+              marks_told source_cells;
+          others = λ key less. others_are key (at key less).0 (at key less).1;
+          groups = λ key less.
+              let here = at key less in
+              groups_at rows (test key) lists.rows key here.0 here.1 groups marks.groups.items lists.groups.items
+              groups_told group_cells;
+        }
+          where
+            at : (key : ℕ) → key < n
+                → (key < length lists.rows) × (list_of lists.rows key ≡ places_where (test key) rows)
+            at key less = list_at lists.rows (λ key. places_where (test key) rows) n key each less
 
-      -- the lists by the places of types are the lists by type
-      pub by_type_told : count ≡ length types → keys ≡ map (λ (row : CodedRow). row.type_place) codes
-          → others ≡ map (λ (row : CodedRow). row.value) codes → AreByType release.concepts all rows lists
-      by_type_told count_is keys_are others_are =
-          lists_told (length (types_of rows)) (has_type (types_of rows)) (AreValues all)
-          (made.rows ∙ (λ i. places_by (count_is i) (keys_are i))
-          ∙ by_type_are release rises coded are
-          ∙ ap (λ (xs : List ℕ). map (λ place. places_where (has_type xs place) rows) (range_with_len 0 (length xs))) are.types)
-          (λ key within here.
-          values_at rows (has_type (types_of rows) key) lists.rows key within here all others lists.others.items
-          (subst (AreValues all (entries_of rows)) (sym others_are) values_told) other_cells)
+        -- lists of rows by the places of their types, with the values as the other column, are the lists by type
+        pub by_type_told : count ≡ length types → keys ≡ map (λ (row : CodedRow). row.type_place) codes
+            → others ≡ map (λ (row : CodedRow). row.value) codes → AreByType release.concepts all rows lists
+        by_type_told count_is keys_are others_are =
+            lists_told (length (types_of rows)) (has_type (types_of rows)) (AreValues all)
+            (made.rows ∙ (λ i. places_by (count_is i) (keys_are i))
+            ∙ by_type_are release rises coded are
+            ∙ ap (λ (xs : List ℕ). map (λ place. places_where (has_type xs place) rows) (range_with_len 0 (length xs)))
+            are.types)
+            (λ key within here.
+            values_at rows (has_type (types_of rows) key) lists.rows key within here all others lists.others.items
+            (subst (AreValues all (entries_of rows)) (sym others_are) values_told) other_cells)
 
-      -- the lists by the numbers of values are the lists by value
-      pub by_value_told : count ≡ length release.concepts → keys ≡ map (λ (row : CodedRow). row.value) codes
-          → others ≡ map (λ (row : CodedRow). row.type_place) codes → AreByValue release.concepts rows lists
-      by_value_told count_is keys_are others_are =
-          lists_told (length release.concepts) (has_value release.concepts) (AreTypes (types_of rows))
-          (made.rows ∙ (λ i. places_by (count_is i) (keys_are i)) ∙ by_value_are release rises coded are)
-          (λ key within here.
-          types_at rows (has_value release.concepts key) lists.rows key within here (types_of rows) others lists.others.items
-          (subst (AreTypes (types_of rows) (entries_of rows)) (sym others_are) types_told) other_cells)
+        -- lists of rows by the numbers of their values, with the types as the other column, are the lists by value
+        pub by_value_told : count ≡ length release.concepts → keys ≡ map (λ (row : CodedRow). row.value) codes
+            → others ≡ map (λ (row : CodedRow). row.type_place) codes → AreByValue release.concepts rows lists
+        by_value_told count_is keys_are others_are =
+            lists_told (length release.concepts) (has_value release.concepts) (AreTypes (types_of rows))
+            (made.rows ∙ (λ i. places_by (count_is i) (keys_are i)) ∙ by_value_are release rises coded are)
+            (λ key within here.
+            types_at rows (has_value release.concepts key) lists.rows key within here (types_of rows) others
+            lists.others.items
+            (subst (AreTypes (types_of rows) (entries_of rows)) (sym others_are) types_told) other_cells)
 
     -- the groups of the rows
-    module _ (lists : GroupLists) (numbers_len : length lists.numbers.items ≡ get_or marks.starts.items (length marks.starts.items - 1) 0)
+    module _ (lists : GroupLists)
+        (numbers_len : length lists.numbers.items ≡ get_or marks.starts.items (length marks.starts.items - 1) 0)
         (starts_is : lists.starts.items ≡ marks.starts.items)
         (rows_is : lists.rows ≡ places_by (get_or marks.starts.items (length marks.starts.items - 1) 0)
         (map (λ (mark : Flagged). mark.number) marks.groups.items)) where
-      -- the lists by the group numbers of the marks are the lists of the groups
+      -- lists of rows by the group numbers of the marks, with the starts of the marks, are the lists by group
       pub group_lists_told : AreGroupLists release.concepts rows lists
       group_lists_told =
           record {
@@ -183,8 +207,10 @@ module _ (release : Release) (rises : IsStrictlyIncreasing release.concepts) (co
             numbers_len = numbers_len ∙ starts_last release rises coded are marks marked;
             starts_len = ap (λ (xs : List ℕ). length xs) starts_is ∙ omega (arith, marked.starts_len);
             starts = λ concept near.
-                ap (λ (xs : List ℕ). get_or xs concept 0) starts_is ∙ starts_are release rises coded are marks marked concept near;
-            each = rows_is ∙ ap (λ (xs : List Flagged). places_by (get_or marks.starts.items (length marks.starts.items - 1) 0)
+                ap (λ (xs : List ℕ). get_or xs concept 0) starts_is
+                ∙ starts_are release rises coded are marks marked concept near;
+            each = rows_is ∙ ap (λ (xs : List Flagged). places_by
+                (get_or marks.starts.items (length marks.starts.items - 1) 0)
                 (map (λ (mark : Flagged). mark.number) xs)) marked.groups
                 ∙ group_rows_are release rises coded are marks marked;
           }

@@ -37,7 +37,7 @@ length-flat_map-le f g le from (suc n) =
       length-flat_map-le f g le (from + 1) n,
     )
 
--- one source more adds its groups to those ahead
+-- the sources up to and including `source` have the groups of those before it, and its own
 pub groups_ahead-more : (rows : List CodedRow) (source : ℕ)
     → groups_ahead rows (source + 1) ≡ groups_ahead rows source + length (group_codes (of_source rows source))
 groups_ahead-more rows source =
@@ -45,7 +45,7 @@ groups_ahead-more rows source =
     ap (λ (all : List (ℕ × (ℕ × ℕ))). length all) (flat_map-more codes source)
     ∙ length-append {A = ℕ × (ℕ × ℕ)} (flat_map codes (range_with_len 0 source)) (codes source)
 
--- the sources before one have no more groups than rows
+-- the sources before `source` have at most as many groups as there are rows
 pub groups_ahead-le : (rows : List CodedRow) (count source : ℕ) → IsBySource count rows → source ≤ count
     → groups_ahead rows source ≤ length rows
 groups_ahead-le rows count source sorted le =
@@ -57,7 +57,7 @@ groups_ahead-le rows count source sorted le =
       ap (λ (own : List CodedRow). length own) sorted,
     )
 
--- the groups before those of a source and its rows are no more than all rows
+-- the groups of the sources before `source` and its own rows are together at most as many as all rows
 pub rows_left : (rows : List CodedRow) (count source : ℕ) → IsBySource count rows → source < count
     → groups_ahead rows source + length (of_source rows source) ≤ length rows
 rows_left rows count source sorted below =
@@ -71,12 +71,15 @@ rows_left rows count source sorted below =
       ap (λ (own : List CodedRow). length own) sorted,
     )
 
--- the rows of a source have it as their source
-pub of_source-own : (rows : List CodedRow) (source : ℕ) → All (λ (row : CodedRow). row.source ≡ source) (of_source rows source)
+-- each row that `of_source` returns has `source` as its source
+pub of_source-own : (rows : List CodedRow) (source : ℕ)
+    → All (λ (row : CodedRow). row.source ≡ source) (of_source rows source)
 of_source-own rows source k d within =
-    eqb-true (get_or (of_source rows source) k d).source source (filter_passes (λ (row : CodedRow). row.source == source) rows k d within)
+    eqb-true (get_or (of_source rows source) k d).source source
+    (filter_passes (λ (row : CodedRow). row.source == source) rows k d within)
 
--- starts with the number of groups before the next source at the end are the starts of one source more
+-- if `starts` has for each source up to `source` the number of groups before it, then adding `ahead`, the number before
+-- the next source, makes it so for that one
 pub starts_more : (rows : List CodedRow) (starts : List ℕ) (source ahead : ℕ) → length starts ≡ source + 1
     → ((k : ℕ) → k ≤ source → get_or starts k 0 ≡ groups_ahead rows k) → ahead ≡ groups_ahead rows (source + 1)
     → (k : ℕ) → k ≤ source + 1 → get_or (starts ++ ahead ∷ []) k 0 ≡ groups_ahead rows k
@@ -86,5 +89,6 @@ starts_more rows starts source ahead len known more k le =
           get_or_push starts ahead 0 k (omega (arith, len, last))
           ∙ more
           ∙ ap (groups_ahead rows) (sym last)
-      | inr other ↦ get_or_append_left starts (ahead ∷ []) 0 k (omega (arith, len, other, le)) ∙ known k (omega (arith, le, other))
+      | inr other ↦ get_or_append_left starts (ahead ∷ []) 0 k (omega (arith, len, other, le))
+          ∙ known k (omega (arith, le, other))
     ]

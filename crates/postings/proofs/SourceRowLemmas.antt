@@ -1,12 +1,16 @@
--- Groups stand source by source, as rows do: as many rows have the groups of the concepts before one as the rows of these concepts.
-use Rattle.std.proofs.Common.{ℕ, zero, suc, ◌+◌, ◌-◌, ◌==◌, ◌≡◌, ◌≢◌, ◌≤◌, ◌<◌, ◌++◌, ◌∷◌, [], ◌∙◌, ⊎_elim, Bool, true, false, cond}
-use Rattle.std.proofs.Common.{List, Some, length, get_or, map, take, drop, refl, sym, ap, subst, arith, length-append, length-take, length-drop}
+-- Groups stand source by source, as rows do: as many rows have the groups of the concepts before one as the rows of
+-- these concepts.
+use Rattle.std.proofs.Common.{ℕ, zero, suc, ◌+◌, ◌-◌, ◌==◌, ◌≡◌, ◌≢◌, ◌≤◌, ◌<◌, ◌++◌, ◌∷◌, [], ◌∙◌, ⊎_elim, Bool, true}
+use Rattle.std.proofs.Common.{false, cond}
+use Rattle.std.proofs.Common.{List, Some, length, get_or, map, take, drop, refl, sym, ap, subst, arith, length-append}
+use Rattle.std.proofs.Common.{length-take, length-drop}
 use Rattle.std.specs.Prelude.{All, Contains, nat_lt, slice_get}
 use Rattle.std.specs.List.{concat, filter}
 use Rattle.std.specs.List.Sorted.{IsStrictlyIncreasing}
 use Rattle.std.proofs.lemmas.Bool.{cases_eq, cases_lt, eq-eqb, le-ltb, lt-ltb, ne_eqb}
 use Rattle.std.proofs.lemmas.Grind.{flat_map-append}
-use Rattle.std.proofs.lemmas.List.{get_or-append-add, get_or-drop, get_or-map, get_or-take, get_or_append_left, get_or_default, length-map}
+use Rattle.std.proofs.lemmas.List.{get_or-append-add, get_or-drop, get_or-map, get_or-take, get_or_append_left}
+use Rattle.std.proofs.lemmas.List.{get_or_default, length-map}
 use Rattle.std.proofs.lemmas.List.{same_lists, take-append-drop, take_all}
 use Rattle.std.proofs.lemmas.List.Elements.{All-map}
 use Rattle.std.proofs.lemmas.List.Sums.{count_by-le-length, length-filter}
@@ -38,17 +42,21 @@ none_below keys = ap (λ (xs : List ℕ). length xs)
 
 -- there are as many keys below `k + 1` as below `k` and equal to `k`
 more_below : (k : ℕ) (keys : List ℕ)
-    → length (filter (λ key. nat_lt key (k + 1)) keys) ≡ length (filter (λ key. nat_lt key k) keys) + length (filter (λ key. key == k) keys)
+    → length (filter (λ key. nat_lt key (k + 1)) keys) ≡ length (filter (λ key. nat_lt key k) keys)
+    + length (filter (λ key. key == k) keys)
 more_below k [] = refl
 more_below k (x ∷ xs) =
-    let rest : length (filter (λ key. nat_lt key (k + 1)) xs) ≡ length (filter (λ key. nat_lt key k) xs) + length (filter (λ key. key == k) xs) =
+    let rest : length (filter (λ key. nat_lt key (k + 1)) xs) ≡ length (filter (λ key. nat_lt key k) xs)
+    + length (filter (λ key. key == k) xs) =
     more_below k xs in
     ⊎_elim (λ (less : x < k). by true true false (lt-ltb x (k + 1) (omega (arith, less))) (lt-ltb x k less)
     (ne_eqb x k (λ (same : x ≡ k). absurd (omega (arith, less, same)))) (omega (arith, rest)))
     (λ (more : k ≤ x).
-    ⊎_elim (λ (same : x ≡ k). by true false true (lt-ltb x (k + 1) (omega (arith, same))) (le-ltb x k more) (eq-eqb x k same)
+    ⊎_elim (λ (same : x ≡ k). by true false true (lt-ltb x (k + 1) (omega (arith, same))) (le-ltb x k more)
+    (eq-eqb x k same)
     (omega (arith, rest)))
-    (λ (other : x ≢ k). by false false false (le-ltb x (k + 1) (omega (arith, more, other))) (le-ltb x k more) (ne_eqb x k other)
+    (λ (other : x ≢ k). by false false false (le-ltb x (k + 1) (omega (arith, more, other))) (le-ltb x k more)
+    (ne_eqb x k other)
     (omega (arith, rest)))
     (cases_eq x k))
     (cases_lt x k)
@@ -70,7 +78,7 @@ more_below k (x ∷ xs) =
         (λ i. length (cond (first i) (x ∷ next) next)) ∙ is
         ∙ (λ i. length (cond (sym second i) (x ∷ before) before) + length (cond (sym third i) (x ∷ own) own))
 
--- the lists of the first `k` keys have as many items as there are keys below `k`
+-- the lists of the keys below `k` have together as many places as `keys` has keys below `k`
 pub length-ahead : (count : ℕ) (keys : List ℕ) (k : ℕ) → k ≤ count
     → length (concat (take k (places_by count keys))) ≡ length (filter (λ key. nat_lt key k) keys)
 length-ahead count keys zero within = sym (none_below keys)
@@ -86,12 +94,13 @@ length-ahead count keys (suc k) within =
     ∙ sym (more_below k keys)
     ∙ ap (λ (n : ℕ). length (filter (λ key. nat_lt key n) keys)) (sym next)
 
--- the lists of all keys have no more items than there are keys
+-- the lists of all keys below `count` have together at most as many places as `keys` is long
 pub length-places : (count : ℕ) (keys : List ℕ) → length (concat (places_by count keys)) ≤ length keys
 length-places count keys =
     omega (
       arith,
-      ap (λ (lists : List (List ℕ)). length (concat lists)) (take_all count (places_by count keys) (omega (arith, length-places_by count keys))),
+      ap (λ (lists : List (List ℕ)). length (concat lists))
+          (take_all count (places_by count keys) (omega (arith, length-places_by count keys))),
       length-ahead count keys count (omega arith),
       length-filter (λ key. nat_lt key count) keys,
       count_by-le-length (λ key. nat_lt key count) keys,
@@ -102,7 +111,8 @@ many_pass : {X Y : Type 0} (p : X → Bool) (q : Y → Bool) (xs : List X) (ys :
     → length (filter p xs) ≡ length (filter q ys)
 many_pass p q xs ys same =
     sym (length-map (filter p xs) p)
-    ∙ ap (λ (tests : List Bool). length tests) (sym (filter-map (λ b. b) p xs) ∙ ap (filter (λ b. b)) same ∙ filter-map (λ b. b) q ys)
+    ∙ ap (λ (tests : List Bool). length tests) (sym (filter-map (λ b. b) p xs) ∙ ap (filter (λ b. b)) same
+    ∙ filter-map (λ b. b) q ys)
     ∙ length-map (filter q ys) q
 
 module _ (release : Release) (rises : IsStrictlyIncreasing release.concepts) (coded : CodedRows)
@@ -126,26 +136,29 @@ module _ (release : Release) (rises : IsStrictlyIncreasing release.concepts) (co
   -- concepts with equal identifiers have equal numbers
   same_number : (i j : ℕ) → i < length release.concepts → j < length release.concepts → id i ≡ id j → i ≡ j
   same_number i j near far same =
-      sym (place_of-get_or release.concepts rises i near) ∙ ap (place_of release.concepts) same ∙ place_of-get_or release.concepts rises j far
+      sym (place_of-get_or release.concepts rises i near) ∙ ap (place_of release.concepts) same
+      ∙ place_of-get_or release.concepts rises j far
 
   -- each group of `concepts` is of one of these concepts
-  groups_of_own : (concepts : List ℕ) → All (λ (group : ConceptGroup). Contains concepts group.concept) (groups_among alone concepts)
+  groups_of_own : (concepts : List ℕ)
+      → All (λ (group : ConceptGroup). Contains concepts group.concept) (groups_among alone concepts)
   groups_of_own concepts =
       All-flat_map (λ (group : ConceptGroup). Contains concepts group.concept) (groups_at alone) concepts
-      (λ concept there. All-map (λ (group : ConceptGroup). Contains concepts group.concept) (group_with concept) (keys_of alone concept)
+      (λ concept there. All-map (λ (group : ConceptGroup). Contains concepts group.concept) (group_with concept)
+      (keys_of alone concept)
       (λ k d below. there))
 
   module _ (c : ℕ) (within : c ≤ length release.concepts) where
     abbrev before : List ConceptGroup
     before = groups_among alone (take c release.concepts)
 
-    abbrev behind : List ConceptGroup
-    behind = groups_among alone (drop c release.concepts)
+    abbrev following : List ConceptGroup
+    following = groups_among alone (drop c release.concepts)
 
     start : get_or marks.starts.items c 0 ≡ length before
     start = starts_are release rises coded are marks marked c within
 
-    split : all_groups alone ≡ before ++ behind
+    split : all_groups alone ≡ before ++ following
     split = ap (groups_among alone) (sym (take-append-drop c release.concepts))
         ∙ flat_map-append (groups_at alone) (take c release.concepts) (drop c release.concepts)
 
@@ -165,15 +178,17 @@ module _ (release : Release) (rises : IsStrictlyIncreasing release.concepts) (co
 
       told : slice_get (all_groups alone) unit ≡ Some group
       told = group_marked release rises coded are marks marked n d (stands e) below
-          ∙ ap (λ (row : Attribute). Some (group_of row)) (ap (λ (xs : List Attribute). get_or xs n (stands e)) (sym are.stand_for)
+          ∙ ap (λ (row : Attribute). Some (group_of row))
+          (ap (λ (xs : List Attribute). get_or xs n (stands e)) (sym are.stand_for)
           ∙ get_or-map stands codes n e (stands e) below)
 
-      at : get_or (before ++ behind) unit group ≡ group
-      at = ap (λ (xs : List ConceptGroup). get_or xs unit group) (sym split) ∙ get_or_from_slice_get (all_groups alone) unit group group told
+      at : get_or (before ++ following) unit group ≡ group
+      at = ap (λ (xs : List ConceptGroup). get_or xs unit group) (sym split)
+          ∙ get_or_from_slice_get (all_groups alone) unit group group told
 
       earlier : unit < length before → source < c
       earlier less =
-          let own : get_or before unit group ≡ group = sym (get_or_append_left before behind group unit less) ∙ at in
+          let own : get_or before unit group ≡ group = sym (get_or_append_left before following group unit less) ∙ at in
           let there : Contains (take c release.concepts) (id source) =
           subst (λ (found : ConceptGroup). Contains (take c release.concepts) found.concept) own
           (groups_of_own (take c release.concepts) unit group less) in
@@ -187,17 +202,17 @@ module _ (release : Release) (rises : IsStrictlyIncreasing release.concepts) (co
       later more =
           let rest : ℕ = unit - length before in
           let whole : length before + rest ≡ unit = omega (arith, more) in
-          let inside : rest < length behind =
+          let inside : rest < length following =
           omega (
             arith,
             slice_get_within (all_groups alone) unit group told,
             ap (λ (xs : List ConceptGroup). length xs) split,
-            length-append before behind,
+            length-append before following,
             whole,
           ) in
-          let own : get_or behind rest group ≡ group =
-          sym (get_or-append-add before behind rest group)
-          ∙ ap (λ (k : ℕ). get_or (before ++ behind) k group) whole ∙ at in
+          let own : get_or following rest group ≡ group =
+          sym (get_or-append-add before following rest group)
+          ∙ ap (λ (k : ℕ). get_or (before ++ following) k group) whole ∙ at in
           let there : Contains (drop c release.concepts) (id source) =
           subst (λ (found : ConceptGroup). Contains (drop c release.concepts) found.concept) own
           (groups_of_own (drop c release.concepts) rest group inside) in
@@ -207,7 +222,7 @@ module _ (release : Release) (rises : IsStrictlyIncreasing release.concepts) (co
           ∙ sym (get_or-drop c release.concepts there.0 (id source)) ∙ there.2 in
           omega (arith, same_number (c + there.0) source near known same)
 
-      -- the number of a row's group is below the start of concept `c` exactly if the row's source is below `c`
+      -- the group of row `n` comes before the first group of concept `c` exactly if the row's source comes before `c`
       pub before_told : nat_lt unit (get_or marks.starts.items c 0) ≡ nat_lt source c
       before_told = ⊎_elim
           (λ (less : unit < length before).
@@ -216,17 +231,25 @@ module _ (release : Release) (rises : IsStrictlyIncreasing release.concepts) (co
           ap (nat_lt unit) start ∙ le-ltb unit (length before) more ∙ sym (le-ltb source c (later more)))
           (cases_lt unit (length before))
 
-    -- the start of a concept is at most the number of all groups
+    -- the first group of a concept is at most the number of all groups
     pub start_within : get_or marks.starts.items c 0 ≤ length (all_groups alone)
-    start_within = omega (arith, start, ap (λ (xs : List ConceptGroup). length xs) split, length-append before behind)
+    start_within = omega (
+      arith,
+      start,
+      ap (λ (xs : List ConceptGroup). length xs) split,
+      length-append before
+          following,
+    )
 
-    -- the groups before the start of a concept have as many rows as the concepts before it
+    -- the groups before the first group of concept `c` have as many rows as the concepts before `c`
     pub ahead_told : (count : ℕ) → get_or marks.starts.items c 0 ≤ count
-        → length (concat (take (get_or marks.starts.items c 0) (places_by count (map (λ (mark : Flagged). mark.number) marks.groups.items))))
+        → length (concat (take (get_or marks.starts.items c 0)
+        (places_by count (map (λ (mark : Flagged). mark.number) marks.groups.items))))
         ≡ length (concat (take c (places_by (length release.concepts) (map (λ (row : CodedRow). row.source) codes))))
     ahead_told count near =
         length-ahead count (map (λ (mark : Flagged). mark.number) marks.groups.items) s near
-        ∙ many_pass (λ key. nat_lt key s) (λ key. nat_lt key c) (map (λ (mark : Flagged). mark.number) marks.groups.items)
+        ∙ many_pass (λ key. nat_lt key s) (λ key. nat_lt key c)
+        (map (λ (mark : Flagged). mark.number) marks.groups.items)
         (map (λ (row : CodedRow). row.source) codes)
         (map-map (λ key. nat_lt key s) (λ (mark : Flagged). mark.number) marks.groups.items ∙ each
         ∙ sym (map-map (λ key. nat_lt key c) (λ (row : CodedRow). row.source) codes))
@@ -244,9 +267,11 @@ module _ (release : Release) (rises : IsStrictlyIncreasing release.concepts) (co
         row : CodedRow
         row = record { source = 0; type_place = 0; group = 0; value = 0 }
 
-        each : map (λ (mark : Flagged). nat_lt mark.number s) marks.groups.items ≡ map (λ (row : CodedRow). nat_lt row.source c) codes
+        each : map (λ (mark : Flagged). nat_lt mark.number s) marks.groups.items
+            ≡ map (λ (row : CodedRow). nat_lt row.source c) codes
         each =
-            same_lists (map (λ (mark : Flagged). nat_lt mark.number s) marks.groups.items) (map (λ (row : CodedRow). nat_lt row.source c) codes)
+            same_lists (map (λ (mark : Flagged). nat_lt mark.number s) marks.groups.items)
+            (map (λ (row : CodedRow). nat_lt row.source c) codes)
             (length-map marks.groups.items (λ (mark : Flagged). nat_lt mark.number s) ∙ long
             ∙ sym (length-map codes (λ (row : CodedRow). nat_lt row.source c)))
             (λ n d inside.

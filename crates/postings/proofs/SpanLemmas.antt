@@ -1,15 +1,17 @@
--- Where lists stand, one behind the other.
+-- Where lists stand, one after the other.
 use Rattle.std.proofs.Common.{ℕ, ◌≡◌, ◌≤◌, ◌∙◌, List, length, take, drop, sym, ap, arith, length-append}
 use Rattle.std.specs.List.{concat, flat_map}
 use Rattle.std.proofs.lemmas.Grind.{flat_map-append}
 use Rattle.std.proofs.lemmas.List.{take-append-drop, take-take}
 use Rattle.number_lists.proofs.ListLemmas.{concat-append}
 
--- the first `i` lists have no more items than the first `j`, if `i` is at most `j`
-pub lengths_rise : (lists : List (List ℕ)) (i j : ℕ) → i ≤ j → length (concat (take i lists)) ≤ length (concat (take j lists))
+-- the first `i` lists have together at most as many items as the first `j`, if `i` is at most `j`
+pub lengths_rise : (lists : List (List ℕ)) (i j : ℕ) → i ≤ j
+    → length (concat (take i lists)) ≤ length (concat (take j lists))
 lengths_rise lists i j le =
     let whole : concat (take j lists) ≡ _ =
-    ap concat (sym (take-append-drop i (take j lists))) ∙ concat-append (take i (take j lists)) (drop i (take j lists)) in
+    ap concat (sym (take-append-drop i (take j lists)))
+    ∙ concat-append (take i (take j lists)) (drop i (take j lists)) in
     omega (
       arith,
       ap (λ (xs : List ℕ). length xs) whole,
@@ -17,12 +19,13 @@ lengths_rise lists i j le =
       ap (λ (xs : List (List ℕ)). length (concat xs)) (take-take i j lists le),
     )
 
--- the blocks of the first `i` keys have no more items than those of the first `j`, if `i` is at most `j`
+-- `f` of the first `i` keys gives together at most as many items as of the first `j`, if `i` is at most `j`
 pub blocks_rise : {X Y : Type 0} (f : X → List Y) (keys : List X) (i j : ℕ) → i ≤ j
     → length (flat_map f (take i keys)) ≤ length (flat_map f (take j keys))
 blocks_rise {X} {Y} f keys i j le =
     let whole : flat_map f (take j keys) ≡ _ =
-    ap (flat_map f) (sym (take-append-drop i (take j keys))) ∙ flat_map-append f (take i (take j keys)) (drop i (take j keys)) in
+    ap (flat_map f) (sym (take-append-drop i (take j keys)))
+    ∙ flat_map-append f (take i (take j keys)) (drop i (take j keys)) in
     omega (
       arith,
       ap (λ (xs : List Y). length xs) whole,

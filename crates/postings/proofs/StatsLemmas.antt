@@ -1,5 +1,6 @@
 -- How much there is in a release, by the lists of its indexes.
-use Rattle.std.proofs.Common.{ℕ, ◌∷◌, [], ◌≡◌, ◌∙◌, Bool, true, false, cond, List, length, get_or, map, refl, sym, ap, subst, append-nil, arith, zero-add}
+use Rattle.std.proofs.Common.{ℕ, ◌∷◌, [], ◌≡◌, ◌∙◌, Bool, true, false, cond, List, length, get_or, map, refl, sym, ap}
+use Rattle.std.proofs.Common.{subst, append-nil, arith, zero-add}
 use Rattle.std.specs.List.{concat, count_by, filter, flat_map, range_with_len, sum_by}
 use Rattle.std.specs.List.Sorted.{IsStrictlyIncreasing}
 use Rattle.std.proofs.lemmas.List.{get_or_default, length-map, same_lists}
@@ -12,7 +13,8 @@ use Rattle.rf2_rows.specs.Release.{Release}
 use Rattle.hierarchy.specs.Hierarchy.{reaches}
 use Rattle.ancestor_index.specs.HierarchyLists.{Hierarchy, hierarchy_of, is_child, lists_where}
 use Rattle.ancestor_index.proofs.ClosureLemmas.{length-where}
-use Rattle.postings.specs.Groups.{ConceptGroup, all_groups, groups_among, groups_in, keys_of, pairs_of_group, rows_alone}
+use Rattle.postings.specs.Groups.{ConceptGroup, all_groups, groups_among, groups_in, keys_of, pairs_of_group}
+use Rattle.postings.specs.Groups.{rows_alone}
 use Rattle.postings.specs.Indexed.{HasListsFor, Indexed, IsIndexOf}
 use Rattle.postings.specs.Stats.{pairs_where, stats_in, stats_of}
 use Rattle.postings.proofs.CountLemmas.{all_groups_again, groups_count}
@@ -29,7 +31,8 @@ items_by_place xs =
     (λ k d below. get_or_default xs k d 0 below
     ∙ sym (get_or-map-range_with_len (λ place. get_or xs place 0) 0 (length xs) k k d below (zero-add k)))
 
-kept_of_map : (test : ℕ → Bool) (give : ℕ → ℕ) (xs : List ℕ) → filter test (map give xs) ≡ map give (filter (λ x. test (give x)) xs)
+kept_of_map : (test : ℕ → Bool) (give : ℕ → ℕ) (xs : List ℕ)
+    → filter test (map give xs) ≡ map give (filter (λ x. test (give x)) xs)
 kept_of_map test give [] = refl
 kept_of_map test give (x ∷ xs) = elim (test (give x)) as (λ (b : Bool).
     cond b (give x ∷ filter test (map give xs)) (filter test (map give xs))
@@ -39,7 +42,8 @@ kept_of_map test give (x ∷ xs) = elim (test (give x)) as (λ (b : Bool).
 module _ (concepts : List ℕ) (test : ℕ → ℕ → Bool) where
   -- the list of a concept has as many items as there are pairs that begin with the concept and pass the test
   length-list : (concept : ℕ)
-      → length (filter (λ other. test (get_or concepts concept 0) (get_or concepts other 0)) (range_with_len 0 (length concepts)))
+      → length (filter (λ other. test (get_or concepts concept 0) (get_or concepts other 0))
+      (range_with_len 0 (length concepts)))
       ≡ length (map (pair_with (get_or concepts concept 0)) (filter (test (get_or concepts concept 0)) concepts))
   length-list concept =
       let give : ℕ → ℕ = λ place. get_or concepts place 0 in
@@ -49,8 +53,11 @@ module _ (concepts : List ℕ) (test : ℕ → ℕ → Bool) where
       ∙ ap (λ (xs : List ℕ). length (filter (test (give concept)) xs)) (sym (items_by_place concepts))
       ∙ sym (length-map (filter (test (give concept)) concepts) (pair_with (give concept)))
 
-  -- the lists that a test gives by the numbers of concepts have as many items as there are pairs that pass it
-  pub length-pairs : length (concat (lists_where (length concepts) (λ concept other. test (get_or concepts concept 0) (get_or concepts other 0))))
+  -- lists that have, for each concept, the concepts that pass a test with it have together as many items as there are
+  -- pairs that pass
+  pub length-pairs : length
+      (concat (lists_where (length concepts) (λ concept other. test (get_or concepts concept 0)
+      (get_or concepts other 0))))
       ≡ length (pairs_where concepts test)
   length-pairs =
       let give : ℕ → ℕ = λ place. get_or concepts place 0 in
@@ -77,30 +84,39 @@ length-keys release concept =
     ∙ groups_count release (λ pairs. true) concept
     ∙ all_pass (groups_of release concept)
 
--- a release has as many groups as its concepts have by `groups_of`
-pub length-groups : (release : Release) → length (all_groups release) ≡ length (flat_map (groups_of release) release.concepts)
+-- a release has as many numbered groups as its concepts have by `groups_of`
+pub length-groups : (release : Release)
+    → length (all_groups release) ≡ length (flat_map (groups_of release) release.concepts)
 length-groups release =
-    let groups : ℕ → List ConceptGroup = λ concept. map (λ key. record { concept = concept; key = key }) (keys_of release concept) in
+    let groups : ℕ → List ConceptGroup =
+    λ concept. map (λ key. record { concept = concept; key = key }) (keys_of release concept) in
     length-flat_map groups release.concepts
     ∙ (λ i. sum_by (λ concept.
-    (sym (ap (λ (xs : List ConceptGroup). length xs) (append-nil (groups concept))) ∙ length-keys release concept) i) release.concepts)
+    (sym (ap (λ (xs : List ConceptGroup). length xs) (append-nil (groups concept))) ∙ length-keys release concept) i)
+    release.concepts)
     ∙ sym (length-flat_map (groups_of release) release.concepts)
 
 -- ---- the whole
--- the counts of the indexes of a release are the counts of the release
-pub stats_told : (indexed : Indexed) (release : Release) → IsStrictlyIncreasing release.concepts → IsIndexOf indexed release
+-- if `indexed` is what the indexes of `release` hold, its counts are those of the release
+pub stats_told : (indexed : Indexed) (release : Release) → IsStrictlyIncreasing release.concepts
+    → IsIndexOf indexed release
     → stats_in indexed ≡ stats_of release
 stats_told indexed release rises is =
     let groups : length (groups_in indexed) ≡ length (flat_map (groups_of release) release.concepts) =
     (λ i. length (all_groups (rows_alone (is.concepts i) (is.rows i))))
     ∙ ap (λ (xs : List ConceptGroup). length xs) (all_groups_again release rises)
     ∙ length-groups release in
-    let ancestors : length (concat indexed.hierarchy.ancestors) ≡ length (pairs_where release.concepts (reaches release.isa)) =
-    ap (λ (hierarchy : Hierarchy). length (concat hierarchy.ancestors)) is.hierarchy ∙ length-pairs release.concepts (reaches release.isa) in
-    let links : length (concat indexed.hierarchy.parents) ≡ length (pairs_where release.concepts (is_child release.isa)) =
-    ap (λ (hierarchy : Hierarchy). length (concat hierarchy.parents)) is.hierarchy ∙ length-pairs release.concepts (is_child release.isa) in
+    let ancestors : length (concat indexed.hierarchy.ancestors)
+    ≡ length (pairs_where release.concepts (reaches release.isa)) =
+    ap (λ (hierarchy : Hierarchy). length (concat hierarchy.ancestors)) is.hierarchy
+    ∙ length-pairs release.concepts (reaches release.isa) in
+    let links : length (concat indexed.hierarchy.parents)
+    ≡ length (pairs_where release.concepts (is_child release.isa)) =
+    ap (λ (hierarchy : Hierarchy). length (concat hierarchy.parents)) is.hierarchy
+    ∙ length-pairs release.concepts (is_child release.isa) in
     let members : length (concat indexed.members) ≡ length (pairs_where release.concepts (is_child release.members)) =
-    ap (λ (lists : List (List ℕ)). length (concat lists)) is.members ∙ length-pairs release.concepts (is_child release.members) in
+    ap (λ (lists : List (List ℕ)). length (concat lists)) is.members
+    ∙ length-pairs release.concepts (is_child release.members) in
     (λ i. record {
       n = length (is.concepts i);
       a = length (is.rows i);
@@ -111,8 +127,9 @@ stats_told indexed release rises is =
     })
 
 -- ---- each concept has its lists in the hierarchy
--- the hierarchy of a release has its lists for each concept
-pub lists_for : (concepts : List ℕ) (release : Release) (hierarchy : Hierarchy) → concepts ≡ release.concepts → hierarchy ≡ hierarchy_of release
+-- the hierarchy of a release has each kind of list for each concept
+pub lists_for : (concepts : List ℕ) (release : Release) (hierarchy : Hierarchy) → concepts ≡ release.concepts
+    → hierarchy ≡ hierarchy_of release
     → HasListsFor (length concepts) hierarchy
 lists_for concepts release hierarchy same is =
     subst (λ (hierarchy : Hierarchy). HasListsFor (length concepts) hierarchy) (sym is) (record {

@@ -20,19 +20,21 @@ use Rattle.std.proofs.lemmas.Slice.Eq.{bytes_eq-Decides}
 use Rattle.postings.specs.RowValues.{text_cmp}
 use Rattle.postings.proofs.ValueLemmas.{from_map}
 
-module _ {K : Type 0} {R : K → K → Ordering} (order : IsTotalOrder R) (keys : List K) (rises : IsStrictlySortedBy R keys) where
-  -- keys that rise do not fall
+module _ {K : Type 0} {R : K → K → Ordering} (order : IsTotalOrder R) (keys : List K)
+    (rises : IsStrictlySortedBy R keys) where
+  -- keys that rise strictly are sorted
   pub rising_is_sorted : IsSorted R keys
   rising_is_sorted k d from within =
       ap is_lt (order.antisymm (get_or keys (k + 1) d) (get_or keys k d)
       ∙ ap ordering_reverse (Less-from_sorted R keys k (k + 1) d rises (omega arith) within))
 
   module _ (key : K) (place : ℕ) (d : K) (below : place < length keys) (is : get_or keys place d ≡ key) where
-    -- the keys that are less than the key at `place` are those before it
+    -- in strictly rising keys, the keys less than the one at `place` are those before it
     pub is_before : (k : ℕ) → k < length keys → is_lt (R (get_or keys k d) key) ≡ ltb k place
     is_before k within = elim (cases_lt k place) [
       | inl before ↦
-          ap is_lt (subst (λ (key : K). R (get_or keys k d) key ≡ Less) is (Less-from_sorted R keys k place d rises before below))
+          ap is_lt (subst (λ (key : K). R (get_or keys k d) key ≡ Less) is
+          (Less-from_sorted R keys k place d rises before below))
           ∙ sym (lt-ltb k place before)
       | inr past ↦ elim (cases_eq k place) [
         | inl same ↦
@@ -48,20 +50,21 @@ module _ {K : Type 0} {R : K → K → Ordering} (order : IsTotalOrder R) (keys 
 
   -- a binary search for a key
   module _ (key : K) where
-    -- a binary search that ends with `Ok` has found the place of the key
+    -- a binary search for `key` that ends with `Ok` has found a place at which `key` is
     pub found_place : ((x y : K) → R x y ≡ Equal → x ≡ y) → (at : ℕ) → at < length keys
         → IsBinarySearchResult (λ y. R y key) keys (Ok at) → slice_get keys at ≡ Some key
     found_place exact at below tied =
         slice_get-get_or keys at key below ∙ ap (λ (x : K). Some x) (exact (get_or keys at key) key (tied key))
 
-    -- a binary search for a key that is in the list does not end with `Err`
-    pub never_missed : Contains keys key → (at : ℕ) → IsBinarySearchResult (λ y. R y key) keys (Err at) → {X : Type 0} → X
+    -- a binary search for a key that is in the list cannot end with `Err`
+    pub never_missed : Contains keys key → (at : ℕ) → IsBinarySearchResult (λ y. R y key) keys (Err at) → {X : Type 0}
+        → X
     never_missed there at found =
         let point = found (searchable_from_sorted order (λ (x : K). x) keys key rising_is_sorted) in
         let tied : R (get_or keys there.0 key) key ≡ Equal = ap (λ (x : K). R x key) there.2 ∙ tied_itself order key in
         elim (cases_lt there.0 at) [
           | inl before ↦ absurd (cc (sym tied ∙ point.0 there.0 key (omega arith) before))
-          | inr behind ↦ absurd (cc (sym tied ∙ point.1 there.0 key behind there.1))
+          | inr following ↦ absurd (cc (sym tied ∙ point.1 there.0 key following there.1))
         ]
 
 -- ---- texts that are given by items, sorted and without repeats
@@ -69,8 +72,9 @@ module _ {X : Type 0} (f : X → List ℕ) (sorted : List X) where
   abbrev same : X → X → Bool
   same one other = bytes_eq (f one) (f other)
 
-  -- texts that are sorted rise strictly once repeats are removed
-  pub texts_sorted : IsSorted (λ one other. text_cmp (f one) (f other)) sorted → IsStrictlySortedBy text_cmp (map f (dedup same sorted))
+  -- sorted texts rise strictly after repeats are removed
+  pub texts_sorted : IsSorted (λ one other. text_cmp (f one) (f other)) sorted
+      → IsStrictlySortedBy text_cmp (map f (dedup same sorted))
   unfolding IsStrictlySortedBy
   texts_sorted in_order =
       by (dedup same sorted)
@@ -81,23 +85,26 @@ module _ {X : Type 0} (f : X → List ℕ) (sorted : List X) where
       less x [] all = tt
       less x (y ∷ xs) all = (all.0, less x xs all.1)
 
-      by : (xs : List X) → IsStrictlySortedBy (λ one other. text_cmp (f one) (f other)) xs → IsStrictlySortedBy text_cmp (map f xs)
+      by : (xs : List X) → IsStrictlySortedBy (λ one other. text_cmp (f one) (f other)) xs
+          → IsStrictlySortedBy text_cmp (map f xs)
       by [] rises = tt
       by (x ∷ xs) rises = (less x xs rises.0, by xs rises.1)
 
--- sorting texts and removing repeats keeps each text
+-- sorting texts and removing repeats neither loses nor adds a text
 pub texts_kept : {X : Type 0} (f : X → List ℕ) (xs sorted : List X) → IsPermutation xs sorted → (text : List ℕ)
     → Contains (map f (dedup (λ one other. bytes_eq (f one) (f other)) sorted)) text ↔ Contains (map f xs) text
 texts_kept {X} f xs sorted moved text = (
   λ there.
       let from = from_map f (dedup same sorted) text there in
       subst (Contains (map f xs)) from.2 (Contains-map f xs from.0
-      (Contains-permutation sorted xs from.0 (IsPermutation-sym xs sorted moved) (Contains-from_dedup same sorted from.0 from.1))),
+      (Contains-permutation sorted xs from.0 (IsPermutation-sym xs sorted moved)
+      (Contains-from_dedup same sorted from.0 from.1))),
   λ there.
       let from = from_map f xs text there in
       let kept = Any-dedup (on_texts_equal f) sorted from.0 (Contains-permutation xs sorted from.0 moved from.1) in
       let is : f kept.1 ≡ text = sym ((bytes_eq-Decides (f from.0) (f kept.1)).0 kept.4) ∙ from.2 in
-      subst (Contains (map f (dedup same sorted))) is (Contains-map f (dedup same sorted) kept.1 (kept.0, kept.2, kept.3)),
+      subst (Contains (map f (dedup same sorted))) is
+      (Contains-map f (dedup same sorted) kept.1 (kept.0, kept.2, kept.3)),
 )
   where
     same : X → X → Bool

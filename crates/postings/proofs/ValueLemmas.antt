@@ -8,9 +8,11 @@ use Rattle.std.specs.List.Sorted.{IsStrictlyIncreasing, IsStrictlySortedBy}
 use Rattle.std.specs.Cmp.Lexicographic.{texts_ties}
 use Rattle.std.specs.Ordering.{int_cmp, int_eq}
 use Rattle.std.proofs.lemmas.Bool.{cases_lt, cases_order, eq-eqb, false_from_ne_true, ne_eqb, true≢false}
-use Rattle.std.proofs.lemmas.List.{get_or-append-add, get_or_append_left, get_or-map, get_or_default, flat_map_more, length-map, take_more}
+use Rattle.std.proofs.lemmas.List.{get_or-append-add, get_or_append_left, get_or-map, get_or_default, flat_map_more}
+use Rattle.std.proofs.lemmas.List.{length-map, take_more}
 use Rattle.std.proofs.lemmas.List.Elements.{All-append, All-cons, All-filter, All-head, All-map}
-use Rattle.std.proofs.lemmas.List.Elements.{All-nil, All-tail, Contains-append_left, Contains-append_right, Contains-append_cases}
+use Rattle.std.proofs.lemmas.List.Elements.{All-nil, All-tail, Contains-append_left, Contains-append_right}
+use Rattle.std.proofs.lemmas.List.Elements.{Contains-append_cases}
 use Rattle.std.proofs.lemmas.List.Elements.{recursion_from_All}
 use Rattle.std.proofs.lemmas.Map.Keys.{IsDistinct-from_sorted, IsDistinct-from_apart, apart_from_distinct}
 use Rattle.std.proofs.lemmas.Option.{get_or_from_slice_get, slice_get-get_or, slice_get_within}
@@ -28,7 +30,8 @@ use Rattle.postings.specs.inside.ValueTables.{values_in}
 use Rattle.postings.specs.declared.values.Values.{Values}
 
 -- each item of `map f xs` is `f` of an item of `xs`
-pub from_map : {X Y : Type 0} (f : X → Y) (xs : List X) (y : Y) → Contains (map f xs) y → (x : X) × Contains xs x × (f x ≡ y)
+pub from_map : {X Y : Type 0} (f : X → Y) (xs : List X) (y : Y) → Contains (map f xs) y
+    → (x : X) × Contains xs x × (f x ≡ y)
 from_map f [] y (k, below, is) = absurd (omega arith)
 from_map f (x ∷ xs) y (zero, below, is) = (x, (0, omega arith, refl), is)
 from_map f (x ∷ xs) y (suc k, below, is) =
@@ -38,12 +41,12 @@ from_map f (x ∷ xs) y (suc k, below, is) =
 -- ---- the values that are no concepts: some decimals and texts
 module _ (decimals : List ℤ) (texts : List (List ℕ)) where
   -- the values that are no concepts: first the decimals, and then the texts
-  abbrev pub values_behind : List Value
-  values_behind = map number_value decimals ++ map text_value texts
+  abbrev pub values_after : List Value
+  values_after = map number_value decimals ++ map text_value texts
 
   -- the values that are no concepts are as many as the decimals and the texts
-  length-values_behind : length values_behind ≡ length decimals + length texts
-  length-values_behind = omega (
+  length-values_after : length values_after ≡ length decimals + length texts
+  length-values_after = omega (
     arith,
     length-append (map number_value decimals) (map text_value texts),
     length-map decimals number_value,
@@ -51,17 +54,18 @@ module _ (decimals : List ℤ) (texts : List (List ℕ)) where
   )
 
   -- among the values that are no concepts, value `k` is decimal `k`
-  decimal_behind : (k : ℕ) (d : Value) (e : ℤ) → k < length decimals
-      → get_or values_behind k d ≡ number_value (get_or decimals k e)
-  decimal_behind k d e below =
-      get_or_append_left (map number_value decimals) (map text_value texts) d k (omega (arith, below, length-map decimals number_value))
+  decimal_after : (k : ℕ) (d : Value) (e : ℤ) → k < length decimals
+      → get_or values_after k d ≡ number_value (get_or decimals k e)
+  decimal_after k d e below =
+      get_or_append_left (map number_value decimals) (map text_value texts) d k
+      (omega (arith, below, length-map decimals number_value))
       ∙ get_or-map number_value decimals k e d below
 
-  -- among the values that are no concepts, value `k` after the decimals is text `k`
-  pub text_behind : (k : ℕ) (d : Value) → k < length texts
-      → get_or values_behind (length decimals + k) d ≡ text_value (get_or texts k [])
-  text_behind k d below =
-      ap (λ (n : ℕ). get_or values_behind (n + k) d) (sym (length-map decimals number_value))
+  -- in the list of decimals and then texts, item `k` after the decimals is text `k`
+  pub text_after : (k : ℕ) (d : Value) → k < length texts
+      → get_or values_after (length decimals + k) d ≡ text_value (get_or texts k [])
+  text_after k d below =
+      ap (λ (n : ℕ). get_or values_after (n + k) d) (sym (length-map decimals number_value))
       ∙ get_or-append-add (map number_value decimals) (map text_value texts) k d
       ∙ get_or-map text_value texts k [] d below
 
@@ -71,56 +75,57 @@ module _ (concepts : List ℕ) (decimals : List ℤ) (texts : List (List ℕ)) w
   values = values_among concepts decimals texts
 
   -- the values after the concepts
-  abbrev behind : List Value
-  behind = values_behind decimals texts
+  abbrev following : List Value
+  following = values_after decimals texts
 
-  -- the values are as many as the concepts, the decimals and the texts
+  -- there are as many values as concepts, decimals and texts together
   pub length-values : length values ≡ length concepts + (length decimals + length texts)
   length-values = omega (
     arith,
-    length-append (map concept_value concepts) behind,
+    length-append (map concept_value concepts) following,
     length-map concepts concept_value,
-    length-values_behind decimals texts,
+    length-values_after decimals texts,
   )
 
-  -- value `k` after the concepts is value `k` of the values that are no concepts
-  pub value_behind : (k : ℕ) (d : Value) → get_or values (length concepts + k) d ≡ get_or behind k d
-  value_behind k d =
+  -- item `k` after the concepts is item `k` of the decimals and texts
+  pub value_after : (k : ℕ) (d : Value) → get_or values (length concepts + k) d ≡ get_or following k d
+  value_after k d =
       ap (λ (n : ℕ). get_or values (n + k) d) (sym (length-map concepts concept_value))
-      ∙ get_or-append-add (map concept_value concepts) behind k d
+      ∙ get_or-append-add (map concept_value concepts) following k d
 
-  -- value `k` is concept `k`
+  -- the value with the number `k` is concept `k`, if `k` is below the number of concepts
   pub concept_at : (k : ℕ) (d : Value) → k < length concepts → get_or values k d ≡ concept_value (get_or concepts k 0)
   concept_at k d below =
-      get_or_append_left (map concept_value concepts) behind d k (omega (arith, below, length-map concepts concept_value))
+      get_or_append_left (map concept_value concepts) following d k
+      (omega (arith, below, length-map concepts concept_value))
       ∙ get_or-map concept_value concepts k 0 d below
 
-  -- value `k` after the concepts is decimal `k`
+  -- the value with the number `k` plus the number of concepts is decimal `k`
   pub decimal_at : (k : ℕ) (d : Value) (e : ℤ) → k < length decimals
       → get_or values (length concepts + k) d ≡ number_value (get_or decimals k e)
-  decimal_at k d e below = value_behind k d ∙ decimal_behind decimals texts k d e below
+  decimal_at k d e below = value_after k d ∙ decimal_after decimals texts k d e below
 
-  -- value `k` after the concepts and the decimals is text `k`
+  -- the value with the number `k` plus the numbers of concepts and decimals is text `k`
   pub text_at : (k : ℕ) (d : Value) → k < length texts
       → get_or values (length concepts + (length decimals + k)) d ≡ text_value (get_or texts k [])
-  text_at k d below = value_behind (length decimals + k) d ∙ text_behind decimals texts k d below
+  text_at k d below = value_after (length decimals + k) d ∙ text_after decimals texts k d below
 
-  -- a concept of `concepts` is among the values
+  -- each of `concepts` is among the values
   pub concept_there : (concept : ℕ) → Contains concepts concept → Contains values (concept_value concept)
-  concept_there concept there = Contains-append_left (map concept_value concepts) behind (concept_value concept)
+  concept_there concept there = Contains-append_left (map concept_value concepts) following (concept_value concept)
       (Contains-map concept_value concepts concept there)
 
-  -- a decimal of `decimals` is among the values
+  -- each of `decimals` is among the values
   pub decimal_there : (decimal : ℤ) → Contains decimals decimal → Contains values (number_value decimal)
   decimal_there decimal there =
-      Contains-append_right (map concept_value concepts) behind (number_value decimal)
+      Contains-append_right (map concept_value concepts) following (number_value decimal)
       (Contains-append_left (map number_value decimals) (map text_value texts) (number_value decimal)
       (Contains-map number_value decimals decimal there))
 
-  -- a text of `texts` is among the values
+  -- each of `texts` is among the values
   pub text_there : (text : List ℕ) → Contains texts text → Contains values (text_value text)
   text_there text there =
-      Contains-append_right (map concept_value concepts) behind (text_value text)
+      Contains-append_right (map concept_value concepts) following (text_value text)
       (Contains-append_right (map number_value decimals) (map text_value texts) (text_value text)
       (Contains-map text_value texts text there))
 
@@ -129,7 +134,7 @@ module _ (concepts : List ℕ) (decimals : List ℤ) (texts : List (List ℕ)) w
       → (((x : ℕ) × Contains concepts x × (concept_value x ≡ value)) ⊎
       (((x : ℤ) × Contains decimals x × (number_value x ≡ value)) ⊎
       ((x : List ℕ) × Contains texts x × (text_value x ≡ value))))
-  cases_of value there = elim (Contains-append_cases (map concept_value concepts) behind value there) [
+  cases_of value there = elim (Contains-append_cases (map concept_value concepts) following value there) [
     | inl among ↦ inl (from_map concept_value concepts value among)
     | inr others ↦ elim (Contains-append_cases (map number_value decimals) (map text_value texts) value others) [
       | inl among ↦ inr (inl (from_map number_value decimals value among))
@@ -156,14 +161,15 @@ module _ (concepts : List ℕ) (decimals : List ℤ) (texts : List (List ℕ)) w
 -- ---- the places of values in their tables
 
 -- the value with the number of a concept is the concept
-pub concept_placed : (concepts : List ℕ) (decimals : List ℤ) (texts : List (List ℕ)) (number : ℕ) → number < length concepts
+pub concept_placed : (concepts : List ℕ) (decimals : List ℤ) (texts : List (List ℕ)) (number : ℕ)
+    → number < length concepts
     → slice_get (values_among concepts decimals texts) number ≡ Some (concept_value (slice_index concepts number))
 concept_placed concepts decimals texts number below =
     slice_get-get_or (values_among concepts decimals texts) number (concept_value 0)
     (omega (arith, below, length-values concepts decimals texts))
     ∙ ap (λ (value : Value). Some value) (concept_at concepts decimals texts number (concept_value 0) below)
 
--- the value with the place of a decimal, counted after the concepts, is the decimal
+-- the value number of a decimal is its place plus the number of concepts
 pub decimal_placed : (concepts : List ℕ) (decimals : List ℤ) (texts : List (List ℕ)) (decimal : ℤ) (place : ℕ)
     → slice_get decimals place ≡ Some decimal
     → slice_get (values_among concepts decimals texts) (length concepts + place) ≡ Some (number_value decimal)
@@ -174,28 +180,31 @@ decimal_placed concepts decimals texts decimal place found =
     ∙ ap (λ (value : Value). Some value) (decimal_at concepts decimals texts place (number_value decimal) decimal below
     ∙ ap number_value (get_or_from_slice_get decimals place decimal decimal found))
 
--- the value with the place of a text, counted after the concepts and the decimals, is the text
+-- the value number of a text is its place plus the numbers of concepts and decimals
 pub text_placed : (concepts : List ℕ) (decimals : List ℤ) (texts : List (List ℕ)) (text : List ℕ) (place : ℕ)
     → slice_get texts place ≡ Some text
-    → slice_get (values_among concepts decimals texts) (length concepts + (length decimals + place)) ≡ Some (text_value text)
+    → slice_get (values_among concepts decimals texts) (length concepts + (length decimals + place))
+    ≡ Some (text_value text)
 text_placed concepts decimals texts text place found =
     let below : place < length texts = slice_get_within texts place text found in
-    slice_get-get_or (values_among concepts decimals texts) (length concepts + (length decimals + place)) (text_value text)
+    slice_get-get_or (values_among concepts decimals texts) (length concepts + (length decimals + place))
+    (text_value text)
     (omega (arith, below, length-values concepts decimals texts))
     ∙ ap (λ (value : Value). Some value) (text_at concepts decimals texts place (text_value text) below
     ∙ ap text_value (get_or_from_slice_get texts place text [] found))
 
 -- ---- the values of rows
--- a property of all rows holds of all rows by source
+-- a property of all rows holds for all rows ordered by source
 pub all_by_source : (P : Attribute → Type 0) (concepts : List ℕ) (rows : List Attribute) → All P rows
     → All P (flat_map (λ concept. filter (λ (row : Attribute). row.source == concept) rows) concepts)
 all_by_source P [] rows all = All-nil P
 all_by_source P (concept ∷ concepts) rows all =
     let own : Attribute → Bool = λ row. row.source == concept in
-    All-append P (filter own rows) (flat_map (λ concept. filter (λ (row : Attribute). row.source == concept) rows) concepts)
+    All-append P (filter own rows)
+    (flat_map (λ concept. filter (λ (row : Attribute). row.source == concept) rows) concepts)
     (All-filter own P rows all) (all_by_source P concepts rows all)
 
--- the rows have no more decimals and texts than there are rows
+-- the rows have together at most as many decimals and texts as there are rows
 pub few_values : (rows : List Attribute) → length (decimals_of rows) + length (texts_of rows) ≤ length rows
 few_values [] = omega arith
 few_values (row ∷ rows) =
@@ -225,23 +234,28 @@ module _ (concepts : List ℕ) (decimals : List ℤ) (texts : List (List ℕ)) w
   value_there (text_value text) among had_decimals had_texts =
       text_there concepts decimals texts text (had_texts text (0, omega arith, refl))
 
-  -- the value of each row is among the values, if its concept, decimal or text is in the tables
+  -- if each decimal and text of the rows is in the tables, and each value that is a concept is in `concepts`, then each
+  -- row's value is among the values
   pub values_there : (rows : List Attribute) → All (λ (row : Attribute). is_value_among concepts row.value ≡ true) rows
       → ((decimal : ℤ) → Contains (decimals_of rows) decimal → Contains decimals decimal)
       → ((text : List ℕ) → Contains (texts_of rows) text → Contains texts text)
       → All (λ (row : Attribute). Contains (values_among concepts decimals texts) row.value) rows
-  values_there [] among had_decimals had_texts = All-nil (λ row. Contains (values_among concepts decimals texts) row.value)
+  values_there [] among had_decimals had_texts =
+      All-nil (λ row. Contains (values_among concepts decimals texts) row.value)
   values_there (row ∷ rows) among had_decimals had_texts =
       All-cons (λ row. Contains (values_among concepts decimals texts) row.value) row rows
       (value_there row.value (All-head (λ (row : Attribute). is_value_among concepts row.value ≡ true) row rows among)
-      (λ decimal there. had_decimals decimal (Contains-append_left (decimals_at row.value) (decimals_of rows) decimal there))
+      (λ decimal there. had_decimals decimal (Contains-append_left (decimals_at row.value) (decimals_of rows) decimal
+      there))
       (λ text there. had_texts text (Contains-append_left (texts_at row.value) (texts_of rows) text there)))
       (values_there rows (All-tail (λ (row : Attribute). is_value_among concepts row.value ≡ true) row rows among)
-      (λ decimal there. had_decimals decimal (Contains-append_right (decimals_at row.value) (decimals_of rows) decimal there))
+      (λ decimal there. had_decimals decimal (Contains-append_right (decimals_at row.value) (decimals_of rows) decimal
+      there))
       (λ text there. had_texts text (Contains-append_right (texts_at row.value) (texts_of rows) text there)))
 
--- a value has the same decimal, if any, whether concepts go by number or by identifier
-pub same_decimals : (concepts : List ℕ) (value : Value) → decimals_at (value_by_identifier concepts value) ≡ decimals_at value
+-- replacing a concept's number by its identifier does not change which decimal a value is, if any
+pub same_decimals : (concepts : List ℕ) (value : Value)
+    → decimals_at (value_by_identifier concepts value) ≡ decimals_at value
 same_decimals concepts (concept_value number) = refl
 same_decimals concepts (number_value decimal) = refl
 same_decimals concepts (text_value text) = refl
@@ -253,18 +267,21 @@ module _ (rows : List Attribute) (n : ℕ) (row : Attribute) (here : slice_get r
       take_more rows n row (slice_get_within rows n row here)
       ∙ ap (λ (next : Attribute). take n rows ++ next ∷ []) (get_or_from_slice_get rows n row row here)
 
-  -- the decimals of the first `n + 1` rows are those of the first `n`, and the decimal of row `n` at the end
+  -- the decimals of the first `n + 1` rows are those of the first `n`, then the decimal of row `n`, if it has one
   pub decimals_more : decimals_of (take (n + 1) rows) ≡ decimals_of (take n rows) ++ decimals_at row.value
-  decimals_more = ap decimals_of read_next ∙ sym (flat_map_more (λ (row : Attribute). decimals_at row.value) [] (take n rows) row)
+  decimals_more = ap decimals_of read_next
+      ∙ sym (flat_map_more (λ (row : Attribute). decimals_at row.value) [] (take n rows) row)
 
-  -- the texts of the first `n + 1` rows are those of the first `n`, and the text of row `n` at the end
+  -- the texts of the first `n + 1` rows are those of the first `n`, then the text of row `n`, if it has one
   pub texts_more : texts_of (take (n + 1) rows) ≡ texts_of (take n rows) ++ texts_at row.value
-  texts_more = ap texts_of read_next ∙ sym (flat_map_more (λ (row : Attribute). texts_at row.value) [] (take n rows) row)
+  texts_more = ap texts_of read_next
+      ∙ sym (flat_map_more (λ (row : Attribute). texts_at row.value) [] (take n rows) row)
 
 -- ---- no value is there twice
 
--- `map f xs` has no repeats, if `f` of any two items of `xs` differs
-pub distinct_map : {X Y : Type 0} (same : Y → Y → Bool) (f : X → Y) (xs : List X) → IsDistinct (λ x y. same (f x) (f y)) xs
+-- if no two items of `xs` have `f` equal by `same`, `map f xs` has no repeats
+pub distinct_map : {X Y : Type 0} (same : Y → Y → Bool) (f : X → Y) (xs : List X)
+    → IsDistinct (λ x y. same (f x) (f y)) xs
     → IsDistinct same (map f xs)
 unfolding IsDistinct
 distinct_map same f [] apart = tt
@@ -275,11 +292,13 @@ distinct_map {X} same f (x ∷ xs) apart = (all_map xs apart.0, distinct_map sam
     all_map [] all = tt
     all_map (y ∷ ys) all = (all.0, all_map ys all.1)
 
--- two concepts of a rising list are equal exactly if their numbers are
-pub rising_apart : (concepts : List ℕ) → IsStrictlyIncreasing concepts → (v w : ℕ) → v < length concepts → w < length concepts
+-- in a strictly rising list, two concepts are equal exactly if their places `v` and `w` are
+pub rising_apart : (concepts : List ℕ) → IsStrictlyIncreasing concepts → (v w : ℕ) → v < length concepts
+    → w < length concepts
     → (get_or concepts v 0 == get_or concepts w 0) ≡ (v == w)
 rising_apart concepts rising v w in' there = elim (cases_order v w) [
-  | inl same ↦ eq-eqb (get_or concepts v 0) (get_or concepts w 0) (ap (λ (k : ℕ). get_or concepts k 0) same) ∙ sym (eq-eqb v w same)
+  | inl same ↦ eq-eqb (get_or concepts v 0) (get_or concepts w 0) (ap (λ (k : ℕ). get_or concepts k 0) same)
+      ∙ sym (eq-eqb v w same)
   | inr (inl before) ↦
       let below = earlier_below concepts rising v w before there in
       ne_eqb (get_or concepts v 0) (get_or concepts w 0) (λ is. omega arith) ∙ sym (ne_eqb v w (λ is. omega arith))
@@ -295,7 +314,8 @@ unfolding IsDistinct
 apart_both same [] ys first later cross = later
 apart_both {X} same (x ∷ xs) ys first later cross = (all_both xs first.0, apart_both same xs ys first.1 later cross.1)
   where
-    all_both : (zs : List X) → AllByRecursion (λ z. same x z ≡ false) zs → AllByRecursion (λ z. same x z ≡ false) (zs ++ ys)
+    all_both : (zs : List X) → AllByRecursion (λ z. same x z ≡ false) zs
+        → AllByRecursion (λ z. same x z ≡ false) (zs ++ ys)
     all_both [] all = cross.0
     all_both (z ∷ zs) all = (all.0, all_both zs all.1)
 
@@ -305,7 +325,8 @@ decimals_differ decimals rises = IsDistinct-from_sorted int_cmp decimals rises
 
 -- texts that rise strictly have no repeats
 texts_differ : (texts : List (List ℕ)) → IsStrictlySortedBy text_cmp texts → IsDistinct bytes_eq texts
-texts_differ texts rises = subst (λ (same : List ℕ → List ℕ → Bool). IsDistinct same texts) (λ i one other. sym (texts_ties one other) i)
+texts_differ texts rises =
+    subst (λ (same : List ℕ → List ℕ → Bool). IsDistinct same texts) (λ i one other. sym (texts_ties one other) i)
     (IsDistinct-from_sorted text_cmp texts rises)
 
 module _ (concepts : List ℕ) (values : Values) (rising : IsStrictlyIncreasing concepts) where
@@ -317,39 +338,42 @@ module _ (concepts : List ℕ) (values : Values) (rising : IsStrictlyIncreasing 
 
   -- no value after the concepts is a concept
   no_concept : (concept : ℕ) → All (λ value. value_eq value (concept_value concept) ≡ false)
-      (values_behind numbers values.texts)
+      (values_after numbers values.texts)
   no_concept concept =
-      All-append (λ value. value_eq value (concept_value concept) ≡ false) (map number_value numbers) (map text_value values.texts)
+      All-append (λ value. value_eq value (concept_value concept) ≡ false) (map number_value numbers)
+      (map text_value values.texts)
       (All-map (λ value. value_eq value (concept_value concept) ≡ false) number_value numbers (λ k d below. refl))
       (All-map (λ value. value_eq value (concept_value concept) ≡ false) text_value values.texts (λ k d below. refl))
 
   -- a concept is no decimal and no text
   concepts_apart : AllByRecursion (λ one. AllByRecursion (λ other. value_eq one other ≡ false)
-      (values_behind numbers values.texts)) (map concept_value concepts)
+      (values_after numbers values.texts)) (map concept_value concepts)
   concepts_apart =
       let apart : Value → Type 0 = λ one. AllByRecursion (λ other. value_eq one other ≡ false)
-      (values_behind numbers values.texts) in
+      (values_after numbers values.texts) in
       recursion_from_All apart (map concept_value concepts) (All-map apart concept_value concepts (λ k d below.
       let other_than : Value → Type 0 = λ other. value_eq (concept_value (get_or concepts k d)) other ≡ false in
-      recursion_from_All other_than (values_behind numbers values.texts)
+      recursion_from_All other_than (values_after numbers values.texts)
       (All-append other_than (map number_value numbers) (map text_value values.texts)
       (All-map other_than number_value numbers (λ j e inside. refl))
       (All-map other_than text_value values.texts (λ j e inside. refl)))))
 
   -- a decimal is no text
-  decimals_apart : AllByRecursion (λ one. AllByRecursion (λ other. value_eq one other ≡ false) (map text_value values.texts))
+  decimals_apart : AllByRecursion
+      (λ one. AllByRecursion (λ other. value_eq one other ≡ false) (map text_value values.texts))
       (map number_value numbers)
   decimals_apart =
-      let apart : Value → Type 0 = λ one. AllByRecursion (λ other. value_eq one other ≡ false) (map text_value values.texts) in
+      let apart : Value → Type 0 =
+      λ one. AllByRecursion (λ other. value_eq one other ≡ false) (map text_value values.texts) in
       recursion_from_All apart (map number_value numbers) (All-map apart number_value numbers (λ k d below.
       let other_than : Value → Type 0 = λ other. value_eq (number_value (get_or numbers k d)) other ≡ false in
       recursion_from_All other_than (map text_value values.texts)
       (All-map other_than text_value values.texts (λ j e inside. refl))))
 
-  -- no value is there twice
+  -- no value has two numbers
   pub values_apart : AreTables numbers values.texts → IsDistinct value_eq all
   values_apart tables =
-      apart_both value_eq (map concept_value concepts) (values_behind numbers values.texts)
+      apart_both value_eq (map concept_value concepts) (values_after numbers values.texts)
       (distinct_map value_eq concept_value concepts (IsDistinct-from_apart nat_eq concepts (λ i j d before below.
       let rises = earlier_below concepts rising i j before below in
       ne_eqb (get_or concepts i d) (get_or concepts j d)
@@ -372,12 +396,13 @@ module _ (concepts : List ℕ) (values : Values) (rising : IsStrictlyIncreasing 
         apart_from_distinct value_eq all w v (text_value []) (values_apart tables) after in' in
         false_from_ne_true (value_eq (value_at all v) (value_at all w)) (λ alike.
         let back : value_eq (value_at all w) (value_at all v) ≡ true =
-        (tells_same_value (value_at all w) (value_at all v)).1 (sym ((tells_same_value (value_at all v) (value_at all w)).0 alike)) in
+        (tells_same_value (value_at all w) (value_at all v)).1
+        (sym ((tells_same_value (value_at all v) (value_at all w)).0 alike)) in
         true≢false (sym back ∙ apart))
         ∙ sym (ne_eqb v w (λ is. omega arith))
   ]
 
-  -- a value is a concept exactly if its number is that of the concept
+  -- the value with the number `v` is concept `c` exactly if `v` equals `c`
   pub value_of_concept : (v c : ℕ) → v < length all → c < length concepts
       → value_eq (value_at all v) (concept_value (slice_index concepts c)) ≡ (v == c)
   value_of_concept v c in' there = elim (cases_lt v (length concepts)) [
@@ -387,10 +412,10 @@ module _ (concepts : List ℕ) (values : Values) (rising : IsStrictlyIncreasing 
         ∙ rising_apart concepts rising v c below there
     | inr past ↦
         let at : length concepts + (v - length concepts) ≡ v = omega arith in
-        let inside : v - length concepts < length (values_behind numbers values.texts) =
-        omega (arith, in', length-values concepts numbers values.texts, length-values_behind numbers values.texts) in
+        let inside : v - length concepts < length (values_after numbers values.texts) =
+        omega (arith, in', length-values concepts numbers values.texts, length-values_after numbers values.texts) in
         ap (λ (value : Value). value_eq value (concept_value (get_or concepts c 0)))
-        (ap (value_at all) (sym at) ∙ value_behind concepts numbers values.texts (v - length concepts) (text_value []))
+        (ap (value_at all) (sym at) ∙ value_after concepts numbers values.texts (v - length concepts) (text_value []))
         ∙ no_concept (get_or concepts c 0) (v - length concepts) (text_value []) inside
         ∙ sym (ne_eqb v c (λ is. omega arith))
   ]

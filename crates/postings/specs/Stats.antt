@@ -1,4 +1,4 @@
--- How much there is in a release, and in its indexes.
+-- The six counts of a release, and of its indexes.
 use Rattle.std.specs.Prelude.{ℕ, Bool, List, filter, flat_map, length, map}
 use Rattle.std.specs.List.{concat}
 use Rattle.rf2_rows.specs.Groups.{groups_of}
@@ -15,8 +15,8 @@ abbrev pub pairs_where : List ℕ → (ℕ → ℕ → Bool) → List (ℕ × �
 pairs_where concepts test =
     flat_map (λ concept. map (λ other. (concept, other)) (filter (test concept) concepts)) concepts
 
--- the counts of a release: its concepts; its attribute rows; the groups of its concepts; and its pairs of a
--- concept and an ancestor, of a concept and a parent, and of a reference set and a component
+-- the counts of a release: its concepts; its attribute rows; the groups of its concepts; its pairs
+-- of a concept and an ancestor; of a concept and a parent; and of a reference set and a component
 abbrev pub stats_of : Release → Stats
 stats_of release = record {
   n = length release.concepts;
@@ -27,7 +27,7 @@ stats_of release = record {
   m = length (pairs_where release.concepts (is_child release.members));
 }
 
--- the counts of the indexes by their lists: concepts, rows, groups, ancestors, parents and members
+-- the counts of the indexes, taken from their lists
 abbrev pub stats_in : Indexed → Stats
 stats_in indexed = record {
   n = length indexed.concepts;

@@ -1,4 +1,4 @@
-//! The rows of each type and of each value, with columns of what a query tests of them.
+//! The rows of each type and of each value, with columns of the cells that a query tests.
 ghost use Rattle.std.specs.Prelude.{◌≡◌, ◌<◌, IfOk, length};
 ghost use Rattle.std.specs.List.{concat};
 ghost use Rattle.postings.specs.inside.Cells.{AreColumns, AreOfOneLength, AreRowLists, cells_of};
@@ -9,49 +9,52 @@ use crate::lists::{column, places_by_key};
 use number_lists::KeyedLists;
 use std::alloc::{AllocError, Global};
 
-/// Columns of the rows of a type, cell by cell in the order of the rows.
+/// Columns of the rows of one type. Place `i` of each column belongs to the `i`-th of these rows.
 #[derive(Clone, Copy, Debug)]
 pub struct TypeColumns<'a> {
     /// The numbers of the sources, and whether each row is the first with its pair in its concept.
     pub sources: &'a [FlaggedNumber],
-    /// The numbers of the values.
+    /// The numbers of the values (`Indexes::value`).
     pub values: &'a [u32],
     /// The numbers of the groups, and whether each row is the first with its pair in its group.
     pub groups: &'a [FlaggedNumber],
 }
 
-/// Columns of the rows of a value that is a concept, cell by cell in the order of the rows.
+/// Columns of the rows that have one concept as their value. Place `i` of each column belongs to
+/// the `i`-th of these rows.
 #[derive(Clone, Copy, Debug)]
 pub struct ValueColumns<'a> {
     /// The numbers of the sources, and whether each row is the first with its pair in its concept.
     pub sources: &'a [FlaggedNumber],
-    /// The places of the types among the types of all rows.
+    /// The places of the types in `Indexes::types`.
     pub types: &'a [u32],
     /// The numbers of the groups, and whether each row is the first with its pair in its group.
     pub groups: &'a [FlaggedNumber],
 }
 
-/// The columns of the rows of a key.
+/// Columns of the rows of one key, which is a type or a value.
 #[derive(Clone, Copy)]
 pub struct KeyColumns<'a> {
     pub sources: &'a [FlaggedNumber],
-    /// By type the numbers of the values, by value the places of the types.
+    /// If the key is a type, the numbers of the values; if it is a value, the places of the types.
     pub others: &'a [u32],
     pub groups: &'a [FlaggedNumber],
 }
 
-/// The rows of each key, with columns in the order of these lists.
+/// The rows of each key, which is a type or a value. Each column has the cells of all keys, in the
+/// order of the lists of `rows` joined.
 #[derive(Drop)]
 pub struct RowsByKey {
     pub rows: KeyedLists,
     pub sources: Vec<FlaggedNumber>,
-    /// By type the numbers of the values, by value the places of the types.
+    /// If the key is a type, the numbers of the values; if it is a value, the places of the types.
     pub others: Vec<u32>,
     pub groups: Vec<FlaggedNumber>,
 }
 
-/// Makes the list of the rows of each key below `count`, with columns. `keys`, `others` and `marks` have for each
-/// row its key, its other cell and its marks.
+/// Lists the rows of each key below `count`, with their columns. For each row, `keys` has its key,
+/// `others` the cell of the column `others`, and `marks` its source and group. A row whose key is
+/// not below `count` is in no list.
 pub fn row_lists(
     alloc: Global,
     count: u32,
@@ -75,7 +78,7 @@ pub fn row_lists(
 }
 
 impl RowsByKey {
-    /// The columns of the rows of a key.
+    /// Returns the columns of the rows of `key`, which must be below the number of keys.
     pub fn columns(&self, key: u32) -> KeyColumns<'_>
         requires key { key < length self.now.rows }
         requires long { AreColumns self.now }
@@ -91,7 +94,7 @@ impl RowsByKey {
     }
 }
 
-// The part of a column that belongs to a key.
+// Returns the part of `column` that has the cells of the rows of `key`.
 fn cells<'a, T>(rows: &KeyedLists, column: &'a [T], key: u32) -> &'a [T]
     requires key { key < length rows.now }
     requires long { length column.now ≡ length (concat rows.now) }

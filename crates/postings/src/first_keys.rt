@@ -1,24 +1,25 @@
-//! Keys in the order in which they were first met, for many lists of keys one after another, of which most are short.
+//! A list of distinct keys in the order in which they first occurred. It is cleared and filled once
+//! for each source, and most sources have few keys.
 ghost use Rattle.std.specs.Prelude.{◌≡◌, ◌<◌, ◌^◌, IfOk, OnOk, [], length, nat_eq, not};
 ghost use Rattle.std.specs.List.{list_any, position_or_len};
-ghost use Rattle.first_met.specs.FirstMet.{keys_behind};
+ghost use Rattle.key_interner.specs.KeyInterner.{keys_after};
 
-use first_met::{FirstMet, Seed};
+use key_interner::{KeyInterner, Seed};
 use std::alloc::{AllocError, Global};
 use std::marker::Model;
 
-// Up to this many keys are compared one by one, which takes less time than to hash one.
+// Up to this many keys are compared one by one, which is faster than hashing.
 const FEW: usize = 16;
 
-/// Keys in the order in which they were first met, each once. Contracts see the list of them. The first few keys
-/// take memory only once, however often the keys are cleared.
+/// Distinct keys in the order in which they first occurred. Contracts see the list of them. The
+/// first `FEW` keys keep their memory when the keys are cleared.
 #[derive(Drop)]
 pub struct FirstKeys {
     // the first keys, at most `FEW`
     few: Vec<u128>,
-    // the keys after the first `FEW`
-    others: FirstMet,
-    // the seed of the hash over the others
+    // the keys after the first `FEW`, hashed
+    others: KeyInterner,
+    // the seed with which `others` is hashed
     seed: Seed,
 }
 
@@ -35,13 +36,13 @@ impl Model for FirstKeys {
 }
 
 impl FirstKeys {
-    /// Creates a list without a key. The keys will be hashed over `seed`.
+    /// Creates an empty list, which hashes its keys with `seed`.
     pub fn new(alloc: Global, seed: Seed) -> FirstKeys
         ensures { result ≡ [] }
     {
         FirstKeys {
             few: Vec::new(alloc),
-            others: FirstMet::new(alloc, seed),
+            others: KeyInterner::new(alloc, seed),
             seed,
         }
     }
@@ -50,14 +51,14 @@ impl FirstKeys {
     pub fn clear(&mut self, alloc: Global)
         ensures { self.new ≡ [] }
     {
-        // there are no others while the few have room for more
+        // `others` has a key only if `few` is full
         if self.few.len() >= FEW {
-            self.others = FirstMet::new(alloc, self.seed);
+            self.others = KeyInterner::new(alloc, self.seed);
         }
         self.few.clear();
     }
 
-    /// How many keys there are.
+    /// Returns how many keys there are.
     pub fn len(&self) -> usize
         ensures { result ≡ length self.now }
     {
@@ -65,11 +66,12 @@ impl FirstKeys {
         self.few.len() + self.others.len()
     }
 
-    /// Returns the place of `key`, and whether the key is new. A new key comes last.
-    pub fn meet(&mut self, key: u128) -> Result<(usize, bool), AllocError>
+    /// Returns the place of `key` in the list, and whether the key is new. A new key is added at
+    /// the end.
+    pub fn intern(&mut self, key: u128) -> Result<(usize, bool), AllocError>
         ensures place { IfOk result (λ met. met.0 ≡ position_or_len (nat_eq key) self.old) }
         ensures new { IfOk result (λ met. met.1 ≡ not (list_any (nat_eq key) self.old)) }
-        ensures keys { OnOk result (self.new ≡ keys_behind self.old key) }
+        ensures keys { OnOk result (self.new ≡ keys_after self.old key) }
     {
         let few = self.few.len();
         let place = place_among(self.few.as_slice(), key);
@@ -81,12 +83,12 @@ impl FirstKeys {
             return Ok((few, true));
         }
         prove!(self.others.len() <= usize::MAX / 2);
-        let (place, is_new) = self.others.meet(key)?;
+        let (place, is_new) = self.others.intern(key)?;
         Ok((few + place, is_new))
     }
 }
 
-// Returns the place of `key` among `keys`, or the number of keys if it is not there.
+// Returns the place of `key` in `keys`, or the length of `keys` if it is not there.
 fn place_among(keys: &[u128], key: u128) -> usize
     ensures { result ≡ position_or_len (nat_eq key) keys.now }
 {

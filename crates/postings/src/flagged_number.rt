@@ -1,13 +1,14 @@
-//! Numbers with a flag.
+//! A number and a flag in one `u32`.
 ghost use Rattle.std.specs.Prelude.{◌≡◌, ◌<◌, ◌^◌};
 
 use std::marker::Model;
 
-/// A number below 2^31, and whether the attribute row at which it stands is the first with its pair of a
-/// type and a value.
+/// A number below 2^31 and a flag, packed in 32 bits. A cell of a column holds one: the number of
+/// an attribute row's source or group, and whether the row is the first with its type and value in
+/// that source or group.
 #[derive(Clone, Copy, Debug)]
 pub struct FlaggedNumber {
-    // twice the number, and one more if the row is the first with its pair
+    // twice the number, plus 1 if the flag is set
     packed: u32,
 }
 
@@ -26,7 +27,7 @@ impl Model for FlaggedNumber {
 }
 
 impl FlaggedNumber {
-    /// Packs a number below 2^31 with a flag.
+    /// Packs `number`, which must be below 2^31, with the flag `is_first`.
     #[inline]
     pub fn new(number: u32, is_first: bool) -> FlaggedNumber
         requires { number < 2 ^ 31 }
@@ -39,7 +40,7 @@ impl FlaggedNumber {
         }
     }
 
-    /// The number.
+    /// Returns the number, which is below 2^31.
     #[inline]
     pub fn number(self) -> u32
         ensures number { result ≡ self.number }
@@ -48,7 +49,7 @@ impl FlaggedNumber {
         self.packed / 2
     }
 
-    /// Whether the row is the first with its pair.
+    /// Returns the flag: whether the row is the first with its pair.
     #[inline]
     pub fn is_first(self) -> bool
         ensures { result ≡ self.is_first }

@@ -1,4 +1,4 @@
-//! The groups of attribute rows, numbered over all concepts, and which rows are the first with their pair.
+//! Numbers the groups of the attribute rows, and finds which rows are the first with their pair.
 ghost use Rattle.std.specs.Prelude.{◌≡◌, ◌+◌, ◌≤◌, ◌<◌, ◌^◌, ◌++◌, ◌∷◌, [], List, All, IfOk, OnOk};
 ghost use Rattle.std.specs.Prelude.{length, map, nat_lt, slice_index_or};
 ghost use Rattle.number_lists.specs.Rising.{IsRising};
@@ -11,23 +11,25 @@ ghost use Rattle.postings.specs.Places.{places_by};
 use crate::first_keys::FirstKeys;
 use crate::flagged_number::FlaggedNumber;
 use crate::rows::CodedRow;
-use first_met::Seed;
+use key_interner::Seed;
 use number_lists::{KeyedLists, keep_rising};
 use std::alloc::{AllocError, Global};
 
-/// For each attribute row the number of its source and that of its group, and for each source how many groups
-/// the sources before it have.
+/// For each attribute row its source and its group, and for each source its first group.
 #[derive(Drop)]
 pub struct RowMarks {
-    /// The source of each row, and whether the row is the first with its pair in its source.
+    /// The number of the source of each row, and whether the row is the first with its pair in its
+    /// source.
     pub sources: Vec<FlaggedNumber>,
-    /// The group of each row, and whether the row is the first with its pair in its group.
+    /// The number of the group of each row, and whether the row is the first with its pair in its
+    /// group.
     pub groups: Vec<FlaggedNumber>,
-    /// For each source how many groups the sources before it have, and at the end how many there are.
+    /// For each source how many groups all sources before it have, which is the number of its first
+    /// group. One more entry at the end counts all groups.
     pub starts: Vec<u32>,
 }
 
-// Working memory for one source after another, so that no source takes memory of its own.
+// Working memory, used again for each source.
 #[derive(Drop)]
 struct Room {
     // the rows of the source
@@ -35,19 +37,20 @@ struct Room {
     tables: Tables,
 }
 
-// The tables that tell the groups of a source apart.
+// Tables from which the groups of one source are numbered.
 #[derive(Drop)]
 struct Tables {
-    // the numbers of its groups, rising
+    // the relationship group numbers of the source, rising and each once, without 0
     numbers: Vec<u32>,
-    // the pairs of the rows so far, with or without the numbers of their groups
+    // the pairs of the rows that were visited: alone (`pair_key`), or with their group numbers
+    // (`grouped_key`)
     seen: FirstKeys,
-    // the pairs of the rows so far that have no group
+    // the pairs of the visited rows whose group number is 0
     ungrouped: FirstKeys,
 }
 
-/// Makes the marks of rows that stand source by source. `by_source` has for each source the places of its rows.
-/// Pairs are hashed over `seed`.
+/// Marks each of `rows`, which are ordered by source, with its source and its group. `by_source`
+/// has for each source the places of its rows. Pairs are hashed with `seed`.
 pub fn row_marks(
     alloc: Global,
     rows: &[CodedRow],
@@ -56,7 +59,8 @@ pub fn row_marks(
 ) -> Result<RowMarks, AllocError>
     requires few { length rows.now < 2 ^ 31 }
     requires few_sources { length by_source.now < 2 ^ 31 }
-    requires lists { by_source.now ≡ places_by (length by_source.now) (map (λ (row : CodedRow). row.source) rows.now) }
+    requires lists { by_source.now ≡ places_by (length by_source.now)
+        (map (λ (row : CodedRow). row.source) rows.now) }
     requires sorted { IsBySource (length by_source.now) rows.now }
     ensures { IfOk result (AreRowMarks (length by_source.now) rows.now) }
 {
@@ -73,7 +77,7 @@ pub fn row_marks(
     marks
 }
 
-// Makes the marks of all rows, with `room` as working memory.
+// Marks all rows source by source, with `room` as working memory.
 fn marks_in(
     alloc: Global,
     rows: &[CodedRow],
@@ -82,7 +86,8 @@ fn marks_in(
 ) -> Result<RowMarks, AllocError>
     requires few { length rows.now < 2 ^ 31 }
     requires few_sources { length by_source.now < 2 ^ 31 }
-    requires lists { by_source.now ≡ places_by (length by_source.now) (map (λ (row : CodedRow). row.source) rows.now) }
+    requires lists { by_source.now ≡ places_by (length by_source.now)
+        (map (λ (row : CodedRow). row.source) rows.now) }
     requires sorted { IsBySource (length by_source.now) rows.now }
     ensures { IfOk result (AreRowMarks (length by_source.now) rows.now) }
 {
@@ -103,10 +108,11 @@ fn marks_in(
     Ok(marks)
 }
 
-// Empties `own`, and fills it with the rows at `places`.
+// Replaces the content of `own` by the rows at `places`.
 fn gather(rows: &[CodedRow], places: &[u32], own: &mut Vec<CodedRow>) -> Result<(), AllocError>
     requires { All (λ place. place < length rows.now) places.now }
-    ensures { OnOk result ((default : CodedRow) → own.new.items ≡ map (λ place. slice_index_or rows.now place default) places.now) }
+    ensures { OnOk result ((default : CodedRow)
+        → own.new.items ≡ map (λ place. slice_index_or rows.now place default) places.now) }
 {
     own.clear();
     for place in places {
@@ -115,7 +121,8 @@ fn gather(rows: &[CodedRow], places: &[u32], own: &mut Vec<CodedRow>) -> Result<
     Ok(())
 }
 
-// Adds to `sources` the marks of the rows of one source with the source.
+// Adds to `sources` one mark for each of `rows`, which are the rows of one source: the source, and
+// whether the row is the first with its pair. `seen` is working memory.
 fn push_sources(
     alloc: Global,
     rows: &[CodedRow],
@@ -127,14 +134,15 @@ fn push_sources(
 {
     seen.clear(alloc);
     for row in rows {
-        let (_, is_first) = seen.meet(row.pair_key())?;
+        let (_, is_first) = seen.intern(row.pair_key())?;
         sources.push(FlaggedNumber::new(row.source, is_first))?;
     }
     Ok(())
 }
 
-// Adds to `groups` the marks of the rows of one source with their groups, and returns how many groups the source
-// has. The sources before it have `ahead` groups.
+// Adds to `groups` one mark for each of `rows`, which are the rows of one source: its group, and
+// whether the row is the first with its pair in the group. Groups are numbered from `ahead`, the
+// count of groups of the sources before it. Returns how many groups the source has.
 fn push_groups(
     alloc: Global,
     rows: &[CodedRow],
@@ -143,7 +151,8 @@ fn push_groups(
     groups: &mut Vec<FlaggedNumber>,
 ) -> Result<u32, AllocError>
     requires { ahead + length rows.now < 2 ^ 31 }
-    ensures groups { OnOk result (groups.new.items ≡ groups.old.items ++ group_marks ahead rows.now) }
+    ensures groups { OnOk result (groups.new.items ≡ groups.old.items
+        ++ group_marks ahead rows.now) }
     ensures count { IfOk result (λ count. count ≡ length (group_codes rows.now)) }
     ensures few { IfOk result (λ count. count ≤ length rows.now) }
 {
@@ -151,16 +160,17 @@ fn push_groups(
     tables.seen.clear(alloc);
     tables.ungrouped.clear(alloc);
     for row in rows {
-        let (_, is_first) = tables.seen.meet(row.grouped_key())?;
+        let (_, is_first) = tables.seen.intern(row.grouped_key())?;
         let place = group_place(tables.numbers.as_slice(), &mut tables.ungrouped, row)?;
         groups.push(FlaggedNumber::new(ahead + place as u32, is_first))?;
     }
     Ok((tables.numbers.len() + tables.ungrouped.len()) as u32)
 }
 
-// Returns the place of a row's group among the groups of its source. `numbers` has the numbers of these groups, and
-// `ungrouped` the pairs of the rows before it that have no group. Adds the row's pair to `ungrouped` if it has no
-// group.
+// Returns the place of a row's group among the groups of its source. `numbers` has the group
+// numbers of the source, and `ungrouped` the pairs of the earlier rows whose group number is 0. If
+// the row's own group number is 0, its pair is added to `ungrouped`, and the group's place comes
+// after all group numbers.
 fn group_place(
     numbers: &[u32],
     ungrouped: &mut FirstKeys,
@@ -168,21 +178,23 @@ fn group_place(
 ) -> Result<usize, AllocError>
     requires rising { IsRising numbers.now }
     requires few { length ungrouped.old < 2 ^ 32 }
-    ensures place { IfOk result (λ place. (before behind : List CodedRow)
+    ensures place { IfOk result (λ place. (before following : List CodedRow)
         → All (λ (row : CodedRow). IsShort (pair_code row)) before
-        → numbers.now ≡ numbers_of_groups (before ++ row.now ∷ behind)
-        → ungrouped.old ≡ ungrouped_keys before → place ≡ place_in_source (before ++ row.now ∷ behind) row.now) }
-    ensures ungrouped { OnOk result ((before : List CodedRow) → ungrouped.old ≡ ungrouped_keys before
+        → numbers.now ≡ numbers_of_groups (before ++ row.now ∷ following)
+        → ungrouped.old ≡ ungrouped_keys before
+        → place ≡ place_in_source (before ++ row.now ∷ following) row.now) }
+    ensures ungrouped { OnOk result ((before : List CodedRow)
+        → ungrouped.old ≡ ungrouped_keys before
         → ungrouped.new ≡ ungrouped_keys (before ++ row.now ∷ [])) }
 {
     if row.group != 0 {
         return Ok(place_of(numbers, row.group));
     }
-    let (place, _) = ungrouped.meet(row.pair_key())?;
+    let (place, _) = ungrouped.intern(row.pair_key())?;
     Ok(numbers.len() + place)
 }
 
-// Empties `numbers`, and fills it with the group numbers of `rows`, without 0, rising and each once.
+// Replaces the content of `numbers` by the group numbers of `rows` without 0, rising and each once.
 fn put_group_numbers(rows: &[CodedRow], numbers: &mut Vec<u32>) -> Result<(), AllocError>
     ensures numbers { OnOk result (numbers.new.items ≡ numbers_of_groups rows.now) }
     ensures rising { OnOk result (IsRising numbers.new.items) }
@@ -197,7 +209,7 @@ fn put_group_numbers(rows: &[CodedRow], numbers: &mut Vec<u32>) -> Result<(), Al
     Ok(())
 }
 
-// Returns how many of the rising `numbers` are below `number`.
+// Returns how many of the rising `numbers` are below `number`: its place, if it is among them.
 fn place_of(numbers: &[u32], number: u32) -> usize
     requires { IsRising numbers.now }
     ensures { result ≡ place_of numbers.now number }

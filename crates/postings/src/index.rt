@@ -1,4 +1,4 @@
-//! The indexes of a release, and their look-ups.
+//! The indexes of a release, and the calls that look something up in them.
 ghost use Rattle.std.specs.Prelude.{◌≡◌, ◌<◌, ◌+◌, ◌^◌, IfOk, IfSome, Some, length, map, nat_eq, position, slice_get, slice_index};
 ghost use Rattle.std.specs.List.Sorted.{IsSorted, IsStrictlyIncreasing};
 ghost use Rattle.std.specs.Ordering.{int_cmp};
@@ -27,24 +27,27 @@ use std::alloc::{AllocError, Global};
 use std::marker::Model;
 use std::ops::Range;
 
-/// The cells of a row: what a query tests of it.
+/// What a query tests of one attribute row, as numbers.
 #[derive(Clone, Copy, Debug)]
 pub struct RowCells {
-    /// The place of its type among the types of all rows.
+    /// The place of the row's type in `Indexes::types`.
     pub type_place: u32,
-    /// The number of its value.
+    /// The number of the row's value: see `Indexes::value`.
     pub value: u32,
-    /// Whether it is the first with its pair in its concept.
+    /// Whether no earlier row of the same source has the same type and value.
     pub is_first: bool,
-    /// Whether it is the first with its pair in its group.
+    /// Whether no earlier row of the same group has the same type and value.
     pub is_first_in_group: bool,
 }
 
-/// The indexes of a release: its hierarchy, its attribute rows by what queries ask of them, and its reference sets.
-/// Concepts go by their numbers, which rise with their identifiers. Attribute rows are numbered by source, and the
-/// rows of one source in the order of the files and their lines. Groups are numbered concept by concept: first the
-/// groups with a number, rising, and then each distinct pair of the rows without one, in the order of the first
-/// rows. A look-up takes no memory.
+/// The indexes of a release: its hierarchy, its attribute rows by type, value, source and group,
+/// and its reference sets. A look-up allocates nothing.
+///
+/// Everything goes by numbers from 0. A concept's number is its index in the rising list of
+/// concepts in force. Attribute rows are numbered by source, and the rows of one source in the
+/// order of the files and their lines. Groups are numbered concept by concept: first the concept's
+/// groups with a relationship group number, by rising number, then one for each distinct pair of
+/// its rows without a number, in the order of the first row of each pair.
 #[derive(Drop)]
 pub struct Indexes {
     concepts: Vec<SctId>,
@@ -53,7 +56,7 @@ pub struct Indexes {
     members: KeyedLists,
     // the concepts that have members, in rising order
     reference_sets: Vec<u32>,
-    // for each type of rows, by its place, the number of the concept that it is
+    // at the place of each type, the number of the concept that it is, or `None`
     type_concepts: Vec<Option<u32>>,
 }
 
@@ -70,11 +73,11 @@ impl Model for Indexes {
 }
 
 impl Indexes {
-    /// Builds the indexes of a release.
+    /// Builds the indexes of the release in `snapshot`. Fails only if memory runs out.
     pub fn build(alloc: Global, snapshot: &Snapshot) -> Result<Indexes, AllocError>
         ensures { IfOk result (λ indexes. IsIndexOf indexes snapshot.now.release) }
     {
-        // The hierarchy takes most memory while it is made, so it is made before anything else is held.
+        // The hierarchy needs the most working memory, so it is built before anything else is held.
         let hierarchy = AncestorIndex::build(alloc, snapshot)?;
         let members = linked_lists(alloc, snapshot.concept_count(), snapshot.member_rows())?;
         let reference_sets = with_members(alloc, &members)?;
@@ -90,26 +93,27 @@ impl Indexes {
         })
     }
 
-    /// The hierarchy.
+    /// Returns the lists of ancestors, descendants, parents and children of each concept.
     pub fn hierarchy(&self) -> &AncestorIndex
         ensures { result.now ≡ self.now.hierarchy }
     {
         &self.hierarchy
     }
 
-    /// Lends the indexes for calls that return numbers alone.
+    /// Returns a view of the indexes whose calls return numbers, never lists.
     pub fn lengths(&self) -> Lengths<'_>
         ensures { result.indexes.now ≡ self.now }
     {
-        // each concept has its lists in the hierarchy, and a list of components
+        // shows the prover that the hierarchy and `members` have a list for each concept
         let _ = &self.hierarchy;
         Lengths { indexes: self }
     }
 
-    /// Counts what is in the release. The call only reads six numbers.
+    /// Returns the six counts of the release. The call only reads stored lengths.
     pub fn stats(&self) -> Stats
         ensures counts { result ≡ stats_in self.now }
-        ensures release { (release : Release) → IsIndexOf self.now release → result ≡ stats_of release }
+        ensures release { (release : Release) → IsIndexOf self.now release
+            → result ≡ stats_of release }
         ensures lists { HasListsFor (length self.now.concepts) self.now.hierarchy }
         ensures members { length self.now.members ≡ length self.now.concepts }
     {
@@ -123,7 +127,7 @@ impl Indexes {
         }
     }
 
-    /// How many concepts are in force.
+    /// Returns how many concepts are in force.
     pub fn concept_count(&self) -> u32
         ensures count { result ≡ length self.now.concepts }
         ensures few { length self.now.concepts < 2 ^ 31 }
@@ -132,15 +136,17 @@ impl Indexes {
         self.concepts.len() as u32
     }
 
-    /// Returns the number of the concept with the identifier `id`, or `None` if no concept in force has it.
+    /// Returns the number of the concept with the identifier `id`, or `None` if no concept in force
+    /// has it.
     pub fn index_of(&self, id: u64) -> Option<u32>
         ensures { result ≡ concept_number self.now.concepts id }
     {
         number_of(id, self.concepts.as_slice())
     }
 
-    /// Lists the components of the reference set `concept`, in rising order and once each. `concept` is below the
-    /// number of concepts (Release File Specification, "Simple reference set").
+    /// Lists the components of the reference set with the concept number `concept`, in rising order
+    /// and each once; the list is empty if the concept is no reference set (Release File
+    /// Specification, "Simple reference set").
     pub fn members(&self, concept: u32) -> &[u32]
         requires { concept < length self.now.concepts }
         ensures { result.now ≡ list_of self.now.members concept }
@@ -148,15 +154,15 @@ impl Indexes {
         self.members.of(concept)
     }
 
-    /// The concepts that are the reference set of some member row, by their numbers in rising order (Release File
-    /// Specification, "Simple reference set").
+    /// Lists the concepts that have members as a reference set, by number in rising order (Release
+    /// File Specification, "Simple reference set").
     pub fn reference_sets(&self) -> &[u32]
         ensures { result.now ≡ reference_sets_of self.now }
     {
         self.reference_sets.as_slice()
     }
 
-    /// How many attribute rows are in force.
+    /// Returns how many attribute rows are in force.
     pub fn row_count(&self) -> u32
         ensures count { result ≡ length self.now.rows }
         ensures few { length self.now.rows < 2 ^ 31 }
@@ -164,10 +170,11 @@ impl Indexes {
         self.rows.type_places.len() as u32
     }
 
-    /// Returns the attribute row with the number `n`, which is below `row_count`.
+    /// Returns the attribute row with the number `n`, which must be below `row_count`.
     pub fn row(&self, n: u32) -> AttributeRow<'_>
         requires { n < length self.now.rows }
-        ensures row { slice_get self.now.rows n ≡ Some (with_source self.now.concepts (attribute_of result)) }
+        ensures row { slice_get self.now.rows n
+            ≡ Some (with_source self.now.concepts (attribute_of result)) }
         ensures source { result.source < length self.now.concepts }
     {
         let row = self.rows.row(n);
@@ -179,7 +186,7 @@ impl Indexes {
         }
     }
 
-    /// Returns what a query tests of the row with the number `n`, which is below `row_count`.
+    /// Returns what a query tests of the row with the number `n`, which must be below `row_count`.
     pub fn cells(&self, n: u32) -> RowCells
         requires { n < length self.now.rows }
         ensures { IfSome (slice_get (entries_of self.now.rows) n) (AreRowCells self.now result) }
@@ -194,7 +201,8 @@ impl Indexes {
         }
     }
 
-    /// Lists the numbers of the rows of the type `id`, rising. `id` may be any number.
+    /// Lists the numbers of the rows of the type with the identifier `id`, in rising order. `id`
+    /// need not be the type of any row; then the list is empty.
     pub fn by_type(&self, id: u64) -> &[u32]
         ensures { result.now ≡ rows_by_type self.now id }
     {
@@ -204,7 +212,8 @@ impl Indexes {
         }
     }
 
-    /// The columns of the rows of a type, in the order of `by_type`.
+    /// Returns the sources, the values and the groups of the rows of the type `id`, in the order of
+    /// `by_type`. The columns are empty if no row has the type.
     pub fn type_columns(&self, id: u64) -> TypeColumns<'_>
         ensures { AreTypeColumns self.now id result }
     {
@@ -225,7 +234,8 @@ impl Indexes {
         }
     }
 
-    /// The numbers of the rows whose value is a concept, rising. `concept` is below the number of concepts.
+    /// Lists the numbers of the rows whose value is the concept with the number `concept`, in
+    /// rising order.
     pub fn by_value(&self, concept: u32) -> &[u32]
         requires { concept < length self.now.concepts }
         ensures { result.now ≡ rows_by_value self.now concept }
@@ -233,8 +243,8 @@ impl Indexes {
         self.rows.by_value.rows.of(concept)
     }
 
-    /// The columns of the rows whose value is a concept, in the order of `by_value`. `concept` is below the number
-    /// of concepts.
+    /// Returns the sources, the types and the groups of the rows whose value is the concept with
+    /// the number `concept`, in the order of `by_value`.
     pub fn value_columns(&self, concept: u32) -> ValueColumns<'_>
         requires { concept < length self.now.concepts }
         ensures { AreValueColumns self.now concept result }
@@ -247,7 +257,8 @@ impl Indexes {
         }
     }
 
-    /// The numbers of the rows of a source, rising. `concept` is below the number of concepts.
+    /// Lists the numbers of the rows whose source is the concept with the number `concept`, in
+    /// rising order.
     pub fn rows_of(&self, concept: u32) -> &[u32]
         requires { concept < length self.now.concepts }
         ensures { result.now ≡ rows_by_source self.now concept }
@@ -255,7 +266,8 @@ impl Indexes {
         self.rows.of_source(concept)
     }
 
-    /// Returns the place of the type `id` in `types`, or `None` if no row has it. `id` may be any number.
+    /// Returns the place of the type with the identifier `id` in `types`, or `None` if no row has
+    /// this type.
     pub fn type_place(&self, id: u64) -> Option<u32>
         ensures { result ≡ position (nat_eq id) (types_of self.now.rows) }
     {
@@ -265,15 +277,15 @@ impl Indexes {
         }
     }
 
-    /// The types of all rows, each once, in the order of their first rows.
+    /// Lists the types of all rows, each once, in the order of the first row of each.
     pub fn types(&self) -> &[SctId]
         ensures { result.now ≡ types_of self.now.rows }
     {
         self.rows.types.ids.as_slice()
     }
 
-    /// Returns the number of the concept that is the type at `place` in `types`, or `None` if that type is no
-    /// concept in force. `place` may be any number.
+    /// Returns the number of the concept that is the type at `place` in `types`. Returns `None` if
+    /// there is no such place, or if no concept in force has the type's identifier.
     pub fn type_concept(&self, place: u32) -> Option<u32>
         ensures { result ≡ concept_of_type self.now (slice_get (types_of self.now.rows) place) }
     {
@@ -283,8 +295,8 @@ impl Indexes {
         }
     }
 
-    /// Lists the decimals among the values of the rows in rising order and once each, in units of 10^-18. Their
-    /// numbers as values begin at the number of concepts.
+    /// Lists the decimals among the values of the rows, in units of 10^-18, in rising order and
+    /// each once. The value number of a decimal is its place here plus the number of concepts.
     pub fn decimals(&self) -> &[i128]
         ensures decimals { result.now ≡ self.now.decimals }
         ensures rising { IsSorted int_cmp self.now.decimals }
@@ -293,8 +305,9 @@ impl Indexes {
         self.rows.values.decimals.as_slice()
     }
 
-    /// Returns the value with the number `number`, which is that of a value. A concept has its own number. The
-    /// number of a decimal, less the number of concepts, is its place in `decimals`.
+    /// Returns the value with the value number `number`. Concepts come first: a number below the
+    /// number of concepts is that of a concept. Then follow the decimals in the order of
+    /// `decimals`, and then all other texts.
     pub fn value(&self, number: u32) -> Value<'_>
         requires { number < length (values_of self.now) }
         ensures { value_lent result ≡ value_at (values_of self.now) number }
@@ -307,7 +320,7 @@ impl Indexes {
         self.rows.values.value(number - concepts)
     }
 
-    /// How many groups all concepts have.
+    /// Returns how many groups all concepts have together.
     pub fn group_count(&self) -> u32
         ensures count { result ≡ length (groups_in self.now) }
         ensures few { length (groups_in self.now) < 2 ^ 31 }
@@ -315,8 +328,8 @@ impl Indexes {
         self.rows.groups.numbers.len() as u32
     }
 
-    /// The numbers of the groups of a concept. `concept` is below the number of concepts (Release File
-    /// Specification, "Relationship file", relationshipGroup).
+    /// Returns the numbers of the groups of the concept with the number `concept`, which are
+    /// consecutive (Release File Specification, "Relationship file", relationshipGroup).
     pub fn units_of(&self, concept: u32) -> Range<u32>
         requires { concept < length self.now.concepts }
         ensures start { result.start ≡ length (groups_before self.now concept) }
@@ -326,36 +339,42 @@ impl Indexes {
         starts[concept as usize]..starts[concept as usize + 1]
     }
 
-    /// The numbers of the rows of a group, rising. `unit` is below `group_count`.
+    /// Lists the numbers of the rows of the group with the number `unit`, in rising order. `unit`
+    /// must be below `group_count`.
     pub fn unit_rows(&self, unit: u32) -> &[u32]
         requires { unit < length (groups_in self.now) }
-        ensures { IfSome (slice_get (groups_in self.now) unit) (λ group. result.now ≡ rows_of_group self.now group) }
+        ensures { IfSome (slice_get (groups_in self.now) unit)
+            (λ group. result.now ≡ rows_of_group self.now group) }
     {
         self.rows.groups.rows.of(unit)
     }
 
-    /// The concept of a group. `unit` is below `group_count`.
+    /// Returns the number of the concept that has the group with the number `unit`, which must be
+    /// below `group_count`.
     pub fn unit_concept(&self, unit: u32) -> u32
         requires { unit < length (groups_in self.now) }
         ensures within { result < length self.now.concepts }
-        ensures concept { IfSome (slice_get (groups_in self.now) unit) (λ group. slice_index self.now.concepts result ≡ group.concept) }
+        ensures concept { IfSome (slice_get (groups_in self.now) unit)
+            (λ group. slice_index self.now.concepts result ≡ group.concept) }
     {
         let first = self.rows.groups.rows.of(unit)[0];
         let at = self.rows.places[first as usize];
         self.rows.by_type.sources[at as usize].number()
     }
 
-    /// Returns the group of the row with the number `n`, which is below `row_count`.
+    /// Returns the number of the group of the row with the number `n`, which must be below
+    /// `row_count`.
     pub fn unit_of(&self, n: u32) -> u32
         requires { n < length self.now.rows }
-        ensures { IfSome (slice_get self.now.rows n) (λ row. slice_get (groups_in self.now) result ≡ Some (group_of row)) }
+        ensures { IfSome (slice_get self.now.rows n) (λ row. slice_get (groups_in self.now) result
+            ≡ Some (group_of row)) }
     {
         let place = self.rows.places[n as usize];
         self.rows.by_type.groups[place as usize].number()
     }
 }
 
-// Lists the concepts that have members, in rising order.
+// Lists the concepts whose list in `members` is not empty, in rising order.
 fn with_members(alloc: Global, members: &KeyedLists) -> Result<Vec<u32>, AllocError>
     requires { length members.now < 2 ^ 32 }
     ensures { IfOk result (λ concepts. concepts.items ≡ with_members members.now) }
@@ -370,7 +389,7 @@ fn with_members(alloc: Global, members: &KeyedLists) -> Result<Vec<u32>, AllocEr
     Ok(concepts)
 }
 
-// Lists the identifiers of the concepts in force.
+// Lists the identifiers of the concepts in force, in rising order.
 fn identifiers(alloc: Global, snapshot: &Snapshot) -> Result<Vec<SctId>, AllocError>
     ensures { IfOk result (λ concepts. concepts.items ≡ snapshot.now.release.concepts) }
 {
@@ -381,7 +400,8 @@ fn identifiers(alloc: Global, snapshot: &Snapshot) -> Result<Vec<SctId>, AllocEr
     Ok(concepts)
 }
 
-// Indexes the attribute rows, and finds for each type the number of the concept that it is.
+// Indexes the attribute rows. Also returns, for each type at its place, the number of the concept
+// that it is, or `None`. `concepts` has the identifiers of the concepts in force.
 fn typed_rows(
     alloc: Global,
     snapshot: &Snapshot,
@@ -389,15 +409,18 @@ fn typed_rows(
 ) -> Result<(RowIndexes, Vec<Option<u32>>), AllocError>
     requires rising { IsStrictlyIncreasing concepts.now }
     requires few { length concepts.now < 2 ^ 31 }
-    ensures rows { IfOk result (λ made. AreRowIndexes snapshot.now.release.concepts (attributes_by_source snapshot.now.release) made.0) }
-    ensures types { IfOk result (λ made. made.1.items ≡ map (concept_number concepts.now) made.0.types.ids.items) }
+    ensures rows { IfOk result (λ made. AreRowIndexes snapshot.now.release.concepts
+        (attributes_by_source snapshot.now.release) made.0) }
+    ensures types { IfOk result (λ made. made.1.items
+        ≡ map (concept_number concepts.now) made.0.types.ids.items) }
 {
     let rows = row_indexes(alloc, snapshot)?;
     let type_concepts = numbers_of(alloc, rows.types.ids.as_slice(), concepts)?;
     Ok((rows, type_concepts))
 }
 
-// Finds the numbers of the concepts with the identifiers `ids` in `concepts`, the concepts in force.
+// Maps each identifier of `ids` to the number of the concept that has it, or to `None`. `concepts`
+// has the identifiers of the concepts in force.
 fn numbers_of(
     alloc: Global,
     ids: &[SctId],
@@ -414,7 +437,8 @@ fn numbers_of(
     Ok(numbers)
 }
 
-// Finds the number of the concept with the identifier `id` in `concepts`, the concepts in force.
+// Returns the number of the concept with the identifier `id`, or `None` if it is not in `concepts`,
+// the identifiers of the concepts in force.
 fn number_of(id: u64, concepts: &[SctId]) -> Option<u32>
     requires rising { IsStrictlyIncreasing concepts.now }
     requires few { length concepts.now < 2 ^ 31 }

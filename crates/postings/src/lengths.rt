@@ -1,4 +1,4 @@
-//! Numbers that the indexes give without handing out a list.
+//! A view of the indexes that gives numbers, never lists.
 ghost use Rattle.std.specs.Prelude.{◌≡◌, ◌<◌, ◌^◌, length, pos, slice_index_or};
 ghost use Rattle.std.specs.Ordering.{int_cmp};
 ghost use Rattle.std.specs.List.Sorted.{IsStrictlyIncreasing};
@@ -14,26 +14,27 @@ use crate::stats::Stats;
 use rf2_rows::Decimal;
 use std::cmp::Ordering;
 
-/// The indexes, for calls that return numbers alone: how long a list is, how much there is, and the number of a
-/// concept. No call gives a list or an item of one. Sizes, bounds and estimates of plans are computed from these
-/// numbers.
+/// A view of the indexes for calls that return numbers: the length of a list, a count, or the
+/// number of a concept. No call returns a list or an item of one. Sizes, bounds and estimates of
+/// plans are computed from these numbers.
 #[derive(Clone, Copy)]
 pub struct Lengths<'a> {
     pub(crate) indexes: &'a Indexes,
-    // each concept has its lists in the hierarchy, and a list of components
-    pub ghost lists: { HasListsFor (length indexes.now.concepts) indexes.now.hierarchy } by { Prim.hlevel props },
+    // for the prover: the hierarchy and `members` have a list for each concept
+    pub ghost lists: { HasListsFor (length indexes.now.concepts)
+        indexes.now.hierarchy } by { Prim.hlevel props },
     pub ghost members: { length indexes.now.members ≡ length indexes.now.concepts },
 }
 
 impl<'a> Lengths<'a> {
-    /// Counts what is in the release.
+    /// Returns the six counts of the release.
     pub fn stats(self) -> Stats
         ensures { result ≡ stats_in self.entry.indexes.now }
     {
         self.indexes.stats()
     }
 
-    /// How many concepts are in force.
+    /// Returns how many concepts are in force.
     pub fn concept_count(self) -> u32
         ensures count { result ≡ length self.entry.indexes.now.concepts }
         ensures few { length self.entry.indexes.now.concepts < 2 ^ 31 }
@@ -42,14 +43,15 @@ impl<'a> Lengths<'a> {
         self.indexes.concept_count()
     }
 
-    /// Returns the number of the concept with the identifier `id`, or `None` if no concept in force has it.
+    /// Returns the number of the concept with the identifier `id`, or `None` if no concept in force
+    /// has it.
     pub fn index_of(self, id: u64) -> Option<u32>
         ensures { result ≡ concept_number self.entry.indexes.now.concepts id }
     {
         self.indexes.index_of(id)
     }
 
-    /// How many attribute rows are in force.
+    /// Returns how many attribute rows are in force.
     pub fn row_count(self) -> u32
         ensures count { result ≡ length self.entry.indexes.now.rows }
         ensures few { length self.entry.indexes.now.rows < 2 ^ 31 }
@@ -57,7 +59,7 @@ impl<'a> Lengths<'a> {
         self.indexes.row_count()
     }
 
-    /// How many groups all concepts have.
+    /// Returns how many groups all concepts have together.
     pub fn group_count(self) -> u32
         ensures count { result ≡ length (groups_in self.entry.indexes.now) }
         ensures few { length (groups_in self.entry.indexes.now) < 2 ^ 31 }
@@ -65,7 +67,7 @@ impl<'a> Lengths<'a> {
         self.indexes.group_count()
     }
 
-    /// How many rows have a concept as their source.
+    /// Returns how many rows have the concept with the number `concept` as their source.
     pub fn source_row_count(self, concept: u32) -> u64
         requires { concept < length self.indexes.now.concepts }
         ensures { result ≡ length (rows_by_source self.entry.indexes.now concept) }
@@ -73,7 +75,7 @@ impl<'a> Lengths<'a> {
         self.indexes.rows_of(concept).len() as u64
     }
 
-    /// How many rows have a concept as their value.
+    /// Returns how many rows have the concept with the number `concept` as their value.
     pub fn value_row_count(self, concept: u32) -> u64
         requires { concept < length self.indexes.now.concepts }
         ensures { result ≡ length (rows_by_value self.entry.indexes.now concept) }
@@ -81,29 +83,31 @@ impl<'a> Lengths<'a> {
         self.indexes.by_value(concept).len() as u64
     }
 
-    /// Returns how many rows have the type `id`, which may be any number.
+    /// Returns how many rows have the type with the identifier `id`, which need not be the type of
+    /// any row.
     pub fn type_row_count(self, id: u64) -> u64
         ensures { result ≡ length (rows_by_type self.entry.indexes.now id) }
     {
         self.indexes.by_type(id).len() as u64
     }
 
-    /// How many decimals there are among the values of the rows.
+    /// Returns how many distinct decimals the values of the rows have.
     pub fn decimal_count(self) -> u32
         ensures { result ≡ length self.entry.indexes.now.decimals }
     {
         self.indexes.decimals().len() as u32
     }
 
-    /// Compares the decimal at `place` in the rising list of all decimals with `number`.
+    /// Compares the decimal at `place` in `Indexes::decimals` with `number`.
     pub fn compare_decimal(self, place: u32, number: Decimal) -> Ordering
         requires { place < length self.indexes.now.decimals }
-        ensures { result ≡ int_cmp (slice_index_or self.entry.indexes.now.decimals place (pos 0)) number.0 }
+        ensures { result ≡ int_cmp (slice_index_or self.entry.indexes.now.decimals place (pos 0))
+            number.0 }
     {
         self.indexes.decimals()[place as usize].cmp(&number.0)
     }
 
-    /// How many components a reference set has.
+    /// Returns how many components the reference set with the concept number `concept` has.
     pub fn member_count(self, concept: u32) -> u64
         requires { concept < length self.indexes.now.concepts }
         ensures count { result ≡ length (list_of self.entry.indexes.now.members concept) }
@@ -112,25 +116,27 @@ impl<'a> Lengths<'a> {
         self.indexes.members(concept).len() as u64
     }
 
-    /// How many ancestors a concept has.
+    /// Returns how many ancestors the concept with the number `concept` has.
     pub fn ancestor_count_of(self, concept: u32) -> u64
         requires { concept < length self.indexes.now.concepts }
-        ensures count { result ≡ length (list_of self.entry.indexes.now.hierarchy.ancestors concept) }
+        ensures count { result ≡ length (list_of self.entry.indexes.now.hierarchy.ancestors
+            concept) }
         ensures few { result < 2 ^ 63 }
     {
         self.indexes.hierarchy().ancestors(concept).len() as u64
     }
 
-    /// How many descendants a concept has.
+    /// Returns how many descendants the concept with the number `concept` has.
     pub fn descendant_count_of(self, concept: u32) -> u64
         requires { concept < length self.indexes.now.concepts }
-        ensures count { result ≡ length (list_of self.entry.indexes.now.hierarchy.descendants concept) }
+        ensures count { result ≡ length (list_of self.entry.indexes.now.hierarchy.descendants
+            concept) }
         ensures few { result < 2 ^ 63 }
     {
         self.indexes.hierarchy().descendants(concept).len() as u64
     }
 
-    /// How many parents a concept has.
+    /// Returns how many parents the concept with the number `concept` has.
     pub fn parent_count_of(self, concept: u32) -> u64
         requires { concept < length self.indexes.now.concepts }
         ensures count { result ≡ length (list_of self.entry.indexes.now.hierarchy.parents concept) }
@@ -139,10 +145,11 @@ impl<'a> Lengths<'a> {
         self.indexes.hierarchy().parents(concept).len() as u64
     }
 
-    /// How many children a concept has.
+    /// Returns how many children the concept with the number `concept` has.
     pub fn child_count_of(self, concept: u32) -> u64
         requires { concept < length self.indexes.now.concepts }
-        ensures count { result ≡ length (list_of self.entry.indexes.now.hierarchy.children concept) }
+        ensures count { result ≡ length (list_of self.entry.indexes.now.hierarchy.children
+            concept) }
         ensures few { result < 2 ^ 63 }
     {
         self.indexes.hierarchy().children(concept).len() as u64

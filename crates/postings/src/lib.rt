@@ -1,8 +1,9 @@
 //! Indexes of the attribute rows and the reference sets of a release.
 //!
-//! `Indexes` has the rows of each type, of each value that is a concept, of each source and of each group of a
-//! concept, and the components of each reference set. Besides the lists of rows it has columns with what a query
-//! tests of the rows. `Lengths` gives only numbers, for example how long a list is.
+//! `Indexes` lists the attribute rows of each type, of each concept as a value, of each source, and
+//! of each relationship group, and the components of each reference set. For the lists of rows by
+//! type and by value it also has columns with what a query tests of each row, in the order of the
+//! lists. `Lengths` gives only numbers, for example the length of a list.
 #![tactic(auto)]
 
 mod columns;

@@ -1,4 +1,4 @@
-//! Lists of rows by a key, and columns that follow them.
+//! Lists of rows by key, and columns in the order of such lists.
 ghost use Rattle.std.specs.Prelude.{ℕ, ◌≡◌, ◌<◌, ◌^◌, All, Contains, IfOk, Some, length, slice_get, slice_index, vec_len};
 ghost use Rattle.postings.specs.inside.Cells.{IsColumn};
 ghost use Rattle.postings.specs.inside.KeyedPlaces.{keyed_places};
@@ -7,7 +7,8 @@ ghost use Rattle.postings.specs.Places.{places_by};
 use number_lists::KeyedLists;
 use std::alloc::{AllocError, Global};
 
-/// Makes for each key below `count` the list of the places at which it stands in `keys`, in rising order.
+/// Lists, for each key below `count`, the places in `keys` that have this key, in rising order.
+/// Other keys are left out.
 pub fn places_by_key(alloc: Global, count: u32, keys: &[u32]) -> Result<KeyedLists, AllocError>
     requires { length keys.now < 2 ^ 32 }
     ensures { IfOk result (λ lists. lists ≡ places_by count keys.now) }
@@ -16,7 +17,7 @@ pub fn places_by_key(alloc: Global, count: u32, keys: &[u32]) -> Result<KeyedLis
     KeyedLists::from_pairs(alloc, count, pairs.as_slice())
 }
 
-// Pairs each key below `count` with its place in `keys`.
+// Lists the pairs of a key below `count` and a place in `keys` that has it, by rising place.
 fn key_places(alloc: Global, count: u32, keys: &[u32]) -> Result<Vec<(u32, u32)>, AllocError>
     requires { length keys.now < 2 ^ 32 }
     ensures { IfOk result (λ pairs. pairs.items ≡ keyed_places count 0 keys.now) }
@@ -30,7 +31,7 @@ fn key_places(alloc: Global, count: u32, keys: &[u32]) -> Result<Vec<(u32, u32)>
     Ok(pairs)
 }
 
-/// Copies the cells at `places` into a column.
+/// Copies the cell at each of `places`, in the order of `places`.
 pub fn column<T: Copy>(alloc: Global, cells: &[T], places: &[u32]) -> Result<Vec<T>, AllocError>
     requires { All (λ place. place < length cells.now) places.now }
     ensures { IfOk result (λ column. IsColumn cells.now places.now column.items) }
@@ -42,7 +43,8 @@ pub fn column<T: Copy>(alloc: Global, cells: &[T], places: &[u32]) -> Result<Vec
     Ok(column)
 }
 
-/// Finds for each number below `count` its place in `numbers`, which has each of them.
+/// Inverts `numbers`, which has each number below `count`: returns for each number a place at which
+/// `numbers` has it.
 pub fn places_among(alloc: Global, count: usize, numbers: &[u32]) -> Result<Vec<u32>, AllocError>
     requires few { length numbers.now < 2 ^ 32 }
     requires within { All (λ number. number < count) numbers.now }

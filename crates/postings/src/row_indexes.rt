@@ -1,4 +1,4 @@
-//! The indexes of attribute rows.
+//! The attribute rows of a release and their lists by type, value, source and group.
 ghost use Rattle.std.specs.Prelude.{ℕ, ◌≡◌, ◌+◌, ◌-◌, ◌≤◌, ◌<◌, ◌^◌, All, IfOk, Some, length, map, slice_get, slice_index, vec_len};
 ghost use Rattle.postings.specs.inside.Cells.{AreOfOneLength, AreRowLists};
 ghost use Rattle.std.specs.List.{concat};
@@ -15,43 +15,45 @@ use crate::groups::{RowMarks, row_marks};
 use crate::lists::{places_among, places_by_key};
 use crate::rows::{CodedRow, coded_rows};
 use crate::values::Values;
-use first_met::Seed;
 use held_release::{Snapshot, Types};
+use key_interner::Seed;
 use number_lists::KeyedLists;
 use std::alloc::{AllocError, Global};
 
-/// The attribute rows of a release, and the rows of each source, type, value and group. A row is kept by the place
-/// of its type and by its place in the columns by type, which have its source, its value and its group there.
+/// The attribute rows of a release, and the rows of each source, type, value and group. To save
+/// memory, a row's source, value and group are stored only in the columns by type; `places` has the
+/// row's place in these columns.
 #[derive(Drop)]
 pub struct RowIndexes {
     pub types: Types,
     pub values: Values,
-    /// For each row the place of its type among all types.
+    /// For each row, the place of its type in `types`.
     pub type_places: Vec<u32>,
-    /// For each row its place among the rows of all types, one type after the other.
+    /// For each row, its place in the columns of `by_type`, which list the rows of all types, one
+    /// type after the other.
     pub places: Vec<u32>,
-    /// The numbers of all rows, rising. The rows of a source are a part of them.
+    /// The numbers of all rows, in rising order. The rows of one source are a slice of this list.
     pub row_numbers: Vec<u32>,
-    /// The rows of each type. The other cells are the numbers of the values.
+    /// The rows of each type. Their column `others` has the numbers of the values.
     pub by_type: RowsByKey,
-    /// The rows of each value that is a concept. The other cells are the places of the types.
+    /// The rows of each concept as a value. Their column `others` has the places of the types.
     pub by_value: RowsByKey,
     pub groups: GroupLists,
 }
 
-/// The groups of all concepts.
+/// The groups of all concepts, by group.
 #[derive(Drop)]
 pub struct GroupLists {
-    /// The group number of each group, or 0 if it has none.
+    /// For each group its relationship group number, or 0 if its rows have none.
     pub numbers: Vec<u32>,
-    /// The first group of each concept, and at the end how many groups there are.
+    /// For each concept its first group. One more entry at the end counts all groups.
     pub starts: Vec<u32>,
     /// The rows of each group.
     pub rows: KeyedLists,
 }
 
 impl RowIndexes {
-    /// Returns the row with the number `n`.
+    /// Returns the row with the number `n`, gathered from the columns.
     #[inline]
     pub fn row(&self, n: u32) -> CodedRow
         requires { IsKept self.now n }
@@ -67,12 +69,15 @@ impl RowIndexes {
         }
     }
 
-    /// Returns whether row `n` is the first with its pair in its concept, and whether it is the first in its group.
+    /// Returns two flags of the row with the number `n`: whether it is the first with its pair in
+    /// its concept, and whether it is the first with its pair in its group.
     #[inline]
     pub fn firsts(&self, n: u32) -> (bool, bool)
         requires { IsKept self.now n }
-        ensures source { result.0 ≡ (mark_at self.now.by_type.sources.items (slice_index self.now.places.items n)).is_first }
-        ensures group { result.1 ≡ (mark_at self.now.by_type.groups.items (slice_index self.now.places.items n)).is_first }
+        ensures source { result.0 ≡ (mark_at self.now.by_type.sources.items
+            (slice_index self.now.places.items n)).is_first }
+        ensures group { result.1 ≡ (mark_at self.now.by_type.groups.items
+            (slice_index self.now.places.items n)).is_first }
     {
         let place = self.places[n as usize] as usize;
         let source = self.by_type.sources[place].is_first();
@@ -80,12 +85,15 @@ impl RowIndexes {
         (source, unit)
     }
 
-    /// Lists the rows of the source `concept`. Both rows and groups stand source by source, so these rows begin
-    /// after the rows of the groups of the sources before it.
+    /// Lists the numbers of the rows of the source `concept`. Both rows and groups are ordered by
+    /// source. So these rows are consecutive, and they start where the rows of the concept's first
+    /// group start in the joined lists of groups. There the rows of earlier sources come first.
     pub fn of_source(&self, concept: u32) -> &[u32]
         requires starts { concept + 1 < vec_len self.now.groups.starts }
-        requires rise { slice_index self.now.groups.starts.items concept ≤ slice_index self.now.groups.starts.items (concept + 1) }
-        requires end { slice_index self.now.groups.starts.items (concept + 1) ≤ length self.now.groups.rows }
+        requires rise { slice_index self.now.groups.starts.items concept
+            ≤ slice_index self.now.groups.starts.items (concept + 1) }
+        requires end { slice_index self.now.groups.starts.items (concept + 1)
+            ≤ length self.now.groups.rows }
         requires long { vec_len self.now.row_numbers ≡ length (concat self.now.groups.rows) }
         ensures { result.now ≡ rows_between self.now concept }
     {
@@ -100,9 +108,10 @@ impl RowIndexes {
     }
 }
 
-/// Makes the indexes of the attribute rows of a release.
+/// Builds the indexes of the attribute rows of the release in `snapshot`.
 pub fn row_indexes(alloc: Global, snapshot: &Snapshot) -> Result<RowIndexes, AllocError>
-    ensures { IfOk result (AreRowIndexes snapshot.now.release.concepts (attributes_by_source snapshot.now.release)) }
+    ensures { IfOk result (AreRowIndexes snapshot.now.release.concepts
+        (attributes_by_source snapshot.now.release)) }
 {
     let coded = coded_rows(alloc, snapshot)?;
     let count = snapshot.concept_count();
@@ -128,14 +137,14 @@ pub fn row_indexes(alloc: Global, snapshot: &Snapshot) -> Result<RowIndexes, All
     })
 }
 
-// For each row the place of its type, and the number of its value.
+// For each row the place of its type and the number of its value.
 #[derive(Drop)]
 struct TypesAndValues {
     type_places: Vec<u32>,
     values: Vec<u32>,
 }
 
-// The rows by type and by value, and the place of each row among those by type.
+// The rows by type and by value, and for each row its place in the columns by type.
 #[derive(Drop)]
 struct ListsByKeys {
     places: Vec<u32>,
@@ -143,10 +152,12 @@ struct ListsByKeys {
     by_value: RowsByKey,
 }
 
-// Takes the place of the type and the number of the value out of each row.
+// Copies the place of the type and the number of the value of each row into columns.
 fn row_keys(alloc: Global, rows: &[CodedRow]) -> Result<TypesAndValues, AllocError>
-    ensures types { IfOk result (λ keys. keys.type_places.items ≡ map (λ (row : CodedRow). row.type_place) rows.now) }
-    ensures values { IfOk result (λ keys. keys.values.items ≡ map (λ (row : CodedRow). row.value) rows.now) }
+    ensures types { IfOk result (λ keys. keys.type_places.items
+        ≡ map (λ (row : CodedRow). row.type_place) rows.now) }
+    ensures values { IfOk result (λ keys. keys.values.items
+        ≡ map (λ (row : CodedRow). row.value) rows.now) }
 {
     let type_places = type_places_of(alloc, rows)?;
     let values = values_of(alloc, rows)?;
@@ -156,7 +167,8 @@ fn row_keys(alloc: Global, rows: &[CodedRow]) -> Result<TypesAndValues, AllocErr
     })
 }
 
-// Lists the rows of each of `types` types, and of each of `concepts` concepts as a value.
+// Lists the rows of each of the `types` types, and the rows of each of the `concepts` concepts as a
+// value. `keys` has the type and the value of each row, `marks` its source and its group.
 fn lists_by_keys(
     alloc: Global,
     types: u32,
@@ -166,8 +178,10 @@ fn lists_by_keys(
 ) -> Result<ListsByKeys, AllocError>
     requires long { AreOfOneLength keys.now.type_places.items keys.now.values.items marks.now }
     requires types { All (λ place. place < types) keys.now.type_places.items }
-    ensures by_type { IfOk result (λ lists. AreRowLists types keys.now.type_places.items keys.now.values.items marks.now lists.by_type) }
-    ensures by_value { IfOk result (λ lists. AreRowLists concepts keys.now.values.items keys.now.type_places.items marks.now lists.by_value) }
+    ensures by_type { IfOk result (λ lists. AreRowLists types keys.now.type_places.items
+        keys.now.values.items marks.now lists.by_type) }
+    ensures by_value { IfOk result (λ lists. AreRowLists concepts keys.now.values.items
+        keys.now.type_places.items marks.now lists.by_value) }
     ensures len { IfOk result (λ lists. vec_len lists.places ≡ vec_len keys.now.type_places) }
     ensures found { IfOk result (λ lists. (n : ℕ) → n < vec_len keys.now.type_places
         → slice_get (concat lists.by_type.rows) (slice_index lists.places.items n) ≡ Some n) }
@@ -184,8 +198,8 @@ fn lists_by_keys(
     })
 }
 
-// Makes the marks of the rows, whose pairs are hashed over `seed`, and lists the rows of all sources, one source
-// after the other.
+// Marks each row with its source and its group, and lists the numbers of the rows of the `count`
+// sources, one source after the other. Pairs are hashed with `seed`.
 fn marks_by_source(
     alloc: Global,
     count: u32,
@@ -196,7 +210,8 @@ fn marks_by_source(
     requires few_sources { count < 2 ^ 31 }
     requires sorted { IsBySource count rows.now }
     ensures marks { IfOk result (λ made. AreRowMarks count rows.now made.0) }
-    ensures rows { IfOk result (λ made. made.1.items ≡ concat (places_by count (map (λ (row : CodedRow). row.source) rows.now))) }
+    ensures rows { IfOk result (λ made. made.1.items
+        ≡ concat (places_by count (map (λ (row : CodedRow). row.source) rows.now))) }
 {
     let sources = sources_of(alloc, rows)?;
     let by_source = places_by_key(alloc, count, sources.as_slice())?;
@@ -205,37 +220,41 @@ fn marks_by_source(
     Ok((marks, numbers))
 }
 
-// Takes the number of the source out of each row.
+// Copies the number of the source of each row.
 fn sources_of(alloc: Global, rows: &[CodedRow]) -> Result<Vec<u32>, AllocError>
     ensures { IfOk result (λ keys. keys.items ≡ map (λ (row : CodedRow). row.source) rows.now) }
 {
     rows.iter().map(|row| row.source).collect(alloc)
 }
 
-// Takes the place of the type out of each row.
+// Copies the place of the type of each row.
 fn type_places_of(alloc: Global, rows: &[CodedRow]) -> Result<Vec<u32>, AllocError>
     ensures { IfOk result (λ keys. keys.items ≡ map (λ (row : CodedRow). row.type_place) rows.now) }
 {
     rows.iter().map(|row| row.type_place).collect(alloc)
 }
 
-// Takes the number of the value out of each row.
+// Copies the number of the value of each row.
 fn values_of(alloc: Global, rows: &[CodedRow]) -> Result<Vec<u32>, AllocError>
     ensures { IfOk result (λ keys. keys.items ≡ map (λ (row : CodedRow). row.value) rows.now) }
 {
     rows.iter().map(|row| row.value).collect(alloc)
 }
 
-// Makes the lists of groups. `marks` has the group of each row.
+// Builds the lists by group. `marks` has the group of each row of `rows`, and the first group of
+// each concept.
 fn group_lists(alloc: Global, marks: &RowMarks, rows: &[CodedRow]) -> Result<GroupLists, AllocError>
     requires few { length rows.now < 2 ^ 32 }
     requires some { 0 < vec_len marks.now.starts }
     requires long { vec_len marks.now.groups ≡ length rows.now }
-    requires within { All (λ (mark : Flagged). mark.number < slice_index marks.now.starts.items (vec_len marks.now.starts - 1))
+    requires within { All (λ (mark : Flagged). mark.number
+        < slice_index marks.now.starts.items (vec_len marks.now.starts - 1))
         marks.now.groups.items }
     requires one { HaveOneNumber marks.now.groups.items rows.now }
-    ensures len { IfOk result (λ lists. vec_len lists.numbers ≡ slice_index marks.now.starts.items (vec_len marks.now.starts - 1)) }
-    ensures numbers { IfOk result (λ lists. AreNumbersOf marks.now.groups.items rows.now lists.numbers.items) }
+    ensures len { IfOk result (λ lists. vec_len lists.numbers
+        ≡ slice_index marks.now.starts.items (vec_len marks.now.starts - 1)) }
+    ensures numbers { IfOk result (λ lists. AreNumbersOf marks.now.groups.items rows.now
+        lists.numbers.items) }
     ensures starts { IfOk result (λ lists. lists.starts.items ≡ marks.now.starts.items) }
     ensures rows { IfOk result (λ lists.
         lists.rows ≡ places_by (slice_index marks.now.starts.items (vec_len marks.now.starts - 1))
@@ -253,7 +272,8 @@ fn group_lists(alloc: Global, marks: &RowMarks, rows: &[CodedRow]) -> Result<Gro
     })
 }
 
-// Finds the group number of each group, which all its rows have.
+// Returns the relationship group number of each of the `count` groups. `marks` has the group of
+// each row; all rows of a group have the same group number.
 fn numbers_by_group(
     alloc: Global,
     count: u32,
@@ -273,9 +293,10 @@ fn numbers_by_group(
     Ok(numbers)
 }
 
-// Takes the numbers out of marks.
+// Copies the number of each mark, without its flag.
 fn numbers_of(alloc: Global, marks: &[FlaggedNumber]) -> Result<Vec<u32>, AllocError>
-    ensures { IfOk result (λ numbers. numbers.items ≡ map (λ (mark : Flagged). mark.number) marks.now) }
+    ensures { IfOk result (λ numbers. numbers.items
+        ≡ map (λ (mark : Flagged). mark.number) marks.now) }
 {
     marks.iter().map(|mark| mark.number()).collect(alloc)
 }

@@ -1,15 +1,16 @@
-//! Attribute rows by numbers.
+//! Attribute rows as numbers.
 ghost use Rattle.std.specs.Prelude.{◌≡◌, IfOk};
 ghost use Rattle.held_release.specs.AttributesBySource.{attributes_by_source};
 ghost use Rattle.postings.specs.inside.Coded.{AreCodedRows, pair_code};
 ghost use Rattle.postings.specs.inside.PairKeys.{IsShort, grouped_key, pair_key};
 
 use crate::values::{Values, row_values};
-use first_met::FirstMet;
 use held_release::{Snapshot, Types, near_types};
+use key_interner::KeyInterner;
 use std::alloc::{AllocError, Global};
 
-/// An attribute row: the number of its source, the place of its type among all types, its group, and the number of its value.
+/// An attribute row as numbers: the number of its source, the place of its type in the list of all
+/// types, its relationship group number, and the number of its value.
 #[derive(Clone, Copy)]
 pub struct CodedRow {
     pub source: u32,
@@ -18,7 +19,7 @@ pub struct CodedRow {
     pub value: u32,
 }
 
-/// Attribute rows by numbers, with the tables of types and values that the numbers are places in.
+/// The attribute rows of a release as numbers, and the tables of types and values that decode them.
 #[derive(Drop)]
 pub struct CodedRows {
     pub rows: Vec<CodedRow>,
@@ -26,13 +27,14 @@ pub struct CodedRows {
     pub values: Values,
 }
 
-/// Translates the attribute rows of a release into numbers.
+/// Encodes the attribute rows of the release in `snapshot`, in the order of their numbers.
 pub fn coded_rows(alloc: Global, snapshot: &Snapshot) -> Result<CodedRows, AllocError>
-    ensures { IfOk result (AreCodedRows snapshot.now.release.concepts (attributes_by_source snapshot.now.release)) }
+    ensures { IfOk result (AreCodedRows snapshot.now.release.concepts
+        (attributes_by_source snapshot.now.release)) }
 {
     let values = row_values(alloc, snapshot)?;
     let mut types = Types {
-        numbers: FirstMet::new(alloc, snapshot.seed()),
+        numbers: KeyInterner::new(alloc, snapshot.seed()),
         ids: Vec::new(alloc),
     };
     let mut near = near_types(alloc)?;
@@ -57,7 +59,8 @@ pub fn coded_rows(alloc: Global, snapshot: &Snapshot) -> Result<CodedRows, Alloc
 }
 
 impl CodedRow {
-    /// Returns the pair of the row as one number, made of the place of its type and the number of its value.
+    /// Packs the pair of the row into one number: the place of the type times 2^32, plus the number
+    /// of the value.
     pub fn pair_key(&self) -> u128
         ensures key { result ≡ pair_key self.now }
         ensures short { IsShort (pair_code self.now) }
@@ -65,7 +68,8 @@ impl CodedRow {
         self.type_place as u128 * 2u128.pow(32) + self.value as u128
     }
 
-    /// Returns the group number and the pair of the row as one number.
+    /// Packs the relationship group number and the pair of the row into one number: the group
+    /// number times 2^64, plus `pair_key`.
     pub fn grouped_key(&self) -> u128
         ensures key { result ≡ grouped_key self.now }
         ensures short { IsShort (pair_code self.now) }
@@ -75,7 +79,7 @@ impl CodedRow {
 }
 
 impl CodedRows {
-    /// Returns the tables without the rows, whose memory is given back.
+    /// Returns the tables of types and values, and frees the rows.
     pub fn into_tables(self) -> (Types, Values)
         ensures types { result.0 ≡ self.types }
         ensures values { result.1 ≡ self.values }

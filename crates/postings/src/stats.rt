@@ -1,19 +1,20 @@
-//! How much there is in a release.
+//! Counts of what a release holds.
 
-/// How much there is in a release. Bounds on the work of a query are computed from these counts. Each distinct pair
-/// counts once.
+/// Counts of what a release holds, from which bounds on the work of a query are computed. `r`, `l`
+/// and `m` count each distinct pair once.
 #[derive(Clone, Copy, Debug, PartialEq, Eq)]
 pub struct Stats {
-    /// The concepts in force.
+    /// How many concepts are in force.
     pub n: u64,
-    /// The attribute rows in force.
+    /// How many attribute rows are in force.
     pub a: u64,
-    /// The groups of all concepts (Release File Specification, "Relationship file", relationshipGroup).
+    /// How many groups all concepts have (Release File Specification, "Relationship file",
+    /// relationshipGroup).
     pub g: u64,
-    /// The pairs of a concept and one of its ancestors.
+    /// How many pairs of a concept and one of its ancestors there are.
     pub r: u64,
-    /// The pairs of a concept and one of its parents.
+    /// How many pairs of a concept and one of its parents there are.
     pub l: u64,
-    /// The pairs of a reference set and one of its components.
+    /// How many pairs of a reference set and one of its components there are.
     pub m: u64,
 }

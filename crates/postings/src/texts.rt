@@ -1,4 +1,4 @@
-//! Texts, all in one vector.
+//! A list of texts in one vector of bytes.
 ghost use Rattle.std.specs.Prelude.{ℕ, ◌≡◌, ◌↔◌, ◌≤◌, ◌<◌, ◌+◌, ◌++◌, ◌∷◌, [], List, Contains, IfOk, Some, length, map, slice_get, slice_index_or};
 ghost use Rattle.std.specs.List.Sorted.{IsStrictlySortedBy};
 ghost use Rattle.held_release.specs.AttributesBySource.{attributes_by_source};
@@ -8,10 +8,10 @@ use held_release::{NumberedValue, Snapshot};
 use std::alloc::{AllocError, Global};
 use std::marker::Model;
 
-/// Texts in one vector, one after the other. Contracts see the list of them.
+/// A list of texts, stored one after the other in one vector of bytes.
 #[derive(Drop)]
 pub struct Texts {
-    // where each text starts, and where the last one ends
+    // where each text starts in `bytes`, and then where the last one ends
     starts: Vec<usize>,
     bytes: Vec<u8>,
 }
@@ -29,7 +29,7 @@ impl Model for Texts {
 }
 
 impl Texts {
-    // Copies `texts`.
+    // Copies `texts` into a list.
     fn new(alloc: Global, texts: &[&[u8]]) -> Result<Texts, AllocError>
         ensures { IfOk result (λ own. own ≡ map (λ text. text.now) texts.now) }
     {
@@ -40,7 +40,7 @@ impl Texts {
         Ok(own)
     }
 
-    // Creates a list without a text, with room for the starts of `count` texts.
+    // Creates an empty list, with memory reserved for the starts of `count` texts.
     fn none(alloc: Global, count: usize) -> Result<Texts, AllocError>
         ensures { IfOk result (λ texts. texts ≡ []) }
     {
@@ -50,7 +50,7 @@ impl Texts {
         Ok(Texts { starts, bytes })
     }
 
-    // Adds a text at the end.
+    // Returns the list with `text` added at its end.
     fn push(self, text: &[u8]) -> Result<Texts, AllocError>
         ensures { IfOk result (λ texts. texts ≡ self ++ text.now ∷ []) }
     {
@@ -71,7 +71,7 @@ impl Texts {
         self.starts.len() - 1
     }
 
-    /// Returns the text at `place`, which is below the number of texts.
+    /// Returns the text at `place`, which must be below the number of texts.
     pub fn of(&self, place: usize) -> &[u8]
         requires { place < length self.now }
         ensures { result.now ≡ slice_index_or self.now place [] }
@@ -81,7 +81,8 @@ impl Texts {
         &self.bytes[from..to]
     }
 
-    /// Returns the place of `text`, which is among the texts, by binary search. The texts rise by their bytes.
+    /// Returns the place of `text`, found by binary search. The list must rise strictly by bytes
+    /// and contain `text`.
     pub fn place_of(&self, text: &[u8]) -> usize
         requires rising { IsStrictlySortedBy text_cmp self.now }
         requires there { Contains self.now text.now }
@@ -101,12 +102,15 @@ impl Texts {
     }
 }
 
-/// Lists the other texts among the values of the attribute rows of a release, rising by their bytes and each once.
+/// Lists the values of the attribute rows in `snapshot` that are neither concepts nor decimals. The
+/// texts rise by their bytes, and each is there once.
 pub fn texts_among(alloc: Global, snapshot: &Snapshot) -> Result<Texts, AllocError>
     ensures rising { IfOk result (λ texts. IsStrictlySortedBy text_cmp texts) }
     ensures members { IfOk result (λ texts. (text : List ℕ)
-        → Contains texts text ↔ Contains (texts_of (attributes_by_source snapshot.now.release)) text) }
-    ensures few { IfOk result (λ texts. length texts ≤ length (texts_of (attributes_by_source snapshot.now.release))) }
+        → Contains texts text ↔ Contains (texts_of (attributes_by_source snapshot.now.release))
+        text) }
+    ensures few { IfOk result (λ texts. length texts
+        ≤ length (texts_of (attributes_by_source snapshot.now.release))) }
 {
     let mut texts = lent_texts(alloc, snapshot)?;
     texts.sort_unstable();
@@ -115,9 +119,11 @@ pub fn texts_among(alloc: Global, snapshot: &Snapshot) -> Result<Texts, AllocErr
     Ok(texts)
 }
 
-// Lists the other texts among the values of the attribute rows, row by row, lent from the snapshot.
+// Lists, row by row, the values that are neither concepts nor decimals. The texts are borrowed from
+// `snapshot`.
 fn lent_texts(alloc: Global, snapshot: &Snapshot) -> Result<Vec<&[u8]>, AllocError>
-    ensures { IfOk result (λ texts. map (λ text. text.now) texts.items ≡ texts_of (attributes_by_source snapshot.now.release)) }
+    ensures { IfOk result (λ texts. map (λ text. text.now) texts.items
+        ≡ texts_of (attributes_by_source snapshot.now.release)) }
 {
     let mut texts = Vec::new(alloc);
     for n in 0..snapshot.attribute_count() {

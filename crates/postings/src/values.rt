@@ -1,4 +1,4 @@
-//! The values of attribute rows by numbers.
+//! Numbers for the values of attribute rows.
 ghost use Rattle.std.specs.Prelude.{ℤ, ◌≡◌, ◌↔◌, ◌≤◌, ◌+◌, ◌++◌, ◌<◌, ◌^◌, All, Contains, IfOk, OnOk};
 ghost use Rattle.std.specs.Prelude.{Some, length, map, slice_get};
 ghost use Rattle.std.specs.List.Sorted.{IsStrictlySortedBy};
@@ -15,39 +15,43 @@ use held_release::{NumberedValue, Snapshot};
 use rf2_rows::{Decimal, Value};
 use std::alloc::{AllocError, Global};
 
-/// The decimals and the other texts among the values of attribute rows, rising and each once. Together with the
-/// concepts they number all values: first the concepts, then the decimals, and then the texts. A binary search
-/// finds them, not a hash, so that no choice of values makes the search slow.
+/// The decimals and the other texts among the values of attribute rows, rising and each once.
+/// Values are numbered in this order: all concepts, then the decimals, then the texts. A value is
+/// found by binary search, not by a hash, so that no file can choose values that make the search
+/// slow.
 #[derive(Drop)]
 pub struct Values {
     /// The decimals, in units of 10^-18.
     pub decimals: Vec<i128>,
-    /// The texts, which rise by their bytes.
+    /// The values that are neither concepts nor decimals, rising by their bytes.
     pub texts: Texts,
 }
 
-/// Lists the values of the attribute rows of a release.
+/// Collects the values of the attribute rows in `snapshot` that are not concepts.
 pub fn row_values(alloc: Global, snapshot: &Snapshot) -> Result<Values, AllocError>
-    ensures all { IfOk result (λ values.
-        All (λ (row : Attribute). Contains (values_in snapshot.now.release.concepts values) row.value)
+    ensures all { IfOk result (λ values. All
+        (λ (row : Attribute). Contains (values_in snapshot.now.release.concepts values) row.value)
         (attributes_by_source snapshot.now.release)) }
-    ensures tables { IfOk result (λ values.
-        AreTablesOf (attributes_by_source snapshot.now.release) values.decimals.items values.texts) }
-    ensures few { IfOk result (λ values. length (values_in snapshot.now.release.concepts values) < 2 ^ 32) }
+    ensures tables { IfOk result (λ values. AreTablesOf (attributes_by_source snapshot.now.release)
+        values.decimals.items values.texts) }
+    ensures few { IfOk result (λ values. length (values_in snapshot.now.release.concepts values)
+        < 2 ^ 32) }
 {
     let decimals = decimals_among(alloc, snapshot)?;
     let texts = texts_among(alloc, snapshot)?;
-    // so that each value has a number
+    // there are fewer values than 2^32, so each has a number
     prove!(snapshot.attribute_count() <= u32::MAX - snapshot.concept_count());
     Ok(Values { decimals, texts })
 }
 
-// Lists the decimals among the values of the attribute rows of a release, rising and each once.
+// Lists the decimals among the values of the attribute rows in `snapshot`, rising and each once.
 fn decimals_among(alloc: Global, snapshot: &Snapshot) -> Result<Vec<i128>, AllocError>
     ensures rising { IfOk result (λ decimals. IsStrictlySortedBy int_cmp decimals.items) }
     ensures members { IfOk result (λ decimals. (decimal : ℤ)
-        → Contains decimals.items decimal ↔ Contains (decimals_of (attributes_by_source snapshot.now.release)) decimal) }
-    ensures few { IfOk result (λ decimals. length decimals.items ≤ length (decimals_of (attributes_by_source snapshot.now.release))) }
+        → Contains decimals.items decimal ↔ Contains
+        (decimals_of (attributes_by_source snapshot.now.release)) decimal) }
+    ensures few { IfOk result (λ decimals. length decimals.items
+        ≤ length (decimals_of (attributes_by_source snapshot.now.release))) }
 {
     let mut decimals = Vec::new(alloc);
     for n in 0..snapshot.attribute_count() {
@@ -59,9 +63,10 @@ fn decimals_among(alloc: Global, snapshot: &Snapshot) -> Result<Vec<i128>, Alloc
     Ok(decimals)
 }
 
-// Adds the value if it is a decimal.
+// Adds `value` to `decimals` if it is a decimal.
 fn add_decimal(decimals: &mut Vec<i128>, value: &NumberedValue<'_>) -> Result<(), AllocError>
-    ensures { OnOk result (decimals.new.items ≡ decimals.old.items ++ decimals_at (numbered_lent value.now)) }
+    ensures { OnOk result (decimals.new.items ≡ decimals.old.items
+        ++ decimals_at (numbered_lent value.now)) }
 {
     match value {
         NumberedValue::Decimal(decimal) => Ok(decimals.push(decimal.0)?),
@@ -70,11 +75,13 @@ fn add_decimal(decimals: &mut Vec<i128>, value: &NumberedValue<'_>) -> Result<()
 }
 
 impl Values {
-    /// Returns the number of a value that is in the tables. A concept has its own number.
+    /// Returns the number of `value`, which must be a concept or in the tables. A concept has its
+    /// own number.
     pub fn number(&self, snapshot: &Snapshot, value: &NumberedValue<'_>) -> u32
         requires there { Contains (values_in snapshot.now.release.concepts self.now)
             (value_by_identifier snapshot.now.release.concepts (numbered_lent value.now)) }
-        requires below { IsNumberBelow (length snapshot.now.release.concepts) (numbered_lent value.now) }
+        requires below { IsNumberBelow (length snapshot.now.release.concepts)
+            (numbered_lent value.now) }
         requires rising { AreTables self.now.decimals.items self.now.texts }
         requires few { length (values_in snapshot.now.release.concepts self.now) < 2 ^ 32 }
         ensures { slice_get (values_in snapshot.now.release.concepts self.now) result
@@ -93,10 +100,12 @@ impl Values {
         }
     }
 
-    /// Returns the value at a place after the concepts.
+    /// Returns the value at `place` in the list of the decimals and then the texts. The number of
+    /// this value is `place` plus the number of concepts.
     pub fn value(&self, place: usize) -> Value<'_>
         requires { place < length self.now.decimals.items + length self.now.texts }
-        ensures { value_lent result ≡ value_at (map number_value self.now.decimals.items ++ map text_value self.now.texts) place }
+        ensures { value_lent result ≡ value_at
+            (map number_value self.now.decimals.items ++ map text_value self.now.texts) place }
     {
         let decimals = self.decimals.as_slice();
         if place < decimals.len() {
@@ -106,7 +115,7 @@ impl Values {
     }
 }
 
-// Returns the place of `decimal`, which is among the rising `decimals`.
+// Returns the place of `decimal` in the rising list `decimals`, which must contain it.
 fn place_of(decimals: &[i128], decimal: &i128) -> usize
     requires rising { IsStrictlySortedBy int_cmp decimals.now }
     requires there { Contains decimals.now decimal.now }

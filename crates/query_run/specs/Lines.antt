@@ -7,13 +7,14 @@ use Rattle.std.specs.List.{slice_split}
 abbrev pub line_feed : ℕ
 line_feed = 10
 
--- the lines without the last one, if that is empty
+-- the lines without the last one, if the last one is empty
 unfoldable pub without_empty_last : List (List ℕ) → List (List ℕ)
 without_empty_last [] = []
 without_empty_last ([] ∷ []) = []
 without_empty_last (line ∷ lines) = line ∷ without_empty_last lines
 
--- the query lines of an input: the text before each line feed, and the text after the last one unless it is empty
+-- the query lines of an input: the text before each line feed, and the text after the last line
+-- feed unless it is empty
 unfoldable pub query_lines : List ℕ → List (List ℕ)
 query_lines bytes = without_empty_last (slice_split (λ byte. byte == line_feed) bytes)
 
@@ -25,28 +26,30 @@ line_feed_count bytes = count_by (λ byte. byte == line_feed) bytes
 abbrev pub Answers : Type 1
 Answers = List ℕ → List ℕ → Type 0
 
--- a text answers query lines if it is their answers, one after the other
+-- `text` consists of an answer to each of `lines`, one after the other
 abbrev pub AreAnswers : Answers → List (List ℕ) → List ℕ → Type 0
 AreAnswers answers [] text = text ≡ []
 AreAnswers answers (line ∷ lines) text =
     (first : List ℕ) × (rest : List ℕ)
     × answers line first × AreAnswers answers lines rest × (text ≡ first ++ rest)
 
--- the answers to query lines were written, and nothing else
+-- an answer to each of `lines` was written, one after the other, and nothing else
 abbrev pub AreWritten : Answers → List (List ℕ) → Option (List ℕ) → Option (List ℕ) → Type 0
 AreWritten answers lines before after =
     (text : List ℕ) × AreAnswers answers lines text × Appends before after text
 
--- no line feed is among the bytes
+-- the bytes have no line feed
 abbrev pub HasNoFeed : List ℕ → Type 0
 HasNoFeed bytes = All (λ byte. byte ≢ line_feed) bytes
 
--- the first bytes of an input are `lines` and then `pending`, which waits for its line feed. Whatever comes later, it
--- is read as if it followed `pending`
+-- `bytes` consist of the ended lines `lines` and then `pending`, which waits for its line feed;
+-- later bytes continue `pending`
 pub record IsCutInto (bytes : List ℕ) (lines : List (List ℕ)) (pending : List ℕ) : Type 0 where
-  -- the pending bytes have no line feed
+  -- `pending` has no line feed
   pub unended : HasNoFeed pending
-  -- there is one line for each line feed
+  -- there are as many lines as line feeds
   pub feeds : length lines ≡ line_feed_count bytes
-  -- with any later bytes, the query lines are `lines` and then those of `pending` and these bytes
-  pub goes_on : (later : List ℕ) → query_lines (bytes ++ later) ≡ lines ++ query_lines (pending ++ later)
+  -- with any later bytes, the query lines are `lines`, and then those of `pending` and the later
+  -- bytes
+  pub goes_on : (later : List ℕ)
+      → query_lines (bytes ++ later) ≡ lines ++ query_lines (pending ++ later)

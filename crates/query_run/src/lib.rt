@@ -1,4 +1,4 @@
-//! The run: it reads the query lines of an input, and writes the answer to each.
+//! Reads the query lines of an input, and writes the answer to each.
 #![tactic(auto)]
 
 mod answering;

@@ -1,4 +1,4 @@
-//! The run: it answers the query lines of an input, one after the other.
+//! The loop that answers the query lines of an input, one after the other.
 ghost use Rattle.std.specs.Prelude.{◌≡◌, ℕ, ◌+◌, ◌^◌, ◌<◌, ◌≤◌, ◌∷◌, ◌++◌, false, IfErr, IfOk, IfSome, List, MatchOption, OnOk, [], length, vec_len};
 ghost use Rattle.std.specs.Io.KnownBytes.{Appends, IsAtEnd};
 ghost use Rattle.streams.specs.Waiting.{LeavesAnswer, is_write};
@@ -9,10 +9,11 @@ ghost use Rattle.query_run.specs.Lines.{AreWritten, HasNoFeed, line_feed, query_
 use crate::answering::AnswerLine;
 use bstr::ByteSlice;
 use std::alloc::{AllocError, Global};
-use streams::{AnswerFault, AnswerOutput, Piece, QueryInput};
+use streams::{AnswerFault, AnswerOutput, OutputBuffer, QueryInput};
 
-/// Why a run ended before its input did, and how many answers were written whole. After `Write` a front of the next
-/// answer may have been written; after other faults nothing of it was.
+/// Why a run ended before its input did. The number says how many answers were written completely.
+/// After `Write`, the output may also have received a proper prefix of the next answer; after other
+/// faults it has received nothing of it.
 #[derive(Clone, Copy, Debug, PartialEq, Eq)]
 pub enum RunFault {
     /// The input failed.
@@ -26,7 +27,7 @@ pub enum RunFault {
 }
 
 impl RunFault {
-    /// The number of the fault, from 1 to 4.
+    /// Returns the number of the fault, from 1 to 4.
     pub fn number(self) -> u8
         ensures { result ≡ run_fault_number self }
     {
@@ -38,7 +39,8 @@ impl RunFault {
         }
     }
 
-    // Returns the run's fault for the fault of an answer, after `answered` whole answers.
+    // Returns the fault of a run whose next answer fails with `fault`, after `answered` complete
+    // answers.
     fn of(fault: AnswerFault, answered: u64) -> RunFault
         ensures { result ≡ run_fault_of fault answered }
     {
@@ -49,25 +51,25 @@ impl RunFault {
     }
 }
 
-// How often an input is read at most.
+// How many times an input is read at most.
 const TURNS: u64 = 1 << 40;
 
-// How many bytes are read at once at most.
+// How many bytes one read returns at most.
 const PIECE_LENGTH: usize = 65_536;
 
-// How many bytes of a line are kept until it ends: one more than a line may have, so that a line which is too long
-// can be told.
+// How many bytes of an unended line are kept: one more than a line may have, so that the answerer
+// sees that the line is too long.
 const KEPT_LENGTH: usize = 65_536;
 
 const LINE_FEED: u8 = b'\n';
 
-/// Answers each query line of an input, in order. A query line is the text before a line feed, or the text after the
-/// last one unless it is empty. Returns how many lines were answered. The answers to the lines that have ended are
-/// written before more is read.
+/// Answers each query line of `input`, in order, with `answerer`. A query line is the text before a
+/// line feed, or the text after the last one unless it is empty. Returns how many lines were
+/// answered. All answers to the lines that have ended are written before more input is read.
 ///
-/// A fault says how many answers were written whole: `Read` if the input fails, `Write` if the output fails,
-/// `Memory` if memory is refused, and `Turns` if the input has not ended after 2^40 reads. The input is never read
-/// more often.
+/// A fault says how many answers were written completely: `Read` if the input fails, `Write` if the
+/// output fails, `Memory` if memory is refused, and `Turns` if the input has not ended after 2^40
+/// reads. The input is never read more often.
 pub fn run<A: AnswerLine, R: QueryInput, W: AnswerOutput>(
     alloc: Global,
     answerer: &A,
@@ -77,12 +79,20 @@ pub fn run<A: AnswerLine, R: QueryInput, W: AnswerOutput>(
     requires input { R.has_failed input.old ≡ false }
     requires output { W.has_failed output.old ≡ false }
     ensures end { OnOk result (IsAtEnd (R.remaining input.new)) }
-    ensures count { IfOk result (λ count. IfSome (R.remaining input.old) (λ bytes. count ≡ length (query_lines bytes))) }
-    ensures answers { OnOk result (IfSome (R.remaining input.old) (λ bytes. AreWritten (A.answers answerer.now) (query_lines bytes) (W.written output.old) (W.written output.new))) }
-    ensures sound { OnOk result ((R.has_failed input.new ≡ false) × (W.has_failed output.new ≡ false)) }
-    ensures fault { IfErr result (λ fault. EndsAt fault (A.answers answerer.now) (R.remaining input.old) (R.remaining input.new) (W.written output.old) (W.written output.new)) }
-    ensures failed { IfErr result (λ fault. HaveFailed fault (R.has_failed input.new) (W.has_failed output.new)) }
-    ensures turns { IfErr result (λ fault. CountsTurns fault (R.read_count input.old) (R.read_count input.new)) }
+    ensures count { IfOk result (λ count. IfSome (R.remaining input.old)
+        (λ bytes. count ≡ length (query_lines bytes))) }
+    ensures answers { OnOk result (IfSome (R.remaining input.old)
+        (λ bytes. AreWritten (A.answers answerer.now) (query_lines bytes) (W.written output.old)
+        (W.written output.new))) }
+    ensures not_failed { OnOk result ((R.has_failed input.new ≡ false)
+        × (W.has_failed output.new ≡ false)) }
+    ensures fault { IfErr result (λ fault. EndsAt fault (A.answers answerer.now)
+        (R.remaining input.old) (R.remaining input.new) (W.written output.old)
+        (W.written output.new)) }
+    ensures failed { IfErr result (λ fault. HaveFailed fault (R.has_failed input.new)
+        (W.has_failed output.new)) }
+    ensures turns { IfErr result (λ fault. CountsTurns fault (R.read_count input.old)
+        (R.read_count input.new)) }
     ensures reads { R.read_count input.new ≤ R.read_count input.old + 2 ^ 40 }
 {
     let mut buffer = match zeros(alloc, PIECE_LENGTH) {
@@ -110,30 +120,32 @@ pub fn run<A: AnswerLine, R: QueryInput, W: AnswerOutput>(
     Err(RunFault::Turns(progress.answered))
 }
 
-// Returns `count` bytes of 0. A function of its own, so that proofs about `run` know only the number of bytes.
+// Returns `count` bytes of 0. It is a function of its own, so that proofs about `run` need to know
+// only the number of bytes.
 fn zeros(alloc: Global, count: usize) -> Result<Vec<u8>, AllocError>
     ensures { IfOk result (λ bytes. vec_len bytes ≡ count) }
 {
     vec![in alloc; 0u8; count]
 }
 
-// What a run carries from one piece of the input to the next: the front of a line that has not ended, the piece in
-// which an answer waits to be written, and how many answers were written.
+// The state of a run between two reads. `pending`: the first bytes of a line that has not ended.
+// `waiting`: the buffer in which an answer waits to be written. `answered`: how many answers were
+// written.
 #[derive(Drop)]
 struct Progress {
     pending: Vec<u8>,
-    waiting: Piece,
+    waiting: OutputBuffer,
     answered: u64,
 }
 
 impl Progress {
-    // Makes the state of a run before its first read.
+    // Returns the state of a run before its first read.
     fn new(alloc: Global) -> Result<Progress, AllocError>
         ensures pending { IfOk result (λ progress. progress.pending.items ≡ []) }
         ensures waiting { IfOk result (λ progress. progress.waiting ≡ []) }
         ensures answered { IfOk result (λ progress. progress.answered ≡ 0) }
     {
-        let waiting = Piece::new(alloc)?;
+        let waiting = OutputBuffer::new(alloc)?;
         Ok(Progress {
             pending: Vec::new(alloc),
             waiting,
@@ -141,8 +153,9 @@ impl Progress {
         })
     }
 
-    // Answers the lines that end in a piece of the input, and keeps the front of what follows them. The pending
-    // bytes are the kept front of a line; the answer holds for every line with that front.
+    // Answers the lines that end in one piece of the input (here `piece`), and keeps the
+    // beginning of the line after them. `pending` holds the first 65,536 bytes of the current line,
+    // so the contract speaks of every line that begins with these bytes.
     fn take_piece<A: AnswerLine, W: AnswerOutput>(
         &mut self,
         alloc: Global,
@@ -152,19 +165,22 @@ impl Progress {
     ) -> Result<(), RunFault>
         requires room { self.old.answered + length piece.now < 2 ^ 64 }
         requires waiting { self.old.waiting ≡ [] }
-        requires sound { W.has_failed output.old ≡ false }
-        ensures ok { OnOk result ((unended : List ℕ) → HasNoFeed unended → self.old.pending.items ≡ kept_of unended
-            → (lines : List (List ℕ))
+        requires not_failed { W.has_failed output.old ≡ false }
+        ensures ok { OnOk result ((unended : List ℕ) → HasNoFeed unended
+            → self.old.pending.items ≡ kept_of unended → (lines : List (List ℕ))
             × IsCutTo (unended ++ piece.now) lines self.new.pending.items
             × (self.new.answered ≡ self.old.answered + length lines)
-            × AreWritten (A.answers answerer.now) lines (W.written output.old) (W.written output.new)) }
-        ensures few { OnOk result (self.new.answered ≤ self.old.answered + length piece.now) }
+            × AreWritten (A.answers answerer.now) lines (W.written output.old)
+            (W.written output.new)) }
+        ensures few { OnOk result (self.new.answered ≤ self.old.answered
+            + length piece.now) }
         ensures waiting { OnOk result (self.new.waiting ≡ []) }
-        ensures sound { OnOk result (W.has_failed output.new ≡ false) }
-        ensures fault { IfErr result (λ fault. (unended : List ℕ) → HasNoFeed unended → self.old.pending.items ≡ kept_of unended
-            → (count : ℕ)
-            × IsAnswerFault fault (self.old.answered + count) (W.has_failed output.new)
-            × LeavesWritten (A.answers answerer.now) (query_lines (unended ++ piece.now)) count fault (W.written output.old) (W.written output.new)) }
+        ensures not_failed { OnOk result (W.has_failed output.new ≡ false) }
+        ensures fault { IfErr result (λ fault. (unended : List ℕ) → HasNoFeed unended
+            → self.old.pending.items ≡ kept_of unended → (count : ℕ) × IsAnswerFault fault
+            (self.old.answered + count) (W.has_failed output.new)
+            × LeavesWritten (A.answers answerer.now) (query_lines (unended ++ piece.now))
+            count fault (W.written output.old) (W.written output.new)) }
     {
         let mut rest = piece;
         while let Some((line, later)) = first_line(rest) {
@@ -179,9 +195,10 @@ impl Progress {
         }
     }
 
-    // Adds bytes to the kept front of a line, up to `KEPT_LENGTH` bytes.
+    // Adds `bytes` to the pending line, of which it keeps the first `KEPT_LENGTH` bytes.
     fn keep(&mut self, bytes: &[u8]) -> Result<(), AllocError>
-        ensures pending { OnOk result (self.new.pending.items ≡ kept_of (self.old.pending.items ++ bytes.now)) }
+        ensures pending { OnOk result (self.new.pending.items
+            ≡ kept_of (self.old.pending.items ++ bytes.now)) }
         ensures waiting { self.new.waiting ≡ self.old.waiting }
         ensures answered { self.new.answered ≡ self.old.answered }
     {
@@ -200,15 +217,18 @@ impl Progress {
     ) -> Result<(), RunFault>
         requires room { self.old.answered + 1 < 2 ^ 64 }
         requires waiting { self.old.waiting ≡ [] }
-        requires sound { W.has_failed output.old ≡ false }
+        requires not_failed { W.has_failed output.old ≡ false }
         ensures pending { OnOk result (self.new.pending.items ≡ []) }
         ensures waiting { OnOk result (self.new.waiting ≡ []) }
         ensures answered { OnOk result (self.new.answered ≡ self.old.answered + 1) }
-        ensures sound { OnOk result (W.has_failed output.new ≡ false) }
-        ensures answer { OnOk result (AreWritten (A.answers answerer.now) ((self.old.pending.items ++ line.now) ∷ []) (W.written output.old) (W.written output.new)) }
-        ensures fault { IfErr result (λ fault.
-            IsAnswerFault fault self.old.answered (W.has_failed output.new)
-            × LeavesWritten (A.answers answerer.now) ((self.old.pending.items ++ line.now) ∷ []) 0 fault (W.written output.old) (W.written output.new)) }
+        ensures not_failed { OnOk result (W.has_failed output.new ≡ false) }
+        ensures answer { OnOk result (AreWritten (A.answers answerer.now)
+            ((self.old.pending.items ++ line.now) ∷ []) (W.written output.old)
+            (W.written output.new)) }
+        ensures fault { IfErr result (λ fault. IsAnswerFault fault self.old.answered
+            (W.has_failed output.new)
+            × LeavesWritten (A.answers answerer.now) ((self.old.pending.items ++ line.now) ∷ []) 0
+            fault (W.written output.old) (W.written output.new)) }
     {
         match self.write_answer(alloc, answerer, line, output) {
             Ok(()) => {
@@ -219,7 +239,8 @@ impl Progress {
         }
     }
 
-    // Writes the whole answer to the pending bytes and `line`, and forgets the pending bytes.
+    // Writes the complete answer to the line that consists of the pending bytes and `line`, and
+    // clears the pending bytes.
     fn write_answer<A: AnswerLine, W: AnswerOutput>(
         &mut self,
         alloc: Global,
@@ -228,14 +249,17 @@ impl Progress {
         output: &mut W,
     ) -> Result<(), AnswerFault>
         requires waiting { self.old.waiting ≡ [] }
-        requires sound { W.has_failed output.old ≡ false }
+        requires not_failed { W.has_failed output.old ≡ false }
         ensures pending { OnOk result (self.new.pending.items ≡ []) }
         ensures waiting { OnOk result (self.new.waiting ≡ []) }
         ensures answered { self.new.answered ≡ self.old.answered }
-        ensures answer { OnOk result ((text : List ℕ) × A.answers answerer.now (self.old.pending.items ++ line.now) text × Appends (W.written output.old) (W.written output.new) text) }
-        ensures fault { IfErr result (λ fault.
-            LeavesAnswer (A.answers answerer.now (self.old.pending.items ++ line.now)) fault (W.written output.old) (W.written output.new) [] self.new.waiting) }
-        ensures sound { OnOk result (W.has_failed output.new ≡ false) }
+        ensures answer { OnOk result ((text : List ℕ)
+            × A.answers answerer.now (self.old.pending.items ++ line.now) text
+            × Appends (W.written output.old) (W.written output.new) text) }
+        ensures fault { IfErr result (λ fault. LeavesAnswer
+            (A.answers answerer.now (self.old.pending.items ++ line.now)) fault
+            (W.written output.old) (W.written output.new) [] self.new.waiting) }
+        ensures not_failed { OnOk result (W.has_failed output.new ≡ false) }
         ensures failed { IfErr result (λ fault. W.has_failed output.new ≡ is_write fault) }
     {
         if self.pending.extend_from_slice(line).is_err() {
@@ -252,7 +276,8 @@ impl Progress {
         }
     }
 
-    // Answers the last line if no line feed ended it, unless it is empty. Returns the count of answers.
+    // Answers the pending bytes as the last line, which no line feed ended, unless they are empty.
+    // Returns the number of all answers.
     fn finish<A: AnswerLine, W: AnswerOutput>(
         &mut self,
         alloc: Global,
@@ -262,13 +287,16 @@ impl Progress {
         requires unended { HasNoFeed self.old.pending.items }
         requires room { self.old.answered + 1 < 2 ^ 64 }
         requires waiting { self.old.waiting ≡ [] }
-        requires sound { W.has_failed output.old ≡ false }
-        ensures count { IfOk result (λ count. count ≡ self.old.answered + length (query_lines self.old.pending.items)) }
-        ensures sound { OnOk result (W.has_failed output.new ≡ false) }
-        ensures answer { OnOk result (AreWritten (A.answers answerer.now) (query_lines self.old.pending.items) (W.written output.old) (W.written output.new)) }
-        ensures fault { IfErr result (λ fault.
-            IsAnswerFault fault self.old.answered (W.has_failed output.new)
-            × LeavesWritten (A.answers answerer.now) (query_lines self.old.pending.items) 0 fault (W.written output.old) (W.written output.new)) }
+        requires not_failed { W.has_failed output.old ≡ false }
+        ensures count { IfOk result (λ count. count ≡ self.old.answered
+            + length (query_lines self.old.pending.items)) }
+        ensures not_failed { OnOk result (W.has_failed output.new ≡ false) }
+        ensures answer { OnOk result (AreWritten (A.answers answerer.now)
+            (query_lines self.old.pending.items) (W.written output.old) (W.written output.new)) }
+        ensures fault { IfErr result (λ fault. IsAnswerFault fault self.old.answered
+            (W.has_failed output.new)
+            × LeavesWritten (A.answers answerer.now) (query_lines self.old.pending.items) 0 fault
+            (W.written output.old) (W.written output.new)) }
     {
         if self.pending.is_empty() {
             return Ok(self.answered);
@@ -280,7 +308,8 @@ impl Progress {
     }
 }
 
-// Returns the text before the first line feed and the text after it, if there is one.
+// Returns the bytes before the first line feed and the bytes after it, or `None` if there is no
+// line feed.
 fn first_line(bytes: &[u8]) -> Option<(&[u8], &[u8])>
     ensures { MatchOption result (HasNoFeed bytes.now) (λ found.
         (bytes.now ≡ found.0.now ++ line_feed ∷ found.1.now) × HasNoFeed found.0.now) }

@@ -1,4 +1,4 @@
--- The status and the streams at the end of a request, by the faults that it met.
+-- From the faults that a request met to its status and its streams.
 use Rattle.std.proofs.Common.{◌+◌, ◌≤◌, max, ℕ, ◌≡◌, ◌≢◌, ◌<◌, ◌⊎◌, inl, inr, false, true, List, [], length, take}
 use Rattle.std.proofs.Common.{Option, None, Some, Result, Ok, Err, refl, sym, ap, subst, ◌∙◌}
 use Rattle.std.specs.Prelude.{IfSome}
@@ -32,7 +32,8 @@ use Rattle.streams.specs.declared.input.QueryInput.{Ghosts as Input}
 use Rattle.command_line.specs.declared.words.Mode.{Mode}
 use Rattle.command_line.specs.declared.words.Mode.TheVariants.{Sample, Check}
 
--- a fault while a release was served, told by its line, ends the request with the fault's status
+-- if a fault came while a release was served, its line was reported, and the status is the fault's, then the status
+-- means what `ServesWith` says
 pub stops_with : {R W E : Type 0} (r : Input R) (w : Output W) (e : Output E) (mode : Mode) (contents : Contents)
     (fault : RunFault) (status : Status) (before after : Streams R W E)
     → status ≡ status_of fault → IsCut r w mode fault contents before after
@@ -50,7 +51,8 @@ stops_with r w e mode contents fault status before after is cut failed turns tol
     by (Memory count) stopped = stopped
     by (Turns count) stopped = stopped
 
--- if the files are refused, and nothing was read or written, the request ends with the status of that refusal
+-- if the load failed with `fault`, the fault was reported, and nothing was read or written, then the task ends with
+-- the fault's status
 pub refuses_with : {R W E : Type 0} (r : Input R) (w : Output W) (e : Output E) (task : Task) (fault : LoadFault)
     (status : Status) (input : R) (output : W) (before after : E)
     → task.loaded ≡ Err fault → TellsLoadFault e task.names fault status before after
@@ -64,20 +66,20 @@ refuses_with r w e task fault ReleaseRefused input output before after is told =
 refuses_with r w e task fault MemoryRefused input output before after is told =
     inr (record { read = refl; written = refl; told = told })
 
--- in a mode other than `Sample` the release of a source's files is asked for
+-- a mode other than `Sample` asks for the release of the source's files
 pub asked_of_files : {told : Option (List FileText)} {old new : History} {language : List ℕ} {task : Task} (mode : Mode)
     → mode ≢ Sample → IsLoadedFrom told old new language task → IsAskedFor told old new language mode task
 asked_of_files Sample other loaded = absurd (other refl)
 asked_of_files mode other loaded = loaded
 
--- in a mode other than `Check` the request is served if the lines are answered
+-- a mode other than `Check` is served if all lines are answered
 pub served_in : {R W E : Type 0} (r : Input R) (w : Output W) (mode : Mode) (contents : Contents)
     (before after : Streams R W E) → mode ≢ Check
     → IsAnswered r w (answers_in mode contents) before after → IsServed r w mode contents before after
 served_in r w Check contents before after other answered = absurd (other refl)
 served_in r w mode contents before after other answered = answered
 
--- in a mode other than `Check` a fault cuts the answers to the lines
+-- in a mode other than `Check`, what a run has read and written at a fault is what `IsCut` says
 pub cut_in : {R W E : Type 0} (r : Input R) (w : Output W) (mode : Mode) (fault : RunFault) (contents : Contents)
     (before after : Streams R W E) → mode ≢ Check
     → EndsAt fault (answers_in mode contents) (r.remaining before.input) (r.remaining after.input)
@@ -86,17 +88,17 @@ pub cut_in : {R W E : Type 0} (r : Input R) (w : Output W) (mode : Mode) (fault 
 cut_in r w Check fault contents before after other ends = absurd (other refl)
 cut_in r w mode fault contents before after other ends = ends
 
--- if a load answered `Ok own`, every release that it answered is `own`
+-- a load has only one release as its result
 pub same_contents : (loaded : Result Contents LoadFault) (own contents : Contents) → loaded ≡ Ok own
     → loaded ≡ Ok contents → contents ≡ own
 same_contents loaded own contents is loads = let same : Ok contents ≡ Ok own = sym loads ∙ is in (cc)
 
--- if a load answered `Ok own`, its faults are the faults of `Ok own`
+-- if the result of a load is the release `own`, a fault of the result is a fault of this release
 pub same_fault : (loaded : Result Contents LoadFault) (own : Contents) (fault : LoadFault) → loaded ≡ Ok own
     → IsFaultOf fault loaded → IsFaultOf fault (Ok own)
 same_fault loaded own fault is said other = sym is ∙ said other
 
--- if the built-in release was loaded and served with a status, the request ends with that status
+-- if the built-in release was loaded and served with a status, the task ends with this status
 pub ends_sample : {R W E : Type 0} (r : Input R) (w : Output W) (e : Output E) (contents : Contents) (status : Status)
     (before after : Streams R W E)
     → contents ≡ sample_contents → ServesWith r w e Sample contents status before after
@@ -107,11 +109,11 @@ ends_sample r w e contents status before after same served = inl (record {
   ended = served;
 })
 
--- the built-in release has no fault but want of memory
+-- loading the built-in release has no fault other than `Memory`
 only_memory : (fault : LoadFault) → IsFaultOf fault (Ok sample_contents) → (fault ≡ load.Memory → ⊥) → ⊥
 only_memory fault said other = let clash : Ok sample_contents ≡ Err fault = said other in (cc)
 
--- if loading the built-in release fails, memory was refused, and the request ends with that
+-- if loading the built-in release failed, then memory was refused, and the task ends with the status for this
 pub refuses_sample : {R W E : Type 0} (r : Input R) (w : Output W) (e : Output E) (fault : LoadFault)
     (status : Status) (input : R) (output : W) (before after : E)
     → IsFaultOf fault (Ok sample_contents) → TellsLoadFault e [] fault status before after
@@ -127,7 +129,8 @@ refuses_sample r w e fault ReleaseRefused input output before after said told =
 refuses_sample r w e fault MemoryRefused input output before after said told =
     inr (record { read = refl; written = refl; told = told })
 
--- if the source tells its files, a load that succeeds has loaded these files in byte order
+-- if a source tells its files, and a load within the standard limits gives a release, then this is a result that
+-- loading the files may have
 pub loaded_whole : (told : Option (List FileText)) (limits : Limits) (language : List ℕ) (names : List (List ℕ))
     (contents : Contents) → limits ≡ standard_limits
     → IfSome told (λ known. load_of limits language (listed known names) ≡ Ok contents)
@@ -138,7 +141,8 @@ loaded_whole (Some known) limits language names contents same loads (inl order) 
     (order, ap (λ (l : Limits). load_of l language (listed known names)) (sym same) ∙ loads)
 loaded_whole (Some known) limits language names contents same loads (inr none) = absurd none
 
--- if the source tells its files, the fault of a load is the fault of these files in byte order
+-- if a source tells its files, and a load within the standard limits gives a fault, then this is a result that
+-- loading the files may have
 pub loaded_not : (told : Option (List FileText)) (limits : Limits) (language : List ℕ) (names : List (List ℕ))
     (now : History) (fault : LoadFault) → limits ≡ standard_limits
     → IfSome told (λ known. is_device fault ≡ false → IsFaultOf fault (load_of limits language (listed known names)))
@@ -152,20 +156,20 @@ loaded_not (Some known) limits language names now fault same said (inr (none, un
 loaded_not (Some known) limits language names now fault same said (inr (none, unlisted, inr memory)) =
     λ other own. absurd (other memory)
 
--- a load within the standard limits reads at most one byte of a file more than its limit
+-- a load within the standard limits reads no file further than one byte beyond the limit
 pub within_standard : (limits : Limits) (before after : ℕ) → limits ≡ standard_limits
     → after ≤ max before ((limits_in_force limits).bytes + 1) → after ≤ max before (standard_limits.bytes + 1)
 within_standard limits before after is within =
     subst (λ (one : Limits). after ≤ max before ((limits_in_force one).bytes + 1)) is within
 
--- if the fault is want of memory, it is a result that `IsLoadOf` allows for any files
+-- the fault `Memory` is a result that loading any files may have
 pub loaded_no_more : (told : Option (List FileText)) (language : List ℕ) (names : List (List ℕ)) (fault : LoadFault)
     → fault ≡ load.Memory
     → IfSome told (λ known. IsLoadOf known language names (Err fault))
 loaded_no_more None language names fault memory = tt
 loaded_no_more (Some known) language names fault memory = λ other own. absurd (other memory)
 
--- a task for a mode and a language is a task for an equal mode and an equal language
+-- a task for a mode and a language is also a task for an equal mode and an equal language
 pub asked_as : (told : Option (List FileText)) (old new : History) (lent language : List ℕ) (mode asked : Mode)
     (task : Task) → asked ≡ mode → lent ≡ language
     → IsTask told old new lent mode task → IsTask told old new language asked task
@@ -173,7 +177,7 @@ asked_as told old new lent language mode asked task is same task_is =
     subst (λ (m : Mode). IsTask told old new language m task) (sym is)
     (subst (λ (code : List ℕ). IsTask told old new code mode task) same task_is)
 
--- a report that was written whole ends the request with status `Done`
+-- if the whole report was written, the task ends with status `Done`
 pub ends_reported : {R W E : Type 0} (r : Input R) (w : Output W) (e : Output E) (task : Task) (contents : Contents)
     (text : List ℕ) (input : R) (before after : W) (errors : E)
     → task.mode ≡ Check → task.loaded ≡ Ok contents → text ≡ report_text (report_of contents)
@@ -189,12 +193,12 @@ ends_reported r w e task contents text input before after errors mode loads is w
           read = refl;
           written = subst (λ (t : List ℕ). Appends (w.written before) (w.written after) t) is wrote;
         });
-    sound = (reads, writes);
+    not_failed = (reads, writes);
     told = refl;
   };
 })
 
--- a report that was written in part ends the request with status `DeviceFault`
+-- if a proper prefix of the report was written, the task ends with status `DeviceFault`
 pub ends_cut : {R W E : Type 0} (r : Input R) (w : Output W) (e : Output E) (task : Task) (contents : Contents)
     (text : List ℕ) (input : R) (before after : W) (errors told : E) (status : Status)
     → task.mode ≡ Check → task.loaded ≡ Ok contents → text ≡ report_text (report_of contents) → status ≡ DeviceFault

@@ -13,23 +13,25 @@ abbrev pub constraint_answer : Contents → Tree → List ℕ
 constraint_answer contents tree =
     answer_text (name_of contents.release contents.language) (denotation contents.release tree)
 
--- a text is for a query line if `IsFor` holds for the line's constraint and the text, or the text is the line's
--- refusal
+-- `text` is for a query line: either the line is a constraint and `IsFor` relates the constraint to
+-- `text`, or `text` is the line's refusal
 abbrev pub IsForLine : (Tree → List ℕ → Type 0) → List ℕ → List ℕ → Type 0
 IsForLine IsFor line text =
     ((tree : Tree) × IsConstraint line tree × IsFor tree text)
     ⊎ ((fault : QueryFault) × IsRefusalOf line fault × (text ≡ refusal_text fault))
 
--- a text answers a query line if it answers the line's constraint, or is the line's refusal
+-- `text` answers a query line: it is the answer to the line's constraint, or the line's refusal
 abbrev pub IsAnswer : Contents → List ℕ → List ℕ → Type 0
-IsAnswer contents line text = IsForLine (λ tree text. text ≡ constraint_answer contents tree) line text
+IsAnswer contents line text =
+    IsForLine (λ tree text. text ≡ constraint_answer contents tree) line text
 
 -- each query line has an answer
 abbrev pub HasAnAnswer : Type 0
 HasAnAnswer = (contents : Contents) (line : List ℕ) → (text : List ℕ) × IsAnswer contents line text
 
--- no query line has two answers
+-- no query line has two different answers
 abbrev pub HasOneAnswer : Type 0
 HasOneAnswer =
-    (contents : Contents) (line one other : List ℕ) → IsAnswer contents line one → IsAnswer contents line other
+    (contents : Contents) (line one other : List ℕ) → IsAnswer contents line one
+    → IsAnswer contents line other
     → one ≡ other

@@ -1,4 +1,5 @@
--- In each mode, lines with the same first 65,536 bytes have the same answers. So a run need keep no more of a line.
+-- In each mode, lines with the same first 65,536 bytes have the same answers. So a run keeps no
+-- more of a line.
 use Rattle.std.proofs.Common.{◌≡◌, ℕ, ◌<◌, List, Some, codes, cond, length, inl, inr, sym, ap, ◌∙◌, subst, min, arith}
 use Rattle.std.proofs.lemmas.Bool.{cases_lt, lt-ltb}
 use Rattle.std.proofs.lemmas.List.{length-take, take_all}
@@ -23,13 +24,14 @@ use Rattle.command_line.specs.declared.words.Mode.{Mode}
 use Rattle.command_line.specs.declared.words.Mode.TheVariants.{Sample, Query, QueryWith, Explain, Describe, Session}
 use Rattle.command_line.specs.declared.words.Mode.TheVariants.{Check}
 
--- a line that is too long has only one text: the refusal `Long`
+-- a line that is too long has only one text, the refusal `Long`
 long_text : (IsFor : Tree → List ℕ → Type 0) (line text : List ℕ) → most_bytes < length line
     → IsForLine IsFor line text → text ≡ refusal_text Long
 long_text IsFor line text long (inl (tree, is, found)) = absurd (omega (arith, long, is.readable.0))
 long_text IsFor line text long (inr (fault, is, same)) = by fault is same
   where
-    by : (fault : QueryFault) → IsRefusalOf line fault → text ≡ refusal_text fault → text ≡ refusal_text Long
+    by : (fault : QueryFault) → IsRefusalOf line fault → text ≡ refusal_text fault
+        → text ≡ refusal_text Long
     by Long is same = same
     by Utf8 is same = absurd (omega (arith, long, is.0))
     by (Token offset) is same = absurd (omega (arith, long, is.0.0))
@@ -39,12 +41,13 @@ long_text IsFor line text long (inr (fault, is, same)) = by fault is same
     by Syntax is same = absurd (omega (arith, long, is.0.0))
     by Memory is same = absurd is
 
--- lines with the same first 65,536 bytes have the same answers, if any two lines that are too long have. Two such
--- lines are equal, or both are too long
+-- if any two lines that are too long have the same answers, then any two lines with the same first
+-- 65,536 bytes have the same answers: either they are equal, or both are too long
 same_front_of : (answers : List ℕ → List ℕ → Type 0)
     → ((one other text : List ℕ) → most_bytes < length one → most_bytes < length other
     → answers one text → answers other text)
-    → (one other text : List ℕ) → kept_of one ≡ kept_of other → answers one text → answers other text
+    → (one other text : List ℕ) → kept_of one ≡ kept_of other → answers one text
+    → answers other text
 same_front_of answers alike one other text same answered =
     let lengths : min 65536 (length one) ≡ min 65536 (length other) =
     sym (length-take 65536 one) ∙ ap length same ∙ length-take 65536 other in
@@ -52,18 +55,20 @@ same_front_of answers alike one other text same answered =
       | inl long ↦ alike one other text long (omega (arith, lengths)) answered
       | inr short ↦
           let whole : one ≡ other =
-          sym (take_all 65536 one (omega arith)) ∙ same ∙ take_all 65536 other (omega (arith, lengths)) in
+          sym (take_all 65536 one (omega arith)) ∙ same
+          ∙ take_all 65536 other (omega (arith, lengths)) in
           subst (λ (line : List ℕ). answers line text) whole answered
     ]
 
 -- lines with the same first 65,536 bytes have the same texts by `IsForLine`
-same_front_for : (IsFor : Tree → List ℕ → Type 0) (one other text : List ℕ) → kept_of one ≡ kept_of other
+same_front_for : (IsFor : Tree → List ℕ → Type 0) (one other text : List ℕ)
+    → kept_of one ≡ kept_of other
     → IsForLine IsFor one text → IsForLine IsFor other text
 same_front_for IsFor =
     same_front_of (IsForLine IsFor)
     (λ one other text long also answered. inr (Long, also, long_text IsFor one text long answered))
 
--- a line of `describe` that is too long is answered by `ERR long` alone
+-- a line of `describe` that is too long has the answer `ERR long`
 long_described : (contents : Contents) (line : List ℕ) → most_bytes < length line
     → description_text contents line ≡ codes "ERR long\n"
 long_described contents line long =
@@ -88,12 +93,15 @@ same_front_requested contents =
       asked_is = λ short. absurd (omega (arith, also, short));
     })
 
--- in each mode, lines with the same first 65,536 bytes have the same answers
-pub same_front_in : (mode : Mode) (contents : Contents) (one other text : List ℕ) → kept_of one ≡ kept_of other
+-- in each mode, if two lines have the same first 65,536 bytes, what answers the one answers the
+-- other
+pub same_front_in : (mode : Mode) (contents : Contents) (one other text : List ℕ)
+    → kept_of one ≡ kept_of other
     → answers_in mode contents one text → answers_in mode contents other text
 same_front_in Sample contents = same_front_for (λ tree text. text ≡ constraint_answer contents tree)
 same_front_in Query contents = same_front_for (λ tree text. text ≡ constraint_answer contents tree)
-same_front_in (QueryWith options) contents = same_front_for (AnswersWithin options.limit (form_of options) contents)
+same_front_in (QueryWith options) contents =
+    same_front_for (AnswersWithin options.limit (form_of options) contents)
 same_front_in Explain contents = same_front_for (Explains contents)
 same_front_in Describe contents = same_front_described contents
 same_front_in Session contents = same_front_requested contents

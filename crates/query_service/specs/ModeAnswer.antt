@@ -1,4 +1,4 @@
--- The text that answers a line of the input, by the mode of the request.
+-- The text that answers a line of the input, in each mode of the program.
 use Rattle.std.specs.Prelude.{ℕ, ◌≡◌, List, []}
 use Rattle.held_release.specs.Contents.{Contents}
 use Rattle.answer_printer.specs.declared.form.AnswerForm.{AnswerForm}
@@ -11,11 +11,12 @@ use Rattle.query_service.specs.Explanation.{IsExplanation}
 use Rattle.query_service.specs.LimitedAnswer.{IsAnswerWithin}
 use Rattle.query_service.specs.SessionAnswer.{IsDescription, IsSessionAnswer}
 
--- the form of the answers that the options of a query ask for
+-- the form of answers that the options of `query` ask for
 abbrev pub form_of : QueryOptions → AnswerForm
 form_of options = record { offset = 0; first = options.first; names = options.names }
 
--- whether a text answers a line in a mode. `check` reads no line, so the text for one is empty
+-- the relation between a line and the texts that answer it, for each mode; `check` reads no line,
+-- so its text is empty
 abbrev pub answers_in : Mode → Contents → List ℕ → List ℕ → Type 0
 answers_in Sample = IsAnswer
 answers_in Query = IsAnswer

@@ -1,9 +1,10 @@
--- The report of a loaded release.
+-- The row counts of a loaded release.
 use Rattle.std.specs.Prelude.{length}
 use Rattle.held_release.specs.Contents.{Contents}
 use Rattle.held_release.specs.declared.report.Report.{Report}
 
--- the report of a release: the number of files, the lengths of its five lists, and the number of rows in none of them
+-- the row counts of a release: its files, the lengths of its five lists, and the rows in none of
+-- them
 abbrev pub report_of : Contents → Report
 report_of contents = record {
   files = contents.files;

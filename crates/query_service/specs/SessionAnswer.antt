@@ -9,19 +9,20 @@ use Rattle.answer_printer.specs.declared.form.AnswerForm.{AnswerForm}
 use Rattle.query_service.specs.Explanation.{IsExplanation}
 use Rattle.query_service.specs.LimitedAnswer.{IsAnswerWithin}
 
--- a text answers a line of `describe` if it is what the release says of the concept that the line names
+-- `text` answers a line of `describe`: it is what the release says of the concept that the line
+-- names
 abbrev pub IsDescription : Contents → List ℕ → List ℕ → Type 0
 IsDescription contents line text = text ≡ description_text contents line
 
--- the form of the answer of which a page is asked for
+-- the form of answer that a page asks for
 abbrev pub page_form : Page → AnswerForm
 page_form page = record { offset = page.offset; first = page.count; names = page.names }
 
--- the limit on what the plan of a page may visit; without a limit the greatest number, which no bound exceeds
+-- the limit on the visits of a page's plan; without a limit 2^64 - 1, which no bound exceeds
 abbrev pub page_limit : Page → ℕ
 page_limit page = unwrap_or page.limit (2 ^ 64 - 1)
 
--- whether a text answers a request of a session
+-- `text` answers a request of a session
 abbrev pub AnswersAsked : Contents → Asked → List ℕ → Type 0
 AnswersAsked contents (asks_page page constraint) text =
     IsAnswerWithin (page_limit page) (page_form page) contents constraint text
@@ -29,9 +30,10 @@ AnswersAsked contents (asks_plan constraint) text = IsExplanation contents const
 AnswersAsked contents (asks_concept id) text = IsDescription contents id text
 AnswersAsked contents asks_nothing text = text ≡ codes "ERR request\n"
 
--- a text answers a line of `session`: it answers the request in the line, or says that the line is too long
+-- `text` answers a line of `session`: it answers the request in the line, or says that the line is
+-- too long
 pub record IsSessionAnswer (contents : Contents) (line text : List ℕ) : Type 0 where
-  -- a line that is too long is answered by `ERR long`
+  -- a line that is too long has the answer `ERR long`
   pub long : most_bytes < length line → text ≡ codes "ERR long\n"
-  -- any other line is answered by the answer to its request
+  -- for any other line, `text` answers the line's request
   pub asked_is : length line ≤ most_bytes → AnswersAsked contents (asked line) text

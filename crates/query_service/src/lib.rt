@@ -1,4 +1,4 @@
-//! The service of the program: it serves a request over files and streams, with any engine that answers queries.
+//! Serves a request to the program over files and streams, with any engine that answers queries.
 #![tactic(auto)]
 
 mod lines;

@@ -1,4 +1,4 @@
-//! The run that answers the lines of an input in a mode.
+//! Answering the lines of an input in one mode of the program.
 ghost use Rattle.std.specs.Prelude.{◌≡◌, ◌+◌, ◌^◌, ◌≤◌, false, IfErr, IfOk, IfSome, OnOk, length};
 ghost use Rattle.std.specs.Io.KnownBytes.{IsAtEnd};
 ghost use Rattle.query_run.specs.Fault.{CountsTurns, EndsAt, HaveFailed};
@@ -10,9 +10,9 @@ use crate::query_engine::QueryEngine;
 use command_line::Mode;
 use query_run::{AnswerLine, RunFault, run};
 use std::alloc::Global;
-use streams::{AnswerFault, AnswerOutput, Piece, QueryInput};
+use streams::{AnswerFault, AnswerOutput, OutputBuffer, QueryInput};
 
-// Answers the lines of an input in one mode, by an engine.
+// Answers lines as `mode` demands, with `engine`.
 #[derive(Drop)]
 struct LinesIn<'a, Q: QueryEngine> {
     engine: &'a Q,
@@ -28,15 +28,16 @@ impl<'a, Q: QueryEngine> AnswerLine for LinesIn<'a, Q> {
         &self,
         alloc: Global,
         line: &[u8],
-        piece: &mut Piece,
+        buffer: &mut OutputBuffer,
         output: &mut W,
     ) -> Result<(), AnswerFault> {
-        self.engine.write_in(alloc, self.mode, line, piece, output)
+        self.engine.write_in(alloc, self.mode, line, buffer, output)
     }
 }
 
-/// Answers each line of an input, in order, in a mode. Its reads, writes and faults are those of `run` of the crate
-/// `query_run`.
+/// Answers each line of `input`, in order, as `mode` demands: a query, an explanation, a
+/// description or a session's request. Returns how many lines were answered. It reads, writes and
+/// fails as `run` of the crate `query_run` does.
 pub fn run_in<Q: QueryEngine, R: QueryInput, W: AnswerOutput>(
     alloc: Global,
     engine: &Q,
@@ -52,11 +53,15 @@ pub fn run_in<Q: QueryEngine, R: QueryInput, W: AnswerOutput>(
     ensures answers { OnOk result (IfSome (R.remaining input.old)
         (λ bytes. AreWritten (answers_in mode (Q.contents engine.now)) (query_lines bytes)
         (W.written output.old) (W.written output.new))) }
-    ensures sound { OnOk result ((R.has_failed input.new ≡ false) × (W.has_failed output.new ≡ false)) }
+    ensures not_failed { OnOk result ((R.has_failed input.new ≡ false)
+        × (W.has_failed output.new ≡ false)) }
     ensures fault { IfErr result (λ fault. EndsAt fault (answers_in mode (Q.contents engine.now))
-        (R.remaining input.old) (R.remaining input.new) (W.written output.old) (W.written output.new)) }
-    ensures failed { IfErr result (λ fault. HaveFailed fault (R.has_failed input.new) (W.has_failed output.new)) }
-    ensures turns { IfErr result (λ fault. CountsTurns fault (R.read_count input.old) (R.read_count input.new)) }
+        (R.remaining input.old) (R.remaining input.new) (W.written output.old)
+        (W.written output.new)) }
+    ensures failed { IfErr result (λ fault. HaveFailed fault (R.has_failed input.new)
+        (W.has_failed output.new)) }
+    ensures turns { IfErr result (λ fault. CountsTurns fault (R.read_count input.old)
+        (R.read_count input.new)) }
     ensures reads { R.read_count input.new ≤ R.read_count input.old + 2 ^ 40 }
 {
     run(alloc, &LinesIn { engine, mode }, input, output)

@@ -1,4 +1,4 @@
-//! The trait of an engine for the service.
+//! The trait of an engine that the service needs.
 ghost use Rattle.std.specs.Prelude.{◌≡◌, ◌⊎◌, ◌+◌, ◌≤◌, ℕ, false, IfErr, IfOk, IfSome, List, Ok, OnOk, map, max};
 ghost use Rattle.std.specs.Prelude.{string_bytes};
 ghost use Rattle.release_files.specs.Source.{file_text};
@@ -15,26 +15,30 @@ use command_line::Mode;
 use release_files::{FileSource, NamedBytes};
 use snapshot::{Limits, LoadFault, Report};
 use std::alloc::Global;
-use streams::{AnswerFault, AnswerOutput, Piece};
+use streams::{AnswerFault, AnswerOutput, OutputBuffer};
 
 /// A loaded release that answers lines. Answering changes nothing in it.
 pub trait QueryEngine: Drop {
-    /// The contents of the release.
+    /// The contents of the loaded release.
     ghost contents: { Self → Contents };
 
-    /// Loads the Snapshot files of a list, with the names of a language first. Returns the fault that
-    /// `Snapshot::load` returns, or want of memory. Like `Snapshot::load` it is for files that the caller trusts.
+    /// Loads a release from the Snapshot files `files` in memory, and prefers names in the language
+    /// `lang`. Returns the fault that `Snapshot::load` returns, or `Memory`. Only for files that
+    /// the caller trusts, since the seed of the hashes is fixed.
     fn load(
         alloc: Global,
         files: &[NamedBytes<'_>],
         lang: &str,
         limits: Limits,
     ) -> Result<Self, LoadFault>
-        ensures ok { IfOk result (λ engine. load_of limits lang.now (map file_text files.now) ≡ Ok (contents engine)) }
-        ensures err { IfErr result (λ fault. IsFaultOf fault (load_of limits lang.now (map file_text files.now))) };
+        ensures ok { IfOk result (λ engine. load_of limits lang.now (map file_text files.now)
+            ≡ Ok (contents engine)) }
+        ensures err { IfErr result (λ fault. IsFaultOf fault
+            (load_of limits lang.now (map file_text files.now))) };
 
-    /// Loads the files that a source lists, in the byte order of their names, as `Snapshot::load_from` does. Leaves
-    /// the names in `names`.
+    /// Loads a release from the files that `source` lists, in the byte order of their names, as
+    /// `Snapshot::load_from` does, and prefers names in the language `lang`. `names` gets the names
+    /// of the listed files, also if the load fails after the listing.
     fn load_from<S: FileSource>(
         alloc: Global,
         source: &mut S,
@@ -42,20 +46,25 @@ pub trait QueryEngine: Drop {
         lang: &str,
         limits: Limits,
     ) -> Result<Self, LoadFault>
-        ensures ok { IfSome (S.files source.old) (λ known. IfOk result (λ engine.
-            load_of limits lang.now (listed known (map string_bytes names.new.items)) ≡ Ok (contents engine))) }
-        ensures err { IfSome (S.files source.old) (λ known. IfErr result (λ fault. is_device fault ≡ false
-            → IsFaultOf fault (load_of limits lang.now (listed known (map string_bytes names.new.items))))) }
-        ensures names { IfSome (S.files source.old) (λ known. AreInOrder known (map string_bytes names.new.items)
+        ensures ok { IfSome (S.files source.old)
+            (λ known. IfOk result (λ engine. load_of limits lang.now
+            (listed known (map string_bytes names.new.items)) ≡ Ok (contents engine))) }
+        ensures err { IfSome (S.files source.old)
+            (λ known. IfErr result (λ fault. is_device fault ≡ false
+            → IsFaultOf fault (load_of limits lang.now
+            (listed known (map string_bytes names.new.items))))) }
+        ensures names { IfSome (S.files source.old)
+            (λ known. AreInOrder known (map string_bytes names.new.items)
             ⊎ IsUnlisted result (map string_bytes names.new.items) (S.history source.new)) }
         ensures device { FailsAtFiles string_bytes names.new.items result (S.history source.old)
             (S.history source.new) }
-        ensures calm { RaisesOnlyAtDevice result (S.history source.old) (S.history source.new) }
+        ensures failure_is_device { RaisesOnlyAtDevice result (S.history source.old)
+            (S.history source.new) }
         ensures bounded { (S.history source.new).most
             ≤ max (S.history source.old).most ((limits_in_force limits).bytes + 1) };
 
-    /// Loads the files that a source lists, as `load_from` does, and leaves their names in `names`. Returns a report
-    /// of the release in place of an engine.
+    /// Loads a release as `load_from` does, but returns only its row counts, so that no engine need
+    /// be built.
     fn report_from<S: FileSource>(
         alloc: Global,
         source: &mut S,
@@ -64,33 +73,41 @@ pub trait QueryEngine: Drop {
         limits: Limits,
     ) -> Result<Report, LoadFault>
         ensures ok { IfOk result (λ report. (loaded : Contents) × (report ≡ report_of loaded)
-            × IfSome (S.files source.old) (λ known.
-            load_of limits lang.now (listed known (map string_bytes names.new.items)) ≡ Ok loaded)) }
-        ensures err { IfSome (S.files source.old) (λ known. IfErr result (λ fault. is_device fault ≡ false
-            → IsFaultOf fault (load_of limits lang.now (listed known (map string_bytes names.new.items))))) }
-        ensures names { IfSome (S.files source.old) (λ known. AreInOrder known (map string_bytes names.new.items)
+            × IfSome (S.files source.old)
+            (λ known. load_of limits lang.now (listed known (map string_bytes names.new.items))
+            ≡ Ok loaded)) }
+        ensures err { IfSome (S.files source.old)
+            (λ known. IfErr result (λ fault. is_device fault ≡ false
+            → IsFaultOf fault (load_of limits lang.now
+            (listed known (map string_bytes names.new.items))))) }
+        ensures names { IfSome (S.files source.old)
+            (λ known. AreInOrder known (map string_bytes names.new.items)
             ⊎ IsUnlisted result (map string_bytes names.new.items) (S.history source.new)) }
         ensures device { FailsAtFiles string_bytes names.new.items result (S.history source.old)
             (S.history source.new) }
-        ensures calm { RaisesOnlyAtDevice result (S.history source.old) (S.history source.new) }
+        ensures failure_is_device { RaisesOnlyAtDevice result (S.history source.old)
+            (S.history source.new) }
         ensures bounded { (S.history source.new).most
             ≤ max (S.history source.old).most ((limits_in_force limits).bytes + 1) };
 
-    /// Puts a text that answers a line in a mode into a piece of the output. If memory is refused, the piece and the
-    /// output are unchanged.
+    /// Puts the answer to `line` in `mode` into `buffer`, which writes to `output` whenever it is
+    /// full. If memory is refused, `buffer` and `output` are unchanged. If `output` fails, it has
+    /// received a proper prefix of the bytes that waited and the answer.
     fn write_in<W: AnswerOutput>(
         &self,
         alloc: Global,
         mode: Mode,
         line: &[u8],
-        piece: &mut Piece,
+        buffer: &mut OutputBuffer,
         output: &mut W,
     ) -> Result<(), AnswerFault>
         requires { W.has_failed output.old ≡ false }
-        ensures ok { OnOk result ((text : List ℕ) × answers_in mode (contents self.now) line.now text
-            × Puts (W.written output.old) (W.written output.new) piece.old text piece.new) }
-        ensures fault { IfErr result (λ fault. LeavesAnswer (answers_in mode (contents self.now) line.now) fault
-            (W.written output.old) (W.written output.new) piece.old piece.new) }
-        ensures sound { OnOk result (W.has_failed output.new ≡ false) }
+        ensures ok { OnOk result ((text : List ℕ)
+            × answers_in mode (contents self.now) line.now text
+            × Puts (W.written output.old) (W.written output.new) buffer.old text buffer.new) }
+        ensures fault { IfErr result (λ fault. LeavesAnswer
+            (answers_in mode (contents self.now) line.now) fault (W.written output.old)
+            (W.written output.new) buffer.old buffer.new) }
+        ensures not_failed { OnOk result (W.has_failed output.new ≡ false) }
         ensures failed { IfErr result (λ fault. W.has_failed output.new ≡ is_write fault) };
 }

@@ -1,4 +1,4 @@
-//! The service: it serves a request over files and streams.
+//! Serving a request: load a release, answer the input, report faults.
 ghost use Rattle.std.specs.Prelude.{◌≡◌, ◌≢◌, ◌⊎◌, ◌+◌, ◌≤◌, false, Err, IfErr, IfOk, IfSome, Ok, map, max};
 ghost use Rattle.std.specs.Prelude.{string_bytes};
 ghost use Rattle.text_parts.specs.Parts.{texts_of};
@@ -30,20 +30,20 @@ use streams::{AnswerOutput, QueryInput, write_all};
 /// How the program ended.
 #[derive(Clone, Copy, Debug, PartialEq, Eq)]
 pub enum Status {
-    /// The request was done.
+    /// All was done.
     Done,
     /// A folder, a file or a stream failed, or the input did not end.
     DeviceFault,
-    /// The words of the command line are those of no command.
+    /// The words of the command line are no command.
     WordsFault,
-    /// The files are no release.
+    /// The files are not a release.
     ReleaseRefused,
     /// Memory was refused.
     MemoryRefused,
 }
 
 impl Status {
-    /// Returns the number with which the program ends, from 0 to 4.
+    /// Returns the exit status of the program, from 0 to 4 in the order above.
     pub fn code(self) -> u8
         ensures { result ≡ status_code self }
     {
@@ -57,11 +57,13 @@ impl Status {
     }
 }
 
-/// Serves a request by an engine `Q`, over the built-in release or the release of a source's files. `Sample` and
-/// `Query` answer the query lines of the input, `QueryWith` answers them under its options, `Explain` writes the
-/// plan of each, `Describe` writes what the release has of the concept that each names, and `Session` answers the
-/// request in each. `Check` writes what the release has, and reads nothing. Nothing is written before the release is
-/// loaded. A refusal or a fault is told by one line on `errors`, whose own failure changes nothing.
+/// Serves `request` with an engine of type `Q`, and returns how it ended. It loads the built-in
+/// release or the files of `source`, then does what the mode says. `Sample` and `Query` answer the
+/// query lines of `input`, and `QueryWith` does so under its options. `Explain` writes each line's
+/// plan. `Describe` writes what the release says of the concept that each line names. `Session`
+/// answers the request in each line. `Check` writes the row counts of the release, and reads no
+/// input. Nothing is written to `output` before the release is loaded. A refusal or a fault is
+/// reported by one line on `errors`; if `errors` fails too, that changes nothing.
 pub fn serve<Q: QueryEngine, S: FileSource, R: QueryInput, W: AnswerOutput, E: AnswerOutput>(
     alloc: Global,
     request: &Request,
@@ -73,9 +75,8 @@ pub fn serve<Q: QueryEngine, S: FileSource, R: QueryInput, W: AnswerOutput, E: A
     requires input { R.has_failed input.old ≡ false }
     requires output { W.has_failed output.old ≡ false }
     requires errors { E.AnswerOutput.has_failed errors.old ≡ false }
-    ensures served { (task : Task)
-        × IsTask (S.files source.old) (S.history source.old) (S.history source.new) (string_bytes request.now.lang)
-        request.now.mode task
+    ensures served { (task : Task) × IsTask (S.files source.old) (S.history source.old)
+        (S.history source.new) (string_bytes request.now.lang) request.now.mode task
         × EndsWith R.QueryInput W.AnswerOutput E.AnswerOutput task result
         (streams input.old output.old errors.old) (streams input.new output.new errors.new) }
     ensures untouched { request.now.mode ≡ Mode.Sample → source.new ≡ source.old }
@@ -96,7 +97,7 @@ pub fn serve<Q: QueryEngine, S: FileSource, R: QueryInput, W: AnswerOutput, E: A
     }
 }
 
-// Answers the query lines of an input over the built-in release.
+// Answers the query lines of `input` over the built-in release.
 fn answer_sample<Q: QueryEngine, R: QueryInput, W: AnswerOutput, E: AnswerOutput>(
     alloc: Global,
     input: &mut R,
@@ -123,7 +124,7 @@ fn sample_engine<Q: QueryEngine>(alloc: Global) -> Result<Q, LoadFault>
     Q::load(alloc, &sample_files(), "en", Limits::standard())
 }
 
-// Answers the lines of an input over the release of a source's files.
+// Answers the lines of `input` over the release in the files of `source`.
 fn answer_source<Q: QueryEngine, S: FileSource, R: QueryInput, W: AnswerOutput, E: AnswerOutput>(
     alloc: Global,
     mode: Mode,
@@ -138,8 +139,8 @@ fn answer_source<Q: QueryEngine, S: FileSource, R: QueryInput, W: AnswerOutput, 
     requires input { R.has_failed input.old ≡ false }
     requires output { W.has_failed output.old ≡ false }
     requires errors { E.AnswerOutput.has_failed errors.old ≡ false }
-    ensures { (task : Task)
-        × IsTask (S.files source.old) (S.history source.old) (S.history source.new) lang.now mode task
+    ensures { (task : Task) × IsTask (S.files source.old) (S.history source.old)
+        (S.history source.new) lang.now mode task
         × EndsWith R.QueryInput W.AnswerOutput E.AnswerOutput task result
         (streams input.old output.old errors.old) (streams input.new output.new errors.new) }
 {
@@ -150,7 +151,7 @@ fn answer_source<Q: QueryEngine, S: FileSource, R: QueryInput, W: AnswerOutput, 
     }
 }
 
-// Answers the lines of an input over a release, and drops the release.
+// Answers the lines of `input` with `engine`, and drops the engine.
 fn answer_lines<Q: QueryEngine, R: QueryInput, W: AnswerOutput, E: AnswerOutput>(
     alloc: Global,
     mode: Mode,
@@ -171,7 +172,7 @@ fn answer_lines<Q: QueryEngine, R: QueryInput, W: AnswerOutput, E: AnswerOutput>
     status
 }
 
-// Answers the lines of an input over a release.
+// Answers the lines of `input` with `engine`.
 fn serve_lines<Q: QueryEngine, R: QueryInput, W: AnswerOutput, E: AnswerOutput>(
     alloc: Global,
     mode: Mode,
@@ -184,8 +185,8 @@ fn serve_lines<Q: QueryEngine, R: QueryInput, W: AnswerOutput, E: AnswerOutput>(
     requires input { R.has_failed input.old ≡ false }
     requires output { W.has_failed output.old ≡ false }
     requires errors { E.AnswerOutput.has_failed errors.old ≡ false }
-    ensures { ServesWith R.QueryInput W.AnswerOutput E.AnswerOutput mode (Q.contents engine.now) result
-        (streams input.old output.old errors.old) (streams input.new output.new errors.new) }
+    ensures { ServesWith R.QueryInput W.AnswerOutput E.AnswerOutput mode (Q.contents engine.now)
+        result (streams input.old output.old errors.old) (streams input.new output.new errors.new) }
 {
     match run_in(alloc, engine, mode, input, output) {
         Ok(_) => Status::Done,
@@ -193,7 +194,7 @@ fn serve_lines<Q: QueryEngine, R: QueryInput, W: AnswerOutput, E: AnswerOutput>(
     }
 }
 
-// Writes the report of the release of a source's files.
+// Writes the row counts of the release in the files of `source`.
 fn report_source<Q: QueryEngine, S: FileSource, R: QueryInput, W: AnswerOutput, E: AnswerOutput>(
     alloc: Global,
     lang: &str,
@@ -205,8 +206,8 @@ fn report_source<Q: QueryEngine, S: FileSource, R: QueryInput, W: AnswerOutput, 
     requires input { R.has_failed input.old ≡ false }
     requires output { W.has_failed output.old ≡ false }
     requires errors { E.AnswerOutput.has_failed errors.old ≡ false }
-    ensures { (task : Task)
-        × IsTask (S.files source.old) (S.history source.old) (S.history source.new) lang.now Mode.Check task
+    ensures { (task : Task) × IsTask (S.files source.old) (S.history source.old)
+        (S.history source.new) lang.now Mode.Check task
         × EndsWith R.QueryInput W.AnswerOutput E.AnswerOutput task result
         (streams input.old output.old errors.old) (streams input.new output.new errors.new) }
 {
@@ -220,23 +221,29 @@ fn report_source<Q: QueryEngine, S: FileSource, R: QueryInput, W: AnswerOutput, 
     }
 }
 
-// Returns the text of the report of the release of a source's files, and leaves their names in `names`.
+// Loads the files of `source` and returns the text of the report. `names` gets the names of the
+// files.
 fn report<Q: QueryEngine, S: FileSource>(
     alloc: Global,
     lang: &str,
     source: &mut S,
     names: &mut Vec<String>,
 ) -> Result<Vec<u8>, LoadFault>
-    ensures ok { IfOk result (λ text. (contents : Contents) × (text.items ≡ report_text (report_of contents))
-        × IfSome (S.files source.old) (λ known.
-        IsLoadOf known lang.now (map string_bytes names.new.items) (Ok contents))) }
+    ensures ok { IfOk result (λ text. (contents : Contents)
+        × (text.items ≡ report_text (report_of contents))
+        × IfSome (S.files source.old)
+        (λ known. IsLoadOf known lang.now (map string_bytes names.new.items) (Ok contents))) }
     ensures err { IfErr result (λ fault. IfSome (S.files source.old) (λ known.
         IsLoadOf known lang.now (map string_bytes names.new.items) (Err fault))) }
-    ensures named { IfSome (S.files source.old) (λ known. AreInOrder known (map string_bytes names.new.items)
+    ensures named { IfSome (S.files source.old)
+        (λ known. AreInOrder known (map string_bytes names.new.items)
         ⊎ IsUnlisted result (map string_bytes names.new.items) (S.history source.new)) }
-    ensures device { FailsAtFiles string_bytes names.new.items result (S.history source.old) (S.history source.new) }
-    ensures calm { RaisesOnlyAtDevice result (S.history source.old) (S.history source.new) }
-    ensures bounded { (S.history source.new).most ≤ max (S.history source.old).most (standard_limits.bytes + 1) }
+    ensures device { FailsAtFiles string_bytes names.new.items result (S.history source.old)
+        (S.history source.new) }
+    ensures failure_is_device { RaisesOnlyAtDevice result (S.history source.old)
+        (S.history source.new) }
+    ensures bounded { (S.history source.new).most
+        ≤ max (S.history source.old).most (standard_limits.bytes + 1) }
 {
     match Q::report_from(alloc, source, names, lang, Limits::standard()) {
         Ok(report) => Ok(printed(alloc, &report)?),
@@ -244,7 +251,7 @@ fn report<Q: QueryEngine, S: FileSource>(
     }
 }
 
-// Returns the text of a report.
+// Returns the text of `report`.
 fn printed(alloc: Global, report: &Report) -> Result<Vec<u8>, AllocError>
     ensures { IfOk result (λ text. text.items ≡ report_text report.now) }
 {
@@ -253,8 +260,8 @@ fn printed(alloc: Global, report: &Report) -> Result<Vec<u8>, AllocError>
     Ok(text)
 }
 
-// Tells why the files are no release, or could not be read. If memory for the line is refused, it tells want of
-// memory.
+// Reports on `errors` why the files are not a release, or could not be read, and returns the
+// status. If memory for the line is refused, it reports that instead.
 fn refuse<E: AnswerOutput>(
     alloc: Global,
     fault: LoadFault,
@@ -262,7 +269,8 @@ fn refuse<E: AnswerOutput>(
     errors: &mut E,
 ) -> Status
     requires { E.AnswerOutput.has_failed errors.old ≡ false }
-    ensures { TellsLoadFault E.AnswerOutput (map string_bytes names.now) fault result errors.old errors.new }
+    ensures { TellsLoadFault E.AnswerOutput (map string_bytes names.now) fault result errors.old
+        errors.new }
 {
     match refusal(alloc, fault, names) {
         Ok(line) => {
@@ -273,7 +281,7 @@ fn refuse<E: AnswerOutput>(
     }
 }
 
-// Returns the line that tells why the files are no release, or could not be read.
+// Returns the line that says why the files are not a release, or could not be read.
 fn refusal(alloc: Global, fault: LoadFault, names: &[String]) -> Result<Vec<u8>, AllocError>
     ensures { IfOk result (λ line. line.items ≡ load_refusal (map string_bytes names.now) fault) }
 {
@@ -283,7 +291,7 @@ fn refusal(alloc: Global, fault: LoadFault, names: &[String]) -> Result<Vec<u8>,
     Ok(line)
 }
 
-// Returns the texts as references.
+// Returns borrowed texts in place of owned ones.
 fn lent_texts<'a>(alloc: Global, texts: &'a [String]) -> Result<Vec<&'a str>, AllocError>
     ensures { IfOk result (λ lent. texts_of lent.items ≡ map string_bytes texts.now) }
 {
@@ -294,8 +302,8 @@ fn lent_texts<'a>(alloc: Global, texts: &'a [String]) -> Result<Vec<&'a str>, Al
     Ok(lent)
 }
 
-/// Writes the help or the version that was called for, or tells on `errors` why the words are no request. If the
-/// output fails, it tells that on `errors`.
+/// Writes to `output` the help or the version that the words ask for, or reports on `errors` why
+/// the words are no request. If `output` fails, it reports that on `errors`.
 pub fn refuse_words<W: AnswerOutput, E: AnswerOutput>(
     fault: &WordFault,
     output: &mut W,
@@ -319,7 +327,7 @@ pub fn refuse_words<W: AnswerOutput, E: AnswerOutput>(
     }
 }
 
-// Tells a fault by its line, and returns the status with which it ends.
+// Reports the fault of a run by its line on `errors`, and returns its status.
 fn tell_fault<E: AnswerOutput>(fault: RunFault, errors: &mut E) -> Status
     requires { E.AnswerOutput.has_failed errors.old ≡ false }
     ensures status { result ≡ status_of fault }
@@ -329,7 +337,7 @@ fn tell_fault<E: AnswerOutput>(fault: RunFault, errors: &mut E) -> Status
     fault_status(fault)
 }
 
-// Tells that memory was refused before a release was loaded.
+// Reports on `errors` that memory was refused before a release was loaded, and returns the status.
 fn tell_memory<E: AnswerOutput>(errors: &mut E) -> Status
     requires { E.AnswerOutput.has_failed errors.old ≡ false }
     ensures status { result ≡ Status.MemoryRefused }
@@ -339,7 +347,8 @@ fn tell_memory<E: AnswerOutput>(errors: &mut E) -> Status
     Status::MemoryRefused
 }
 
-// Writes a line as far as the stream takes it; a failure is dropped, because there is nowhere left to tell it.
+// Writes a line to `errors`, as far as the stream takes it. A failure is ignored, because no stream
+// is left on which to report it.
 fn tell<E: AnswerOutput>(line: &[u8], errors: &mut E)
     requires { E.AnswerOutput.has_failed errors.old ≡ false }
     ensures { IsTold E.AnswerOutput errors.old errors.new line.now }
@@ -347,7 +356,7 @@ fn tell<E: AnswerOutput>(line: &[u8], errors: &mut E)
     let _ = write_all(line, errors);
 }
 
-// Returns the status with which a fault of a load ends.
+// Returns the status for the fault of a load.
 fn refusal_status(fault: &LoadFault) -> Status
     ensures { result ≡ refusal_status_of fault.now }
 {
@@ -358,7 +367,7 @@ fn refusal_status(fault: &LoadFault) -> Status
     }
 }
 
-// Returns the line that tells a fault of a run.
+// Returns the line that reports the fault of a run.
 fn fault_line(fault: RunFault) -> &'static [u8]
     ensures { result.now ≡ fault_text fault }
 {
@@ -370,7 +379,7 @@ fn fault_line(fault: RunFault) -> &'static [u8]
     }
 }
 
-// Returns the status with which a fault of a run ends.
+// Returns the status for the fault of a run.
 fn fault_status(fault: RunFault) -> Status
     ensures { result ≡ status_of fault }
 {

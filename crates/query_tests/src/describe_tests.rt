@@ -1,4 +1,4 @@
-//! Tests of what `describe` writes of concepts, and of what `session` answers to requests.
+//! Tests of the answers to lines of `describe`, and of the answers to requests of `session`.
 use crate::test_release::sample;
 use crate::test_serve::is_answered;
 use query_tool::{Engine, Mode};
@@ -6,7 +6,7 @@ use snapshot::Limits;
 use std::alloc::{AllocError, Global};
 use std::test::Fail;
 
-// The three findings with attributes, and what the files of the sample say of them.
+// Lines that name the three findings with attributes.
 const FINDINGS: &[u8] = b"101009\n102002 |Gamma (finding)|\n103007\n";
 
 const TOLD_OF_FINDINGS: &[u8] = b"CONCEPT 101009 |Beta (finding)|\n\
@@ -34,8 +34,8 @@ ATTRIBUTES 4\n\
 2 105000 |Type U (attribute)| 107008 |Value Y (value)|\n\
 MEMBER-OF 1\n108003\n";
 
-// The seven other concepts. Of the attribute rows of Alpha one is stated, one is inactive, and one leads to an
-// inactive concept.
+// Lines that name the seven other concepts. Of the attribute rows of Alpha, one is stated, one is
+// inactive, and one leads to an inactive concept.
 const OTHERS: &[u8] = b"138875005\n100005\n104001\n105000\n106004\n107008\n108003\n";
 
 const TOLD_OF_OTHERS: &[u8] = b"CONCEPT 138875005 |Root (test)|\n\
@@ -64,9 +64,10 @@ CONCEPT 108003\n\
 PARENTS 1\n138875005 |Root (test)|\n\
 CHILDREN 0\nATTRIBUTES 0\nMEMBER-OF 0\n";
 
-// An inactive concept, with blanks and a term around it; an unknown concept; and a line for each fault: no
-// identifier, a letter, a leading zero, the identifier of a description, a wrong check digit, a term without an end,
-// and text that is not UTF-8.
+// Lines that name no concept in force. The first has an inactive concept with blanks and a term
+// around it, the second an unknown concept. The others have one fault each: no identifier, a
+// letter, a leading zero, the identifier of a description, a wrong check digit, a term without an
+// end, and bytes that are not UTF-8.
 const NOT_IN_FORCE: &[u8] = b" \t109006 |Gone|\t\r\n404684003\n\n10100x\n010009\n101013\n101008\n\
 101009|Beta\n101009\xff\n";
 
@@ -74,8 +75,9 @@ const TOLD_OF_THESE: &[u8] =
     b"INACTIVE 109006\nUNKNOWN 404684003\nERR id length\nERR id digit\nERR id zero\n\
 ERR id part\nERR id check\nERR id digit\nERR utf8\n";
 
-// Requests. Pages of an answer: the first two concepts, the second alone, all from the third on, none after the end.
-// Then identifiers alone, a bound above the limit, a plan, and a concept.
+// Requests. First pages of an answer: the first two concepts, the second alone, all from the third
+// on, none after the end. Then identifiers without names, a bound above the limit, a plan, and a
+// concept.
 const REQUESTS: &[u8] =
     b"list 0 2 - <100005\nlist 1 1 - <100005\nlist 2 - - <100005\nlist 3 5 - <100005\n\
 ids 0 - 4 <100005\nlist 00 - 3 <100005\nexplain <100005\ndescribe 109006\n";
@@ -89,9 +91,9 @@ ERR bound 4\n\
 PLAN 4\ndescendants 4\n one 100005 0\n\
 INACTIVE 109006\n";
 
-// Lines that are refused. A refusal has its offset from the first byte of the constraint. The other lines are no
-// requests: no verb, another verb, a verb alone, no text, a sign, a letter, a number of more than 64 bits, two
-// spaces for one, `-` as an offset.
+// Lines that are refused. The refusal of a constraint has its offset from the constraint's first
+// byte. The other lines are no requests: no verb, an unknown verb, a verb alone, no text, a sign, a
+// letter, a number of more than 64 bits, two spaces in place of one, `-` as an offset.
 const NO_REQUESTS: &[u8] = b"ids 0 1 - 100005 XOR 101009\nexplain \xff\ndescribe 101008\n\
 \ncount 0\nexplain\ndescribe \nlist 0 1 -\nlist 0 1 - \nlist 0 -1 - *\nlist 0 1 x *\n\
 list 18446744073709551616 1 - *\nlist  0 1 - *\nids - 1 - *\nLIST 0 1 - *\n";
@@ -117,7 +119,8 @@ fn answers_requests(rt: HostRuntime) -> Result<(), Fail> {
     Ok(())
 }
 
-// A line of 65,536 bytes is too long for `describe` and for `session`; one of 65,535 bytes is not.
+// `describe` and `session` refuse a line of 65,536 bytes as too long, and answer one of 65,535
+// bytes.
 #[test]
 fn refuses_long_lines(rt: HostRuntime) -> Result<(), Fail> {
     let alloc = rt.alloc();

@@ -1,11 +1,12 @@
-//! Tests of which files a source of folders lists and opens, and of what it answers if they fail.
+//! Tests of the source of folders: which files it lists and opens, and its faults.
 use crate::test_folders::{Node, TestFolders};
 use query_tool::FolderSource;
 use release_files::{FileSource, SourceFault};
 use std::alloc::{AllocError, Global};
 use std::io::ErrorKind;
 
-// The nodes of the file system. The folder `again` is the folder `edition` once more, as by a link.
+// The nodes of the file system. The folder `edition/one/two/again` is the same folder as `edition`,
+// as if it were a link to it.
 const NODES: &[(&str, Node)] = &[
     ("edition", Node::Folder(b"top\0one\0", "/")),
     ("edition/top", Node::File(b"of edition")),
@@ -35,10 +36,11 @@ const NODES: &[(&str, Node)] = &[
 
 type Source<'a> = FolderSource<'a, TestFolders>;
 
-// The name of a file that is opened and read, the bytes or the fault, and the count of failures after that.
+// The name of a file that is opened and read, its first bytes or the fault, and the source's count
+// of failures after that.
 type Reading<'a> = (&'a str, Result<&'a [u8], SourceFault>, u64);
 
-// Folders, the names of their files or the fault, and the files that are read.
+// Folders, the names of their files or the fault of listing them, and the files that are read then.
 type Case<'a> = (
     &'a [&'a str],
     Result<&'a [&'a str], SourceFault>,
@@ -107,7 +109,7 @@ fn draws_the_seed_from_the_system(rt: HostRuntime) {
     assert!(rt; seed_of(&rt, Some(0x5a)) == Ok(0x5a5a5a5a_5a5a5a5a_5a5a5a5a_5a5a5a5a));
 }
 
-// Returns the seed of a source over a system whose random bytes are all equal.
+// Returns the seed of a source over a file system where each random byte has the value `random`.
 fn seed_of(rt: &HostRuntime, random: Option<u8>) -> Result<u128, AllocError> {
     let folders = texts(rt.alloc(), &["extension"])?;
     let system = TestFolders::new(rt.clone()?, NODES, random);
@@ -120,7 +122,7 @@ fn lists_nothing_where_no_seed_is_drawn(rt: HostRuntime) {
     assert!(rt; fails_without_seed(&rt) == Ok(true));
 }
 
-// Whether each listing fails like a device, if the system gives no random bytes.
+// Whether each listing fails as a failing device does, if the system gives no random bytes.
 fn fails_without_seed(rt: &HostRuntime) -> Result<bool, AllocError> {
     let folders = texts(rt.alloc(), &["extension"])?;
     let system = TestFolders::new(rt.clone()?, NODES, None);
@@ -133,7 +135,7 @@ fn fails_without_seed(rt: &HostRuntime) -> Result<bool, AllocError> {
     )
 }
 
-// Whether a source over the folders of a case gives the names and bytes of the case.
+// Whether a source over the folders of a case gives the names and the bytes of the case.
 fn holds(rt: &HostRuntime, case: &Case<'_>) -> Result<bool, AllocError> {
     let folders = texts(rt.alloc(), case.0)?;
     let system = TestFolders::new(rt.clone()?, NODES, Some(0));

@@ -1,7 +1,7 @@
-//! Tests of what the program does, from outside: its words, queries and their answers, refused releases, runs and
-//! streams.
+//! Tests of what the program does: reading its words, answering queries, refusing releases, and
+//! using its streams.
 //!
-//! They stand in a crate of their own, so that `query_tool` is not proved once more with them.
+//! The tests have a crate of their own, because a crate is proved a second time with its tests.
 #![tactic(auto)]
 
 #[cfg(test)]

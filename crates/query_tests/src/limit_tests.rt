@@ -1,4 +1,4 @@
-//! Tests of `query` with its options: a limit on what a plan visits, the first lines alone, identifiers alone.
+//! Tests of the options of `query`: a limit on visits, only the first lines, only identifiers.
 use crate::test_release::sample;
 use crate::test_serve::is_answered;
 use query_tool::{AnswerForm, Engine, Mode, QueryOptions, Visits};
@@ -6,11 +6,12 @@ use snapshot::Limits;
 use std::alloc::{AllocError, Global};
 use std::test::Fail;
 
-// Query lines and the bounds of their plans. The concepts below Alpha: 4 items, Alpha and the three of its list. A
-// refinement of them: 17, as the worked plan shows. All concepts: 0. The last line is no constraint.
+// Query lines. The plan of the first has a bound of 4: Alpha and its list of three concepts below
+// it. The bound of the second is 17, as its worked plan shows. The bound of the third is 0. The
+// last line is no constraint.
 const LINES: &[u8] = b"<100005\n<100005:104001=106004\n*\n100005 XOR 101009\n";
 
-// The answers under a limit of 4, which is the bound of the first line.
+// The answers under a limit of 4, which is the bound of the first line's plan.
 const WITHIN_FOUR: &[u8] =
     b"OK 3\n101009 |Beta (finding)|\n102002 |Gamma (finding)|\n103007 |Delta (finding)|\n\
 ERR bound 17\n\
@@ -19,23 +20,23 @@ OK 10\n100005 |Alpha (finding)|\n101009 |Beta (finding)|\n102002 |Gamma (finding
 108003\n138875005 |Root (test)|\n\
 ERR token 7\n";
 
-// The answers under a limit of 3, with one concept of each.
+// The answers under a limit of 3, with at most one concept each.
 const WITHIN_THREE: &[u8] =
     b"ERR bound 4\nERR bound 17\nOK 10\n100005 |Alpha (finding)|\nERR token 7\n";
 
-// The answers with two concepts of each.
+// The answers with at most two concepts each.
 const FIRST_TWO: &[u8] = b"OK 3\n101009 |Beta (finding)|\n102002 |Gamma (finding)|\n\
 OK 2\n101009 |Beta (finding)|\n102002 |Gamma (finding)|\n\
 OK 10\n100005 |Alpha (finding)|\n101009 |Beta (finding)|\nERR token 7\n";
 
-// The answers with no concept of any.
+// The answers without any concept.
 const COUNTS: &[u8] = b"OK 3\nOK 2\nOK 10\nERR token 7\n";
 
-// The answers with identifiers alone.
+// The answers with identifiers and no names.
 const IDENTIFIERS: &[u8] = b"OK 3\n101009\n102002\n103007\nOK 2\n101009\n102002\n\
 OK 10\n100005\n101009\n102002\n103007\n104001\n105000\n106004\n107008\n108003\n138875005\nERR token 7\n";
 
-// The answers with all three options: a limit of 16, one concept and no names.
+// The answers with all three options: a limit of 16, at most one concept each, and no names.
 const ALL_THREE: &[u8] = b"OK 3\n101009\nERR bound 17\nOK 10\n100005\nERR token 7\n";
 
 #[test]
@@ -63,8 +64,8 @@ fn options(limit: u64, first: Option<u64>, names: bool) -> QueryOptions {
     }
 }
 
-// The visits are counted: none if the bound is above the limit, and for `<100005` the four items of its floor and
-// bound.
+// The engine counts no visit if the bound is above the limit. For `<100005` it counts four, which
+// is both the floor and the bound of the plan.
 #[test]
 fn counts_visits_under_a_limit(rt: HostRuntime) -> Result<(), Fail> {
     let alloc = rt.alloc();

@@ -1,4 +1,5 @@
-//! Tests of answers that are longer than a piece of the output, and of bytes that are put into a piece.
+//! Tests of output buffers: bytes of any length that are put into one, and answers that are longer
+//! than a buffer.
 ghost use Rattle.std.specs.Prelude.{◌≡◌, false};
 
 use crate::test_release::sample_with;
@@ -8,15 +9,16 @@ use snapshot::{Limits, LoadFault};
 use std::alloc::{AllocError, Global};
 use std::process::Abort;
 use std::test::Fail;
-use streams::{IoFault, Piece};
+use streams::{IoFault, OutputBuffer};
 
-// How many bytes wait in a piece at most.
+// The greatest number of bytes that wait in a buffer.
 const PIECE: usize = 65_536;
 
-// How many bytes each put has. The short ones wait, and the long ones are written directly.
+// The length of each part that is put into the buffer. Short parts wait, and long parts are written
+// directly.
 const LENGTHS: [usize; 9] = [1, 65_535, 1, 65_536, 0, 70_000, 65_000, 536, 3];
 
-// Makes bytes of which neighbours differ.
+// Returns `count` bytes, of which no two neighbours are equal.
 fn bytes_of(alloc: Global, count: usize) -> Result<Vec<u8>, AllocError> {
     let mut bytes = Vec::new(alloc);
     for at in 0..count {
@@ -25,7 +27,7 @@ fn bytes_of(alloc: Global, count: usize) -> Result<Vec<u8>, AllocError> {
     Ok(bytes)
 }
 
-// Returns how many bytes are put in all.
+// Returns the sum of the lengths.
 fn byte_count() -> usize {
     let mut count = 0usize;
     for length in LENGTHS {
@@ -34,64 +36,74 @@ fn byte_count() -> usize {
     count
 }
 
-// Puts the bytes in parts of these lengths, then writes those that wait.
-fn put_all(piece: &mut Piece, bytes: &[u8], output: &mut PieceOutput) -> Result<(), IoFault> {
+// Puts the bytes into a buffer in parts of these lengths, and then writes the bytes that wait.
+fn put_all(
+    buffer: &mut OutputBuffer,
+    bytes: &[u8],
+    output: &mut PieceOutput,
+) -> Result<(), IoFault> {
     let mut rest = bytes;
     for length in LENGTHS {
-        let (part, behind) = rest.split_at(length.min(rest.len()));
+        let (part, following) = rest.split_at(length.min(rest.len()));
         if output.failed {
             return Err(IoFault);
         }
-        piece.put(part, output)?;
-        rest = behind;
+        buffer.put(part, output)?;
+        rest = following;
     }
     if output.failed {
         return Err(IoFault);
     }
-    piece.flush(output)
+    buffer.flush(output)
 }
 
-// Whether all bytes are written in their order, or the first `sound` bytes if the output fails after them.
-fn goes_out(alloc: Global, bytes: &[u8], most: usize, sound: usize) -> Result<bool, AllocError> {
-    let mut piece = Piece::new(alloc)?;
-    let mut output = PieceOutput::new(alloc, most, sound);
-    let ended = put_all(&mut piece, bytes, &mut output);
-    let front = bytes.get(..sound).unwrap_or(bytes);
+// Whether the output gets all bytes in order; or only the first `until_failure` bytes, if it fails
+// after them.
+fn goes_out(
+    alloc: Global,
+    bytes: &[u8],
+    most: usize,
+    until_failure: usize,
+) -> Result<bool, AllocError> {
+    let mut buffer = OutputBuffer::new(alloc)?;
+    let mut output = PieceOutput::new(alloc, most, until_failure);
+    let ended = put_all(&mut buffer, bytes, &mut output);
+    let front = bytes.get(..until_failure).unwrap_or(bytes);
     Ok(ended.is_ok() == (front.len() == bytes.len()) && output.bytes.as_slice() == front)
 }
 
 fn check_pieces(rt: &impl Abort, alloc: Global) -> Result<(), AllocError> {
     let bytes = bytes_of(alloc, byte_count())?;
     for most in [1_000, 65_536, 100_000] {
-        for sound in [
+        for until_failure in [
             0, 1, 65_536, 65_537, 131_073, 200_000, 266_611, 266_612, 300_000,
         ] {
             assert!(rt;
-                goes_out(alloc, bytes.as_slice(), most, sound)?,
-                "{most} {sound}"
+                goes_out(alloc, bytes.as_slice(), most, until_failure)?,
+                "{most} {until_failure}"
             );
         }
     }
     Ok(())
 }
 
-// Bytes that are shorter and longer than a piece are put, and some fill it exactly.
+// Puts parts that are shorter and longer than a buffer, and parts that fill it exactly.
 #[test]
 fn puts_bytes_of_any_length(rt: HostRuntime) -> Result<(), Fail> {
     check_pieces(&rt, rt.alloc())?;
     Ok(())
 }
 
-// Whether bytes that wait are not yet written, even if they fill the piece.
+// Whether waiting bytes are not written before more come, even if they fill the buffer.
 fn waits_until_full(alloc: Global) -> Result<bool, AllocError> {
     let bytes = bytes_of(alloc, PIECE)?;
     let (front, last) = bytes
         .as_slice()
         .split_at(PIECE.min(bytes.len()).saturating_sub(1));
-    let mut piece = Piece::new(alloc)?;
+    let mut buffer = OutputBuffer::new(alloc)?;
     let mut output = PieceOutput::new(alloc, ROOM, usize::MAX);
     for part in [front, last] {
-        if output.failed || piece.put(part, &mut output).is_err() {
+        if output.failed || buffer.put(part, &mut output).is_err() {
             return Ok(false);
         }
     }
@@ -104,14 +116,15 @@ fn keeps_what_there_is_room_for(rt: HostRuntime) -> Result<(), Fail> {
     Ok(())
 }
 
-// The place of the descriptions among the files of the sample release.
+// The index of the description file among the files of the sample release.
 const DESCRIPTIONS: usize = 2;
 
 const HEADER: &[u8] =
     b"id\teffectiveTime\tactive\tmoduleId\tconceptId\tlanguageCode\ttypeId\tterm\tcaseSignificanceId\r\n";
 
-// Long names: the text before each in its row, the text before it in its line, and its length. The first line waits,
-// the second is longer than a piece, and the third is as long as a piece.
+// Concepts with long names: the text before the name in its row, the text before it in its line,
+// and the length of the name. The first line waits in the buffer, the second is longer than the
+// buffer, and the third is as long as the buffer.
 const NAMES: [(&[u8], &[u8], usize); 3] = [
     (
         b"102018\t20240101\t1\t900000000000207008\t101009\ten\t900000000000003001\t",
@@ -138,7 +151,7 @@ fn push_name(count: usize, text: &mut Vec<u8>) -> Result<(), AllocError> {
     Ok(())
 }
 
-// Makes the rows of the names.
+// Returns the description rows with the long names.
 fn name_rows(alloc: Global) -> Result<Vec<u8>, AllocError> {
     let mut text = Vec::from_slice(alloc, HEADER)?;
     for (before, _, count) in &NAMES {
@@ -149,7 +162,7 @@ fn name_rows(alloc: Global) -> Result<Vec<u8>, AllocError> {
     Ok(text)
 }
 
-// Makes the answer of the three concepts with long names.
+// Returns the answer with the three concepts that have long names.
 fn long_answer(alloc: Global) -> Result<Vec<u8>, AllocError> {
     let mut text = Vec::from_slice(alloc, b"OK 3\n")?;
     for (_, before, count) in &NAMES {
@@ -160,13 +173,19 @@ fn long_answer(alloc: Global) -> Result<Vec<u8>, AllocError> {
     Ok(text)
 }
 
-// Whether a run over the query twice writes the answer twice, or its first `sound` bytes if the output fails after
-// them.
-fn is_long_run(alloc: Global, engine: &Engine, answers: &[u8], most: usize, sound: usize) -> bool {
+// Whether a run over two equal queries writes the answer twice; or only the first `until_failure`
+// bytes, if the output fails after them.
+fn is_long_run(
+    alloc: Global,
+    engine: &Engine,
+    answers: &[u8],
+    most: usize,
+    until_failure: usize,
+) -> bool {
     let mut input = PieceInput::new(b"<100005\n<100005\n", ROOM, ROOM);
-    let mut output = PieceOutput::new(alloc, most, sound);
+    let mut output = PieceOutput::new(alloc, most, until_failure);
     let ended = run(alloc, engine, &mut input, &mut output);
-    let front = answers.get(..sound).unwrap_or(answers);
+    let front = answers.get(..until_failure).unwrap_or(answers);
     let wanted = if front.len() == answers.len() {
         Ok(2)
     } else {
@@ -175,15 +194,16 @@ fn is_long_run(alloc: Global, engine: &Engine, answers: &[u8], most: usize, soun
     ended == wanted && output.bytes.as_slice() == front
 }
 
-// Checks runs whose output fails within the first answer, between the answers, within the second, and after it.
+// Checks runs whose output fails within the first answer, between the answers, within the second
+// answer, and after it.
 fn check_long_runs(rt: &impl Abort, alloc: Global, engine: &Engine, answers: &[u8]) {
     for most in [1_000, 100_000] {
-        for sound in [
+        for until_failure in [
             0, 4, 40_015, 40_016, 110_024, 110_025, 175_560, 175_561, 215_576, 351_121, 351_122,
         ] {
             assert!(rt;
-                is_long_run(alloc, engine, answers, most, sound),
-                "{most} {sound}"
+                is_long_run(alloc, engine, answers, most, until_failure),
+                "{most} {until_failure}"
             );
         }
     }
@@ -216,7 +236,8 @@ fn check_long_answers(rt: &impl Abort, alloc: Global) -> Result<(), LoadFault> {
     check_long_names(rt, alloc, rows.as_slice(), answers.as_slice())
 }
 
-// Checks answers with lines that wait, that are written directly, and that fill a piece.
+// Checks answers with lines that wait in the buffer, that are written directly, and that fill the
+// buffer exactly.
 #[test]
 fn writes_long_answers_in_pieces(rt: HostRuntime) -> Result<(), Fail> {
     check_long_answers(&rt, rt.alloc())?;

@@ -1,4 +1,5 @@
-//! Tests of the plans of queries over the sample release, and of the answers by other plans.
+//! Tests of the plans of queries over the sample release, and of answers that are found by other
+//! plans.
 use crate::test_release::sample;
 use crate::test_streams::{PieceInput, PieceOutput, ROOM};
 use query_tool::{Choice, Engine, Rule, Step, run_explain};
@@ -22,7 +23,7 @@ const IN_BRACES: &[u8] = b"PLAN 50\nand 12\n descendants 4\n  one 100005 0\n uni
 
 const TWICE_THE_SAME: &[u8] = b"PLAN 0\none 100005 0\n";
 
-// The lines of a run, for which the plans are written.
+// The lines of a run that writes plans.
 const LINES: &[u8] =
     b"<100005:104001=106004\n*:105000>#2\n<100005:{104001=<<106004,105000=*}\n\n100005,100005";
 
@@ -42,15 +43,15 @@ const PLANS: [Row; 5] = [
     (b"100005,100005", TWICE_THE_SAME),
 ];
 
-// Plans with other nodes. There are 10 concepts, 9 attribute rows, 8 groups, and 15 pairs of a concept and an
-// ancestor.
+// Plans with the other kinds of nodes. The sample has 10 concepts, 9 attribute rows, 8 groups, and
+// 15 pairs of a concept and an ancestor.
 const OTHER_PLANS: [Row; 8] = [
     (
         b"((<100005 OR <106004) MINUS ^108003).104001",
         b"PLAN 36\nvalues 13\n minus 6\n  or 8\n   descendants 4\n    one 100005 0\n   descendants 2\n    one 106004 0\n\
 \x20 members 3\n   one 108003 0\n one 104001 0\n",
     ),
-    // because no pair need pass, all 10 concepts are visited, besides one type and its 6 rows
+    // because no pair need match, all 10 concepts are visited, besides one type and its 6 rows
     (
         b"*:[0..1]R 105000!=<100005",
         b"PLAN 61\nand 40\n all 0\n pairs in 0..1 outside by type 17\n  one 105000 0\n  descendants 4\n   one 100005 0\n",
@@ -59,7 +60,8 @@ const OTHER_PLANS: [Row; 8] = [
         b"<100005:105000>=#-0.5",
         b"PLAN 29\nand 18\n descendants 4\n  one 100005 0\n pairs out 1..* >= -500000000000000000 by type 7\n  one 105000 0\n",
     ),
-    // 10 types and 9 rows are more than 8 groups and 9 rows
+    // the leaves are scanned: by type they would visit 10 types and 9 rows, by a scan they visit 8
+    // groups and 9 rows
     (
         b"*:{*>#2 OR *=*}",
         b"PLAN 110\nand 36\n all 0\n units 1..* 8\n  unit-or 32\n   unit-pairs 1..* > 2000000000000000000 by scan 17\n    all 0\n\
@@ -115,21 +117,21 @@ fn at_second(rule: Rule) -> Step<'static> {
     Step { rule, place: &[1] }
 }
 
-// Returns the explanation of a line by an engine, after what the vector holds before.
+// Returns the explanation of a line by an engine, appended to some bytes.
 fn explained_by(alloc: Global, engine: &Engine, line: &[u8]) -> Result<Vec<u8>, AllocError> {
     let mut output = Vec::from_slice(alloc, b"before\n")?;
     engine.explain(alloc, line, &mut output)?;
     Ok(output)
 }
 
-// Returns the answer of an engine to a line, after what the vector holds before.
+// Returns the answer of an engine to a line, appended to some bytes.
 fn answered_by(alloc: Global, engine: &Engine, line: &[u8]) -> Result<Vec<u8>, AllocError> {
     let mut output = Vec::from_slice(alloc, b"before\n")?;
     engine.answer(alloc, line, &mut output)?;
     Ok(output)
 }
 
-// Returns the answer of an engine to a line by another plan, after what the vector holds before.
+// Returns the answer of an engine to a line by another plan, appended to some bytes.
 fn answered_with(
     alloc: Global,
     engine: &Engine,
@@ -156,7 +158,7 @@ fn look_at_plans(
     Ok(())
 }
 
-// Checks that a line that is refused is explained by its refusal.
+// Checks that the explanation of a refused line is its refusal.
 fn look_at_refusals(
     rt: &impl Abort,
     alloc: Global,
@@ -170,7 +172,8 @@ fn look_at_refusals(
     Ok(())
 }
 
-// Checks that lines are answered alike, whichever choice all their leaves have.
+// Checks that lines have the same answer, whether their leaves are answered by value, by type or by
+// a scan.
 fn look_at_choices(
     rt: &impl Abort,
     alloc: Global,
@@ -187,7 +190,8 @@ fn look_at_choices(
     Ok(())
 }
 
-// Checks the answer by a rewritten plan in which all leaves are scanned. Only the first of the steps applies.
+// Checks the answer by a rewritten plan where scans answer all leaves. Of the steps, only the first
+// applies.
 fn look_at_steps(rt: &impl Abort, alloc: Global, engine: &Engine) -> Result<(), AllocError> {
     let steps = [
         at_second(Rule::BraceGuard),
@@ -208,7 +212,8 @@ fn look(rt: &impl Abort, alloc: Global, engine: &Engine) -> Result<(), AllocErro
     look_at_steps(rt, alloc, engine)
 }
 
-// Checks an engine and drops it. A function that owns an engine and has several exits is slow to prove.
+// Checks an engine and drops it. A function that owns an engine and has several exits is slow to
+// prove.
 fn look_and_drop(rt: &impl Abort, alloc: Global, engine: Engine) -> Result<(), AllocError> {
     let looked = look(rt, alloc, &engine);
     drop(engine);
@@ -228,7 +233,7 @@ fn tells_plans_and_answers_by_others(rt: HostRuntime) -> Result<(), Fail> {
     Ok(())
 }
 
-// Whether a run, whose streams give and take at most `most` bytes at once, writes the plans.
+// Whether a run writes the plans, if its streams transfer at most `most` bytes at once.
 fn is_run(alloc: Global, engine: &Engine, most: usize) -> bool {
     let mut input = PieceInput::new(LINES, most, ROOM);
     let mut output = PieceOutput::new(alloc, most, ROOM);
@@ -242,7 +247,8 @@ fn is_run_and_drop(alloc: Global, engine: Engine, most: usize) -> bool {
     is_run
 }
 
-// Whether a run over the sample release, whose streams give and take at most `most` bytes at once, writes the plans.
+// Whether a run over the sample release writes the plans, if its streams transfer at most `most`
+// bytes at once.
 fn is_written(alloc: Global, most: usize) -> bool {
     match Engine::load(alloc, &sample(), "en", Limits::standard()) {
         Ok(engine) => is_run_and_drop(alloc, engine, most),

@@ -1,4 +1,4 @@
-//! Tests of runs over streams in pieces, and over streams that fail.
+//! Tests of runs over streams that transfer few bytes at once, and over streams that fail.
 ghost use Rattle.std.specs.Prelude.{◌≡◌, false};
 
 use crate::test_release::sample;
@@ -23,7 +23,7 @@ const LONG_AND_ANSWER: &[u8] =
 // The plan of the query `<100005`.
 const PLAN: &[u8] = b"PLAN 4\ndescendants 4\n one 100005 0\n";
 
-// The query twice, the answers to both, and the plans of both.
+// The query on two lines, the answers to both lines, and the plans of both lines.
 const TWICE: &[u8] = b"<100005\n<100005\n";
 
 const ANSWERS: &[u8] =
@@ -33,17 +33,17 @@ OK 3\n101009 |Beta (finding)|\n102002 |Gamma (finding)|\n103007 |Delta (finding)
 const PLANS: &[u8] =
     b"PLAN 4\ndescendants 4\n one 100005 0\nPLAN 4\ndescendants 4\n one 100005 0\n";
 
-// An input: its bytes, how many it gives at once, and how many it gives before it fails.
+// An input: its bytes, how many a read gives at most, and how many it gives before it fails.
 type Given<'a> = (&'a [u8], usize, usize);
 
-// An output: how many bytes it takes at once, and how many it takes before it fails.
+// An output: how many bytes a write takes at most, and how many it takes before it fails.
 type Taken = (usize, usize);
 
 // The result of a run, and the bytes that it writes.
 type Ended<'a> = (Result<u64, RunFault>, &'a [u8]);
 
-// Whether a run of an engine ends with `ended`; then the engine is dropped. A function that owns an engine and has
-// several exits is slow to prove.
+// Whether a run of an engine ends with `ended`. Then the engine is dropped. A function that owns an
+// engine and has several exits is slow to prove.
 fn is_run_and_drop(
     alloc: Global,
     engine: Engine,
@@ -56,7 +56,7 @@ fn is_run_and_drop(
     is_run
 }
 
-// Checks the end of a run over the sample release.
+// Checks how a run over the sample release ends.
 fn check_run(
     rt: &impl Abort,
     alloc: Global,
@@ -73,7 +73,7 @@ fn check_run(
     }
 }
 
-// Checks runs over streams that give and take few bytes at once, and many.
+// Checks runs over streams that transfer few bytes at once, and over streams that transfer many.
 fn check_runs(
     rt: &impl Abort,
     alloc: Global,
@@ -86,7 +86,7 @@ fn check_runs(
     Ok(())
 }
 
-// An empty line is a query line, although it is no constraint; a last line needs no line feed.
+// An empty line is a query line, although it is no constraint. The last line needs no line feed.
 fn check_lines(rt: &impl Abort, alloc: Global) -> Result<(), LoadFault> {
     check_runs(rt, alloc, b"", (Ok(0), b""))?;
     check_runs(rt, alloc, b"<100005\n\n", (Ok(2), ANSWER_AND_REFUSAL))?;
@@ -100,8 +100,8 @@ fn answers_each_line(rt: HostRuntime) -> Result<(), Fail> {
     Ok(())
 }
 
-// Makes a line of `blanks` blanks and a query after them.
-fn behind_blanks(alloc: Global, blanks: usize) -> Result<Vec<u8>, AllocError> {
+// Returns a line of `blanks` blanks and then the query.
+fn after_blanks(alloc: Global, blanks: usize) -> Result<Vec<u8>, AllocError> {
     let mut bytes = Vec::new(alloc);
     for _ in 0..blanks {
         bytes.push(b' ')?;
@@ -110,7 +110,7 @@ fn behind_blanks(alloc: Global, blanks: usize) -> Result<Vec<u8>, AllocError> {
     Ok(bytes)
 }
 
-// Checks runs over a line that is too long and one that is not.
+// Checks a run over a line that is too long and a line that is not.
 fn check_long(rt: &impl Abort, alloc: Global, bytes: &[u8]) -> Result<(), LoadFault> {
     for most in [1_000, 70_000] {
         let given = (bytes, most, usize::MAX);
@@ -120,7 +120,7 @@ fn check_long(rt: &impl Abort, alloc: Global, bytes: &[u8]) -> Result<(), LoadFa
 }
 
 fn check_long_line(rt: &impl Abort, alloc: Global, blanks: usize) -> Result<(), LoadFault> {
-    match behind_blanks(alloc, blanks) {
+    match after_blanks(alloc, blanks) {
         Ok(bytes) => check_long(rt, alloc, bytes.as_slice()),
         Err(AllocError) => Err(LoadFault::Memory),
     }
@@ -132,25 +132,26 @@ fn check_long_lines(rt: &impl Abort, alloc: Global) -> Result<(), LoadFault> {
     check_long_line(rt, alloc, 200_000)
 }
 
-// A line is refused for its length alone, however long it is and however it is cut.
+// A line that is too long is refused for its length alone, however long it is, and in whatever
+// pieces it is read.
 #[test]
 fn refuses_lines_longer_than_are_kept(rt: HostRuntime) -> Result<(), Fail> {
     check_long_lines(&rt, rt.alloc())?;
     Ok(())
 }
 
-// Whether a run answers its lines, or explains them.
+// What a run does: answer its lines, or explain them.
 #[derive(Clone, Copy)]
 enum Task {
     Answer,
     Explain,
 }
 
-// Two numbers of bytes, the second excluded, and the result of a run over the query twice if a stream fails after a
-// number of bytes between them.
+// A range of numbers of bytes (the second number is excluded), and the result of a run over two
+// lines if a stream fails after any number of bytes in the range.
 type Stretch = (usize, usize, Result<u64, RunFault>);
 
-// Stretches of the bytes that the output takes: an answer has 79, and a plan 35.
+// Ranges of the number of bytes that the output takes. An answer has 79 bytes, and a plan 35.
 const BY_ANSWERS: [Stretch; 3] = [
     (0, 79, Err(RunFault::Write(0))),
     (79, 158, Err(RunFault::Write(1))),
@@ -163,14 +164,15 @@ const BY_PLANS: [Stretch; 3] = [
     (70, 72, Ok(2)),
 ];
 
-// Stretches of the bytes that the input gives: a line has 8.
+// Ranges of the number of bytes that the input gives. A line has 8 bytes.
 const BY_INPUT: [Stretch; 3] = [
     (0, 8, Err(RunFault::Read(0))),
     (8, 16, Err(RunFault::Read(1))),
     (16, 17, Err(RunFault::Read(2))),
 ];
 
-// Whether a run of an engine over an input and an output ends with `ended`.
+// Whether a run of an engine over an input and an output ends with `ended`, and only the stream
+// that the result names has failed.
 fn is_run(
     alloc: Global,
     engine: &Engine,
@@ -191,8 +193,8 @@ fn is_run(
         && output.failed() == matches!(ended.0, Err(RunFault::Write(_)))
 }
 
-// Whether all runs of a stretch of the output end with its result. The bytes that were taken are a front of both
-// texts.
+// Whether all runs whose output fails within a range have the range's result, and have written the
+// prefix of `texts` that the output takes.
 fn end_by_output(
     alloc: Global,
     engine: &Engine,
@@ -201,15 +203,15 @@ fn end_by_output(
     stretch: &Stretch,
     most: usize,
 ) -> bool {
-    for sound in stretch.0..stretch.1 {
-        let front = texts.get(..sound).unwrap_or(texts);
+    for until_failure in stretch.0..stretch.1 {
+        let front = texts.get(..until_failure).unwrap_or(texts);
         let given = (TWICE, ROOM, ROOM);
         if !is_run(
             alloc,
             engine,
             task,
             given,
-            (most, sound),
+            (most, until_failure),
             (stretch.2, front),
         ) {
             return false;
@@ -218,7 +220,8 @@ fn end_by_output(
     true
 }
 
-// Whether all runs of a stretch of the input end with its result, and write `texts`.
+// Whether all runs whose input fails within a range have the range's result, and have written
+// `texts`.
 fn end_by_input(
     alloc: Global,
     engine: &Engine,
@@ -227,8 +230,8 @@ fn end_by_input(
     stretch: &Stretch,
     most: usize,
 ) -> bool {
-    for sound in stretch.0..stretch.1 {
-        let given = (TWICE, most, sound);
+    for until_failure in stretch.0..stretch.1 {
+        let given = (TWICE, most, until_failure);
         if !is_run(alloc, engine, task, given, (ROOM, ROOM), (stretch.2, texts)) {
             return false;
         }
@@ -236,7 +239,7 @@ fn end_by_input(
     true
 }
 
-// Checks all stretches of the output.
+// Checks all ranges of the output.
 fn check_output(
     rt: &impl Abort,
     alloc: Global,
@@ -251,7 +254,8 @@ fn check_output(
     }
 }
 
-// Checks all stretches of the input. At each of them one text more was written.
+// Checks all ranges of the input. In each range, a run writes one text more than in the range
+// before.
 fn check_input(rt: &impl Abort, alloc: Global, engine: &Engine, task: Task, fronts: &[&[u8]]) {
     for (stretch, texts) in BY_INPUT.iter().zip(fronts) {
         assert!(rt; end_by_input(alloc, engine, task, texts, stretch, 1));
@@ -281,14 +285,14 @@ fn check_sample_ends(rt: &impl Abort, alloc: Global) -> Result<(), LoadFault> {
     }
 }
 
-// Lets a stream fail after each number of bytes.
+// Lets a stream fail after each number of bytes, in one run after another.
 #[test]
 fn stops_where_a_stream_fails(rt: HostRuntime) -> Result<(), Fail> {
     check_sample_ends(&rt, rt.alloc())?;
     Ok(())
 }
 
-// Runs over the sample release, and returns the result.
+// Returns the result of a run over the sample release.
 fn run_sample<R: QueryInput, W: AnswerOutput>(
     alloc: Global,
     input: &mut R,

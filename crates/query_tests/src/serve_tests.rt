@@ -1,4 +1,4 @@
-//! Tests of what the program answers to its words, and to releases that are refused.
+//! Tests of serving: the words of the command line, reports, and releases that are refused.
 use crate::test_release::{sample, sample_and, sample_with};
 use crate::test_streams::{PieceInput, PieceOutput, ROOM};
 use query_tool::{
@@ -9,7 +9,7 @@ use std::alloc::{AllocError, Global};
 use std::process::Abort;
 use std::test::Fail;
 
-// How many bytes a source reads at once.
+// How many bytes a read of the source returns.
 const PIECE: usize = 4_096;
 
 const QUERY: &[u8] = b"<100005\n";
@@ -25,15 +25,15 @@ const REPORT: &[u8] =
 const DANISH: &[u8] =
     b"OK 3\n101009 |Beta (finding)|\n102002 |Gamma (finding)|\n103007 |Delta (fund)|\n";
 
-// The report if a row stands twice.
+// The report if the files repeat a row.
 const LONGER_REPORT: &[u8] =
     b"FILES 5\nCONCEPTS 10\nISA 10\nATTRIBUTES 9\nMEMBERS 2\nNAMES 10\nPASSED 7\n";
 
-// The report without the files of relationships and concrete values.
+// The report without the files of relationships and of concrete values.
 const SHORT_REPORT: &[u8] =
     b"FILES 3\nCONCEPTS 10\nISA 0\nATTRIBUTES 0\nMEMBERS 2\nNAMES 10\nPASSED 3\n";
 
-// The end of serving no file.
+// How serving ends if the source has no file.
 const NO_CONCEPT_FILE: Ended<'static> = (Status::ReleaseRefused, b"", b"REFUSED no-concept-file\n");
 
 // The lines for files that can't be listed, and for a first file that can't be read.
@@ -41,7 +41,8 @@ const LISTING: &[u8] = b"REFUSED device\n";
 
 const FIRST_FILE: &[u8] = b"REFUSED device der2_Refset_SimpleSnapshot_INT_20240101.txt\n";
 
-// The names of a file of concepts and of one of relationships, which come after those of the sample.
+// Names of a concept file and of a relationship file. They come after the names of the sample's
+// files.
 const CONCEPTS: &str = "xsct2_Concept_Snapshot_XX.txt";
 
 const RELATIONSHIPS: &str = "xsct2_Relationship_Snapshot_XX.txt";
@@ -56,7 +57,7 @@ const TEN_EXPLAINED: [&str; 12] = [
     "hosecrag", "explain", "1", "2", "3", "4", "5", "6", "7", "8", "9", "10",
 ];
 
-// Words, and the mode, the folders and the language that they ask for.
+// Words, and the mode, the folders and the language of the request that they make.
 type Requested<'a> = (&'a [&'a str], Mode, &'a [&'a str], &'a str);
 
 const REQUESTS: [Requested<'static>; 12] = [
@@ -141,7 +142,7 @@ const REQUESTS: [Requested<'static>; 12] = [
     ),
 ];
 
-// Whether words are read as their request.
+// Whether the words are read as the request.
 fn is_request(alloc: Global, row: Requested<'_>) -> bool {
     let (words, mode, folders, lang) = row;
     match read_words(alloc, words) {
@@ -171,7 +172,7 @@ fn are_texts(texts: &[String], wanted: &[&str]) -> bool {
             .all(|(text, other)| text.as_str() == *other)
 }
 
-// Words that are no request.
+// Words that are not a request.
 const NO_REQUESTS: [&[&str]; 10] = [
     &["hosecrag", "query"],
     &["hosecrag", "explain"],
@@ -205,7 +206,7 @@ fn refuses_words(rt: HostRuntime) {
     }
 }
 
-// Words, and what the text that answers them has to name.
+// Words, and what the text that they get has to name.
 type Named<'a> = (&'a [&'a str], &'a [&'a str]);
 
 const HELP: [Named<'static>; 5] = [
@@ -231,7 +232,7 @@ const HELP: [Named<'static>; 5] = [
     (&["hosecrag", "--version"], &["hosecrag 0.1.0"]),
 ];
 
-// Whether the text for help names all that it has to name.
+// Whether the help text for the words names all that it has to name.
 fn is_helped(alloc: Global, row: Named<'_>) -> bool {
     match read_words(alloc, row.0) {
         Err(WordFault::Help(text)) => has_all(text.as_str(), row.1),
@@ -239,7 +240,8 @@ fn is_helped(alloc: Global, row: Named<'_>) -> bool {
     }
 }
 
-// Help names each command, each option and each value of the command for which it is asked.
+// The help for the program or for a command names each command, or each option of the command and
+// its value.
 #[test]
 fn help_names_what_there_is(rt: HostRuntime) {
     for row in HELP {
@@ -287,7 +289,7 @@ const WRONG: [Named<'static>; 16] = [
     (&["hosecrag", "--"], &["query", "explain", "check"]),
 ];
 
-// Whether the text for wrong words names the wrong ones.
+// Whether the text for wrong words names the wrong word, or what is missing.
 fn is_named(alloc: Global, row: Named<'_>) -> bool {
     match read_words(alloc, row.0) {
         Err(WordFault::Usage(text)) => has_all(text.as_str(), row.1),
@@ -295,7 +297,7 @@ fn is_named(alloc: Global, row: Named<'_>) -> bool {
     }
 }
 
-// The text for wrong words names the wrong one, or what is missing.
+// The text for wrong words names the wrong word, or what is missing.
 #[test]
 fn wrong_words_are_named(rt: HostRuntime) {
     for row in WRONG {
@@ -303,7 +305,7 @@ fn wrong_words_are_named(rt: HostRuntime) {
     }
 }
 
-// Whether each of `names` stands in a text.
+// Whether a text contains each of `names`.
 fn has_all(text: &str, names: &[&str]) -> bool {
     names.iter().all(|name| text.contains(*name))
 }
@@ -318,10 +320,11 @@ fn refuses_ten_folders(rt: HostRuntime) {
     }
 }
 
-// The status with which serving ends, and the bytes that it writes as answers and as errors.
+// How serving ends: the status, and the bytes written to the output and to the errors.
 type Ended<'a> = (Status, &'a [u8], &'a [u8]);
 
-// Whether serving lines ends with `ended`, if the output has room for `room` bytes. `check` reads no query.
+// Whether serving a request ends with `ended`, if the output takes `room` bytes before it fails;
+// and whether `check` reads no input.
 fn is_served(
     alloc: Global,
     request: &Request,
@@ -340,7 +343,7 @@ fn is_served(
         && (request.mode != Mode::Check || input.reads() == 0)
 }
 
-// Makes a request without folders.
+// Returns a request without folders.
 fn asked(alloc: Global, mode: Mode, lang: &str) -> Result<Request, AllocError> {
     Ok(Request {
         mode,
@@ -349,7 +352,7 @@ fn asked(alloc: Global, mode: Mode, lang: &str) -> Result<Request, AllocError> {
     })
 }
 
-// Checks the end of serving over files, if the call `fail_at` of the source fails; 0 lets none fail.
+// Checks how serving files ends, if call number `fail_at` of the source fails; with 0 none fails.
 fn check_served(
     rt: &impl Abort,
     alloc: Global,
@@ -369,7 +372,7 @@ fn check_served(
     }
 }
 
-// Checks the end of answering over files, with the names of a language.
+// Checks how answering over files ends, if names in `lang` are preferred.
 fn check_query(
     rt: &impl Abort,
     alloc: Global,
@@ -381,7 +384,7 @@ fn check_query(
     check_served(rt, alloc, asked, files, 0, ROOM, ended)
 }
 
-// Checks the end of the report of files, if the output has room for `room` bytes.
+// Checks how reporting on files ends, if the output takes `room` bytes before it fails.
 fn check_report(
     rt: &impl Abort,
     alloc: Global,
@@ -393,7 +396,7 @@ fn check_report(
     check_served(rt, alloc, asked, files, 0, room, ended)
 }
 
-// Checks the end of explaining a query over files.
+// Checks how explaining a query over files ends.
 fn check_explained(
     rt: &impl Abort,
     alloc: Global,
@@ -437,7 +440,8 @@ fn reports_releases(rt: HostRuntime) -> Result<(), Fail> {
     Ok(())
 }
 
-// How many bytes are cut from the end of the sample's concept file, and the end of the report of the rest.
+// How many bytes are cut from the end of the sample's concept file, and how reporting on it ends
+// then.
 const CUTS: [(usize, Ended<'static>); 4] = [
     (
         usize::MAX,
@@ -460,7 +464,7 @@ const CUTS: [(usize, Ended<'static>); 4] = [
     ),
 ];
 
-// Checks the end of the report of the sample with other bytes for the file at `place`.
+// Checks how reporting on the sample ends, if the file at index `place` has other bytes.
 fn check_changed(
     rt: &impl Abort,
     alloc: Global,
@@ -487,7 +491,7 @@ fn check_cuts(
     Ok(())
 }
 
-// Checks the report of the sample with one of its relationships repeated at the end.
+// Checks the report on the sample if the file of relationships repeats its first row at the end.
 fn check_repeated(rt: &impl Abort, alloc: Global, whole: &[u8]) -> Result<(), AllocError> {
     let ended = (Status::Done, LONGER_REPORT, b"".as_slice());
     match with_repeated_row(alloc, whole) {
@@ -496,7 +500,7 @@ fn check_repeated(rt: &impl Abort, alloc: Global, whole: &[u8]) -> Result<(), Al
     }
 }
 
-// Makes the sample's relationships with the first one repeated at the end.
+// Returns the sample's relationships with the first row repeated at the end.
 fn with_repeated_row(alloc: Global, whole: &[u8]) -> Result<Vec<u8>, AllocError> {
     let mut bytes = Vec::from_slice(alloc, whole)?;
     bytes.extend_from_slice(REPEATED)?;
@@ -507,7 +511,7 @@ const REPEATED: &[u8] =
     b"100022\t20240101\t1\t900000000000207008\t100005\t138875005\t0\t116680003\t\
 900000000000011006\t900000000000451002\r\n";
 
-// Checks a file that is cut, and a file with a row twice, which counts once.
+// Checks reports on a file that is cut, and on a file with a repeated row, which counts once.
 #[test]
 fn reports_cut_and_repeated_rows(rt: HostRuntime) -> Result<(), Fail> {
     let [_, concepts, _, _, relationships] = sample();
@@ -516,7 +520,7 @@ fn reports_cut_and_repeated_rows(rt: HostRuntime) -> Result<(), Fail> {
     Ok(())
 }
 
-// Adds a text `count` times.
+// Appends a text `count` times.
 fn push_times(lines: &mut Vec<u8>, text: &[u8], count: usize) -> Result<(), AllocError> {
     for _ in 0..count {
         lines.extend_from_slice(text)?;
@@ -524,8 +528,9 @@ fn push_times(lines: &mut Vec<u8>, text: &[u8], count: usize) -> Result<(), Allo
     Ok(())
 }
 
-// Adds lines that an attacker would send: braces and brackets as deep as allowed and deeper, a line with more than
-// one reason to be refused, a long line that is no text, and numbers that are too long.
+// Appends lines that an attacker would send: braces and brackets as deep as allowed and deeper, a
+// line with several reasons to be refused, a long line that is not UTF-8, and numbers that are too
+// long.
 fn push_hostile_lines(lines: &mut Vec<u8>) -> Result<(), AllocError> {
     lines.extend_from_slice(b"*:")?;
     push_times(lines, b"{ ", 64)?;
@@ -565,7 +570,7 @@ fn refuses_hostile_lines(rt: HostRuntime) -> Result<(), Fail> {
     Ok(())
 }
 
-// Checks that the sample release with one file more is refused by a line.
+// Checks that the sample release with one more file is refused, and the line that says why.
 fn check_refused(
     rt: &impl Abort,
     alloc: Global,
@@ -617,7 +622,7 @@ const REFUSED: [(&str, &[u8], &[u8]); 7] = [
         b"id\teffectiveTime\tactive\tmoduleId\tsourceId\tdestinationId\trelationshipGroup\ttypeId\tcharacteristicTypeId\tmodifierId\r\n122026\t20240101\t1\t900000000000207008\t100005\t100005\t0\t116680003\t900000000000011006\t900000000000451002\r\n",
         b"REFUSED cycle 100005\n",
     ),
-    // the descendants of the root reach it, and do not reach themselves
+    // the root as its own parent: its descendants are in no cycle, so the line names the root
     (
         RELATIONSHIPS,
         b"id\teffectiveTime\tactive\tmoduleId\tsourceId\tdestinationId\trelationshipGroup\ttypeId\tcharacteristicTypeId\tmodifierId\r\n122026\t20240101\t1\t900000000000207008\t138875005\t138875005\t0\t116680003\t900000000000011006\t900000000000451002\r\n",
@@ -650,15 +655,17 @@ fn ends_with_its_status(rt: HostRuntime) {
     assert!(rt; Status::MemoryRefused.code() == 4);
 }
 
-// Whether words that are no request end with `ended`, if the output takes `sound` bytes.
-fn is_refused(alloc: Global, fault: &WordFault, sound: usize, ended: Ended<'_>) -> bool {
-    let mut output = PieceOutput::new(alloc, ROOM, sound);
+// Whether words that are not a request end with `ended`, if the output takes `until_failure` bytes
+// before it fails.
+fn is_refused(alloc: Global, fault: &WordFault, until_failure: usize, ended: Ended<'_>) -> bool {
+    let mut output = PieceOutput::new(alloc, ROOM, until_failure);
     let mut errors = PieceOutput::new(alloc, ROOM, ROOM);
     let status = refuse_words(fault, &mut output, &mut errors);
     status == ended.0 && output.bytes.as_slice() == ended.1 && errors.bytes.as_slice() == ended.2
 }
 
-// Checks what a call for help or for the version writes, and where a failure of that is told.
+// Checks that help and version go to the output, and that a failure of the output is reported on
+// the errors.
 #[test]
 fn writes_what_is_called_for(rt: HostRuntime) -> Result<(), Fail> {
     let alloc = rt.alloc();
@@ -673,7 +680,7 @@ fn writes_what_is_called_for(rt: HostRuntime) -> Result<(), Fail> {
     Ok(())
 }
 
-// Checks where wrong words are told.
+// Checks that wrong words are reported on the errors.
 #[test]
 fn tells_of_wrong_words(rt: HostRuntime) -> Result<(), Fail> {
     let alloc = rt.alloc();
@@ -693,7 +700,8 @@ fn tells_of_wrong_words(rt: HostRuntime) -> Result<(), Fail> {
     Ok(())
 }
 
-// Checks the end of serving the sample if a call of its source fails, and the line that tells it.
+// Checks that serving the sample ends with a device fault and the line `line`, if call number
+// `fail_at` of the source fails.
 fn check_failed(
     rt: &impl Abort,
     alloc: Global,
@@ -706,7 +714,8 @@ fn check_failed(
     check_served(rt, alloc, asked, &sample(), fail_at, ROOM, ended)
 }
 
-// The first call lists the files, the second opens the first of them, and the later ones read it.
+// The first call of the source lists the files, the second opens the first file, and the later
+// calls read it.
 fn check_devices(rt: &impl Abort, alloc: Global) -> Result<(), AllocError> {
     check_failed(rt, alloc, Mode::Query, 1, LISTING)?;
     check_failed(rt, alloc, Mode::Check, 1, LISTING)?;

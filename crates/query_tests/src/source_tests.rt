@@ -1,16 +1,16 @@
-//! Tests of engines that are loaded from a source that fails.
+//! Tests of loading engines from a source that fails.
 use crate::test_release::sample;
 use query_tool::Engine;
 use release_files::MemoryFiles;
 use snapshot::{Limits, LoadFault};
 use std::alloc::Global;
 
-// How many bytes the source reads at once.
+// How many bytes a read of the source returns.
 const PIECE: usize = 1_000;
 
-// Returns which of the sample's files is in use at a call of its source, or `None` after the last call. Calls count
-// from 1. The first one lists the files. For each file, one call opens it, one reads each piece, and one finds the
-// end.
+// Returns the index of the sample's file that call number `call` of the source uses, or `None`
+// after the last call. Calls count from 1. The first call lists the files. For each file, one call
+// opens it, one call reads each piece, and one more finds the end.
 fn file_at_call(call: u64) -> Option<usize> {
     let mut calls = 1u64;
     for (place, file) in sample().iter().enumerate() {
@@ -22,7 +22,7 @@ fn file_at_call(call: u64) -> Option<usize> {
     None
 }
 
-// Returns the fault of an engine that is loaded from a source whose call `fail_at` fails.
+// Returns the fault of loading an engine from a source whose call number `fail_at` fails.
 fn fault_at(alloc: Global, fail_at: u64) -> Option<LoadFault> {
     let files = sample();
     let mut source = MemoryFiles::new(alloc, &files, PIECE, fail_at);
@@ -30,8 +30,8 @@ fn fault_at(alloc: Global, fail_at: u64) -> Option<LoadFault> {
     Engine::load_from(alloc, &mut source, &mut names, "en", Limits::standard()).err()
 }
 
-// Each call of a source fails in turn, until there are no more. The fault names the file in use, or no file if the
-// files were not listed.
+// Lets each call of the source fail, one load after another, until `fail_at` is past the last call.
+// The fault names the file in use, or no file if listing them failed.
 #[test]
 fn fails_with_its_source(rt: HostRuntime) {
     let unlisted = Some(LoadFault::Device { file: None });

@@ -1,18 +1,18 @@
-//! Tests of streams of the standard library that are interrupted, and that are used many times.
+//! Tests of streams of the standard library that are interrupted, and that are called many times.
 use query_tool::{AnswerOutput, IoFault, QueryInput, StreamInput, StreamOutput};
 use std::alloc::{AllocError, Global};
 use std::io::{self, ErrorKind, Read, Write};
 use std::test::Fail;
 
-// A stream that gives or takes one byte at a call, and is interrupted `interruptions` times before each. Once
-// `sound` calls have gone through, it fails.
+// A stream that transfers one byte at a call, and is interrupted `interruptions` times before each.
+// After `until_failure` transfers it fails.
 #[derive(Drop)]
 struct Patchy {
     bytes: Vec<u8>,
     at: usize,
     interruptions: u32,
     waited: u32,
-    sound: usize,
+    until_failure: usize,
 }
 
 impl Patchy {
@@ -20,28 +20,29 @@ impl Patchy {
         alloc: Global,
         bytes: &[u8],
         interruptions: u32,
-        sound: usize,
+        until_failure: usize,
     ) -> Result<Patchy, AllocError> {
         Ok(Patchy {
             bytes: Vec::from_slice(alloc, bytes)?,
             at: 0,
             interruptions,
             waited: 0,
-            sound,
+            until_failure,
         })
     }
 
-    // Lets a call through after `interruptions` calls that were interrupted.
+    // Counts one call: interrupts it, lets it through after `interruptions` interruptions, or fails
+    // it.
     fn turn(&mut self) -> io::Result<()> {
         if self.waited < self.interruptions {
             self.waited += 1;
             return Err(io::Error::from(ErrorKind::Interrupted));
         }
         self.waited = 0;
-        if self.sound == 0 {
+        if self.until_failure == 0 {
             return Err(io::Error::from(ErrorKind::BrokenPipe));
         }
-        self.sound -= 1;
+        self.until_failure -= 1;
         Ok(())
     }
 }
@@ -72,7 +73,7 @@ impl Write for Patchy {
 
 const TEXT: &[u8] = b"<100005\n<<100005\n*\n";
 
-// Whether each byte of the text comes, and then the end.
+// Whether reading gives each byte of the text, and then the end.
 fn gives_the_text(input: &mut StreamInput<Patchy>) -> bool {
     let mut buffer = [0u8; 8];
     for byte in TEXT {
@@ -86,7 +87,7 @@ fn gives_the_text(input: &mut StreamInput<Patchy>) -> bool {
         && input.reads() == TEXT.len() as u64 + 2
 }
 
-// Whether each byte of the text is taken.
+// Whether writing takes each byte of the text.
 fn takes_the_text(output: &mut StreamOutput<Patchy>) -> bool {
     for at in 0..TEXT.len() {
         if output.write(&TEXT[at..]) != Ok(1) {
@@ -96,7 +97,7 @@ fn takes_the_text(output: &mut StreamOutput<Patchy>) -> bool {
     output.write(b"") == Ok(0) && !output.failed()
 }
 
-// The streams give and take the whole text, however often they are used and interrupted.
+// The streams transfer the whole text, however often they are called and interrupted.
 #[test]
 fn goes_to_the_end(rt: HostRuntime) -> Result<(), Fail> {
     for interruptions in [0, 1, 2, 999] {
@@ -110,24 +111,35 @@ fn goes_to_the_end(rt: HostRuntime) -> Result<(), Fail> {
     Ok(())
 }
 
-// Whether a read fails at once.
+// Whether the first read fails.
 fn fails_to_give(input: &mut StreamInput<Patchy>) -> bool {
     let mut buffer = [0u8; 8];
     input.read(&mut buffer) == Err(IoFault) && input.failed() && input.reads() == 1
 }
 
-// Whether a write fails at once.
+// Whether the first write fails.
 fn fails_to_take(output: &mut StreamOutput<Patchy>) -> bool {
     output.write(TEXT) == Err(IoFault) && output.failed()
 }
 
-// A stream fails if the stream below has a fault other than an interruption, or is interrupted without end.
+// A stream fails if the stream below it has a fault other than an interruption, or is interrupted
+// without end.
 #[test]
 fn fails_where_the_stream_fails(rt: HostRuntime) -> Result<(), Fail> {
-    for (interruptions, sound) in [(0, 0), (3, 0), (1_000, 10)] {
-        let mut input = StreamInput::new(Patchy::new(rt.alloc(), TEXT, interruptions, sound)?);
+    for (interruptions, until_failure) in [(0, 0), (3, 0), (1_000, 10)] {
+        let mut input = StreamInput::new(Patchy::new(
+            rt.alloc(),
+            TEXT,
+            interruptions,
+            until_failure,
+        )?);
         assert!(rt; fails_to_give(&mut input), "{interruptions}");
-        let mut output = StreamOutput::new(Patchy::new(rt.alloc(), b"", interruptions, sound)?);
+        let mut output = StreamOutput::new(Patchy::new(
+            rt.alloc(),
+            b"",
+            interruptions,
+            until_failure,
+        )?);
         assert!(rt; fails_to_take(&mut output), "{interruptions}");
     }
     Ok(())

@@ -1,4 +1,4 @@
-//! A file system for tests: its folders and files fail where a test asks for it.
+//! A file system for tests, where folders and files fail as a test asks.
 ghost use Rattle.std.specs.Prelude.{IsErr, None, ⊤};
 
 use std::alloc::{Alloc, Allocator, Global};
@@ -11,27 +11,27 @@ use streams::{FolderSystem, Standing, names_at, open_plain_at, standing_at};
 /// The node at a path.
 #[derive(Clone, Copy)]
 pub enum Node {
-    /// A file with its bytes.
+    /// A file with these bytes.
     File(&'static [u8]),
     /// A file that can't be opened.
     Unopened(ErrorKind),
     /// A file that can't be read.
     Unread(ErrorKind),
-    /// A folder with its names, each ended by a NUL, and the identity by which the system tells it apart from other
-    /// folders.
+    /// A folder with these names, each ended by NUL. The second text is the path of a host folder,
+    /// whose metadata serves as the folder's identity.
     Folder(&'static [u8], &'static str),
     /// A folder that can't be listed.
     Unlisted(ErrorKind),
-    /// A node that can't be looked at.
+    /// A node whose metadata can't be read.
     Unseen(ErrorKind),
 }
 
-/// A file system of nodes at paths, with random bytes.
+/// A file system of nodes at paths. It also gives random bytes.
 #[derive(Clone, Drop)]
 pub struct TestFolders {
     rt: HostRuntime,
     nodes: &'static [(&'static str, Node)],
-    // the value of each random byte; `None` if random bytes fail
+    // The value of each random byte; with `None`, drawing random bytes fails.
     random: Option<u8>,
 }
 
@@ -44,7 +44,7 @@ impl TestFolders {
         TestFolders { rt, nodes, random }
     }
 
-    // Returns the node at a path, which may end in a `/`.
+    // Returns the node at a path, which may end in `/`.
     fn node(&self, path: &str) -> io::Result<Node> {
         let wanted = path.strip_suffix('/').unwrap_or(path);
         for (known, node) in self.nodes {
@@ -56,14 +56,14 @@ impl TestFolders {
     }
 }
 
-/// The bytes of a file, or the names of a folder, or why they can't be read.
+/// An open file or folder: its bytes or its names, or why they can't be read.
 #[derive(Drop)]
 pub struct TestFile {
     bytes: &'static [u8],
     fault: Option<ErrorKind>,
 }
 
-// Fails: no source asks this of a file system.
+// Fails. No source calls the operations that use it.
 fn unsupported<T>() -> io::Result<T>
     ensures { IsErr result }
 {

@@ -1,15 +1,15 @@
-//! The release over which the tests run.
+//! The release for the tests.
 use release_files::NamedBytes;
 use sample_release::sample_files;
 use std::alloc::{AllocError, Global};
 
-/// Returns the files of the sample release, without a contract: a test that knew the bytes of the release would be
-/// slow to prove.
+/// Returns the files of the sample release. It has no contract, because a test that knows the bytes
+/// of the release is slow to prove.
 pub fn sample() -> [NamedBytes<'static>; 5] {
     sample_files()
 }
 
-/// Returns the files of the sample release and one more after them.
+/// Returns the files of the sample release, and one more file after them.
 pub fn sample_and<'a>(
     alloc: Global,
     name: &'a str,
@@ -23,7 +23,7 @@ pub fn sample_and<'a>(
     Ok(files)
 }
 
-/// Returns the files of the sample release, with other bytes for the file at a place.
+/// Returns the files of the sample release, where the file at an index has other bytes.
 pub fn sample_with(
     alloc: Global,
     place: usize,

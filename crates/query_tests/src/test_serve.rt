@@ -1,15 +1,15 @@
-//! Serving over the sample release, for the tests.
+//! Serving the sample release, for the tests.
 use crate::test_release::sample;
 use crate::test_streams::{PieceInput, PieceOutput, ROOM};
 use query_tool::{Mode, Request, Status, serve};
 use release_files::MemoryFiles;
 use std::alloc::{AllocError, Global};
 
-// How many bytes a source reads at once.
+// How many bytes a read of the source returns.
 const PIECE: usize = 4_096;
 
-/// Whether lines over the files of the sample are answered by `wanted` in a mode, and nothing is written on the
-/// stream of errors.
+/// Whether serving `lines` in a mode over the sample's files writes exactly `wanted` to the output,
+/// and nothing to the errors.
 pub fn is_answered(
     alloc: Global,
     mode: Mode,

@@ -1,30 +1,31 @@
-//! Streams for tests that give and take bytes in pieces, and fail where a test asks for it.
+//! Streams for tests, which transfer few bytes at once and fail as a test asks.
 ghost use Rattle.std.specs.Prelude.{◌≡◌, None, false};
 
 use query_tool::{AnswerOutput, IoFault, QueryInput};
 use std::alloc::Global;
 
-/// More bytes than any of the inputs and outputs has.
+/// More bytes than any input or output in the tests has.
 pub const ROOM: usize = 1_000;
 
-/// An input that gives at most `most` bytes at once, and fails once it has given `sound` bytes.
+/// An input whose reads give at most `most` bytes each, and fail once it has given `until_failure`
+/// bytes.
 #[derive(Drop)]
 pub struct PieceInput<'a> {
     bytes: &'a [u8],
     most: usize,
-    sound: usize,
+    until_failure: usize,
     reads: u64,
     pub failed: bool,
 }
 
 impl<'a> PieceInput<'a> {
-    pub fn new(bytes: &'a [u8], most: usize, sound: usize) -> PieceInput<'a>
+    pub fn new(bytes: &'a [u8], most: usize, until_failure: usize) -> PieceInput<'a>
         ensures { result.failed ≡ false }
     {
         PieceInput {
             bytes,
             most,
-            sound,
+            until_failure,
             reads: 0,
             failed: false,
         }
@@ -40,7 +41,7 @@ impl<'a> QueryInput for PieceInput<'a> {
 
     fn read(&mut self, buffer: &mut [u8]) -> Result<usize, IoFault> {
         self.reads = self.reads.saturating_add(1);
-        if self.sound == 0 {
+        if self.until_failure == 0 {
             self.failed = true;
             return Err(IoFault);
         }
@@ -48,10 +49,10 @@ impl<'a> QueryInput for PieceInput<'a> {
             .len()
             .min(self.bytes.len())
             .min(self.most)
-            .min(self.sound);
+            .min(self.until_failure);
         buffer[..count].copy_from_slice(&self.bytes[..count]);
         self.bytes = &self.bytes[count..];
-        self.sound -= count;
+        self.until_failure -= count;
         Ok(count)
     }
 
@@ -64,23 +65,24 @@ impl<'a> QueryInput for PieceInput<'a> {
     }
 }
 
-/// An output that takes at most `most` bytes at once, and fails once it has taken `sound` bytes.
+/// An output whose writes take at most `most` bytes each, and fail once it has taken
+/// `until_failure` bytes.
 #[derive(Drop)]
 pub struct PieceOutput {
     pub bytes: Vec<u8>,
     most: usize,
-    sound: usize,
+    until_failure: usize,
     pub failed: bool,
 }
 
 impl PieceOutput {
-    pub fn new(alloc: Global, most: usize, sound: usize) -> PieceOutput
+    pub fn new(alloc: Global, most: usize, until_failure: usize) -> PieceOutput
         ensures { result.failed ≡ false }
     {
         PieceOutput {
             bytes: Vec::new(alloc),
             most,
-            sound,
+            until_failure,
             failed: false,
         }
     }
@@ -92,14 +94,14 @@ impl AnswerOutput for PieceOutput {
     ghost has_failed = { λ output. output.failed };
 
     fn write(&mut self, bytes: &[u8]) -> Result<usize, IoFault> {
-        let count = bytes.len().min(self.most).min(self.sound);
+        let count = bytes.len().min(self.most).min(self.until_failure);
         if (count == 0 && !bytes.is_empty())
             || self.bytes.extend_from_slice(&bytes[..count]).is_err()
         {
             self.failed = true;
             return Err(IoFault);
         }
-        self.sound -= count;
+        self.until_failure -= count;
         Ok(count)
     }
 

@@ -1,4 +1,4 @@
-//! Tests of queries and their answers over small releases.
+//! Tests of the answers to queries over small releases.
 use crate::test_release::sample;
 use query_tool::Engine;
 use release_files::NamedBytes;
@@ -7,7 +7,7 @@ use std::alloc::{AllocError, Global};
 use std::process::Abort;
 use std::test::Fail;
 
-// The lines of the concepts of the sample release.
+// The lines of the sample's concepts in an answer.
 const A: &[u8] = b"100005 |Alpha (finding)|\n";
 
 const B: &[u8] = b"101009 |Beta (finding)|\n";
@@ -34,21 +34,21 @@ const EVERYTHING: &[u8] = b"OK 10\n\
 104001 |Type T (attribute)|\n105000 |Type U (attribute)|\n106004 |Value X (value)|\n107008 |Value Y (value)|\n\
 108003\n138875005 |Root (test)|\n";
 
-// A language, a query line, and the answer with the names of that language.
+// A language, a query line, and its answer if names in this language are preferred.
 const NAMES: [(&str, &[u8], &[u8]); 5] = [
     ("da", b"103007", b"OK 1\n103007 |Delta (fund)|\n"),
     ("da", b"100005", b"OK 1\n100005 |Alpha (finding)|\n"),
     ("en", b"103007", b"OK 1\n103007 |Delta (finding)|\n"),
     ("en", b"108003", b"OK 1\n108003\n"),
-    // no name is in the language that is asked for: the description with the least identifier counts, whatever its
-    // language
+    // no name is in the language that is asked for: the description with the least identifier
+    // counts, whatever its language
     ("fr", b"103007", b"OK 1\n103007 |Delta (finding)|\n"),
 ];
 
-// A query line, and the lines of the concepts that answer it.
+// A query line, and the lines of the concepts in its answer.
 type Row = (&'static [u8], &'static [&'static [u8]]);
 
-// One concept or all, alone or after an operator.
+// Queries for one concept or all concepts, alone or after a hierarchy operator.
 const HIERARCHY: [Row; 24] = [
     (b"*", &[A, B, C, D, T, U, X, Y, Q, ROOT]),
     (b"100005", &[A]),
@@ -76,7 +76,7 @@ const HIERARCHY: [Row; 24] = [
     (b"!!<*", &[D, T, U, Y, Q]),
 ];
 
-// Sets, brackets, reference sets, terms and comments.
+// Queries with set operators, brackets, reference sets, terms and comments.
 const SETS: [Row; 22] = [
     (b"!!>(<100005)", &[B, C]),
     (b"!!<(<<100005)", &[D]),
@@ -102,7 +102,7 @@ const SETS: [Row; 22] = [
     (b">^108003 AND < 138875005", &[A, B, C]),
 ];
 
-// Refinements and dotted attributes.
+// Queries with refinements and dotted attributes.
 const ATTRIBUTES: [Row; 29] = [
     (b"<100005:104001=106004", &[B, C]),
     (b"<(<100005.104001)", &[Y]),
@@ -135,7 +135,8 @@ const ATTRIBUTES: [Row; 29] = [
     (b"<100005:[0..*]105000=*", &[B, C, D]),
 ];
 
-// Lines that are no constraint, and their refusals. An offset counts the bytes before it.
+// Lines that are no constraint, and their refusals. An offset is the number of bytes before the
+// refused token.
 const REFUSALS: [(&[u8], &[u8]); 33] = [
     (b"", b"ERR syntax\n"),
     (b"99", b"ERR syntax\n"),
@@ -158,7 +159,7 @@ const REFUSALS: [(&[u8], &[u8]); 33] = [
     (b"1234567890123456789", b"ERR limit 0\n"),
     (b"<< 1234567890123456789", b"ERR limit 3\n"),
     (b"\xff", b"ERR utf8\n"),
-    // of two refusals the one with the lower offset counts, however many tokens stand before it
+    // of two refusals the one with the lower offset counts, however many tokens come before it
     (b"007 x", b"ERR token 0\n"),
     (b"x 1234567890123456789", b"ERR token 0\n"),
     (b"1234567890123456789 x", b"ERR limit 0\n"),
@@ -179,22 +180,22 @@ const TWO_CONCEPTS: &[u8] = b"id\teffectiveTime\tactive\tmoduleId\tdefinitionSta
 1000004\t20240101\t1\t900000000000207008\t900000000000074008\r\n\
 100005\t20240101\t1\t900000000000207008\t900000000000074008\r\n";
 
-// Returns the answer of an engine to a line, after what the vector holds before.
+// Returns the answer of an engine to a line, appended to some bytes.
 fn answered_by(alloc: Global, engine: &Engine, line: &[u8]) -> Result<Vec<u8>, AllocError> {
     let mut output = Vec::from_slice(alloc, b"before\n")?;
     engine.answer(alloc, line, &mut output)?;
     Ok(output)
 }
 
-// Returns the answer of an engine to a line, and drops the engine. A function that owns an engine and has several
-// exits is slow to prove.
+// Returns the answer of an engine to a line, and drops the engine. A function that owns an engine
+// and has several exits is slow to prove.
 fn answered_and_drop(alloc: Global, engine: Engine, line: &[u8]) -> Result<Vec<u8>, AllocError> {
     let answered = answered_by(alloc, &engine, line);
     drop(engine);
     answered
 }
 
-// Returns the answer to a line over a release, with the names of a language.
+// Returns the answer to a line over a release, if names in a language are preferred.
 fn answered(
     rt: &impl Abort,
     alloc: Global,
@@ -211,7 +212,7 @@ fn answered(
     }
 }
 
-// Makes the answer of concepts from their lines.
+// Returns the answer with the concepts that have these lines.
 fn answer_of(alloc: Global, lines: &[&[u8]]) -> Result<Vec<u8>, AllocError> {
     let mut digits = itoa::Buffer::new();
     let mut answer = Vec::from_slice(alloc, b"before\nOK ")?;
@@ -223,7 +224,7 @@ fn answer_of(alloc: Global, lines: &[&[u8]]) -> Result<Vec<u8>, AllocError> {
     Ok(answer)
 }
 
-// Whether the bytes are the answer of the concepts with these lines.
+// Whether `bytes` are the answer with the concepts that have these lines.
 fn is_answer(alloc: Global, bytes: &[u8], lines: &[&[u8]]) -> Result<bool, AllocError> {
     let answer = answer_of(alloc, lines)?;
     Ok(bytes == answer.as_slice())
@@ -255,7 +256,7 @@ fn answers_queries_of_attributes(rt: HostRuntime) -> Result<(), Fail> {
     Ok(())
 }
 
-// Checks the answer to a line over the sample release, with the names of a language.
+// Checks the answer to a line over the sample release, if names in a language are preferred.
 fn check_answer(
     rt: &impl Abort,
     alloc: Global,
@@ -285,7 +286,7 @@ fn refuses_other_lines(rt: HostRuntime) -> Result<(), Fail> {
     Ok(())
 }
 
-// Checks the answer to a line of spaces, by their number.
+// Checks the answer to a line of `count` spaces.
 fn check_spaces(
     rt: &impl Abort,
     alloc: Global,
@@ -303,7 +304,7 @@ fn refuses_long_lines(rt: HostRuntime) -> Result<(), Fail> {
     Ok(())
 }
 
-// Makes a query for all concepts within `count` brackets.
+// Returns a query for all concepts within `count` pairs of brackets.
 fn in_brackets(alloc: Global, count: usize) -> Result<Vec<u8>, AllocError> {
     let mut line = vec![in alloc; b'('; count]?;
     line.push(b'*')?;
@@ -323,7 +324,7 @@ fn check_brackets(
     check_answer(rt, alloc, "en", line.as_slice(), answer)
 }
 
-// Checks as many brackets as may be open at once, and one more.
+// Checks a query with as many brackets as may be open at once, and one with one more.
 #[test]
 fn refuses_deep_brackets(rt: HostRuntime) -> Result<(), Fail> {
     check_brackets(&rt, rt.alloc(), 64, EVERYTHING)?;
@@ -353,7 +354,7 @@ fn check_names(
     Ok(())
 }
 
-// A name in the language that is asked for comes first, otherwise any name.
+// A concept is shown with a name in the preferred language, or, if it has none, with another name.
 #[test]
 fn names_concepts_in_a_language(rt: HostRuntime) -> Result<(), Fail> {
     check_names(&rt, rt.alloc(), &NAMES)?;

@@ -1,4 +1,4 @@
--- The text of the plan by which a constraint is answered explains the constraint.
+-- The text of the plan with which a constraint is answered explains the constraint.
 use Rattle.std.proofs.Common.{ℕ, ◌≡◌, ap, refl, subst}
 use Rattle.rf2_rows.specs.Release.{Release}
 use Rattle.constraint_tree.specs.Denotation.{denotes}
@@ -13,8 +13,10 @@ use Rattle.answer_printer.specs.PlanText.{plan_text}
 use Rattle.query_service.specs.Explanation.{Explains, executed_plan}
 use Rattle.query_service.specs.LimitedAnswer.{least_plan}
 
--- the text of the plan by which a constraint is answered explains the constraint
-pub explains : (contents : Contents) (tree : Tree) (indexed : Indexed) (plan : Physical) → IsIndexOf indexed contents.release
+-- if `plan` is the executed plan with the choices `chosen`, its leaves have the choices with the least bound, and it
+-- means what the constraint denotes, then the text of `plan` explains the constraint
+pub explains : (contents : Contents) (tree : Tree) (indexed : Indexed) (plan : Physical)
+    → IsIndexOf indexed contents.release
     → plan ≡ chosen indexed (executed_plan tree) → AreLeast indexed plan
     → ((release : Release) (concept : ℕ) → means release (executed_plan tree) concept ≡ denotes release tree concept)
     → Explains contents tree (plan_text indexed plan)
@@ -26,7 +28,7 @@ explains contents tree indexed plan of_release plan_is least same = record {
   written = ap (plan_text indexed) plan_is;
 }
 
--- the text of the executed plan `least_plan` explains the constraint
+-- under the same premises, the text of `least_plan` explains the constraint
 pub explains_least : (contents : Contents) (tree : Tree) (indexed : Indexed) (plan : Physical)
     → IsIndexOf indexed contents.release → plan ≡ chosen indexed (executed_plan tree) → AreLeast indexed plan
     → ((release : Release) (concept : ℕ) → means release (executed_plan tree) concept ≡ denotes release tree concept)

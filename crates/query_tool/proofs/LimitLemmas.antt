@@ -1,4 +1,4 @@
--- The text for what a line came to answers the line under a limit.
+-- The text for the result of a query line answers the line under the limit.
 use Rattle.std.proofs.Common.{ℕ, ◌≡◌, ◌∙◌, ◌+◌, ◌-◌, ◌^◌, ◌<◌, ◌≤◌, ◌≢◌}
 use Rattle.std.proofs.Common.{arith, if◌then◌else◌, inl, inr, List, ap, refl, sym, subst}
 use Rattle.std.specs.Prelude.{⊤}
@@ -20,18 +20,19 @@ use Rattle.query_tool.specs.declared.finding.LineFound.{LineFound}
 use Rattle.query_tool.specs.declared.finding.LineFound.TheVariants.{Refused, Above, Concepts}
 use Rattle.query_tool.specs.inside.LineFound.{AreFound, IsAbove, MatchFound, found_text}
 
--- a bound above the limit stands in place of the answer
+-- if the bound `most` is above the limit, `unless_above` is the line with the bound
 above_stands : (limit most : ℕ) (answer : List ℕ) → limit < most → unless_above limit most answer ≡ bound_refusal most
 above_stands limit most answer above = ap (λ b. if b then bound_refusal most else answer) (lt-ltb limit most above)
 
--- a bound that is not above the limit leaves the answer
+-- if the bound `most` is not above the limit, `unless_above` is the answer
 answer_stands : (limit most : ℕ) (answer : List ℕ) → most ≤ limit → unless_above limit most answer ≡ answer
 answer_stands limit most answer within = ap (λ b. if b then bound_refusal most else answer) (le-ltb limit most within)
 
--- ---- what a line came to, and its answer
+-- ---- the result of a query line, and its answer
 module _ {S : Type 0} (items : S → List ℕ) (limit : ℕ) (form : AnswerForm) (contents : Contents) (indexed : Indexed)
     (of_release : IsIndexOf indexed contents.release) (line : List ℕ) (early late : ℕ) where
-  -- the text for what a line came to answers the line under the limit, with the visits counted
+  -- if `found` is the result of a line under a limit, with the counts of visits, then its text answers the line under
+  -- the limit, with these counts
   pub found_answers : (found : LineFound S)
       → MatchFound found (λ fault. IsRefusalOf line fault × (late ≡ early))
       (λ most. (tree : Tree) × IsConstraint line tree × IsAbove limit contents indexed tree early late most)
@@ -76,7 +77,7 @@ module _ {S : Type 0} (items : S → List ℕ) (limit : ℕ) (form : AnswerForm)
     },
   )
 
--- an answer with the visits counted is an answer under the limit
+-- an answer under a limit with counts of visits is an answer under the limit
 pub counted_answers : (limit : ℕ) (form : AnswerForm) (contents : Contents) (line : List ℕ) (early late : ℕ)
     (text : List ℕ) → IsAnswerCounted limit form contents line early late text
     → IsAnswerWithin limit form contents line text
@@ -84,18 +85,18 @@ counted_answers limit form contents line early late text (inl (tree, is, counted
 counted_answers limit form contents line early late text (inr (fault, refused, told, unread)) =
     inr (fault, refused, told)
 
--- an answer over contents is an answer over equal contents, with equal visits
+-- an answer over the contents `own` is an answer over equal contents, with the same counts
 pub same_counted : {own contents : Contents} (limit : ℕ) (form : AnswerForm) (line : List ℕ) (early late : ℕ)
     (text : List ℕ) → own ≡ contents → IsAnswerCounted limit form own line early late text
     → IsAnswerCounted limit form contents line early late text
 same_counted limit form line early late text same counted =
     subst (λ (contents : Contents). IsAnswerCounted limit form contents line early late text) same counted
 
--- a bound capped at 64 bits is at most the greatest number of 64 bits
+-- a capped number is at most 2^64 - 1
 capped_within : (number : ℕ) → capped number ≤ 2 ^ 64 - 1
 capped_within number = min-le_right number (2 ^ 64 - 1)
 
--- an answer under the greatest limit, with all lines and names, is the answer to the line
+-- an answer under the limit 2^64 - 1, with all lines and names, is the answer to the line
 pub unlimited_answers : (contents : Contents) (line text : List ℕ)
     → IsAnswerWithin (2 ^ 64 - 1) whole_form contents line text
     → IsAnswer contents line text
@@ -109,7 +110,8 @@ unlimited_answers contents line text (inl (tree, is, answers)) =
     )
 unlimited_answers contents line text (inr refused) = inr refused
 
--- visits within a bound that is not above the limit are within the limit
+-- if the visits are at most the plan's bound `most`, and the capped bound is at most `limit`, then the visits are at
+-- most `limit`
 pub within_limit : (limit early late most : ℕ) → capped most ≤ limit → late ≤ early + most → late < 2 ^ 64
     → late ≤ early + limit
 within_limit limit early late most under within small = elim (cases_lt (2 ^ 64 - 1) most) [
@@ -121,7 +123,7 @@ within_limit limit early late most under within small = elim (cases_lt (2 ^ 64 -
       omega (arith, same, under, within)
 ]
 
--- what a line came to can be told, because a refusal is never want of memory
+-- the result of a line is never the refusal `Memory`, so its text exists
 pub told_found : {S : Type 0} (HasBound : S → Type 0) (IsUnread : Type 0) (IsOver : ℕ → Type 0) (IsFound : S → Type 0)
     (line : List ℕ) (found : LineFound S) → MatchFound found (λ fault. IsRefusalOf line fault × IsUnread) IsOver IsFound
     → MatchFound found (λ _. ⊤) (λ _. ⊤) HasBound → MatchFound found (λ fault. fault ≢ Memory) (λ _. ⊤) HasBound

@@ -1,4 +1,4 @@
-//! The text that is appended for a query line over a release and its indexes: its answer, or its plan.
+//! Appending the text for a query line: its answer, or its explanation.
 ghost use Rattle.std.specs.Prelude.{ℕ, ◌≡◌, ◌≢◌, ◌+◌, ◌-◌, ◌^◌, ◌<◌, ◌≤◌, ◌++◌, ⊤, List, IfOk, MatchOption};
 ghost use Rattle.std.specs.Prelude.{OnErr, OnOk, length, map, min, slice_index};
 ghost use Rattle.ecl_lexer.specs.declared.fault.QueryFault.{QueryFault};
@@ -33,7 +33,7 @@ use rewrites::Step;
 use snapshot::Snapshot;
 use std::alloc::{AllocError, Global};
 
-/// Appends the text for what a line came to, and drops `found`.
+/// Appends the text for the result `found` of a query line, and drops `found`.
 pub fn print_and_drop<S: ConceptSet>(
     alloc: Global,
     snapshot: &Snapshot,
@@ -52,7 +52,8 @@ pub fn print_and_drop<S: ConceptSet>(
     printed
 }
 
-// Appends the text for what a line came to: its refusal, the bound that is above the limit, or the answer in a form.
+// Appends the text for the result `found` of a query line: the refusal, the bound that is above the
+// limit, or the answer in the form `form`.
 fn print_found<S: ConceptSet>(
     alloc: Global,
     snapshot: &Snapshot,
@@ -73,7 +74,8 @@ fn print_found<S: ConceptSet>(
     }
 }
 
-/// Appends the answer to a line. Its plan is rewritten by `steps`, and its leaves take `choices` if they offer them.
+/// Appends the answer to a query line. Its plan is rewritten by `steps`, and its leaves take
+/// `choices`, if they offer them.
 pub fn answer_over_with(
     alloc: Global,
     snapshot: &Snapshot,
@@ -84,7 +86,8 @@ pub fn answer_over_with(
     output: &mut Vec<u8>,
 ) -> Result<(), AllocError>
     requires { IsIndexOf indexes.now snapshot.now.release }
-    ensures ok { OnOk result ((text : List ℕ) × IsAnswer snapshot.now line.now text × (output.new.items ≡ output.old.items ++ text)) }
+    ensures ok { OnOk result ((text : List ℕ) × IsAnswer snapshot.now line.now text
+        × (output.new.items ≡ output.old.items ++ text)) }
     ensures err { OnErr result (output.new.items ≡ output.old.items) }
 {
     match constraint_of(alloc, line, output)? {
@@ -95,7 +98,7 @@ pub fn answer_over_with(
     }
 }
 
-/// Appends the explanation of a line.
+/// Appends the explanation of a query line.
 pub fn explain_over(
     alloc: Global,
     snapshot: &Snapshot,
@@ -104,7 +107,8 @@ pub fn explain_over(
     output: &mut Vec<u8>,
 ) -> Result<(), AllocError>
     requires { IsIndexOf indexes.now snapshot.now.release }
-    ensures ok { OnOk result ((text : List ℕ) × IsExplanation snapshot.now line.now text × (output.new.items ≡ output.old.items ++ text)) }
+    ensures ok { OnOk result ((text : List ℕ) × IsExplanation snapshot.now line.now text
+        × (output.new.items ≡ output.old.items ++ text)) }
     ensures err { OnErr result (output.new.items ≡ output.old.items) }
 {
     match constraint_of(alloc, line, output)? {
@@ -113,15 +117,17 @@ pub fn explain_over(
     }
 }
 
-// Reads the constraint in a line. If the line is none, it appends the line's refusal and returns `None`.
+// Reads the constraint in a line. If the line is no constraint, it appends the line's refusal and
+// returns `None`.
 fn constraint_of(
     alloc: Global,
     line: &[u8],
     output: &mut Vec<u8>,
 ) -> Result<Option<Constraint>, AllocError>
-    ensures ok { IfOk result (λ found. MatchOption found
-        ((fault : QueryFault) × IsRefusalOf line.now fault × (output.new.items ≡ output.old.items ++ refusal_text fault))
-        (λ constraint. IsConstraint line.now (tree_of constraint) × (output.new.items ≡ output.old.items))) }
+    ensures ok { IfOk result (λ found. MatchOption found ((fault : QueryFault)
+        × IsRefusalOf line.now fault × (output.new.items ≡ output.old.items ++ refusal_text fault))
+        (λ constraint. IsConstraint line.now (tree_of constraint)
+        × (output.new.items ≡ output.old.items))) }
     ensures err { OnErr result (output.new.items ≡ output.old.items) }
 {
     match parse(alloc, line) {
@@ -134,8 +140,9 @@ fn constraint_of(
     }
 }
 
-// Appends the answer to a constraint, by its plan after `steps`, with `choices`. The constraint is dropped here,
-// where there is one exit, so that a proof need not follow its lifetimes to each exit of a caller.
+// Appends the answer to a constraint, executed by its plan after `steps`, with `choices`. The
+// constraint is dropped here, where there is one exit, so that a proof need not follow its
+// lifetimes to each exit of a caller.
 fn answer_with(
     alloc: Global,
     snapshot: &Snapshot,
@@ -146,7 +153,8 @@ fn answer_with(
     output: &mut Vec<u8>,
 ) -> Result<(), AllocError>
     requires { IsIndexOf indexes.now snapshot.now.release }
-    ensures ok { OnOk result (output.new.items ≡ output.old.items ++ constraint_answer snapshot.now (tree_of constraint)) }
+    ensures ok { OnOk result (output.new.items ≡ output.old.items ++ constraint_answer snapshot.now
+        (tree_of constraint)) }
     ensures err { OnErr result (output.new.items ≡ output.old.items) }
 {
     let answered = answer_by_asked_plan(
@@ -162,7 +170,7 @@ fn answer_with(
     answered
 }
 
-// Appends the answer to a constraint, by its plan after `steps`, with `choices`.
+// Appends the answer to a constraint, executed by its plan after `steps`, with `choices`.
 fn answer_by_asked_plan(
     alloc: Global,
     snapshot: &Snapshot,
@@ -173,7 +181,8 @@ fn answer_by_asked_plan(
     output: &mut Vec<u8>,
 ) -> Result<(), AllocError>
     requires { IsIndexOf indexes.now snapshot.now.release }
-    ensures ok { OnOk result (output.new.items ≡ output.old.items ++ constraint_answer snapshot.now (tree_of constraint.now)) }
+    ensures ok { OnOk result (output.new.items ≡ output.old.items ++ constraint_answer snapshot.now
+        (tree_of constraint.now)) }
     ensures err { OnErr result (output.new.items ≡ output.old.items) }
 {
     let mut visits = Visits { count: 0 };
@@ -189,8 +198,8 @@ fn answer_by_asked_plan(
     print_answer(alloc, snapshot, &found, output)
 }
 
-// Finds the concepts that a constraint denotes, by the plan that is asked for. Unless memory is refused, the visits
-// are between the floor and the bound of that plan with its choices.
+// Finds the concepts that a constraint denotes by executing its plan after `steps`, with `choices`.
+// Unless memory is refused, the visits are between the floor and the bound of this plan.
 fn asked_concepts<S: ConceptSet>(
     alloc: Global,
     snapshot: &Snapshot,
@@ -201,19 +210,23 @@ fn asked_concepts<S: ConceptSet>(
     visits: &mut Visits,
 ) -> Result<S, AllocError>
     requires { IsIndexOf indexes.now snapshot.now.release }
-    ensures concepts { IfOk result (λ found. map (slice_index snapshot.now.release.concepts) (S.items_of found) ≡ denotation snapshot.now.release (tree_of constraint.now)) }
+    ensures concepts { IfOk result (λ found. map (slice_index snapshot.now.release.concepts)
+        (S.items_of found) ≡ denotation snapshot.now.release (tree_of constraint.now)) }
     ensures bound { IfOk result (λ found. S.bound_of found ≡ length snapshot.now.release.concepts) }
-    ensures reads { OnOk result (ReadsAsked indexes.now steps.now choices.now (tree_of constraint.now) visits.old visits.new) }
+    ensures reads { OnOk result (ReadsAsked indexes.now steps.now choices.now
+        (tree_of constraint.now) visits.old visits.new) }
 {
     let physical = asked_plan(alloc, constraint, steps, choices, indexes)?;
-    // called for its contract: the choices of the plan are those in its leaves
+    // Called for its contract, which tells the prover that `choices` are those in the leaves of the
+    // plan.
     physical.choices();
     let found: S = found_by(alloc, &physical, snapshot, indexes, visits)?;
     Ok(found)
 }
 
-/// Finds the concepts that a plan means. They are those of any constraint that denotes what the plan means. The
-/// visits are at most the bound of the plan, and unless memory is refused, at least its floor.
+/// Executes a plan and returns the concepts that it means. They are also the concepts that any
+/// constraint with the same meaning denotes. The visits are at most the plan's bound and, unless
+/// memory is refused, at least its floor.
 pub fn found_by<S: ConceptSet>(
     alloc: Global,
     physical: &PhysicalPlan,
@@ -222,16 +235,20 @@ pub fn found_by<S: ConceptSet>(
     visits: &mut Visits,
 ) -> Result<S, AllocError>
     requires { IsIndexOf indexes.now snapshot.now.release }
-    ensures concepts { IfOk result (λ found. (tree : Tree)
-        → ((concept : ℕ) → means snapshot.now.release (plan_of physical.now.plan) concept ≡ denotes snapshot.now.release tree concept)
-        → map (slice_index snapshot.now.release.concepts) (S.items_of found) ≡ denotation snapshot.now.release tree) }
+    ensures concepts { IfOk result (λ found. (tree : Tree) → ((concept : ℕ)
+        → means snapshot.now.release (plan_of physical.now.plan) concept
+        ≡ denotes snapshot.now.release tree concept)
+        → map (slice_index snapshot.now.release.concepts) (S.items_of found)
+        ≡ denotation snapshot.now.release tree) }
     ensures bound { IfOk result (λ found. S.bound_of found ≡ length snapshot.now.release.concepts) }
-    ensures within { visits.new.count ≤ visits.old.count + bound_of indexes.now (physical_of physical.now.plan) }
+    ensures within { visits.new.count ≤ visits.old.count
+        + bound_of indexes.now (physical_of physical.now.plan) }
     ensures fits { visits.new.count < 2 ^ 64 }
-    ensures floor { OnOk result (min (visits.old.count + floor_of indexes.now (physical_of physical.now.plan)) (2 ^ 64 - 1) ≤ visits.new.count) }
+    ensures floor { OnOk result (min (visits.old.count
+        + floor_of indexes.now (physical_of physical.now.plan)) (2 ^ 64 - 1) ≤ visits.new.count) }
 {
     let executed: Result<S, AllocError> = execute(alloc, physical, snapshot, indexes, visits);
-    // read so that a proof knows the range of the count
+    // Read so that the prover knows that the count fits in 64 bits.
     let _count = visits.count;
     let found = executed?;
     Ok(found)
@@ -246,7 +263,8 @@ fn explain_constraint(
     output: &mut Vec<u8>,
 ) -> Result<(), AllocError>
     requires { IsIndexOf indexes.now snapshot.now.release }
-    ensures ok { OnOk result ((text : List ℕ) × Explains snapshot.now (tree_of constraint) text × (output.new.items ≡ output.old.items ++ text)) }
+    ensures ok { OnOk result ((text : List ℕ) × Explains snapshot.now (tree_of constraint) text
+        × (output.new.items ≡ output.old.items ++ text)) }
     ensures err { OnErr result (output.new.items ≡ output.old.items) }
 {
     let explained = explain_least_plan(alloc, snapshot, indexes, &constraint, output);
@@ -254,7 +272,7 @@ fn explain_constraint(
     explained
 }
 
-// Appends the text of the plan by which a constraint is answered.
+// Appends the text of the plan with which a constraint is answered.
 fn explain_least_plan(
     alloc: Global,
     snapshot: &Snapshot,
@@ -263,7 +281,8 @@ fn explain_least_plan(
     output: &mut Vec<u8>,
 ) -> Result<(), AllocError>
     requires { IsIndexOf indexes.now snapshot.now.release }
-    ensures ok { OnOk result ((text : List ℕ) × Explains snapshot.now (tree_of constraint.now) text × (output.new.items ≡ output.old.items ++ text)) }
+    ensures ok { OnOk result ((text : List ℕ) × Explains snapshot.now (tree_of constraint.now) text
+        × (output.new.items ≡ output.old.items ++ text)) }
     ensures err { OnErr result (output.new.items ≡ output.old.items) }
 {
     let physical = least_plan(alloc, constraint, indexes)?;

@@ -1,4 +1,4 @@
-//! The engine: a release that answers queries.
+//! The engine: a loaded release with its indexes.
 ghost use Rattle.std.specs.Prelude.{ℕ, ◌≡◌, ◌+◌, ◌<◌, ◌≤◌, ◌⊎◌, ◌++◌, List, Err, IfErr, IfOk, IfSome, Ok, OnErr, OnOk};
 ghost use Rattle.std.specs.Prelude.{false, length, map, max, string_bytes};
 ghost use Rattle.std.specs.Cmp.Lexicographic.{slice_cmp};
@@ -38,9 +38,10 @@ use session_line::{Page, SessionRequest, read_request};
 use snapshot::{Limits, LoadFault, LoadSnapshot, Snapshot};
 use std::alloc::{AllocError, Global};
 use std::marker::Model;
-use streams::{AnswerFault, AnswerOutput, Piece};
+use streams::{AnswerFault, AnswerOutput, OutputBuffer};
 
-/// A loaded release. Answering changes nothing in it. Contracts see the contents of its snapshot.
+/// A loaded release that answers queries. Answering changes nothing in it. In contracts, an engine
+/// stands for the contents of its release.
 #[derive(Drop)]
 pub struct Engine {
     snapshot: Snapshot,
@@ -60,16 +61,19 @@ impl Model for Engine {
 }
 
 impl Engine {
-    /// Loads the Snapshot files of a list, with the names of a language first. Returns the fault that
-    /// `Snapshot::load` returns. Like `Snapshot::load` it is for files that the caller trusts.
+    /// Loads a release from the Snapshot files `files` in memory, and prefers names in the language
+    /// `lang`. Returns the fault that `Snapshot::load` returns, or `Memory`. Only for files that
+    /// the caller trusts, since the seed of the hashes is fixed.
     pub fn load(
         alloc: Global,
         files: &[NamedBytes<'_>],
         lang: &str,
         limits: Limits,
     ) -> Result<Engine, LoadFault>
-        ensures ok { IfOk result (λ engine. load_of limits lang.now (map file_text files.now) ≡ Ok engine) }
-        ensures err { IfErr result (λ fault. IsFaultOf fault (load_of limits lang.now (map file_text files.now))) }
+        ensures ok { IfOk result (λ engine. load_of limits lang.now (map file_text files.now)
+            ≡ Ok engine) }
+        ensures err { IfErr result (λ fault. IsFaultOf fault
+            (load_of limits lang.now (map file_text files.now))) }
         ensures named { IfErr result (FileIs (λ file. file < length files.now)) }
     {
         match Snapshot::load(alloc, files, lang, limits) {
@@ -78,8 +82,9 @@ impl Engine {
         }
     }
 
-    /// Loads the files that a source lists, in the byte order of their names, as `Snapshot::load_from` does. Leaves
-    /// the names in `names`.
+    /// Loads a release from the files that `source` lists, in the byte order of their names, as
+    /// `Snapshot::load_from` does, and prefers names in the language `lang`. `names` gets the names
+    /// of the listed files, also if the load fails after the listing.
     pub fn load_from<S: FileSource>(
         alloc: Global,
         source: &mut S,
@@ -87,24 +92,31 @@ impl Engine {
         lang: &str,
         limits: Limits,
     ) -> Result<Engine, LoadFault>
-        ensures ok { IfSome (S.files source.old) (λ known. IfOk result (λ engine.
-            load_of limits lang.now (listed known (map string_bytes names.new.items)) ≡ Ok engine)) }
-        ensures err { IfSome (S.files source.old) (λ known. IfErr result (λ fault. is_device fault ≡ false
-            → IsFaultOf fault (load_of limits lang.now (listed known (map string_bytes names.new.items))))) }
-        ensures names { IfSome (S.files source.old) (λ known. AreInOrder known (map string_bytes names.new.items)
+        ensures ok { IfSome (S.files source.old)
+            (λ known. IfOk result (λ engine. load_of limits lang.now
+            (listed known (map string_bytes names.new.items)) ≡ Ok engine)) }
+        ensures err { IfSome (S.files source.old)
+            (λ known. IfErr result (λ fault. is_device fault ≡ false
+            → IsFaultOf fault (load_of limits lang.now
+            (listed known (map string_bytes names.new.items))))) }
+        ensures names { IfSome (S.files source.old)
+            (λ known. AreInOrder known (map string_bytes names.new.items)
             ⊎ IsUnlisted result (map string_bytes names.new.items) (S.history source.new)) }
         ensures device { FailsAtFiles string_bytes names.new.items result (S.history source.old)
             (S.history source.new) }
-        ensures calm { RaisesOnlyAtDevice result (S.history source.old) (S.history source.new) }
+        ensures failure_is_device { RaisesOnlyAtDevice result (S.history source.old)
+            (S.history source.new) }
         ensures bounded { (S.history source.new).most
             ≤ max (S.history source.old).most ((limits_in_force limits).bytes + 1) }
-        ensures kind { IfErr result (λ fault. FailsAtRead (has_kind_at (map string_bytes names.new.items)) fault) }
+        ensures kind { IfErr result (λ fault. FailsAtRead
+            (has_kind_at (map string_bytes names.new.items)) fault) }
         ensures files { S.files source.new ≡ S.files source.old }
         ensures rising { IsSorted (slice_cmp nat_cmp) (map string_bytes names.new.items) }
         ensures unnamed { name_concepts string_bytes names.new.items ≡ false
             → (result ≡ Err LoadFault.NoConceptFile)
             ⊎ IsUnlisted result (map string_bytes names.new.items) (S.history source.new) }
-        ensures found { result ≡ Err LoadFault.NoConceptFile → name_concepts string_bytes names.new.items ≡ false }
+        ensures found { result ≡ Err LoadFault.NoConceptFile
+            → name_concepts string_bytes names.new.items ≡ false }
         ensures named { IfErr result (FileIs (λ file. file < length names.new.items)) }
     {
         match Snapshot::load_from(alloc, source, names, lang, limits) {
@@ -113,12 +125,14 @@ impl Engine {
         }
     }
 
-    /// Appends the answer to a query line: `OK` and the number of concepts that it denotes, then the concepts in
-    /// rising order, each on a line with its identifier and, if it has a name, the name between bars. A line that is
-    /// no constraint is answered by `ERR` and the first refusal that `ecl_parser::parse` gives, with the offset in
-    /// bytes if it has one. If memory is refused, `output` is unchanged.
+    /// Appends the answer to a query line. If the line is a constraint, the answer is `OK` and the
+    /// number of concepts that it denotes, then a line for each concept in rising order: its
+    /// identifier, and its name between bars if it has one. Otherwise the answer is `ERR` and the
+    /// first refusal that `ecl_parser::parse` gives, with its offset in bytes if it has one. If
+    /// memory is refused, it returns `AllocError`, and `output` is unchanged.
     pub fn answer(&self, alloc: Global, line: &[u8], output: &mut Vec<u8>) -> Result<(), AllocError>
-        ensures ok { OnOk result ((text : List ℕ) × IsAnswer self.now line.now text × (output.new.items ≡ output.old.items ++ text)) }
+        ensures ok { OnOk result ((text : List ℕ) × IsAnswer self.now line.now text
+            × (output.new.items ≡ output.old.items ++ text)) }
         ensures err { OnErr result (output.new.items ≡ output.old.items) }
         ensures rising { (tree : Tree) → IsStrictlyIncreasing (denotation self.now.release tree) }
     {
@@ -132,11 +146,13 @@ impl Engine {
         )
     }
 
-    /// Appends the answer to a query line under a limit, in a form. It compares the bound of the plan, which
-    /// `explain` prints after `PLAN`, before it reads anything. If the bound is above `limit`, the answer is the
-    /// line `ERR bound` with that bound, and nothing is read. Otherwise it is the answer in the form. A line that is
-    /// no constraint is refused as by `answer`, under any limit. `visits` counts what is read: never more than
-    /// `limit`. The limit `u64::MAX` refuses nothing. If memory is refused, `output` is unchanged.
+    /// Appends the answer to a query line under a limit on visits, with the lines that `form` asks
+    /// for. Before it reads anything, it compares the bound of the plan (which `explain` prints
+    /// after `PLAN`) with `limit`. If the bound is greater, the answer is the line `ERR bound` with
+    /// the bound. Otherwise it executes the plan, and adds the items that it visits, at most
+    /// `limit`, to `visits`. The limit `u64::MAX` refuses nothing. A line that is no constraint has
+    /// the same refusal as in `answer`, under any limit. If memory is refused, it returns
+    /// `AllocError`, and `output` is unchanged.
     pub fn answer_within(
         &self,
         alloc: Global,
@@ -149,7 +165,8 @@ impl Engine {
         ensures ok { OnOk result ((text : List ℕ)
             × IsAnswerCounted limit form self.now line.now visits.old.count visits.new.count text
             × (output.new.items ≡ output.old.items ++ text)) }
-        ensures promised { OnOk result ((text : List ℕ) × AnswersUnder limit form self.now line.now text
+        ensures promised { OnOk result ((text : List ℕ)
+            × AnswersUnder limit form self.now line.now text
             × (output.new.items ≡ output.old.items ++ text)) }
         ensures err { OnErr result (output.new.items ≡ output.old.items) }
         ensures limit { visits.new.count ≤ visits.old.count + limit }
@@ -166,43 +183,44 @@ impl Engine {
         print_and_drop(alloc, &self.snapshot, found, form, output)
     }
 
-    // Puts the text that `answer` appends into a piece of an output. Once the concepts are found, no line takes
-    // memory.
+    // Puts the answer that `answer` appends into `buffer`, which writes to `output`. Once the
+    // concepts are found, no line of the answer needs more memory.
     pub(crate) fn write_answer<W: AnswerOutput>(
         &self,
         alloc: Global,
         line: &[u8],
-        piece: &mut Piece,
+        buffer: &mut OutputBuffer,
         output: &mut W,
     ) -> Result<(), AnswerFault>
         requires { W.has_failed output.old ≡ false }
         ensures ok { OnOk result ((text : List ℕ) × IsAnswer self.now line.now text
-            × Puts (W.written output.old) (W.written output.new) piece.old text piece.new) }
+            × Puts (W.written output.old) (W.written output.new) buffer.old text buffer.new) }
         ensures fault { IfErr result (λ fault. LeavesAnswer (IsAnswer self.now line.now) fault
-            (W.written output.old) (W.written output.new) piece.old piece.new) }
-        ensures sound { OnOk result (W.has_failed output.new ≡ false) }
+            (W.written output.old) (W.written output.new) buffer.old buffer.new) }
+        ensures not_failed { OnOk result (W.has_failed output.new ≡ false) }
         ensures failed { IfErr result (λ fault. W.has_failed output.new ≡ is_write fault) }
     {
-        self.write_within(alloc, line, u64::MAX, AnswerForm::whole(), piece, output)
+        self.write_within(alloc, line, u64::MAX, AnswerForm::whole(), buffer, output)
     }
 
-    // Puts the answer to a line under a limit, in a form, into a piece of an output. The concepts are found before
-    // the first byte is put.
+    // Puts the answer to a line under a limit, in a form, into `buffer`, which writes to `output`.
+    // It finds all concepts before it puts the first byte.
     pub(crate) fn write_within<W: AnswerOutput>(
         &self,
         alloc: Global,
         line: &[u8],
         limit: u64,
         form: AnswerForm,
-        piece: &mut Piece,
+        buffer: &mut OutputBuffer,
         output: &mut W,
     ) -> Result<(), AnswerFault>
         requires { W.has_failed output.old ≡ false }
         ensures ok { OnOk result ((text : List ℕ) × IsAnswerWithin limit form self.now line.now text
-            × Puts (W.written output.old) (W.written output.new) piece.old text piece.new) }
-        ensures fault { IfErr result (λ fault. LeavesAnswer (IsAnswerWithin limit form self.now line.now) fault
-            (W.written output.old) (W.written output.new) piece.old piece.new) }
-        ensures sound { OnOk result (W.has_failed output.new ≡ false) }
+            × Puts (W.written output.old) (W.written output.new) buffer.old text buffer.new) }
+        ensures fault { IfErr result (λ fault. LeavesAnswer
+            (IsAnswerWithin limit form self.now line.now) fault (W.written output.old)
+            (W.written output.new) buffer.old buffer.new) }
+        ensures not_failed { OnOk result (W.has_failed output.new ≡ false) }
         ensures failed { IfErr result (λ fault. W.has_failed output.new ≡ is_write fault) }
     {
         let mut visits = Visits { count: 0 };
@@ -214,14 +232,16 @@ impl Engine {
             limit,
             &mut visits,
         ) {
-            Ok(found) => write_and_drop(alloc, &self.snapshot, found, form, piece, output),
+            Ok(found) => write_and_drop(alloc, &self.snapshot, found, form, buffer, output),
             Err(AllocError) => Err(AnswerFault::Memory),
         }
     }
 
-    /// Appends the text that `answer` appends, by another plan: that of the constraint after `steps` of rewriting. A
-    /// step that does not apply is skipped. Each leaf takes the choice at its place in `choices`, if there is one
-    /// and the leaf offers it. If memory is refused, `output` is unchanged.
+    /// Appends the same answer as `answer`, but executes a plan of the caller's choice: the
+    /// constraint's own plan after `steps` of rewriting. A step that does not apply is skipped.
+    /// `choices` has a choice for each leaf, in the order of `PhysicalPlan::choices`. A leaf that
+    /// does not offer its choice, or has none, takes the one with the least bound. If memory is
+    /// refused, it returns `AllocError`, and `output` is unchanged.
     pub fn answer_with(
         &self,
         alloc: Global,
@@ -230,7 +250,8 @@ impl Engine {
         choices: &[Choice],
         output: &mut Vec<u8>,
     ) -> Result<(), AllocError>
-        ensures ok { OnOk result ((text : List ℕ) × IsAnswer self.now line.now text × (output.new.items ≡ output.old.items ++ text)) }
+        ensures ok { OnOk result ((text : List ℕ) × IsAnswer self.now line.now text
+            × (output.new.items ≡ output.old.items ++ text)) }
         ensures err { OnErr result (output.new.items ≡ output.old.items) }
     {
         answer_over_with(
@@ -244,9 +265,9 @@ impl Engine {
         )
     }
 
-    /// Appends the explanation of a query line: `PLAN` and how many items the plan visits at most, then a line for
-    /// each node of the plan. A line that is no constraint is refused as by `answer`. If memory is refused, `output`
-    /// is unchanged.
+    /// Appends the explanation of a query line: `PLAN` and how many items the plan visits at most,
+    /// then a line for each node of the plan. A line that is no constraint has the same refusal as
+    /// in `answer`. If memory is refused, it returns `AllocError`, and `output` is unchanged.
     pub fn explain(
         &self,
         alloc: Global,
@@ -260,18 +281,20 @@ impl Engine {
         explain_over(alloc, &self.snapshot, &self.indexes, line, output)
     }
 
-    /// Appends what the release has of the concept that a line names by its identifier, with or without its term.
-    /// For a concept in force these are its parents and children, its attributes group by group, and the reference
-    /// sets that it is in (Release File Specification, "Concept file", "Relationship file" and "Simple reference
-    /// set"). Otherwise the text says that the concept is inactive or unknown, or why the line names none. If memory
-    /// is refused, `output` is unchanged.
+    /// Appends what the release says of the concept that a line names by its identifier, with or
+    /// without a term. For a concept in force, the text lists its parents and children, its
+    /// attribute rows group by group, and the reference sets that it is in (Release File
+    /// Specification, "Concept file", "Relationship file" and "Simple reference set"). Otherwise it
+    /// says that the concept is inactive or unknown, or why the line names no concept. If memory is
+    /// refused, it returns `AllocError`, and `output` is unchanged.
     pub fn describe(
         &self,
         alloc: Global,
         line: &[u8],
         output: &mut Vec<u8>,
     ) -> Result<(), AllocError>
-        ensures ok { OnOk result (output.new.items ≡ output.old.items ++ description_text self.now line.now) }
+        ensures ok { OnOk result (output.new.items ≡ output.old.items ++ description_text self.now
+            line.now) }
         ensures err { OnErr result (output.new.items ≡ output.old.items) }
     {
         let text = self.description(alloc, line)?;
@@ -286,11 +309,12 @@ impl Engine {
         Ok(text)
     }
 
-    /// Appends the answer to a request. `list OFFSET COUNT LIMIT ECL` is answered by the count of the concepts and
-    /// at most COUNT of their lines, from OFFSET on, under LIMIT as by `answer_within`. `ids` is like `list` without
-    /// names. `explain ECL` is answered as by `explain`, and `describe ID` as by `describe`. A line of more than
-    /// 65,535 bytes is answered by `ERR long`, any other line by `ERR request`. If memory is refused, `output` is
-    /// unchanged.
+    /// Appends the answer to a request of a session. `list OFFSET COUNT LIMIT ECL` is answered
+    /// under LIMIT, as by `answer_within`: the count of all concepts, then the lines of at most
+    /// COUNT concepts after the first OFFSET. `ids` is like `list`, but without names. `explain
+    /// ECL` is answered as by `explain`, and `describe ID` as by `describe`. A line of more than
+    /// 65,535 bytes is answered by `ERR long`, and any other line that is no request by `ERR
+    /// request`. If memory is refused, it returns `AllocError`, and `output` is unchanged.
     pub fn request(
         &self,
         alloc: Global,
@@ -307,14 +331,15 @@ impl Engine {
         self.answer_asked(alloc, read_request(line), output)
     }
 
-    // Appends the answer to a request that was read.
+    // Appends the answer to a request.
     fn answer_asked(
         &self,
         alloc: Global,
         request: SessionRequest<'_>,
         output: &mut Vec<u8>,
     ) -> Result<(), AllocError>
-        ensures ok { OnOk result ((text : List ℕ) × AnswersAsked self.now (asked_in request.entry) text
+        ensures ok { OnOk result ((text : List ℕ)
+            × AnswersAsked self.now (asked_in request.entry) text
             × (output.new.items ≡ output.old.items ++ text)) }
         ensures err { OnErr result (output.new.items ≡ output.old.items) }
     {
@@ -328,7 +353,7 @@ impl Engine {
         }
     }
 
-    // Appends a page of the answer to the text of a constraint.
+    // Appends a page of the answer to a constraint's text.
     fn answer_page(
         &self,
         alloc: Global,
@@ -352,12 +377,12 @@ impl Engine {
     }
 }
 
-// Makes an engine of a release: it builds the indexes.
+// Makes an engine of a loaded release, and builds its indexes.
 fn with_indexes(alloc: Global, snapshot: Snapshot) -> Result<Engine, LoadFault>
     ensures same { IfOk result (λ engine. engine ≡ snapshot) }
     ensures memory { IfErr result (λ fault. fault ≡ LoadFault.Memory) }
 {
-    // called for its contract: the concepts rise
+    // Called for its contract, which tells the prover that the identifiers of the concepts rise.
     let _ = snapshot.concept_count();
     match Indexes::build(alloc, &snapshot) {
         Ok(indexes) => Ok(Engine { snapshot, indexes }),

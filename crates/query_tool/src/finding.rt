@@ -1,4 +1,4 @@
-//! The result of a query line, under a limit on the visits of its plan.
+//! The result of a query line under a limit on visits.
 ghost use Rattle.std.specs.Prelude.{◌≡◌, ◌+◌, ◌≤◌, ⊤, IfOk, length};
 ghost use Rattle.constraint_tree.specs.Refusal.{IsConstraint, IsRefusalOf};
 ghost use Rattle.constraint_tree.specs.Tree.{Tree, tree_of};
@@ -17,19 +17,21 @@ use postings::Indexes;
 use snapshot::Snapshot;
 use std::alloc::{AllocError, Global};
 
-/// What a query line comes to under a limit on what its plan visits.
+/// The result of a query line under a limit on the visits of its plan.
 #[derive(Drop)]
 pub enum LineFound<S> {
     /// The line is no constraint.
     Refused(QueryFault),
-    /// The plan of the constraint may visit more items than the limit allows. The number is the bound of the plan.
+    /// The plan of the constraint may visit more items than the limit allows. The number is the
+    /// plan's bound.
     Above(u64),
-    /// The concepts that the constraint denotes, by their numbers in the release.
+    /// The concepts that the constraint denotes, as a set of their numbers.
     Concepts(S),
 }
 
-/// Finds what a query line comes to, under a limit. If the bound of its plan, which explains it, is above the limit,
-/// nothing is read. Otherwise that plan finds the concepts. The error is want of memory.
+/// Returns the result of a query line under a limit on visits. It takes the plan that also explains
+/// the line. If the bound of this plan is above `limit`, it reads nothing. Otherwise it executes
+/// the plan and adds the visits to `visits`. If memory is refused, it returns `AllocError`.
 pub fn found_within<S: ConceptSet>(
     alloc: Global,
     snapshot: &Snapshot,
@@ -39,12 +41,12 @@ pub fn found_within<S: ConceptSet>(
     visits: &mut Visits,
 ) -> Result<LineFound<S>, AllocError>
     requires { IsIndexOf indexes.now snapshot.now.release }
-    ensures found { IfOk result (λ found. MatchFound found
-        (λ fault. IsRefusalOf line.now fault × (visits.new.count ≡ visits.old.count))
-        (λ most. (tree : Tree) × IsConstraint line.now tree
+    ensures found { IfOk result (λ found. MatchFound found (λ fault. IsRefusalOf line.now fault
+        × (visits.new.count ≡ visits.old.count)) (λ most. (tree : Tree) × IsConstraint line.now tree
         × IsAbove limit snapshot.now indexes.now tree visits.old.count visits.new.count most)
         (λ set. (tree : Tree) × IsConstraint line.now tree
-        × AreFound limit snapshot.now indexes.now tree visits.old.count visits.new.count (S.items_of set))) }
+        × AreFound limit snapshot.now indexes.now tree visits.old.count visits.new.count
+        (S.items_of set))) }
     ensures bound { IfOk result (λ found. MatchFound found (λ _. ⊤) (λ _. ⊤)
         (λ set. S.bound_of set ≡ length snapshot.now.release.concepts)) }
     ensures limit { visits.new.count ≤ visits.old.count + limit }
@@ -56,8 +58,8 @@ pub fn found_within<S: ConceptSet>(
     }
 }
 
-// Finds what a constraint comes to, and drops the constraint. It is dropped here, where there is one exit, so that a
-// proof need not follow its lifetimes to each exit of a caller.
+// Returns the result of a constraint under a limit, and drops the constraint. It is dropped here,
+// where there is one exit, so that a proof need not follow its lifetimes to each exit of a caller.
 fn found_and_drop<S: ConceptSet>(
     alloc: Global,
     snapshot: &Snapshot,
@@ -67,10 +69,10 @@ fn found_and_drop<S: ConceptSet>(
     visits: &mut Visits,
 ) -> Result<LineFound<S>, AllocError>
     requires { IsIndexOf indexes.now snapshot.now.release }
-    ensures found { IfOk result (λ found. MatchFound found (λ _. ⊥)
-        (λ most. IsAbove limit snapshot.now indexes.now (tree_of constraint) visits.old.count visits.new.count most)
-        (λ set. AreFound limit snapshot.now indexes.now (tree_of constraint) visits.old.count visits.new.count
-        (S.items_of set))) }
+    ensures found { IfOk result (λ found. MatchFound found (λ _. ⊥) (λ most. IsAbove limit
+        snapshot.now indexes.now (tree_of constraint) visits.old.count visits.new.count most)
+        (λ set. AreFound limit snapshot.now indexes.now (tree_of constraint) visits.old.count
+        visits.new.count (S.items_of set))) }
     ensures bound { IfOk result (λ found. MatchFound found (λ _. ⊤) (λ _. ⊤)
         (λ set. S.bound_of set ≡ length snapshot.now.release.concepts)) }
     ensures limit { visits.new.count ≤ visits.old.count + limit }
@@ -80,7 +82,7 @@ fn found_and_drop<S: ConceptSet>(
     found
 }
 
-// Finds what a constraint comes to under a limit.
+// Returns the result of a constraint under a limit.
 fn constraint_within<S: ConceptSet>(
     alloc: Global,
     snapshot: &Snapshot,
@@ -90,10 +92,10 @@ fn constraint_within<S: ConceptSet>(
     visits: &mut Visits,
 ) -> Result<LineFound<S>, AllocError>
     requires { IsIndexOf indexes.now snapshot.now.release }
-    ensures found { IfOk result (λ found. MatchFound found (λ _. ⊥)
-        (λ most. IsAbove limit snapshot.now indexes.now (tree_of constraint.now) visits.old.count visits.new.count most)
-        (λ set. AreFound limit snapshot.now indexes.now (tree_of constraint.now) visits.old.count visits.new.count
-        (S.items_of set))) }
+    ensures found { IfOk result (λ found. MatchFound found (λ _. ⊥) (λ most. IsAbove limit
+        snapshot.now indexes.now (tree_of constraint.now) visits.old.count visits.new.count most)
+        (λ set. AreFound limit snapshot.now indexes.now (tree_of constraint.now) visits.old.count
+        visits.new.count (S.items_of set))) }
     ensures bound { IfOk result (λ found. MatchFound found (λ _. ⊤) (λ _. ⊤)
         (λ set. S.bound_of set ≡ length snapshot.now.release.concepts)) }
     ensures limit { visits.new.count ≤ visits.old.count + limit }

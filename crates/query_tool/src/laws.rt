@@ -1,4 +1,5 @@
-//! Laws about the definitions of this crate: functions that do nothing, each with the law as its contract.
+//! Laws about the definitions of this crate. A law is a function that does nothing; its contract is
+//! the theorem.
 ghost use Rattle.std.specs.Prelude.{◌≤◌, ℕ, List};
 ghost use Rattle.constraint_tree.specs.Depth.{most_deep};
 ghost use Rattle.constraint_tree.specs.Refusal.{IsConstraint};
@@ -22,23 +23,25 @@ pub fn one_answer()
     one_reading();
 }
 
-/// The plan by which a query line is answered is at most 326 deep.
+/// The plan with which a query line is answered has a depth of at most 326.
 pub fn executed_plans_are_not_deep()
-    ensures { (text : List ℕ) (tree : Tree) → IsConstraint text tree → plan_depth (executed_plan tree) ≤ most_deep }
+    ensures { (text : List ℕ) (tree : Tree) → IsConstraint text tree
+        → plan_depth (executed_plan tree) ≤ most_deep }
 {
     plans_are_as_deep_as_trees();
     simplified_plans_are_no_deeper();
 }
 
-/// The contract of `serve` for a query request that ends with status 0 implies the promise of the engine.
+/// If `serve` ends a query request without options with status 0, its contract implies the promise
+/// of the engine (`specs/Promise.antt`).
 pub fn promise_is_kept<R: QueryInput, W: AnswerOutput, E: AnswerOutput>()
     ensures { KeepsThePromise R.QueryInput W.AnswerOutput E.AnswerOutput }
 {
     rising_keeps_the_members();
 }
 
-/// The contract of `serve` for a query request with options that ends with status 0 implies the promise of the
-/// engine under a limit, in a form.
+/// If `serve` ends a query request with options with status 0, its contract implies the promise of
+/// the engine under a limit, in a form (`specs/Promise.antt`).
 pub fn limited_promise_is_kept<R: QueryInput, W: AnswerOutput, E: AnswerOutput>()
     ensures { KeepsTheLimitedPromise R.QueryInput W.AnswerOutput E.AnswerOutput }
 {

@@ -1,5 +1,6 @@
-//! The program: by its engine it answers queries over a SNOMED CT release, one to a line of its input, writes the
-//! plan of each, describes concepts, answers the requests of programs, or reports the contents of a release.
+//! The program and its engine. It answers queries over a SNOMED CT release, one per line of its
+//! input, writes the plan of each query, describes concepts, answers the requests of other
+//! programs, or reports the row counts of a release.
 #![tactic(auto)]
 
 mod answering;

@@ -1,4 +1,4 @@
-//! The plans by which constraints are answered, and which explain them.
+//! The plans with which constraints are answered and explained.
 ghost use Rattle.std.specs.Prelude.{ℕ, ◌≡◌, IfOk};
 ghost use Rattle.rf2_rows.specs.Release.{Release};
 ghost use Rattle.constraint_tree.specs.Denotation.{denotes};
@@ -20,29 +20,35 @@ use rewrites::{Step, apply_all, simplify};
 use set_algebra::lower;
 use std::alloc::{AllocError, Global};
 
-/// Returns the plan by which a constraint is answered, and which explains it: the constraint's own plan, simplified,
-/// with the choice of least bound for each leaf. The plan means what the constraint denotes. The error is want of
-/// memory.
+/// Returns the plan with which a constraint is answered and explained: the constraint's own plan,
+/// simplified, where each leaf has the choice with the least bound. The plan means what the
+/// constraint denotes. If memory is refused, it returns `AllocError`.
 pub fn least_plan(
     alloc: Global,
     constraint: &Constraint,
     indexes: &Indexes,
 ) -> Result<PhysicalPlan, AllocError>
-    ensures plan { IfOk result (λ physical. plan_of physical.plan ≡ executed_plan (tree_of constraint.now)) }
-    ensures chosen { IfOk result (λ physical. physical_of physical.plan ≡ chosen indexes.now (executed_plan (tree_of constraint.now))) }
-    ensures choices { IfOk result (λ physical. physical.choices ≡ least_choices indexes.now (plan_of physical.plan)) }
+    ensures plan { IfOk result (λ physical. plan_of physical.plan
+        ≡ executed_plan (tree_of constraint.now)) }
+    ensures chosen { IfOk result (λ physical. physical_of physical.plan
+        ≡ chosen indexes.now (executed_plan (tree_of constraint.now))) }
+    ensures choices { IfOk result (λ physical. physical.choices
+        ≡ least_choices indexes.now (plan_of physical.plan)) }
     ensures least { IfOk result (λ physical. AreLeast indexes.now (physical_of physical.plan)) }
     ensures meaning { IfOk result (λ physical. (release : Release) (concept : ℕ)
-        → means release (plan_of physical.plan) concept ≡ denotes release (tree_of constraint.now) concept) }
+        → means release (plan_of physical.plan) concept ≡ denotes release (tree_of constraint.now)
+        concept) }
 {
     let own = lower(alloc, constraint)?;
     let physical = choose(alloc, simplify(own), indexes)?;
     Ok(physical)
 }
 
-/// Returns the plan of a constraint after `steps` of rewriting, with `choices`. A step that does not apply is
-/// skipped. Each leaf takes the choice at its place in `choices`, if there is one and the leaf offers it. Whatever
-/// the steps and the choices, the plan means what the constraint denotes. The error is want of memory.
+/// Returns the plan of a constraint after `steps` of rewriting, with `choices`. A step that does
+/// not apply is skipped. `choices` has a choice for each leaf, in the order of
+/// `PhysicalPlan::choices`. A leaf that does not offer its choice, or has none, takes the one with
+/// the least bound. Whatever steps and choices are given, the plan means what the constraint
+/// denotes. If memory is refused, it returns `AllocError`.
 pub fn asked_plan(
     alloc: Global,
     constraint: &Constraint,
@@ -50,10 +56,13 @@ pub fn asked_plan(
     choices: &[Choice],
     indexes: &Indexes,
 ) -> Result<PhysicalPlan, AllocError>
-    ensures plan { IfOk result (λ physical. plan_of physical.plan ≡ (all_applied steps.now (lowered (tree_of constraint.now)) 0).0) }
-    ensures choices { IfOk result (λ physical. physical.choices ≡ choices_with indexes.now choices.now (plan_of physical.plan)) }
+    ensures plan { IfOk result (λ physical. plan_of physical.plan
+        ≡ (all_applied steps.now (lowered (tree_of constraint.now)) 0).0) }
+    ensures choices { IfOk result (λ physical. physical.choices
+        ≡ choices_with indexes.now choices.now (plan_of physical.plan)) }
     ensures meaning { IfOk result (λ physical. (release : Release) (concept : ℕ)
-        → means release (plan_of physical.plan) concept ≡ denotes release (tree_of constraint.now) concept) }
+        → means release (plan_of physical.plan) concept ≡ denotes release (tree_of constraint.now)
+        concept) }
 {
     let own = lower(alloc, constraint)?;
     let (plan, _used) = apply_all(alloc, own, steps)?;

@@ -1,4 +1,4 @@
-//! The program over the words, the streams and the folders of the system.
+//! The program over the command line, the standard streams and the file system of the host.
 
 use crate::serving::serve;
 use command_line::{Request, WordFault, read_words};
@@ -8,8 +8,9 @@ use std::io::ErrorKind;
 use std::{env, io};
 use streams::{FolderSource, StreamInput, StreamOutput, write_all};
 
-/// Does what the words of the command line ask for, over the streams and the folders of the system, and returns how
-/// it ended. A standard stream that is closed fails at its first read or write.
+/// Runs the program: does what the words of the command line ask for, over the standard streams and
+/// the folders of the host, and returns how it ended. If a standard stream is closed, the program
+/// fails at its first read from it or write to it.
 pub fn start(rt: &HostRuntime) -> Status {
     match Closed::filled(rt) {
         Ok(closed) => {
@@ -24,9 +25,10 @@ pub fn start(rt: &HostRuntime) -> Status {
     }
 }
 
-// Three descriptors of a folder, which can be neither read nor written. If standard streams are closed, these take
-// their numbers, which are the lowest free ones. Otherwise the first files of a release would take them, and be read
-// as queries.
+// Three open descriptors of a folder, which can be neither read nor written as files. If standard
+// streams are closed, these descriptors take their numbers, because the host gives out the lowest
+// free numbers. Otherwise the first files of a release would take these numbers, and be read as
+// queries.
 #[derive(Drop)]
 struct Closed {
     _first: File,
@@ -45,7 +47,7 @@ impl Closed {
     }
 }
 
-// Does what the words of the command line ask for.
+// Reads the words of the command line, and does what they ask for.
 fn outcome(rt: &HostRuntime) -> Status {
     match asked(rt) {
         Ok(request) => fulfil(rt, &request),
@@ -79,13 +81,13 @@ fn unread_words(rt: &HostRuntime, error: &io::Error) -> WordFault {
     }
 }
 
-// Serves a request over the folders that it names.
+// Serves `request` over the folders that it names.
 fn fulfil(rt: &HostRuntime, request: &Request) -> Status {
     let mut source = FolderSource::new(rt, request.folders.as_slice());
     fulfil_from(rt, request, &mut source)
 }
 
-// Serves a request over the release of a source, with the streams of the system.
+// Serves `request` over the release in `source`, with the standard streams.
 fn fulfil_from(rt: &HostRuntime, request: &Request, source: &mut FolderSource<'_>) -> Status {
     serve(
         rt.alloc(),

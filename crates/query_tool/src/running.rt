@@ -1,4 +1,4 @@
-//! The run that answers the query lines of an input, and the run that explains them.
+//! Answering or explaining the query lines of an input.
 ghost use Rattle.std.specs.Prelude.{◌≡◌, ◌+◌, ◌^◌, ◌≤◌, false, IfErr, IfOk, IfSome, OnOk, length};
 ghost use Rattle.std.specs.Io.KnownBytes.{IsAtEnd};
 ghost use Rattle.query_run.specs.Fault.{CountsTurns, EndsAt, HaveFailed};
@@ -13,8 +13,9 @@ use query_service::run_in;
 use std::alloc::Global;
 use streams::{AnswerOutput, QueryInput};
 
-/// Answers each query line of an input, in order, as `Engine::answer` does. Returns how many lines were answered, or
-/// why it ended before the input did.
+/// Answers each query line of `input`, in order, as `Engine::answer` does, and writes the answers
+/// to `output`. Returns how many lines were answered, or the fault that ended the run before the
+/// input did.
 pub fn run<R: QueryInput, W: AnswerOutput>(
     alloc: Global,
     engine: &Engine,
@@ -26,20 +27,25 @@ pub fn run<R: QueryInput, W: AnswerOutput>(
     ensures end { OnOk result (IsAtEnd (R.remaining input.new)) }
     ensures count { IfOk result (λ count. IfSome (R.remaining input.old)
         (λ bytes. count ≡ length (query_lines bytes))) }
-    ensures answers { OnOk result (IfSome (R.remaining input.old) (λ bytes.
-        AreWritten (IsAnswer engine.now) (query_lines bytes) (W.written output.old) (W.written output.new))) }
-    ensures sound { OnOk result ((R.has_failed input.new ≡ false) × (W.has_failed output.new ≡ false)) }
-    ensures fault { IfErr result (λ fault. EndsAt fault (IsAnswer engine.now) (R.remaining input.old)
-        (R.remaining input.new) (W.written output.old) (W.written output.new)) }
-    ensures failed { IfErr result (λ fault. HaveFailed fault (R.has_failed input.new) (W.has_failed output.new)) }
-    ensures turns { IfErr result (λ fault. CountsTurns fault (R.read_count input.old) (R.read_count input.new)) }
+    ensures answers { OnOk result (IfSome (R.remaining input.old)
+        (λ bytes. AreWritten (IsAnswer engine.now) (query_lines bytes) (W.written output.old)
+        (W.written output.new))) }
+    ensures not_failed { OnOk result ((R.has_failed input.new ≡ false)
+        × (W.has_failed output.new ≡ false)) }
+    ensures fault { IfErr result (λ fault. EndsAt fault (IsAnswer engine.now)
+        (R.remaining input.old) (R.remaining input.new) (W.written output.old)
+        (W.written output.new)) }
+    ensures failed { IfErr result (λ fault. HaveFailed fault (R.has_failed input.new)
+        (W.has_failed output.new)) }
+    ensures turns { IfErr result (λ fault. CountsTurns fault (R.read_count input.old)
+        (R.read_count input.new)) }
     ensures reads { R.read_count input.new ≤ R.read_count input.old + 2 ^ 40 }
 {
     run_in(alloc, engine, Mode::Query, input, output)
 }
 
-/// Writes for each query line of an input, in order, the explanation that `Engine::explain` appends. Its reads,
-/// writes and faults are those of `run`.
+/// Writes to `output`, for each query line of `input`, in order, the explanation that
+/// `Engine::explain` appends. It reads, writes and fails as `run` does.
 pub fn run_explain<R: QueryInput, W: AnswerOutput>(
     alloc: Global,
     engine: &Engine,
@@ -51,13 +57,18 @@ pub fn run_explain<R: QueryInput, W: AnswerOutput>(
     ensures end { OnOk result (IsAtEnd (R.remaining input.new)) }
     ensures count { IfOk result (λ count. IfSome (R.remaining input.old)
         (λ bytes. count ≡ length (query_lines bytes))) }
-    ensures answers { OnOk result (IfSome (R.remaining input.old) (λ bytes.
-        AreWritten (IsExplanation engine.now) (query_lines bytes) (W.written output.old) (W.written output.new))) }
-    ensures sound { OnOk result ((R.has_failed input.new ≡ false) × (W.has_failed output.new ≡ false)) }
-    ensures fault { IfErr result (λ fault. EndsAt fault (IsExplanation engine.now) (R.remaining input.old)
-        (R.remaining input.new) (W.written output.old) (W.written output.new)) }
-    ensures failed { IfErr result (λ fault. HaveFailed fault (R.has_failed input.new) (W.has_failed output.new)) }
-    ensures turns { IfErr result (λ fault. CountsTurns fault (R.read_count input.old) (R.read_count input.new)) }
+    ensures answers { OnOk result (IfSome (R.remaining input.old)
+        (λ bytes. AreWritten (IsExplanation engine.now) (query_lines bytes) (W.written output.old)
+        (W.written output.new))) }
+    ensures not_failed { OnOk result ((R.has_failed input.new ≡ false)
+        × (W.has_failed output.new ≡ false)) }
+    ensures fault { IfErr result (λ fault. EndsAt fault (IsExplanation engine.now)
+        (R.remaining input.old) (R.remaining input.new) (W.written output.old)
+        (W.written output.new)) }
+    ensures failed { IfErr result (λ fault. HaveFailed fault (R.has_failed input.new)
+        (W.has_failed output.new)) }
+    ensures turns { IfErr result (λ fault. CountsTurns fault (R.read_count input.old)
+        (R.read_count input.new)) }
     ensures reads { R.read_count input.new ≤ R.read_count input.old + 2 ^ 40 }
 {
     run_in(alloc, engine, Mode::Explain, input, output)

@@ -1,4 +1,4 @@
-//! The service, with `Engine` as its engine.
+//! The service of the program, with `Engine` as its engine.
 ghost use Rattle.std.specs.Prelude.{◌≡◌, false, string_bytes};
 ghost use Rattle.query_service.specs.ModeAnswer.{form_of};
 ghost use Rattle.query_service.specs.Report.{report_of};
@@ -16,7 +16,7 @@ use query_service::{QueryEngine, Status};
 use release_files::{FileSource, NamedBytes};
 use snapshot::{Limits, LoadFault, LoadSnapshot, Report, Snapshot};
 use std::alloc::Global;
-use streams::{AnswerFault, AnswerOutput, Piece, QueryInput};
+use streams::{AnswerFault, AnswerOutput, OutputBuffer, QueryInput};
 
 impl QueryEngine for Engine {
     ghost contents = { λ engine. engine };
@@ -58,24 +58,24 @@ impl QueryEngine for Engine {
         alloc: Global,
         mode: Mode,
         line: &[u8],
-        piece: &mut Piece,
+        buffer: &mut OutputBuffer,
         output: &mut W,
     ) -> Result<(), AnswerFault> {
         match mode {
-            Mode::Sample | Mode::Query => self.write_answer(alloc, line, piece, output),
+            Mode::Sample | Mode::Query => self.write_answer(alloc, line, buffer, output),
             Mode::QueryWith(options) => {
                 let form = form_of(options);
-                self.write_within(alloc, line, options.limit, form, piece, output)
+                self.write_within(alloc, line, options.limit, form, buffer, output)
             }
-            Mode::Explain => write_explanation(alloc, self, line, piece, output),
-            Mode::Describe => write_description(alloc, self, line, piece, output),
-            Mode::Session => write_request(alloc, self, line, piece, output),
-            Mode::Check => put_text(b"", piece, output),
+            Mode::Explain => write_explanation(alloc, self, line, buffer, output),
+            Mode::Describe => write_description(alloc, self, line, buffer, output),
+            Mode::Session => write_request(alloc, self, line, buffer, output),
+            Mode::Check => put_text(b"", buffer, output),
         }
     }
 }
 
-// Returns the form of the answers that options ask for.
+// Returns the form of answers that the options of `query` ask for.
 fn form_of(options: QueryOptions) -> AnswerForm
     ensures { result ≡ form_of options }
 {
@@ -86,7 +86,7 @@ fn form_of(options: QueryOptions) -> AnswerForm
     }
 }
 
-// Returns the report of a release, and drops the release.
+// Returns the row counts of a release, and drops the release.
 fn report_and_drop(snapshot: Snapshot) -> Report
     ensures { result ≡ report_of snapshot }
 {
@@ -95,11 +95,13 @@ fn report_and_drop(snapshot: Snapshot) -> Report
     report
 }
 
-/// Serves a request over the built-in release or the release of a source's files. `Sample` and `Query` answer the
-/// query lines of the input, `QueryWith` answers them under its options, `Explain` writes the plan of each,
-/// `Describe` writes what the release has of the concept that each names, and `Session` answers the request in each.
-/// `Check` writes what the release has, and reads nothing. Nothing is written before the release is loaded. A
-/// refusal or a fault is told by one line on `errors`, whose own failure changes nothing.
+/// Serves `request`, and returns how it ended. It loads the built-in release or the files of
+/// `source`, then does what the mode says. `Sample` and `Query` answer the query lines of `input`,
+/// and `QueryWith` does so under its options. `Explain` writes each line's plan. `Describe` writes
+/// what the release says of the concept that each line names. `Session` answers the request in each
+/// line. `Check` writes the row counts of the release, and reads no input. Nothing is written to
+/// `output` before the release is loaded. A refusal or a fault is reported by one line on `errors`;
+/// if `errors` fails too, that changes nothing.
 pub fn serve<S: FileSource, R: QueryInput, W: AnswerOutput, E: AnswerOutput>(
     alloc: Global,
     request: &Request,
@@ -111,9 +113,8 @@ pub fn serve<S: FileSource, R: QueryInput, W: AnswerOutput, E: AnswerOutput>(
     requires input { R.has_failed input.old ≡ false }
     requires output { W.has_failed output.old ≡ false }
     requires errors { E.AnswerOutput.has_failed errors.old ≡ false }
-    ensures served { (task : Task)
-        × IsTask (S.files source.old) (S.history source.old) (S.history source.new) (string_bytes request.now.lang)
-        request.now.mode task
+    ensures served { (task : Task) × IsTask (S.files source.old) (S.history source.old)
+        (S.history source.new) (string_bytes request.now.lang) request.now.mode task
         × EndsWith R.QueryInput W.AnswerOutput E.AnswerOutput task result
         (streams input.old output.old errors.old) (streams input.new output.new errors.new) }
     ensures untouched { request.now.mode ≡ Mode.Sample → source.new ≡ source.old }

@@ -5,26 +5,26 @@ use Rattle.std.proofs.lemmas.List.Sums.{sum_by-take-le, sum_by_more, sum_by_more
 use Rattle.reading.specs.Counted.{CountsWithin, HandsOut, full}
 use Rattle.reading.specs.declared.counter.Counter.{Counter}
 
--- a counter that did not change counts within any bound `most`
+-- a call that leaves the counter unchanged counts at most `most`, whatever that is
 pub counted_none : {most : ℕ} {early : Counter} → CountsWithin most early early
 counted_none = record { grows = omega arith; within = omega arith }
 
--- a call that hands out `items` items counts within `most`, if `items` is at most `most`
+-- a call that hands out `items` items counts at most `most`, if `items` is at most `most`
 pub counted_out : {items most : ℕ} {early late : Counter} → HandsOut items early late → items ≤ most
     → CountsWithin most early late
 counted_out out room = record { grows = out.grows; within = omega (arith, out.count, room) }
 
--- a count within `first` is within any bound `all` that is at least `first`
+-- a call that counts at most `first` counts at most `all`, if `first` is at most `all`
 pub counted_in : {first all : ℕ} {early late : Counter} → CountsWithin first early late → first ≤ all
     → CountsWithin all early late
 counted_in one room = record { grows = one.grows; within = omega (arith, one.within, room) }
 
--- a count within `items` is within `most`, if `items`, cut to 64 bits, is at most `most`
+-- a call that counts at most `items` counts at most `most`, if `items`, saturated at 2^64 - 1, is at most `most`
 pub counted_full : {items most : ℕ} {early late : Counter} → CountsWithin items early late → full items ≤ most
     → CountsWithin most early late
 counted_full {late = late} one room = record { grows = one.grows; within = omega (arith, one.within, room, late.fits) }
 
--- two calls in a row count within `all`, if the sum of their bounds is at most `all`
+-- two successive calls together count at most `all`, if their bounds add up to at most `all`
 pub counted_both : {first second all : ℕ} {early between late : Counter} → CountsWithin first early between
     → CountsWithin second between late → first + second ≤ all → CountsWithin all early late
 counted_both one other room = record {
@@ -32,12 +32,12 @@ counted_both one other room = record {
   within = omega (arith, one.within, other.within, room);
 }
 
--- two calls in a row count within the sum of their bounds
+-- two successive calls together count at most the sum of their bounds
 pub counted_then : {first second : ℕ} {early between late : Counter} → CountsWithin first early between
     → CountsWithin second between late → CountsWithin (first + second) early late
 counted_then one other = counted_both one other (omega arith)
 
--- three calls in a row count within `all`, if the sum of their bounds is at most `all`
+-- three successive calls together count at most `all`, if their bounds add up to at most `all`
 pub counted_thrice : {first second third all : ℕ} {early one two late : Counter} → CountsWithin first early one
     → CountsWithin second one two → CountsWithin third two late → (first + second) + third ≤ all
     → CountsWithin all early late
@@ -47,22 +47,24 @@ counted_thrice one other last room = record {
 }
 
 module _ (count : ℕ → ℕ) (numbers : List ℕ) (k : ℕ) where
-  -- if the calls for the first `k` numbers count within their sum, they and the call for the next number count within
-  -- the sum of the first `k + 1`
+  -- if the calls for the first `k` numbers count at most their sum, then with the call for number `k` they count at
+  -- most the sum of the first `k + 1`
   pub counted_next : {early between late : Counter} → k < length numbers
-      → CountsWithin (sum_by count (take k numbers)) early between → CountsWithin (count (get_or numbers k 0)) between late
+      → CountsWithin (sum_by count (take k numbers)) early between
+      → CountsWithin (count (get_or numbers k 0)) between late
       → CountsWithin (sum_by count (take (k + 1) numbers)) early late
   counted_next inside one other =
       counted_both one other (omega (arith, sum_by_more count numbers k 0 inside))
 
-  -- the calls for the first `k` numbers and the call for the next one count within the sum over all numbers
+  -- the calls for the first `k` numbers and the call for number `k` together count at most the sum over all numbers
   pub counted_some : {early between late : Counter} → k < length numbers
-      → CountsWithin (sum_by count (take k numbers)) early between → CountsWithin (count (get_or numbers k 0)) between late
+      → CountsWithin (sum_by count (take k numbers)) early between
+      → CountsWithin (count (get_or numbers k 0)) between late
       → CountsWithin (sum_by count numbers) early late
   counted_some inside one other =
       counted_both one other (omega (arith, sum_by_more_le count numbers k 0 inside))
 
-  -- the calls for the first `k` numbers count within the sum over all numbers
+  -- the calls for the first `k` numbers count at most the sum over all numbers
   pub counted_all : {early late : Counter} → CountsWithin (sum_by count (take k numbers)) early late
       → CountsWithin (sum_by count numbers) early late
   counted_all one = counted_in one (sum_by-take-le count numbers k)

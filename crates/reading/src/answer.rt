@@ -1,4 +1,4 @@
-//! The set that a part of a plan has found.
+//! The set that a part of a plan has found, behind calls that count what is read.
 ghost use Rattle.std.specs.Prelude.{◌≡◌, ◌<◌, ◌+◌, All, IfOk, length, OnErr, OnOk};
 ghost use Rattle.std.specs.List.{range_with_len};
 ghost use Rattle.idset.specs.Sets.{all_items, common_items, other_items};
@@ -12,10 +12,11 @@ use idset::ConceptSet;
 use std::alloc::{AllocError, Global};
 use std::marker::Model;
 
-/// The set that a part of a plan has found. The set is private, and each item that a call hands out is counted.
-/// Contracts see an answer as its set.
+/// The set that a part of a plan has found. The set itself is private, and every call that hands
+/// out items counts them. Contracts see an answer as its set.
 ///
-/// A call that returns `AllocError` found no memory; it has counted what it would have read.
+/// A call that returns `AllocError` ran out of memory; it has counted the items that it would have
+/// read.
 #[derive(Drop)]
 pub struct Answer<S> {
     set: S,
@@ -35,7 +36,7 @@ impl<S: ConceptSet> Answer<S> {
         Answer { set }
     }
 
-    /// Makes the set of the items of a rising list.
+    /// Creates the answer with the numbers in `items`, which must rise and be below `bound`.
     pub fn from_items(alloc: Global, items: &[u32], bound: u32) -> Result<Answer<S>, AllocError>
         requires { IsRisingBelow bound items.now }
         ensures items { IfOk result (λ found. S.items_of found ≡ items.now) }
@@ -45,7 +46,8 @@ impl<S: ConceptSet> Answer<S> {
         Ok(Answer { set })
     }
 
-    /// Makes the set of the numbers of a list in any order, which may name a number more than once.
+    /// Creates the answer with the numbers in `numbers`, which must be below `bound` and may come
+    /// in any order and repeatedly.
     pub fn from_numbers(alloc: Global, numbers: &[u32], bound: u32) -> Result<Answer<S>, AllocError>
         requires { All (λ number. number < bound) numbers.now }
         ensures items { IfOk result (λ found. S.items_of found ≡ listed_numbers bound numbers.now) }
@@ -55,28 +57,31 @@ impl<S: ConceptSet> Answer<S> {
         Ok(Answer { set })
     }
 
-    /// Makes the set of the numbers whose bit is set in words of 64 bits, the lowest bit first.
+    /// Creates the answer with the numbers whose bits are set in the bitmap `words`: 64 bits a
+    /// word, the lowest bit first. No bit at or above `bound` may be set.
     pub fn from_words(alloc: Global, words: &[u64], bound: u32) -> Result<Answer<S>, AllocError>
         requires { AreWordsBelow bound words.now }
-        ensures items { IfOk result (λ found. S.items_of found ≡ numbers_where bound (is_set words.now)) }
+        ensures items { IfOk result (λ found. S.items_of found
+            ≡ numbers_where bound (is_set words.now)) }
         ensures bound { IfOk result (λ found. S.bound_of found ≡ bound) }
     {
         let set = S::from_words(alloc, words, bound)?;
         Ok(Answer { set })
     }
 
-    /// Adds the items of a rising list.
+    /// Adds the numbers in `items`, which must rise and be below the bound. Without memory the set
+    /// stays as it was.
     pub fn add_all(&mut self, alloc: Global, items: &[u32]) -> Result<(), AllocError>
         requires { IsRisingBelow (S.bound_of self.old) items.now }
-        ensures items { OnOk result
-            (S.items_of self.new ≡ all_items (S.bound_of self.old) (S.items_of self.old) items.now) }
+        ensures items { OnOk result (S.items_of self.new
+            ≡ all_items (S.bound_of self.old) (S.items_of self.old) items.now) }
         ensures err { OnErr result (S.items_of self.new ≡ S.items_of self.old) }
         ensures bound { S.bound_of self.new ≡ S.bound_of self.old }
     {
         self.set.add_all(alloc, items)
     }
 
-    /// Makes the set of all numbers below `bound`.
+    /// Creates the answer with all numbers below `bound`.
     pub fn every(alloc: Global, bound: u32) -> Result<Answer<S>, AllocError>
         ensures items { IfOk result (λ found. S.items_of found ≡ range_with_len 0 bound) }
         ensures bound { IfOk result (λ found. S.bound_of found ≡ bound) }
@@ -85,14 +90,14 @@ impl<S: ConceptSet> Answer<S> {
         Ok(Answer { set })
     }
 
-    /// Takes the set out of the answer.
+    /// Returns the set of the answer, and ends the answer.
     pub(crate) fn into_set(self) -> S
         ensures { result ≡ self }
     {
         self.set
     }
 
-    /// Copies the items in rising order into a list, and counts them.
+    /// Copies the items into a list, in rising order. Counts each item.
     pub fn items(&self, alloc: Global, visits: &mut Counter) -> Result<Vec<u32>, AllocError>
         ensures items { IfOk result (λ items. items.items ≡ S.items_of self.now) }
         ensures counted { HandsOut (length (S.items_of self.now)) visits.old visits.new }
@@ -101,14 +106,15 @@ impl<S: ConceptSet> Answer<S> {
         self.set.items(alloc)
     }
 
-    // Counts the items of two answers, for a caller that reads both.
+    // Counts the items of both answers, for a caller that reads both.
     fn count_with(&self, other: &Answer<S>, visits: &mut Counter)
-        ensures { HandsOut (length (S.items_of self.now) + length (S.items_of other.now)) visits.old visits.new }
+        ensures { HandsOut (length (S.items_of self.now) + length (S.items_of other.now)) visits.old
+            visits.new }
     {
         visits.add(u64::from(self.set.count()) + u64::from(other.set.count()));
     }
 
-    /// Joins two answers: the items that are in one of them, or in both. Counts the items of both answers.
+    /// Returns the items that are in this answer, in `other`, or in both. Counts the items of both.
     pub fn or(
         &self,
         alloc: Global,
@@ -116,18 +122,18 @@ impl<S: ConceptSet> Answer<S> {
         visits: &mut Counter,
     ) -> Result<Answer<S>, AllocError>
         requires { S.bound_of self.now ≡ S.bound_of other.now }
-        ensures items { IfOk result
-            (λ found. S.items_of found ≡ all_items (S.bound_of self.now) (S.items_of self.now) (S.items_of other.now)) }
+        ensures items { IfOk result (λ found. S.items_of found
+            ≡ all_items (S.bound_of self.now) (S.items_of self.now) (S.items_of other.now)) }
         ensures bound { IfOk result (λ found. S.bound_of found ≡ S.bound_of self.now) }
-        ensures counted { HandsOut (length (S.items_of self.now) + length (S.items_of other.now)) visits.old
-            visits.new }
+        ensures counted { HandsOut (length (S.items_of self.now) + length (S.items_of other.now))
+            visits.old visits.new }
     {
         self.count_with(other, visits);
         let set = self.set.or(alloc, &other.set)?;
         Ok(Answer { set })
     }
 
-    /// Keeps the items of this answer that are not in `other`. Counts the items of both answers.
+    /// Returns the items of this answer that are not in `other`. Counts the items of both.
     pub fn minus(
         &self,
         alloc: Global,
@@ -138,27 +144,28 @@ impl<S: ConceptSet> Answer<S> {
         ensures items { IfOk result
             (λ found. S.items_of found ≡ other_items (S.items_of self.now) (S.items_of other.now)) }
         ensures bound { IfOk result (λ found. S.bound_of found ≡ S.bound_of self.now) }
-        ensures counted { HandsOut (length (S.items_of self.now) + length (S.items_of other.now)) visits.old
-            visits.new }
+        ensures counted { HandsOut (length (S.items_of self.now) + length (S.items_of other.now))
+            visits.old visits.new }
     {
         self.count_with(other, visits);
         let set = self.set.minus(alloc, &other.set)?;
         Ok(Answer { set })
     }
 
-    /// Keeps the items of this answer that are in `other`. Each item is tested, and a test counts nothing.
+    /// Returns the items of this answer that are in `other`. Counts nothing, since the sets are
+    /// only tested for membership.
     pub fn and(&self, alloc: Global, other: &Answer<S>) -> Result<Answer<S>, AllocError>
         requires { S.bound_of self.now ≡ S.bound_of other.now }
-        ensures items { IfOk result
-            (λ found. S.items_of found ≡ common_items (S.items_of self.now) (S.items_of other.now)) }
+        ensures items { IfOk result (λ found. S.items_of found
+            ≡ common_items (S.items_of self.now) (S.items_of other.now)) }
         ensures bound { IfOk result (λ found. S.bound_of found ≡ S.bound_of self.now) }
     {
         let set = self.set.and(alloc, &other.set)?;
         Ok(Answer { set })
     }
 
-    /// Returns an answer with an equal set, in the form that tests fastest whether it has a number: for tests of
-    /// many numbers.
+    /// Returns an answer with an equal set, in the form that is fastest to test for membership.
+    /// Worthwhile before many tests.
     pub fn for_asking(self, alloc: Global) -> Result<Answer<S>, AllocError>
         ensures items { IfOk result (λ found. S.items_of found ≡ S.items_of self) }
         ensures bound { IfOk result (λ found. S.bound_of found ≡ S.bound_of self) }
@@ -167,21 +174,22 @@ impl<S: ConceptSet> Answer<S> {
         Ok(Answer { set })
     }
 
-    /// The bound: every item is below it.
+    /// Returns the bound: every item is below it.
     pub fn bound(&self) -> u32
         ensures { result ≡ S.bound_of self.now }
     {
         self.set.bound()
     }
 
-    /// Tests whether `number` is among the items, and counts nothing. A number at or above the bound is not.
+    /// Returns whether `number` is among the items. A number at or above the bound is not. Counts
+    /// nothing.
     pub fn has(&self, number: u32) -> bool
         ensures { result ≡ has (S.items_of self.now) number }
     {
         self.set.has(number)
     }
 
-    /// Returns how many items there are. Reads none of them.
+    /// Returns how many items there are. Counts nothing.
     pub fn count(&self) -> u32
         ensures { result ≡ length (S.items_of self.now) }
     {

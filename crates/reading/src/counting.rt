@@ -1,4 +1,4 @@
-//! The calls of `Counter`, which counts items.
+//! The calls of `Counter`.
 ghost use Rattle.std.specs.Prelude.{◌≡◌, ◌≤◌, ◌+◌, max};
 ghost use Rattle.reading.specs.Counted.{full};
 
@@ -7,7 +7,7 @@ use crate::counter::{Counter, Visits};
 use idset::ConceptSet;
 
 impl Counter {
-    // Makes a counter that begins with what was counted before.
+    // Creates a counter that goes on from `visits`.
     pub(crate) fn from(visits: Visits) -> Counter
         ensures { result.count ≡ visits.count }
     {
@@ -16,21 +16,21 @@ impl Counter {
         }
     }
 
-    /// How many items were counted so far.
+    /// Returns how many items were counted.
     pub fn count(&self) -> u64
         ensures { result ≡ self.now.count }
     {
         self.count
     }
 
-    /// Returns the count so far as a value that can be copied.
+    /// Returns the count as a value that can be copied.
     pub fn visits(&self) -> Visits
         ensures { result.count ≡ self.now.count }
     {
         Visits { count: self.count }
     }
 
-    /// Takes the set out of an answer. This uses up the counter, so that nothing more can be read.
+    /// Returns the set of `answer`. This ends the counter, so nothing more can be read.
     pub fn close<S: ConceptSet>(self, answer: Answer<S>) -> S
         ensures { result ≡ answer }
     {
@@ -38,7 +38,7 @@ impl Counter {
         answer.into_set()
     }
 
-    /// Adds `items`, and stops at `u64::MAX`.
+    /// Adds `items` to the count, which saturates at `u64::MAX`.
     pub fn add(&mut self, items: u64)
         ensures count { self.new.count ≡ full (self.old.count + items) }
         ensures grows { self.old.count ≤ self.new.count }
@@ -48,8 +48,9 @@ impl Counter {
         };
     }
 
-    /// Raises the count to `since + floor` if it is lower, and stops at `u64::MAX`. `since` is the count before a
-    /// node ran, and `floor` is how many items the node visits at least.
+    /// Raises the count to `since + floor`, if it is lower. `since` is the count before a node was
+    /// executed, and `floor` is how many items the node must count at least. The sum saturates at
+    /// `u64::MAX`.
     pub fn fill(&mut self, since: u64, floor: u64)
         ensures count { self.new.count ≡ max self.old.count (full (since + floor)) }
         ensures grows { self.old.count ≤ self.new.count }

@@ -1,9 +1,9 @@
-//! The only way in which the crates that execute plans read.
+//! The only way in which the crates that execute plans read data.
 //!
-//! A `Reader` has the lists of a release and of its indexes. An `Answer` has what a part of a plan has found. Both
-//! keep these private. A `Counter` counts each item that one of them hands out. Nobody can copy a counter, and only
-//! the call that opens a reader makes one, so the crates above count all that they read. Lengths, look-ups by
-//! number and tests of membership count nothing.
+//! A `Reader` holds the lists of a release and of its indexes, and an `Answer` holds what a part of
+//! a plan has found. Both keep their data private, and a `Counter` counts each item that they hand
+//! out. A counter cannot be copied, and only `Reader::open` creates one, so the crates above count
+//! everything that they read. Lengths, look-ups by number and tests of membership count nothing.
 #![tactic(auto)]
 
 mod answer;

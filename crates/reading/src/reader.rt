@@ -1,4 +1,4 @@
-//! A release that is opened to be read.
+//! A release that is open for reading.
 ghost use Rattle.std.specs.Prelude.{◌≡◌, length};
 ghost use Rattle.std.specs.List.Sorted.{IsStrictlyIncreasing};
 ghost use Rattle.std.proofs.Props.{props};
@@ -10,28 +10,31 @@ use held_release::Snapshot;
 use postings::Indexes;
 use std::alloc::Global;
 
-/// A release with its indexes, and the allocator. A reader lends neither the release nor the indexes: the crates
-/// that execute plans take lists from the calls of a reader, which count the items. `bench/uncounted.py` shows that
-/// the program opens one reader, and reads nothing past it.
+/// A release with its indexes and the allocator. Both the release and the indexes are private: the
+/// crates that execute plans get lists only from the calls of a reader, which count the items.
+/// `bench/uncounted.py` shows that the program opens one reader, and reads nothing past it.
 #[derive(Clone, Copy)]
 pub struct Reader<'a> {
     /// The allocator.
     pub alloc: Global,
     pub(crate) snapshot: &'a Snapshot,
     pub(crate) indexes: &'a Indexes,
-    // the indexes are those of the release, whose concepts rise
+    // for the prover: the indexes are those of the release, whose concepts rise
     pub ghost index: { IsIndexOf indexes.now snapshot.now.release } by { Prim.hlevel props },
-    pub ghost rising: { IsStrictlyIncreasing snapshot.now.release.concepts } by { Prim.hlevel props },
-    // the sources of all attribute rows are in force
-    pub ghost by_source: { length (attributes_by_source snapshot.now.release) ≡ length snapshot.now.release.attributes },
-    // each concept has its lists in the hierarchy, and a list of components
-    pub ghost lists: { HasListsFor (length indexes.now.concepts) indexes.now.hierarchy } by { Prim.hlevel props },
+    pub ghost rising: { IsStrictlyIncreasing
+        snapshot.now.release.concepts } by { Prim.hlevel props },
+    // for the prover: the source of each attribute row is in force
+    pub ghost by_source: { length (attributes_by_source snapshot.now.release)
+        ≡ length snapshot.now.release.attributes },
+    // for the prover: the hierarchy and `members` have a list for each concept
+    pub ghost lists: { HasListsFor (length indexes.now.concepts)
+        indexes.now.hierarchy } by { Prim.hlevel props },
     pub ghost members: { length indexes.now.members ≡ length indexes.now.concepts },
 }
 
 impl<'a> Reader<'a> {
-    /// Opens a release and its indexes to be read, and makes the counter, which begins with what was counted
-    /// before.
+    /// Opens a release and its indexes for reading. Also returns the counter, which goes on from
+    /// `visits`.
     pub fn open(
         alloc: Global,
         snapshot: &'a Snapshot,
@@ -43,7 +46,7 @@ impl<'a> Reader<'a> {
         ensures indexes { result.0.indexes.now ≡ indexes.now }
         ensures count { result.1.count ≡ visits.count }
     {
-        // the concepts rise, and each has its lists
+        // these calls tell the prover that the concepts rise, and that each has its lists
         snapshot.concept_count();
         snapshot.attribute_count();
         indexes.stats();

@@ -1,4 +1,5 @@
-//! The program once more, for a stored run over the folders of two packages that are refused (`data`, `args`, `status`).
+//! The program again, for a stored run over the folders of two packages that are refused together
+//! (`data`, `args`, `status`).
 #![tactic(auto)]
 
 use query_tool::start;

@@ -1,5 +1,5 @@
-//! The program once more, for a stored run over words that name no folder (`args`, `status`): what is told of them
-//! stands on standard error, and nothing on standard output.
+//! The program again, for a stored run whose words name no folder (`args`, `status`). It reports
+//! them on standard error, and writes nothing to standard output.
 #![tactic(auto)]
 
 use query_tool::start;

@@ -10,7 +10,8 @@ unfolding lines_of
 each_end = refl
 
 -- an empty line is a line, and so is a last CR
-empty_lines : lines_of (10 ∷ 13 ∷ []) ≡ record { number = 1; end = 1; bytes = [] } ∷ record { number = 2; end = 2; bytes = [] } ∷ []
+empty_lines : lines_of (10 ∷ 13 ∷ []) ≡ record { number = 1; end = 1; bytes = [] }
+    ∷ record { number = 2; end = 2; bytes = [] } ∷ []
 unfolding lines_of
 empty_lines = refl
 

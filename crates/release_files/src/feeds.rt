@@ -1,4 +1,4 @@
-//! Looking for the line feed that ends a line, 64 bytes at a time.
+//! Searches for the line feed that ends a line, 64 bytes at a time.
 ghost use Rattle.std.specs.Prelude.{◌≡◌, ◌+◌, ◌≤◌, drop, length, take};
 ghost use Rattle.release_files.specs.inside.Feeds.{IsFirstFeed, feed_bits};
 
@@ -8,8 +8,8 @@ use std::simd::prelude::*;
 
 const BLOCK: usize = 64;
 
-/// Returns the index of the first line feed, if there is one. It is mostly near: a line has two or three
-/// blocks.
+/// Returns the index of the first line feed in `bytes`, if there is one. Looks at blocks of 64
+/// bytes, since a line mostly has only two or three.
 #[inline]
 pub fn first_feed(bytes: &[u8]) -> Option<usize>
     ensures { IsFirstFeed bytes.now result }
@@ -29,7 +29,8 @@ pub fn first_feed(bytes: &[u8]) -> Option<usize>
     }
 }
 
-// The line feeds among the 64 bytes from `place` on, one bit for each byte.
+// Returns a bitmap of the line feeds among the 64 bytes from index `place` on. The first byte has
+// the lowest bit.
 #[inline]
 fn feeds_at(bytes: &[u8], place: usize) -> u64
     requires { place + 64 ≤ length bytes.now }
@@ -38,7 +39,7 @@ fn feeds_at(bytes: &[u8], place: usize) -> u64
     feeds(u8x64::from_slice(&bytes[place..]))
 }
 
-// The line feeds of a block of 64 bytes, one bit for each byte.
+// Returns a bitmap of the line feeds in a block of 64 bytes.
 #[inline]
 fn feeds(block: u8x64) -> u64
     ensures { result ≡ feed_bits block }

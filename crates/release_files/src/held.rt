@@ -1,4 +1,4 @@
-//! The bytes of a file that were read in pieces and not yet cut into lines.
+//! The buffer of a file that is read in pieces: bytes that were read and not yet cut into lines.
 ghost use Rattle.std.specs.Prelude.{◌≡◌, ◌+◌, ◌-◌, ◌^◌, ◌<◌, ◌≤◌, ◌⊎◌, IfOk, MatchOption, MatchResult, OnOk, [], length, drop, slice_range, take, vec_len};
 ghost use Rattle.std.specs.Io.KnownBytes.{Consumes, IsAtEnd};
 ghost use Rattle.release_files.specs.Held.{BeginsWithPart, GrowsBy, IsEndedPart, KeepsBytes, ReadsOn, TakesWithin, reachable};
@@ -13,8 +13,9 @@ use std::marker::Model;
 // The number of bytes that are read at once.
 const PIECE_LENGTH: usize = 65_536;
 
-/// The bytes of a file that were taken last, those after them that were read, and how many may still be read.
-/// Contracts see these three.
+/// A buffer for a file that is read in pieces. Contracts name this type as three things: the bytes
+/// that were taken last (the current line), the bytes after them that were read, and how many more
+/// bytes may be read.
 #[derive(Debug, Drop)]
 pub struct Held {
     buffer: Vec<u8>,
@@ -36,11 +37,12 @@ impl Model for Held {
       left = held.left;
     } };
 
-    ghost invariant = { λ held. (held.from ≤ held.start) × (held.start ≤ held.filled) × (held.filled ≤ vec_len held.buffer) };
+    ghost invariant = { λ held. (held.from ≤ held.start) × (held.start ≤ held.filled)
+        × (held.filled ≤ vec_len held.buffer) };
 }
 
 impl Held {
-    /// Holds no byte; `left` bytes may be read. Takes no memory.
+    /// Creates an empty buffer that may read `left` bytes. Allocates nothing.
     pub fn new(alloc: Global, left: u64) -> Held
         ensures bytes { result.bytes ≡ [] }
         ensures left { result.left ≡ left }
@@ -54,7 +56,7 @@ impl Held {
         }
     }
 
-    /// The bytes that were taken last.
+    /// Returns the bytes that the last call of `take` took.
     pub fn taken(&self) -> &[u8]
         ensures { result.now ≡ self.now.taken }
     {
@@ -63,7 +65,7 @@ impl Held {
         &all[from..start]
     }
 
-    /// The bytes after those that were taken.
+    /// Returns the bytes that were read and not yet taken.
     pub fn bytes(&self) -> &[u8]
         ensures { result.now ≡ self.now.bytes }
     {
@@ -72,7 +74,8 @@ impl Held {
         &all[start..filled]
     }
 
-    /// Takes the next `count` bytes.
+    /// Takes the next `count` bytes of `bytes`, which `taken` then returns. `bytes` must have as
+    /// many.
     pub fn take(&mut self, count: usize)
         requires { count ≤ length self.old.bytes }
         ensures taken { self.new.taken ≡ take count self.old.bytes }
@@ -83,16 +86,19 @@ impl Held {
         self.start += count;
     }
 
-    /// Reads the next piece of the source's open file. Returns how many bytes it has: 0 only at the end of the
-    /// file, or if no more may be read.
+    /// Appends the next piece of the source's open file to `bytes`. Returns how many bytes it has:
+    /// 0 only at the end of the file, or if no more may be read.
     pub fn read_piece<S: FileSource>(&mut self, source: &mut S) -> Result<usize, SourceFault>
-        ensures piece { IfOk result (λ count. GrowsBy (reachable self.old.left (S.rest source.old)) (reachable self.new.left (S.rest source.new)) self.old.bytes self.new.bytes count) }
+        ensures piece { IfOk result (λ count. GrowsBy (reachable self.old.left (S.rest source.old))
+            (reachable self.new.left (S.rest source.new)) self.old.bytes self.new.bytes count) }
         ensures counted { IfOk result (λ count. self.new.left + count ≡ self.old.left) }
         ensures room { length self.new.bytes < 2 ^ 64 }
-        ensures bounded { OnOk result (TakesWithin (S.rest source.old) (S.rest source.new) self.old.left self.new.left) }
+        ensures bounded { OnOk result (TakesWithin (S.rest source.old) (S.rest source.new)
+            self.old.left self.new.left) }
         ensures files { S.files source.new ≡ S.files source.old }
         ensures failures { FailsAtOpened result (S.history source.old) (S.history source.new) }
-        ensures history { ReadsOn (S.history source.old) (S.history source.new) self.old.left self.new.left }
+        ensures history { ReadsOn (S.history source.old) (S.history source.new) self.old.left
+            self.new.left }
     {
         let length = self.filled - self.start;
         move_to_front(self.buffer.as_mut_slice(), self.start, self.filled);
@@ -103,24 +109,29 @@ impl Held {
             return Err(SourceFault::Memory);
         }
         let room = self.left.min(PIECE_LENGTH as u64) as usize;
-        let count = read_behind(source, self.buffer.as_mut_slice(), length, room)?;
+        let count = read_after(source, self.buffer.as_mut_slice(), length, room)?;
         self.filled += count;
         self.left -= count as u64;
         Ok(count)
     }
 
-    /// Reads on until at least `count` bytes are held or the file has ended.
+    /// Reads on until `bytes` has at least `count` bytes, or the file has ended, or no more may be
+    /// read.
     pub fn read_at_least<S: FileSource>(
         &mut self,
         count: usize,
         source: &mut S,
     ) -> Result<(), SourceFault>
-        ensures kept { OnOk result (KeepsBytes (reachable self.old.left (S.rest source.old)) (reachable self.new.left (S.rest source.new)) self.old.bytes self.new.bytes) }
-        ensures enough { OnOk result ((count ≤ length self.new.bytes) ⊎ IsAtEnd (reachable self.new.left (S.rest source.new))) }
-        ensures bounded { OnOk result (TakesWithin (S.rest source.old) (S.rest source.new) self.old.left self.new.left) }
+        ensures kept { OnOk result (KeepsBytes (reachable self.old.left (S.rest source.old))
+            (reachable self.new.left (S.rest source.new)) self.old.bytes self.new.bytes) }
+        ensures enough { OnOk result ((count ≤ length self.new.bytes)
+            ⊎ IsAtEnd (reachable self.new.left (S.rest source.new))) }
+        ensures bounded { OnOk result (TakesWithin (S.rest source.old) (S.rest source.new)
+            self.old.left self.new.left) }
         ensures files { S.files source.new ≡ S.files source.old }
         ensures failures { FailsAtOpened result (S.history source.old) (S.history source.new) }
-        ensures history { ReadsOn (S.history source.old) (S.history source.new) self.old.left self.new.left }
+        ensures history { ReadsOn (S.history source.old) (S.history source.new) self.old.left
+            self.new.left }
     {
         while self.bytes().len() < count {
             if self.read_piece(source)? == 0 {
@@ -130,16 +141,21 @@ impl Held {
         Ok(())
     }
 
-    /// Reads on until the first part of the bytes has ended, with its line feed or with the file. Returns its
-    /// length: 0 if there is no part.
+    /// Reads on until `bytes` has the whole first line: until a line feed, or the end of what may
+    /// be read of the file. Returns the length of that line with its line feed; 0 if there is no
+    /// line.
     pub fn find_part<S: FileSource>(&mut self, source: &mut S) -> Result<usize, SourceFault>
         ensures within { IfOk result (λ count. count ≤ length self.new.bytes) }
-        ensures kept { OnOk result (KeepsBytes (reachable self.old.left (S.rest source.old)) (reachable self.new.left (S.rest source.new)) self.old.bytes self.new.bytes) }
-        ensures part { IfOk result (λ count. BeginsWithPart (reachable self.new.left (S.rest source.new)) self.new.bytes count) }
-        ensures bounded { OnOk result (TakesWithin (S.rest source.old) (S.rest source.new) self.old.left self.new.left) }
+        ensures kept { OnOk result (KeepsBytes (reachable self.old.left (S.rest source.old))
+            (reachable self.new.left (S.rest source.new)) self.old.bytes self.new.bytes) }
+        ensures part { IfOk result (λ count. BeginsWithPart
+            (reachable self.new.left (S.rest source.new)) self.new.bytes count) }
+        ensures bounded { OnOk result (TakesWithin (S.rest source.old) (S.rest source.new)
+            self.old.left self.new.left) }
         ensures files { S.files source.new ≡ S.files source.old }
         ensures failures { FailsAtOpened result (S.history source.old) (S.history source.new) }
-        ensures history { ReadsOn (S.history source.old) (S.history source.new) self.old.left self.new.left }
+        ensures history { ReadsOn (S.history source.old) (S.history source.new) self.old.left
+            self.new.left }
     {
         let mut searched = 0;
         loop {
@@ -154,7 +170,7 @@ impl Held {
     }
 }
 
-// Moves the bytes from `start` to `end` to the front of `buffer`.
+// Copies the bytes from `start` to `end` to the front of `buffer`.
 fn move_to_front(buffer: &mut [u8], start: usize, end: usize)
     requires ordered { start ≤ end }
     requires within { end ≤ length buffer.old }
@@ -165,7 +181,7 @@ fn move_to_front(buffer: &mut [u8], start: usize, end: usize)
     }
 }
 
-// Makes `buffer` at least `count` bytes long.
+// Extends `buffer` with zeros to `count` bytes, if it is shorter.
 fn grow(buffer: &mut Vec<u8>, count: usize) -> Result<(), AllocError>
     ensures kept { take (vec_len buffer.old) buffer.new.items ≡ buffer.old.items }
     ensures longer { vec_len buffer.old ≤ vec_len buffer.new }
@@ -177,8 +193,9 @@ fn grow(buffer: &mut Vec<u8>, count: usize) -> Result<(), AllocError>
     Ok(())
 }
 
-// Reads a piece of the source's open file into `buffer`, from index `at` on, at most `room` bytes.
-fn read_behind<S: FileSource>(
+// Reads a piece of at most `room` bytes of the source's open file into `buffer`, from index `at`
+// on. Returns how many bytes were read.
+fn read_after<S: FileSource>(
     source: &mut S,
     buffer: &mut [u8],
     at: usize,
@@ -188,7 +205,8 @@ fn read_behind<S: FileSource>(
     ensures kept { take at buffer.new ≡ take at buffer.old }
     ensures within { IfOk result (λ count. at + count ≤ length buffer.new) }
     ensures few { IfOk result (λ count. count ≤ room) }
-    ensures piece { IfOk result (λ count. Consumes (S.rest source.old) (S.rest source.new) (slice_range buffer.new at (at + count))) }
+    ensures piece { IfOk result (λ count. Consumes (S.rest source.old) (S.rest source.new)
+        (slice_range buffer.new at (at + count))) }
     ensures end { IfOk result (λ count. count ≡ 0 → 0 < room → IsAtEnd (S.rest source.new)) }
     ensures files { S.files source.new ≡ S.files source.old }
     ensures failures { FailsAtOpened result (S.history source.old) (S.history source.new) }
@@ -197,8 +215,8 @@ fn read_behind<S: FileSource>(
     source.read(&mut buffer[at..at + room])
 }
 
-// The length of the first part of `bytes` with its line feed, if there is a line feed. The first `searched`
-// bytes have none.
+// Returns the length of the first line of `bytes` with its line feed, or `None` if `bytes` has no
+// line feed. The first `searched` bytes have none, so the search begins after them.
 fn ended_length(bytes: &[u8], searched: usize) -> Option<usize>
     requires within { searched ≤ length bytes.now }
     requires clear { HasNoFeed (take searched bytes.now) }

@@ -1,5 +1,6 @@
-//! The files of a release as lines (Release File Specification, "File format": UTF-8 text with one
-//! row to a line, lines ended by CR LF).
+//! Reads the files of a release as lines (Release File Specification, "File format": UTF-8 text
+//! with one row to a line, lines ended by CR LF). The files are in memory, or come from a source
+//! that reads them in pieces.
 #![tactic(auto)]
 
 mod feeds;

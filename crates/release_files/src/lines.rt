@@ -1,4 +1,4 @@
-//! Cuts bytes into lines.
+//! Cuts the bytes of a file in memory into lines.
 ghost use Rattle.std.specs.Prelude.{◌≡◌, ℕ, List, ◌<◌, ◌≤◌, ◌∷◌, ◌++◌, length};
 ghost use Rattle.std.specs.Io.BufRead.{strip_last};
 ghost use Rattle.release_files.specs.Lines.{parts, part_text, PartsAreLines};
@@ -11,15 +11,16 @@ use std::marker::Model;
 pub struct Line<'a> {
     /// The number of the line in its file, from 1. Empty lines count.
     pub number: u64,
-    /// The offset after the line: the number of bytes of the file up to there, including the end of the line
-    /// and a leading byte order mark.
+    /// The offset after the line: the number of bytes of the file up to there, including the end of
+    /// the line and a leading byte order mark.
     pub end: u64,
-    /// The bytes of the line without its LF and without one CR before that.
+    /// The bytes of the line without its LF, and without one CR before the LF.
     pub bytes: &'a [u8],
 }
 
-/// The lines of a file in turn, after a leading byte order mark. A last part without any byte, not even a CR,
-/// is no line. Contracts see the lines that are still to come.
+/// Iterates over the lines of a file in memory, after a leading byte order mark. Bytes after the
+/// last LF are one more line; if there are none, even no CR, there is no such line. Contracts name
+/// this type as the list of the lines still to come.
 #[derive(Debug, Drop)]
 pub struct Lines<'a> {
     rest: &'a [u8],
@@ -35,7 +36,8 @@ impl<'a> Model for Lines<'a> {
 
     ghost view = { λ lines. numbered lines.number lines.end (parts lines.rest.now) };
 
-    ghost invariant = { λ lines. (lines.number ≤ lines.end) × (lines.end + length lines.rest.now < 2 ^ 64) };
+    ghost invariant = { λ lines. (lines.number ≤ lines.end)
+        × (lines.end + length lines.rest.now < 2 ^ 64) };
 }
 
 // The byte order mark in UTF-8, and the bytes that end a line.
@@ -48,7 +50,7 @@ const CARRIAGE_RETURN: u8 = b'\r';
 impl<'a> Lines<'a> {
     ghost use Rattle.release_files.specs.Lines.{lines_of};
 
-    /// Begins the lines of a file. Takes no memory.
+    /// Starts at the first line of the file with the contents `bytes`. Allocates nothing.
     #[tactic(auto, unfolding(crate::specs::Lines::lines_of))]
     pub fn new(bytes: &'a [u8]) -> Lines<'a>
         ensures lines { result ≡ lines_of bytes.now }
@@ -69,8 +71,8 @@ impl<'a> Lines<'a> {
     }
 }
 
-/// The law behind `Lines`: there is only one way to cut bytes into parts that have a line feed at their end and
-/// no other, except that a last part may lack it. `Lines` cuts in this way. Does nothing.
+/// Law for `Lines`: there is only one way to cut bytes into parts that each have one line feed, at
+/// the end, except that the last part may lack it. `Lines` cuts in this way.
 pub fn parts_are_lines()
     ensures { (bytes : List ℕ) → PartsAreLines bytes }
 {}
@@ -85,7 +87,7 @@ impl<'a> Iterator for Lines<'a> {
 
     ghost remaining = { item_count (λ left. left) };
 
-    /// Returns the next line, or `None` after the last. Takes no memory.
+    /// Returns the next line, or `None` after the last one. Allocates nothing.
     fn next(&mut self) -> Option<Line<'a>> {
         if self.rest.is_empty() {
             return None;
@@ -102,8 +104,8 @@ impl<'a> Iterator for Lines<'a> {
     }
 }
 
-// The first line of `bytes` with its line feed, and the bytes after it. Without a line feed all bytes are one
-// line.
+// Cuts `bytes` after the first line feed. Returns the first line with its line feed, and the bytes
+// after it. Without a line feed all bytes are one line.
 fn first_part(bytes: &[u8]) -> (&[u8], &[u8])
     requires { 0 < length bytes.now }
     ensures parts { parts bytes.now ≡ result.0.now ∷ parts result.1.now }
@@ -116,14 +118,14 @@ fn first_part(bytes: &[u8]) -> (&[u8], &[u8])
     }
 }
 
-// A line without its end: drops its line feed, and then one carriage return.
+// Returns a line without its end: drops its line feed, and then one carriage return.
 pub(crate) fn part_text(part: &[u8]) -> &[u8]
     ensures { result.now ≡ part_text part.now }
 {
     without_last(without_last(part, LINE_FEED), CARRIAGE_RETURN)
 }
 
-// The bytes without the last one, if that is `byte`.
+// Returns `bytes` without the last one if that is `byte`, and otherwise all of them.
 fn without_last(bytes: &[u8], byte: u8) -> &[u8]
     ensures { result.now ≡ strip_last byte bytes.now }
 {

@@ -1,4 +1,4 @@
-//! Files in memory as a source.
+//! A `FileSource` over files in memory.
 ghost use Rattle.std.specs.Prelude.{◌≡◌, ◌≢◌, ◌<◌, ◌≤◌, ◌^◌, ◌++◌, Err, IfErr, IfOk, IfSome, MatchOption, MatchResult, OnErr, OnOk, None, Some, IsOk, [], is_err, length, map, string_bytes, take};
 ghost use Rattle.release_files.specs.MemorySource.{IsCall, IsCounted, IsFailed, IsToldOpened, with_bytes};
 ghost use Rattle.release_files.specs.Source.{CountsFailures, FailsAtName, FailsAtOpened, IsListing, IsOpening, IsReading, Opens, ReadsNext, bytes_of, file_text};
@@ -8,23 +8,25 @@ use crate::source::{FileSource, SourceFault};
 use std::alloc::{AllocError, Global};
 use std::marker::Model;
 
-/// Files in memory as a source. It borrows the files, and takes memory only for the names that it lists. Its
-/// seed is fixed, because the caller trusts the files. It tells all that it has done, except the opening of a
-/// name that no file has. Contracts see the files, the rest of the open one, and the counts.
+/// A `FileSource` over files in memory. It borrows the files, and allocates only the list of their
+/// names. The seed of its hashes is fixed, because the caller trusts the files. Its history has all
+/// that it has done, except that it opened a name that no file has. Contracts name this type as the
+/// files, the unread bytes of the open one, and the counts.
 #[derive(Debug, Drop)]
 pub struct MemoryFiles<'a> {
     alloc: Global,
     files: &'a [NamedBytes<'a>],
-    // the bytes that are left of the open file
+    // the bytes of the open file that were not read yet; none if no file is open
     rest: &'a [u8],
     piece: usize,
     fail_at: u64,
     calls: u64,
     failures: u64,
-    // the name that was opened last, and the name of the file at which a call failed last
+    // the name of the file that was opened last, and the name of the file at which a call failed
+    // last
     opened: Option<&'a str>,
     failed: Option<&'a str>,
-    // the number of bytes taken since the last opening, and the greatest such number
+    // the number of bytes read since the last opening, and the greatest such number
     taken: u64,
     most: u64,
     // whether the last listing failed
@@ -46,9 +48,10 @@ impl<'a> Model for MemoryFiles<'a> {
 impl<'a> MemoryFiles<'a> {
     ghost use Rattle.release_files.specs.MemorySource.{asked_source};
 
-    /// Creates a source of `files` with none open. It reads at most `piece` bytes at once. It counts its calls
-    /// of `list`, `open` and `read` from 1 up to `u64::MAX`; the call with the number `fail_at` fails. At 0
-    /// none fails.
+    /// Creates a source of `files`, of which none is open. One call of `read` reads at most `piece`
+    /// bytes. To test failures, the calls of `list`, `open` and `read` are counted from 1, and the
+    /// call with the number `fail_at` fails; if `fail_at` is 0, none does. The count stops at
+    /// `u64::MAX`.
     pub fn new(
         alloc: Global,
         files: &'a [NamedBytes<'a>],
@@ -57,7 +60,8 @@ impl<'a> MemoryFiles<'a> {
     ) -> MemoryFiles<'a>
         requires { 1 ≤ piece }
         ensures asked { result ≡ asked_source (map file_text files.now) piece fail_at }
-        ensures files { ⟦<MemoryFiles<'a> as FileSource>⟧.files result ≡ Some (map file_text files.now) }
+        ensures files { ⟦<MemoryFiles<'a> as FileSource>⟧.files result
+            ≡ Some (map file_text files.now) }
         ensures closed { ⟦<MemoryFiles<'a> as FileSource>⟧.rest result ≡ Some [] }
         ensures failures { (⟦<MemoryFiles<'a> as FileSource>⟧.history result).failures ≡ 0 }
     {
@@ -77,12 +81,14 @@ impl<'a> MemoryFiles<'a> {
         }
     }
 
-    // Counts a call, and fails if it is the one to fail.
+    // Counts a call. Fails if its number is `fail_at`.
     fn count_call(&mut self) -> Result<(), SourceFault>
         ensures call { IsCall self.old self.new }
-        ensures ok { OnOk result ((self.new.calls ≢ self.new.fail_at) × (self.new.rest ≡ self.old.rest) × (self.new.history ≡ self.old.history)) }
-        ensures fault { IfErr result (λ fault. (self.new.calls ≡ self.new.fail_at) × (fault ≡ SourceFault.Device)
-            × (self.new.rest ≡ []) × IsFailed self.old.history self.new.history) }
+        ensures ok { OnOk result ((self.new.calls ≢ self.new.fail_at)
+            × (self.new.rest ≡ self.old.rest) × (self.new.history ≡ self.old.history)) }
+        ensures fault { IfErr result (λ fault. (self.new.calls ≡ self.new.fail_at)
+            × (fault ≡ SourceFault.Device) × (self.new.rest ≡ [])
+            × IsFailed self.old.history self.new.history) }
     {
         self.calls = self.calls.saturating_add(1);
         if self.calls == self.fail_at {
@@ -91,7 +97,7 @@ impl<'a> MemoryFiles<'a> {
         Ok(())
     }
 
-    // Counts a failure at the file that was opened last, and closes that file.
+    // Records a failure at the file that was opened last, and closes that file. Returns the fault.
     fn fail(&mut self) -> SourceFault
         ensures fault { result ≡ SourceFault.Device }
         ensures closed { self.new.rest ≡ [] }
@@ -104,7 +110,8 @@ impl<'a> MemoryFiles<'a> {
         SourceFault::Device
     }
 
-    // Moves the next bytes of the open file into `buffer`. Returns how many.
+    // Copies the next bytes of the open file, at most `piece`, into the front of `buffer`. Returns
+    // how many.
     fn take(&mut self, buffer: &mut [u8]) -> usize
         ensures within { result ≤ length buffer.new }
         ensures bytes { self.old.rest ≡ take result buffer.new ++ self.new.rest }
@@ -135,15 +142,18 @@ impl<'a> FileSource for MemoryFiles<'a> {
     }
 
     fn list(&mut self) -> Result<Vec<String>, SourceFault>
-        ensures names { IfOk result (λ names. map string_bytes names.items ≡ map (λ file. file.name) self.old.files) }
-        ensures rest { MatchResult result (λ _. self.new.rest ≡ self.old.rest) (λ _. self.new.rest ≡ []) }
+        ensures names { IfOk result (λ names. map string_bytes names.items
+            ≡ map (λ file. file.name) self.old.files) }
+        ensures rest { MatchResult result (λ _. self.new.rest ≡ self.old.rest)
+            (λ _. self.new.rest ≡ []) }
         ensures files { self.new.files ≡ self.old.files }
         ensures failures { CountsFailures result self.old.history self.new.history }
         ensures history { IsListing result self.old.history self.new.history }
         ensures unlisted { self.new.history.unlisted ≡ is_err result }
         ensures call { IsCall self.old self.new }
         ensures fails { self.new.calls ≡ self.new.fail_at → result ≡ Err SourceFault.Device }
-        ensures memory { self.new.calls ≢ self.new.fail_at → IfErr result (λ fault. fault ≡ SourceFault.Memory) }
+        ensures memory { self.new.calls ≢ self.new.fail_at
+            → IfErr result (λ fault. fault ≡ SourceFault.Memory) }
     {
         self.unlisted = true;
         self.count_call()?;
@@ -162,14 +172,16 @@ impl<'a> FileSource for MemoryFiles<'a> {
     fn open(&mut self, name: &str) -> Result<(), SourceFault>
         ensures opened { OnOk result (Opens (Some self.old.files) name.now (Some self.new.rest)) }
         ensures closed { OnErr result (self.new.rest ≡ []) }
-        ensures missing { bytes_of name.now self.old.files ≡ None → result ≡ Err SourceFault.Device }
+        ensures missing { bytes_of name.now self.old.files ≡ None
+            → result ≡ Err SourceFault.Device }
         ensures files { self.new.files ≡ self.old.files }
         ensures failures { FailsAtName name.now result self.old.history self.new.history }
         ensures history { IsOpening name.now self.old.history self.new.history }
         ensures told { IsToldOpened name.now self.new }
         ensures call { IsCall self.old self.new }
         ensures fails { self.new.calls ≡ self.new.fail_at → result ≡ Err SourceFault.Device }
-        ensures goes { self.new.calls ≢ self.new.fail_at → bytes_of name.now self.old.files ≢ None → IsOk result }
+        ensures goes { self.new.calls ≢ self.new.fail_at → bytes_of name.now self.old.files ≢ None
+            → IsOk result }
     {
         let found = file_named(self.files, name);
         self.opened = found.map(|file| file.0);
@@ -190,7 +202,8 @@ impl<'a> FileSource for MemoryFiles<'a> {
         ensures files { self.new.files ≡ self.old.files }
         ensures failures { FailsAtOpened result self.old.history self.new.history }
         ensures history { IsReading result self.old.history self.new.history }
-        ensures taken { IfOk result (λ count. self.new.history ≡ with_bytes count self.old.history) }
+        ensures taken { IfOk result (λ count. self.new.history
+            ≡ with_bytes count self.old.history) }
         ensures piece { IfOk result (λ count. count ≤ self.old.piece) }
         ensures call { IsCall self.old self.new }
         ensures fails { self.new.calls ≡ self.new.fail_at → result ≡ Err SourceFault.Device }
@@ -201,9 +214,10 @@ impl<'a> FileSource for MemoryFiles<'a> {
     }
 }
 
-// The names of `files`, in order.
+// Copies the names of `files`, in order.
 fn names_of(alloc: Global, files: &[NamedBytes<'_>]) -> Result<Vec<String>, AllocError>
-    ensures { IfOk result (λ names. map string_bytes names.items ≡ map (λ file. file.name.now) files.now) }
+    ensures { IfOk result (λ names. map string_bytes names.items
+        ≡ map (λ file. file.name.now) files.now) }
 {
     let mut names = Vec::new(alloc);
     for file in files {
@@ -212,7 +226,8 @@ fn names_of(alloc: Global, files: &[NamedBytes<'_>]) -> Result<Vec<String>, Allo
     Ok(names)
 }
 
-// The name and the bytes of the first file called `name`.
+// Returns the name and the bytes of the first file called `name`, or `None` if no file has this
+// name.
 fn file_named<'a>(files: &'a [NamedBytes<'a>], name: &str) -> Option<(&'a str, &'a [u8])>
     ensures found { MatchOption result (bytes_of name.now (map file_text files.now) ≡ None)
         (λ file. bytes_of name.now (map file_text files.now) ≡ Some file.1.now) }

@@ -13,7 +13,7 @@ use crate::lines::{BYTE_ORDER_MARK, Line, part_text};
 use crate::source::{FileSource, SourceFault};
 use std::alloc::Global;
 
-// How far the lines of a file have come.
+// How far a file has been read.
 #[derive(Clone, Copy, Debug, PartialEq, Eq)]
 enum Stage {
     // The next bytes may begin with a byte order mark.
@@ -24,8 +24,8 @@ enum Stage {
     Ended,
 }
 
-/// The lines of a file in turn, as `Lines` gives them, read from a source in pieces. Holds the current line and
-/// at most one piece of 64 KiB.
+/// Iterates over the lines of a file that a source reads in pieces. The lines are those that
+/// `Lines` would give. Holds the current line and at most one more piece of 64 KiB.
 #[derive(Debug, Drop)]
 pub struct PieceLines {
     held: Held,
@@ -35,19 +35,21 @@ pub struct PieceLines {
 }
 
 impl PieceLines {
-    /// The lines of a file of which nothing was read. Takes no memory.
+    /// Starts at the first line of a file of which nothing was read. Allocates nothing.
     pub fn new(alloc: Global) -> PieceLines
-        ensures lines { (bytes : List ℕ) → length bytes < 2 ^ 64 → lines_to_come result bytes ≡ lines_of bytes }
+        ensures lines { (bytes : List ℕ) → length bytes < 2 ^ 64
+            → lines_to_come result bytes ≡ lines_of bytes }
         ensures left { result.held.left + 1 ≡ 2 ^ 64 }
     {
         PieceLines::within(alloc, u64::MAX)
     }
 
-    /// The lines of a file of which nothing was read. Treats the file as if it ended after `limit` bytes, and
-    /// reads no further. Takes no memory.
+    /// Starts at the first line of a file of which nothing was read. Treats the file as if it ended
+    /// after `limit` bytes, and reads no further. Allocates nothing.
     #[tactic(auto, unfolding(crate::specs::Lines::lines_of))]
     pub fn within(alloc: Global, limit: u64) -> PieceLines
-        ensures lines { (bytes : List ℕ) → length bytes < 2 ^ 64 → lines_to_come result bytes ≡ lines_of bytes }
+        ensures lines { (bytes : List ℕ) → length bytes < 2 ^ 64
+            → lines_to_come result bytes ≡ lines_of bytes }
         ensures left { result.held.left ≡ limit }
     {
         PieceLines {
@@ -58,20 +60,22 @@ impl PieceLines {
         }
     }
 
-    /// Returns the next line of the source's open file, or `None` after the last one. The numbers of lines and
-    /// their offsets stop at `u64::MAX`.
+    /// Returns the next line of the open file of `source`, or `None` after the last one. The
+    /// numbers of lines and their offsets stop at `u64::MAX`.
     ///
-    /// A fault is the source's, or `Memory` if there is no memory for a line. After a fault, as after the last
-    /// line, no line comes.
+    /// Fails if the source fails, or with `Memory` if there is no memory for a line. After a
+    /// failure, as after the last line, each call returns `None`.
     pub fn next_line<S: FileSource>(
         &mut self,
         source: &mut S,
     ) -> Result<Option<Line<'_>>, SourceFault>
         ensures* lines { sem 𝓛 (Rests the_row self.entry (λ new. MatchResult result
-            (λ line. GivesNext (option_map line_text line) self.old new (reachable self.old.held.left (S.rest source.old)) (reachable new.held.left (S.rest source.new))
-            × TakesWithin (S.rest source.old) (S.rest source.new) self.old.held.left new.held.left)
-            (λ _. HasEnded new)
-            × ReadsOn (S.history source.old) (S.history source.new) self.old.held.left new.held.left)) }
+            (λ line. GivesNext (option_map line_text line) self.old new
+            (reachable self.old.held.left (S.rest source.old)) (reachable new.held.left
+            (S.rest source.new)) × TakesWithin (S.rest source.old) (S.rest source.new)
+            self.old.held.left new.held.left) (λ _. HasEnded new)
+            × ReadsOn (S.history source.old) (S.history source.new) self.old.held.left
+            new.held.left)) }
         ensures ended { HasEnded self.old → result ≡ Ok None }
         ensures files { S.files source.new ≡ S.files source.old }
         ensures failures { FailsAtOpened result (S.history source.old) (S.history source.new) }
@@ -83,16 +87,19 @@ impl PieceLines {
         }
     }
 
-    // Takes the next line. Returns whether there was one.
+    // Moves to the next line, which `line` then returns. Returns whether there was one.
     fn advance<S: FileSource>(&mut self, source: &mut S) -> Result<bool, SourceFault>
         ensures ended { HasEnded self.old → result ≡ Ok false }
-        ensures lines { MatchResult result
-            (λ more. GivesNext (if more then Some (current_line self.new) else None) self.old self.new (reachable self.old.held.left (S.rest source.old)) (reachable self.new.held.left (S.rest source.new)))
-            (λ _. HasEnded self.new) }
-        ensures bounded { OnOk result (TakesWithin (S.rest source.old) (S.rest source.new) self.old.held.left self.new.held.left) }
+        ensures lines { MatchResult result (λ more. GivesNext (if more then Some
+            (current_line self.new) else None) self.old self.new
+            (reachable self.old.held.left (S.rest source.old))
+            (reachable self.new.held.left (S.rest source.new))) (λ _. HasEnded self.new) }
+        ensures bounded { OnOk result (TakesWithin (S.rest source.old) (S.rest source.new)
+            self.old.held.left self.new.held.left) }
         ensures files { S.files source.new ≡ S.files source.old }
         ensures failures { FailsAtOpened result (S.history source.old) (S.history source.new) }
-        ensures history { ReadsOn (S.history source.old) (S.history source.new) self.old.held.left self.new.held.left }
+        ensures history { ReadsOn (S.history source.old) (S.history source.new) self.old.held.left
+            self.new.held.left }
     {
         let found = self.find_line(source);
         match found {
@@ -111,17 +118,24 @@ impl PieceLines {
         }
     }
 
-    // Reads on until the next line is held. Returns its length with its end: 0 if there is no line.
+    // Reads on until the buffer has the whole next line. Returns the length of the line with its
+    // end; 0 if there is no line.
     fn find_line<S: FileSource>(&mut self, source: &mut S) -> Result<usize, SourceFault>
         ensures ended { HasEnded self.old → result ≡ Ok 0 }
         ensures within { IfOk result (λ count. count ≤ length self.new.held.bytes) }
-        ensures kept { OnOk result (KeepsLines self.old self.new (reachable self.old.held.left (S.rest source.old)) (reachable self.new.held.left (S.rest source.new))) }
+        ensures kept { OnOk result (KeepsLines self.old self.new
+            (reachable self.old.held.left (S.rest source.old))
+            (reachable self.new.held.left (S.rest source.new))) }
         ensures part { IfOk result (λ count. ((count ≡ 0) × (self.new.stage ≡ Stage.Ended))
-            ⊎ ((self.new.stage ≡ Stage.Begun) × BeginsWithPart (reachable self.new.held.left (S.rest source.new)) self.new.held.bytes count)) }
-        ensures bounded { OnOk result (TakesWithin (S.rest source.old) (S.rest source.new) self.old.held.left self.new.held.left) }
+            ⊎ ((self.new.stage ≡ Stage.Begun)
+            × BeginsWithPart (reachable self.new.held.left (S.rest source.new)) self.new.held.bytes
+            count)) }
+        ensures bounded { OnOk result (TakesWithin (S.rest source.old) (S.rest source.new)
+            self.old.held.left self.new.held.left) }
         ensures files { S.files source.new ≡ S.files source.old }
         ensures failures { FailsAtOpened result (S.history source.old) (S.history source.new) }
-        ensures history { ReadsOn (S.history source.old) (S.history source.new) self.old.held.left self.new.held.left }
+        ensures history { ReadsOn (S.history source.old) (S.history source.new) self.old.held.left
+            self.new.held.left }
     {
         if self.stage == Stage::Ended {
             return Ok(0);
@@ -132,15 +146,19 @@ impl PieceLines {
         self.held.find_part(source)
     }
 
-    // Drops a byte order mark before the first line.
+    // Skips a byte order mark before the first line.
     fn begin<S: FileSource>(&mut self, source: &mut S) -> Result<(), SourceFault>
         requires { self.old.stage ≡ Stage.Fresh }
         ensures begun { OnOk result (self.new.stage ≡ Stage.Begun) }
-        ensures kept { OnOk result (KeepsLines self.old self.new (reachable self.old.held.left (S.rest source.old)) (reachable self.new.held.left (S.rest source.new))) }
-        ensures bounded { OnOk result (TakesWithin (S.rest source.old) (S.rest source.new) self.old.held.left self.new.held.left) }
+        ensures kept { OnOk result (KeepsLines self.old self.new
+            (reachable self.old.held.left (S.rest source.old))
+            (reachable self.new.held.left (S.rest source.new))) }
+        ensures bounded { OnOk result (TakesWithin (S.rest source.old) (S.rest source.new)
+            self.old.held.left self.new.held.left) }
         ensures files { S.files source.new ≡ S.files source.old }
         ensures failures { FailsAtOpened result (S.history source.old) (S.history source.new) }
-        ensures history { ReadsOn (S.history source.old) (S.history source.new) self.old.held.left self.new.held.left }
+        ensures history { ReadsOn (S.history source.old) (S.history source.new) self.old.held.left
+            self.new.held.left }
     {
         self.held.read_at_least(BYTE_ORDER_MARK.len(), source)?;
         let mark = mark_length(self.held.bytes());
@@ -151,7 +169,7 @@ impl PieceLines {
         Ok(())
     }
 
-    // Takes the next line, which has `count` bytes with its end.
+    // Takes the next line, which has `count` bytes with its end, out of the buffer, and counts it.
     fn take_line(&mut self, count: usize)
         requires { count ≤ length self.old.held.bytes }
         ensures taken { self.new.held.taken ≡ take count self.old.held.bytes }
@@ -166,7 +184,7 @@ impl PieceLines {
         self.end = self.end.saturating_add(count as u64);
     }
 
-    // The line that was taken last.
+    // Returns the line that was taken last.
     fn line(&self) -> Line<'_>
         ensures { line_text result ≡ current_line self.now }
     {
@@ -178,7 +196,7 @@ impl PieceLines {
     }
 }
 
-// The length of the byte order mark at the front of `bytes`, or 0 if they have none.
+// Returns the length of the byte order mark at the front of `bytes`, or 0 if they have none.
 fn mark_length(bytes: &[u8]) -> usize
     ensures value { result ≡ mark_length bytes.now }
     ensures within { result ≤ length bytes.now }

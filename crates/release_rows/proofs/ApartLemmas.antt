@@ -1,7 +1,8 @@
 -- In places without a fault no two chosen rows of active concepts have one identifier, and no list has more items
 -- than there are rows.
 use Rattle.std.proofs.lemmas.Grind.{common_steps}
-use Rattle.std.proofs.Common.{ℕ, ◌≡◌, ◌≤◌, List, [], ◌∷◌, ◌++◌, length, map, Option, Some, append_assoc, arith, Bool, false, nat_eq, filter_map}
+use Rattle.std.proofs.Common.{ℕ, ◌≡◌, ◌≤◌, List, [], ◌∷◌, ◌++◌, length, map, Option, Some, append_assoc, arith, Bool}
+use Rattle.std.proofs.Common.{false, nat_eq, filter_map}
 use Rattle.std.specs.Prelude.{⊤}
 use Rattle.std.specs.List.{AllByRecursion, IsDistinct, cons_option, list_any}
 use Rattle.std.proofs.lemmas.Bool.Decides.{nat_tests}
@@ -39,7 +40,8 @@ AreAmong all (row ∷ rows) = IsAmong all row × AreAmong all rows
 -- the last rows of a list are all among the list
 pub are_among : (front rows : List RowAt) → AreAmong (front ++ rows) rows
 are_among front [] = tt
-are_among front (row ∷ rows) = grind (arith, common_steps, nat_tests, among-here, append_assoc, (are_among (front ++ row ∷ []) rows))
+are_among front (row ∷ rows) =
+    grind (arith, common_steps, nat_tests, among-here, append_assoc, (are_among (front ++ row ∷ []) rows))
 
 -- ---- two chosen rows of active concepts have different identifiers
 -- the identifiers of the active concepts among `rows`
@@ -62,7 +64,8 @@ apart-later rows earlier (next ∷ later) row id listed among latest before all 
       among,
     )
 
-distinct-choices : (rows earlier later : List RowAt) → AreAmong rows later → IsDistinct nat_eq (active_ids (marked (choices rows earlier later) later))
+distinct-choices : (rows earlier later : List RowAt) → AreAmong rows later
+    → IsDistinct nat_eq (active_ids (marked (choices rows earlier later) later))
 unfolding IsDistinct
 distinct-choices rows earlier [] all = tt
 distinct-choices rows earlier (row ∷ later) all =
@@ -77,7 +80,8 @@ distinct-choices rows earlier (row ∷ later) all =
     )
 
 -- no two chosen rows of active concepts have one identifier
-pub active-distinct : (rows : List RowAt) → IsDistinct nat_eq (filter_map concept_listed (map text_of_row (chosen rows)))
+pub active-distinct : (rows : List RowAt)
+    → IsDistinct nat_eq (filter_map concept_listed (map text_of_row (chosen rows)))
 active-distinct rows = distinct-choices rows [] rows (are_among [] rows)
 
 -- ---- no list of chosen rows is longer than the rows
@@ -86,7 +90,8 @@ length-picked : {X Y : Type 0} (pick : X → Option Y) (items : List X) → leng
 length-picked pick [] = omega arith
 length-picked {X} {Y} pick (item ∷ items) = grind (arith, filter_map, cons_option, (length-picked pick items))
 
--- lists that are read from places without a fault, within the standard limits, have few enough rows and items
+-- if `count` and `listed` were read from places without a fault, and the limits allow at most 68,000,000 rows together,
+-- there are few enough rows and items (`AreFew`)
 pub AreFew-read : (limits : Limits) (places : List Place) (count : ℕ) (listed : ReleaseLists)
     → row_total limits ≤ 68000000 → IsReadFrom limits places count listed → AreFew count listed
 AreFew-read limits places count listed room read = grind (arith, length-map, length-marked, length-picked)

@@ -16,7 +16,8 @@ kind_same one other told = grind (arith, nat_tests)
 -- one more row adds 1 to the count of its own kind and 0 to the others
 pub count_of_kind-push : (kind : FileKind) (rows : List RowAt) (row : RowAt)
     → count_of_kind kind (rows ++ row ∷ []) ≡ count_of_kind kind rows + cond (same_kind row.kind kind) 1 0
-count_of_kind-push kind rows row = omega (arith, sum_by-append (λ (other : RowAt). cond (same_kind other.kind kind) 1 0) rows (row ∷ []))
+count_of_kind-push kind rows row =
+    omega (arith, sum_by-append (λ (other : RowAt). cond (same_kind other.kind kind) 1 0) rows (row ∷ []))
 
 -- the number of rows is the sum of the numbers of rows of the five kinds
 pub length-kinds : (rows : List RowAt)

@@ -1,7 +1,8 @@
--- Which rows of components that have several are chosen (Release File Specification, "effectiveTime"): the row with
--- the latest effective time of its component, and the first one if several are equal. An edition and the extensions
--- on top of it are one list of files.
-use Rattle.std.specs.Prelude.{◌≡◌, ℕ, Bool, true, false, not, nat_lt, ◌==◌, ◌&&◌, ◌||◌, List, [], ◌∷◌, ◌++◌, Contains, filter, length, Option, None, Some}
+-- Which rows are chosen (Release File Specification, "effectiveTime"): of each component the row
+-- with the latest effective time, and the first one if several are equal. An edition and the
+-- extensions on top of it are one list of files.
+use Rattle.std.specs.Prelude.{◌≡◌, ℕ, Bool, true, false, not, nat_lt, ◌==◌, ◌&&◌, ◌||◌, List, [], ◌∷◌, ◌++◌, Contains}
+use Rattle.std.specs.Prelude.{filter, length, Option, None, Some}
 use Rattle.std.specs.List.{list_any}
 use Rattle.rf2_rows.specs.Versions.{id_on, same_row, same_time, time_on}
 use Rattle.rf2_rows.specs.declared.kind.FileKind.{FileKind}
@@ -17,7 +18,7 @@ kind_number Relationship = 2
 kind_number Concrete = 3
 kind_number Member = 4
 
--- two file kinds are one kind
+-- whether two file kinds are equal
 abbrev pub same_kind : FileKind → FileKind → Bool
 same_kind one other = kind_number one == kind_number other
 
@@ -29,52 +30,57 @@ id_of row = id_on row.kind row.text
 abbrev pub time_of : RowAt → Option ℕ
 time_of row = time_on row.kind row.text
 
--- the first effective time is later than the second; a row that is not published yet has no time, which counts as the
--- latest
+-- whether the first effective time is later than the second; a row that is not published yet has no
+-- time, which counts as the latest
 abbrev pub is_later : Option ℕ → Option ℕ → Bool
 is_later None None = false
 is_later None (Some other) = true
 is_later (Some one) None = false
 is_later (Some one) (Some other) = nat_lt other one
 
--- two rows are of one component
+-- whether two rows are of one component: they have one kind and one identifier
 abbrev pub same_component : RowAt → RowAt → Bool
 same_component one other = same_kind one.kind other.kind && (id_of one == id_of other)
 
--- two rows are of one component and one effective time
+-- whether two rows are of one component and have one effective time
 abbrev pub same_version : RowAt → RowAt → Bool
 same_version one other = same_component one other && same_time (time_of one) (time_of other)
 
--- two rows of one component and one effective time differ in some column
+-- whether two rows of one component and one effective time differ in some column
 abbrev pub conflicts : RowAt → RowAt → Bool
 conflicts one other = same_version one other && not (same_row one.kind one.text other.text)
 
--- one of `rows` is of the component of `row` and has a later time
+-- whether one of `rows` is of the component of `row` and has a later effective time
 abbrev pub is_superseded : List RowAt → RowAt → Bool
-is_superseded rows row = list_any (λ other. same_component other row && is_later (time_of other) (time_of row)) rows
+is_superseded rows row =
+    list_any (λ other. same_component other row && is_later (time_of other) (time_of row)) rows
 
--- one of the `earlier` rows is of the component and the time of `row`
+-- whether one of the `earlier` rows is of the component of `row` and has its effective time
 abbrev pub is_repeated : List RowAt → RowAt → Bool
 is_repeated earlier row = list_any (λ other. same_version other row) earlier
 
--- a row is chosen: none of `rows` of its component has a later time, and none of the `earlier` rows has its component
--- and time
+-- whether `row` is chosen: no row of `rows` is of its component and later, and no `earlier` row has
+-- its component and effective time
 abbrev pub is_chosen : List RowAt → List RowAt → RowAt → Bool
 is_chosen rows earlier row = not (is_superseded rows row || is_repeated earlier row)
 
--- for each row of the last list, whether it is chosen among `rows`, if the rows of `earlier` come before that list
+-- for each row of the last list, whether it is chosen among `rows`; `earlier` are the rows of
+-- `rows` before that list
 abbrev pub choices : List RowAt → List RowAt → List RowAt → List Bool
 choices rows earlier [] = []
-choices rows earlier (row ∷ later) = is_chosen rows earlier row ∷ choices rows (earlier ++ row ∷ []) later
+choices rows earlier (row ∷ later) =
+    is_chosen rows earlier row ∷ choices rows (earlier ++ row ∷ []) later
 
 -- the chosen rows of `rows`, in their order
 abbrev pub chosen : List RowAt → List RowAt
 chosen rows = marked (choices rows [] rows) rows
 
--- no chosen row has a later one of its component among the rows
+-- for any rows: no chosen row has a later row of its component among them
 abbrev pub ChoosesTheLatest : Type 0
-ChoosesTheLatest = (rows : List RowAt) (row : RowAt) → Contains (chosen rows) row → is_superseded rows row ≡ false
+ChoosesTheLatest = (rows : List RowAt) (row : RowAt) → Contains (chosen rows) row
+    → is_superseded rows row ≡ false
 
--- exactly one row of the component of each row is chosen
+-- for any rows: of the component of each row exactly one row is chosen
 abbrev pub ChoosesOne : Type 0
-ChoosesOne = (rows : List RowAt) (row : RowAt) → Contains rows row → length (filter (λ other. same_component other row) (chosen rows)) ≡ 1
+ChoosesOne = (rows : List RowAt) (row : RowAt) → Contains rows row
+    → length (filter (λ other. same_component other row) (chosen rows)) ≡ 1

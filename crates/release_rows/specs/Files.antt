@@ -8,8 +8,8 @@ use Rattle.rf2_rows.specs.declared.kind.FileKind.TheVariants.{Concept}
 use Rattle.release_files.specs.Lines.{LineText, lines_of}
 use Rattle.release_files.specs.Source.{FileText}
 
--- a place in a file that has a kind: the file has no line, or the place is its first line or a later one. The first
--- number is the index of the file in the list, from 0.
+-- a place in a Snapshot file: the file has no line, or the place is its first line or a later one.
+-- The number is the index of the file in the list, from 0.
 pub data Place : Type 0 where
   no_line : ℕ → FileKind → Place
   first_line : ℕ → FileKind → LineText → Place
@@ -18,9 +18,11 @@ pub data Place : Type 0 where
 -- the places of a file of `kind` with the given lines
 abbrev pub places_of_lines : ℕ → FileKind → List LineText → List Place
 places_of_lines file kind [] = no_line file kind ∷ []
-places_of_lines file kind (line ∷ lines) = first_line file kind line ∷ map (later_line file kind) lines
+places_of_lines file kind (line ∷ lines) =
+    first_line file kind line ∷ map (later_line file kind) lines
 
--- the places of a file with `bytes`; a file without a kind has none
+-- the places of a file with the contents `bytes`; a file that is no Snapshot file by its name, and
+-- so has no kind, has none
 abbrev pub places_of_kind : ℕ → Option FileKind → List ℕ → List Place
 places_of_kind file None bytes = []
 places_of_kind file (Some kind) bytes = places_of_lines file kind (lines_of bytes)
@@ -34,24 +36,24 @@ abbrev pub places_from : ℕ → List FileText → List Place
 places_from file [] = []
 places_from file (text ∷ texts) = places_of_file file text ++ places_from (file + 1) texts
 
--- the kind, if there is one, is that of a Concept file
+-- whether the kind is that of a Concept file; false if there is no kind
 abbrev pub is_concept_kind : Option FileKind → Bool
 is_concept_kind (Some Concept) = true
 is_concept_kind other = false
 
--- the file has the name of a Concept file
+-- whether the name of the file is that of a Concept file
 abbrev pub is_concept_file : FileText → Bool
 is_concept_file text = is_concept_kind (file_kind_of text.name)
 
--- one of the items has, by `text`, the name of a Concept file
+-- whether one of `items` is a Concept file by its name; `text` gives the name of an item
 abbrev pub name_concepts : {X : Type 0} → (X → List ℕ) → List X → Bool
 name_concepts text items = list_any (λ item. is_concept_kind (file_kind_of (text item))) items
 
--- the file has the name of a file of some kind
+-- whether the file is a Snapshot file of some kind by its name
 abbrev pub has_kind : FileText → Bool
 has_kind text = is_some (file_kind_of text.name)
 
--- a row and where it stands
+-- a row, with its file and its line
 pub record RowAt : Type 0 where
   -- the index of the row's file in the list
   pub file : ℕ
@@ -69,7 +71,8 @@ text_of_row row = row_text row.kind row.text
 -- the row on a line after the header; an empty line has none
 abbrev pub row_on : ℕ → FileKind → ℕ → List ℕ → Option RowAt
 row_on file kind line [] = None
-row_on file kind line (byte ∷ bytes) = Some (record { file = file; line = line; kind = kind; text = byte ∷ bytes })
+row_on file kind line (byte ∷ bytes) =
+    Some (record { file = file; line = line; kind = kind; text = byte ∷ bytes })
 
 -- the row at a place, if the place has one
 abbrev pub row_at : Place → Option RowAt

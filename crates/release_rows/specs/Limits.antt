@@ -1,11 +1,11 @@
--- How much a load reads at most.
+-- Limits of a load: how many rows of each kind it accepts, and how many bytes of a file.
 use Rattle.std.specs.Prelude.{ℕ, ◌+◌, ◌-◌, if◌then◌else◌, min, max}
 use Rattle.rf2_rows.specs.declared.kind.FileKind.{FileKind}
 use Rattle.rf2_rows.specs.declared.kind.FileKind.TheVariants.{Concept, Concrete, Description, Member, Relationship}
 use Rattle.release_rows.specs.Chosen.{same_kind}
 use Rattle.release_rows.specs.declared.limits.Limits.{Limits}
 
--- the limits of a load to which the caller gives none
+-- the limits of a load if the caller gives none
 abbrev pub standard_limits : Limits
 standard_limits = record {
   concepts = 4000000;
@@ -16,8 +16,8 @@ standard_limits = record {
   bytes = 4294967295;
 }
 
--- the limits that a load keeps if the caller gives some: no limit is above the standard one, and a byte order mark
--- always fits
+-- the limits that a load applies if the caller asks for `limits`: none is above the standard one,
+-- and a byte order mark always fits
 abbrev pub limits_in_force : Limits → Limits
 limits_in_force limits = record {
   concepts = min limits.concepts standard_limits.concepts;
@@ -38,11 +38,13 @@ row_limit limits Member = limits.members
 
 -- how many rows the files of all kinds together may have
 abbrev pub row_total : Limits → ℕ
-row_total limits = limits.concepts + limits.descriptions + limits.relationships + limits.concrete + limits.members
+row_total limits = limits.concepts + limits.descriptions + limits.relationships + limits.concrete
+    + limits.members
 
--- how many rows may still come after one of `kind`
-abbrev pub left_behind : Limits → FileKind → Limits
-left_behind left kind =
+-- the limits that remain of `left` after one row of `kind`: the limit of this kind falls by 1,
+-- unless it is 0
+abbrev pub left_after : Limits → FileKind → Limits
+left_after left kind =
     let one : FileKind → ℕ = λ other. if same_kind kind other then 1 else 0 in
     record left {
       concepts = left.concepts - one Concept;

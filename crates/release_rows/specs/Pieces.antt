@@ -1,7 +1,8 @@
--- Going over files that a source reads in pieces.
+-- Passes over files that a source reads in pieces, and the faults by which they end.
 use Rattle.std.specs.List.{slice_get}
 use Rattle.rf2_rows.specs.Files.{file_kind_of}
-use Rattle.std.specs.Prelude.{Bool, true, is_some, option_and_then, ◌≡◌, ◌≢◌, ◌⊎◌, ℕ, ◌+◌, IfErr, IfSome, List, [], map, take, IsPermutation, Option, None, Some, unwrap_or, Result, Ok, Err}
+use Rattle.std.specs.Prelude.{Bool, true, is_some, option_and_then, ◌≡◌, ◌≢◌, ◌⊎◌, ℕ, ◌+◌, IfErr, IfSome, List, [], map}
+use Rattle.std.specs.Prelude.{take, IsPermutation, Option, None, Some, unwrap_or, Result, Ok, Err}
 use Rattle.std.specs.Cmp.Lexicographic.{slice_cmp}
 use Rattle.std.specs.Ordering.{nat_cmp}
 use Rattle.std.specs.List.Sorted.{IsSorted}
@@ -18,7 +19,7 @@ use Rattle.row_lists.specs.declared.fault.LoadFault.TheVariants.{Device, Memory}
 abbrev pub text_named : List FileText → List ℕ → FileText
 text_named known name = record { name = name; bytes = unwrap_or (bytes_of name known) [] }
 
--- the files called `names`, in turn
+-- for each of `names`, in order, the first file of `known` with this name
 abbrev pub listed : List FileText → List (List ℕ) → List FileText
 listed known names = map (text_named known) names
 
@@ -33,47 +34,55 @@ pub record AreInOrder (known : List FileText) (names : List (List ℕ)) : Type 0
   -- the names rise in byte order
   pub rising : IsSorted (slice_cmp nat_cmp) names
 
--- no names were listed, because the device failed or memory was refused when the source was to list the files
+-- the load failed because the source could not list its files: the device failed, or memory was
+-- refused; so there are no `names`
 abbrev pub IsUnlisted : {X : Type 0} → Result X LoadFault → List (List ℕ) → History → Type 0
 IsUnlisted (Ok loaded) names now = ⊥
-IsUnlisted (Err fault) names now = (names ≡ []) × (now.unlisted ≡ true) × ((fault ≡ Device None) ⊎ (fault ≡ Memory))
+IsUnlisted (Err fault) names now =
+    (names ≡ []) × (now.unlisted ≡ true) × ((fault ≡ Device None) ⊎ (fault ≡ Memory))
 
--- the device failed when the source was to list the files, and the source counted one failure
-pub record FailsToList (old new : History) (names : List (List ℕ)) (fault : LoadFault) : Type 0 where
-  -- the fault names no file
-  pub at_no_file : fault ≡ Device None
-  -- no names were listed
-  pub no_names : names ≡ []
-  -- the source counted one failure
-  pub raised : IsRaised old new
-  -- the source has not listed the files
-  pub unlisted : new.unlisted ≡ true
+-- the device failed while the source listed its files, and the source counted one failure
+pub record FailsToList (old new : History) (names : List (List ℕ)) (fault : LoadFault) : Type 0
+  where
+    -- the fault names no file
+    pub at_no_file : fault ≡ Device None
+    -- no names were listed
+    pub no_names : names ≡ []
+    -- the source counted one failure
+    pub raised : IsRaised old new
+    -- the source has not listed the files
+    pub unlisted : new.unlisted ≡ true
 
--- if the answer is a failure of the device, the source counted one failure, and it was to list the files or to read
--- one of them
-abbrev pub FailsAtFiles : {X T : Type 0} → (X → List ℕ) → List X → Result T LoadFault → History → History → Type 0
+-- if the result is a failure of the device, the source failed either while it listed its files or
+-- while it read one of `files`, and counted one failure; `name` gives the name of a file
+abbrev pub FailsAtFiles : {X T : Type 0} → (X → List ℕ) → List X → Result T LoadFault → History
+    → History → Type 0
 FailsAtFiles name files result old new =
-    IfErr result (λ fault. is_device fault ≡ true → FailsToList old new (map name files) fault ⊎ FailsAtOneOf (map name files) old new fault)
+    IfErr result (λ fault. is_device fault ≡ true → FailsToList old new (map name files) fault
+    ⊎ FailsAtOneOf (map name files) old new fault)
 
--- the source listed the names of the files in byte order, if it tells the files; or it listed none, because the
--- device failed and one failure was counted, or because memory was refused
-abbrev pub ListsNames : {T : Type 0} → Option (List FileText) → Result T LoadFault → List (List ℕ) → History → History → Type 0
-ListsNames told (Ok done) names old new = IfSome told (λ known. AreInOrder known names) × (new.failures ≡ old.failures)
+-- the outcome of listing: with `Ok`, `names` are the names of the files in byte order, if the
+-- source tells the files, and no failure was counted. With `Err` there are no names: the device
+-- failed and one failure was counted, or memory was refused.
+abbrev pub ListsNames : {T : Type 0} → Option (List FileText) → Result T LoadFault → List (List ℕ)
+    → History → History → Type 0
+ListsNames told (Ok done) names old new = IfSome told (λ known. AreInOrder known names)
+    × (new.failures ≡ old.failures)
 ListsNames told (Err fault) names old new =
     FailsToList old new names fault
     ⊎ (fault ≡ Memory) × (names ≡ []) × (new.unlisted ≡ true) × (new.failures ≡ old.failures)
 
--- the fault of a load if its source fails when it lists the files
+-- the fault of a load whose source fails while it lists the files
 abbrev pub listing_fault : SourceFault → LoadFault
 listing_fault source.Device = Device None
 listing_fault source.Memory = Memory
 
--- the fault of a load if its source fails at `file`
+-- the fault of a load whose source fails at the file with the index `file`
 abbrev pub fault_of : ℕ → SourceFault → LoadFault
 fault_of file source.Device = Device (Some file)
 fault_of file source.Memory = Memory
 
--- the device failed at `file`, and the source counted one failure
+-- the device failed at the file with the index `file`, and the source counted one failure
 abbrev pub FailsAt : ℕ → History → History → LoadFault → Type 0
 FailsAt file old new fault = (fault ≡ Device (Some file)) × IsRaised old new
 
@@ -81,13 +90,16 @@ FailsAt file old new fault = (fault ≡ Device (Some file)) × IsRaised old new
 abbrev pub FailsAtFile : History → History → LoadFault → Type 0
 FailsAtFile old new fault = (file : ℕ) × FailsAt file old new fault
 
--- the places were taken in turn: all of them, or those before one that is refused, or those before a failure of the
--- device or of memory
-abbrev pub GoesOver : {Held : Type 0} (takes : Held → Place → Held → Type 0) (refuses : Held → Place → Held → LoadFault → Type 0) (fails : LoadFault → Type 0)
+-- the outcome of a pass over `places`: with `Ok`, all of them were taken; with a fault other than
+-- `Memory`, either the device failed (`fails`), or a place was refused, and those before it were
+-- taken
+abbrev pub GoesOver : {Held : Type 0} (takes : Held → Place → Held → Type 0) (refuses : Held → Place
+    → Held → LoadFault → Type 0) (fails : LoadFault → Type 0)
     → Held → List Place → Result (Unit {0}) LoadFault → Held → Type 0
 GoesOver takes refuses fails old places (Ok done) new = TakesAll takes old places new
-GoesOver takes refuses fails old places (Err fault) new = fault ≢ Memory → fails fault ⊎ StopsAt takes refuses old places new fault
+GoesOver takes refuses fails old places (Err fault) new = fault ≢ Memory
+    → fails fault ⊎ StopsAt takes refuses old places new fault
 
--- `names` has a name at index `file`, and it is the name of a file of some kind
+-- whether `names` has at the index `file` the name of a Snapshot file of some kind
 abbrev pub has_kind_at : List (List ℕ) → ℕ → Bool
 has_kind_at names file = is_some (option_and_then file_kind_of (slice_get names file))

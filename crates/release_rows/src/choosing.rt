@@ -1,4 +1,4 @@
-//! Reads the rows of a release and chooses among those of components that have several.
+//! Reads the rows of a release, and chooses one row of each component that has several.
 ghost use Rattle.std.specs.Prelude.{◌≡◌, ◌≢◌, ◌≤◌, ◌<◌, ◌+◌, ◌-◌, ◌^◌, IfErr, IfOk, IfSome, MatchOption, OnOk, false, true, length, min};
 ghost use Rattle.std.specs.List.Sorted.{IsStrictlyIncreasing};
 ghost use Rattle.row_lists.specs.ListsRead.{AreFew, read_in, listed_in};
@@ -8,7 +8,7 @@ ghost use Rattle.release_rows.specs.inside.Keys.{AreSingle};
 ghost use Rattle.release_rows.specs.Limits.{row_total};
 ghost use Rattle.release_rows.specs.inside.KeyedRows.{Covers};
 ghost use Rattle.release_rows.specs.inside.RowsInside.{kept_in};
-ghost use Rattle.release_rows.specs.inside.FirstPass.{AreChoicesAmong, AreChosenOfKept, HaveNoConflict, IsFirstBehind, IsFirstConflict, IsFirstOfKept};
+ghost use Rattle.release_rows.specs.inside.FirstPass.{AreChoicesAmong, AreChosenOfKept, HaveNoConflict, IsFirstAfter, IsFirstConflict, IsFirstOfKept};
 ghost use Rattle.release_rows.specs.Traversal.{FaultOf, OfFiles};
 ghost use Rattle.release_rows.specs.DeviceFaults.{FailsAtOneOf, FailsAtRead, FailsOnlyAt, FileIs, RaisesOnlyAtDevice, ReadsWithin, is_device as is_device_of};
 ghost use Rattle.release_rows.specs.Pieces.{has_kind_at};
@@ -23,11 +23,16 @@ use crate::versions::Versions;
 use row_lists::{LoadFault, MOST_ROWS, ReadRows};
 use std::alloc::{AllocError, Global};
 
-/// The fault of files that have more rows than can be numbered.
+/// The fault of files with more rows than `MOST_ROWS`. It names no real file or line, because the
+/// limits stop a load before it has read so many rows. The check is there for the proof: contracts
+/// say nothing about the rows of files whose bytes the source does not tell.
 pub const TOO_MANY_ROWS: LoadFault = LoadFault::TooMany { file: 0, line: 0 };
 
-/// Reads the rows of all files that have a kind. If several rows have one key, goes over the files a second
-/// time to compare these rows.
+/// Reads the rows of all files that are Snapshot files of some kind by their names, and returns
+/// lists made of the chosen rows, with the number of rows read. There must be at least one file.
+/// Makes a second pass over the files only if several rows have one key. On failure returns the
+/// first fault of the files in the order of files and lines, or the failure of the device or of
+/// memory that ended a pass.
 pub fn read_rows<P: PlaceSource>(
     alloc: Global,
     files: &mut P,
@@ -35,13 +40,18 @@ pub fn read_rows<P: PlaceSource>(
 ) -> Result<ReadRows, LoadFault>
     requires total { row_total limits ≤ 68000000 }
     requires some { 0 < length (P.asked files.old).names }
-    ensures ok { IfSome (P.places files.old) (λ known. IfOk result (λ read. IsReadFrom limits known read.count (read_in read.lists))) }
+    ensures ok { IfSome (P.places files.old)
+        (λ known. IfOk result (λ read. IsReadFrom limits known read.count (read_in read.lists))) }
     ensures err { FaultOf (P.places files.old) (HasFirstFault limits) result }
-    ensures device { FailsOnlyAt (P.asked files.old).names result (P.history files.old) (P.history files.new) }
+    ensures device { FailsOnlyAt (P.asked files.old).names result (P.history files.old)
+        (P.history files.new) }
     ensures failures { (P.history files.old).failures ≤ (P.history files.new).failures }
-    ensures calm { RaisesOnlyAtDevice result (P.history files.old) (P.history files.new) }
-    ensures bounded { ReadsWithin (P.asked files.old).most (P.history files.old) (P.history files.new) }
-    ensures kind { IfErr result (λ fault. FailsAtRead (has_kind_at (P.asked files.old).names) fault) }
+    ensures failure_is_device { RaisesOnlyAtDevice result (P.history files.old)
+        (P.history files.new) }
+    ensures bounded { ReadsWithin (P.asked files.old).most (P.history files.old)
+        (P.history files.new) }
+    ensures kind { IfErr result (λ fault. FailsAtRead (has_kind_at (P.asked files.old).names)
+        fault) }
     ensures named { IfErr result (FileIs (λ file. file < length (P.asked files.old).names)) }
     ensures found { IfErr result (λ fault. fault ≢ LoadFault.NoConceptFile) }
     ensures asked { P.asked files.new ≡ P.asked files.old }
@@ -55,8 +65,9 @@ pub fn read_rows<P: PlaceSource>(
     }
 }
 
-// The first fault of the files, if the first pass ended at `fault`: a row that it read may conflict with an
-// earlier one. Keeps the fault if the device failed or memory was refused.
+// Returns the first fault of the files, if the first pass ended with `fault`. A row before the
+// place of `fault` may conflict with an earlier one; if so, that conflict comes first. A failure of
+// the device or of memory is returned as it is. `keys` are those of the rows read before the end.
 fn first_of_faults<P: PlaceSource>(
     alloc: Global,
     files: &mut P,
@@ -64,14 +75,22 @@ fn first_of_faults<P: PlaceSource>(
     fault: LoadFault,
 ) -> LoadFault
     requires some { 0 < length (P.asked files.old).names }
-    ensures first { OfFiles result (IfSome (P.places files.old) (λ known. IsFirstBehind keys.now fault known result)) }
-    ensures stays { is_device_of fault ≡ true → (result ≡ fault) × (P.history files.new ≡ P.history files.old) }
-    ensures device { is_device_of fault ≡ false → is_device_of result ≡ true → FailsAtOneOf (P.asked files.old).names (P.history files.old) (P.history files.new) result }
+    ensures first { OfFiles result (IfSome (P.places files.old)
+        (λ known. IsFirstAfter keys.now fault known result)) }
+    ensures stays { is_device_of fault ≡ true
+        → (result ≡ fault) × (P.history files.new ≡ P.history files.old) }
+    ensures device { is_device_of fault ≡ false → is_device_of result ≡ true
+        → FailsAtOneOf (P.asked files.old).names (P.history files.old) (P.history files.new)
+        result }
     ensures failures { (P.history files.old).failures ≤ (P.history files.new).failures }
-    ensures calm { is_device_of result ≡ false → (P.history files.new).failures ≡ (P.history files.old).failures }
-    ensures bounded { ReadsWithin (P.asked files.old).most (P.history files.old) (P.history files.new) }
-    ensures kind { is_device_of fault ≡ false → FailsAtRead (has_kind_at (P.asked files.old).names) result }
-    ensures named { FileIs (λ file. file < length (P.asked files.old).names) fault → FileIs (λ file. file < length (P.asked files.old).names) result }
+    ensures failure_is_device { is_device_of result ≡ false
+        → (P.history files.new).failures ≡ (P.history files.old).failures }
+    ensures bounded { ReadsWithin (P.asked files.old).most (P.history files.old)
+        (P.history files.new) }
+    ensures kind { is_device_of fault ≡ false
+        → FailsAtRead (has_kind_at (P.asked files.old).names) result }
+    ensures named { FileIs (λ file. file < length (P.asked files.old).names) fault
+        → FileIs (λ file. file < length (P.asked files.old).names) result }
     ensures found { fault ≢ LoadFault.NoConceptFile → result ≢ LoadFault.NoConceptFile }
     ensures asked { P.asked files.new ≡ P.asked files.old }
     ensures told { P.told files.new ≡ P.told files.old }
@@ -89,20 +108,27 @@ fn first_of_faults<P: PlaceSource>(
     fault
 }
 
-// Chooses among the rows, which were all read, if some of them have one key.
+// Finishes after a first pass without a fault: chooses one row of each component, and drops what
+// the other rows added to the lists of `rows`.
 fn choose_rows<P: PlaceSource>(
     alloc: Global,
     files: &mut P,
     rows: Rows,
 ) -> Result<ReadRows, LoadFault>
     requires some { 0 < length (P.asked files.old).names }
-    ensures ok { IfSome (P.places files.old) (λ known. IfOk result (λ read. AreChosenOfKept (kept_in rows) known read.count (listed_in read.lists))) }
+    ensures ok { IfSome (P.places files.old)
+        (λ known. IfOk result (λ read. AreChosenOfKept (kept_in rows) known read.count
+        (listed_in read.lists))) }
     ensures err { FaultOf (P.places files.old) (IsFirstOfKept (kept_in rows)) result }
-    ensures device { FailsOnlyAt (P.asked files.old).names result (P.history files.old) (P.history files.new) }
+    ensures device { FailsOnlyAt (P.asked files.old).names result (P.history files.old)
+        (P.history files.new) }
     ensures failures { (P.history files.old).failures ≤ (P.history files.new).failures }
-    ensures calm { RaisesOnlyAtDevice result (P.history files.old) (P.history files.new) }
-    ensures bounded { ReadsWithin (P.asked files.old).most (P.history files.old) (P.history files.new) }
-    ensures kind { IfErr result (λ fault. FailsAtRead (has_kind_at (P.asked files.old).names) fault) }
+    ensures failure_is_device { RaisesOnlyAtDevice result (P.history files.old)
+        (P.history files.new) }
+    ensures bounded { ReadsWithin (P.asked files.old).most (P.history files.old)
+        (P.history files.new) }
+    ensures kind { IfErr result (λ fault. FailsAtRead (has_kind_at (P.asked files.old).names)
+        fault) }
     ensures named { IfErr result (FileIs (λ file. file < length (P.asked files.old).names)) }
     ensures found { IfErr result (λ fault. fault ≢ LoadFault.NoConceptFile) }
     ensures asked { P.asked files.new ≡ P.asked files.old }
@@ -125,14 +151,16 @@ fn choose_rows<P: PlaceSource>(
     }
 }
 
-// Keeps the items of the lists whose rows are chosen; without choices it keeps all.
+// Returns the lists of `rows` with only the items of chosen rows; `choices` says for each row
+// whether it is chosen. If `choices` is `None`, keeps all items.
 fn keep_chosen(
     alloc: Global,
     rows: Rows,
     choices: Option<Vec<bool>>,
 ) -> Result<ReadRows, AllocError>
     ensures count { IfOk result (λ read. read.count ≡ length rows.keys.keys) }
-    ensures lists { IfOk result (λ read. MatchOption choices (listed_in read.lists ≡ listed_in rows.lists)
+    ensures lists { IfOk result (λ read. MatchOption choices
+        (listed_in read.lists ≡ listed_in rows.lists)
         (λ choices. listed_in read.lists ≡ listed_chosen (listed_in rows.lists) choices.items)) }
 {
     let Rows {
@@ -148,8 +176,9 @@ fn keep_chosen(
     Ok(ReadRows { lists, count })
 }
 
-// For each row that the first pass read, whether it is chosen, or else the first conflict. `None` if no key is
-// repeated.
+// Returns for each row that the first pass read whether it is chosen. `None` if no two rows have
+// one key: then all are chosen. Fails with the first conflict between rows of one component and
+// effective time.
 fn choices_among<P: PlaceSource>(
     alloc: Global,
     files: &mut P,
@@ -157,15 +186,21 @@ fn choices_among<P: PlaceSource>(
 ) -> Result<Option<Vec<bool>>, LoadFault>
     requires few { length keys.now.keys < 2 ^ 32 }
     requires some { 0 < length (P.asked files.old).names }
-    ensures ok { IfSome (P.places files.old) (λ known. IfOk result (λ choices.
-        MatchOption choices (AreSingle keys.now.keys) (λ choices. AreChoicesAmong keys.now known choices.items))) }
-    ensures clear { IfSome (P.places files.old) (λ known. OnOk result (HaveNoConflict keys.now known)) }
+    ensures ok { IfSome (P.places files.old)
+        (λ known. IfOk result (λ choices. MatchOption choices (AreSingle keys.now.keys)
+        (λ choices. AreChoicesAmong keys.now known choices.items))) }
+    ensures clear { IfSome (P.places files.old)
+        (λ known. OnOk result (HaveNoConflict keys.now known)) }
     ensures err { FaultOf (P.places files.old) (IsFirstConflict keys.now) result }
-    ensures device { FailsOnlyAt (P.asked files.old).names result (P.history files.old) (P.history files.new) }
+    ensures device { FailsOnlyAt (P.asked files.old).names result (P.history files.old)
+        (P.history files.new) }
     ensures failures { (P.history files.old).failures ≤ (P.history files.new).failures }
-    ensures calm { RaisesOnlyAtDevice result (P.history files.old) (P.history files.new) }
-    ensures bounded { ReadsWithin (P.asked files.old).most (P.history files.old) (P.history files.new) }
-    ensures kind { IfErr result (λ fault. FailsAtRead (has_kind_at (P.asked files.old).names) fault) }
+    ensures failure_is_device { RaisesOnlyAtDevice result (P.history files.old)
+        (P.history files.new) }
+    ensures bounded { ReadsWithin (P.asked files.old).most (P.history files.old)
+        (P.history files.new) }
+    ensures kind { IfErr result (λ fault. FailsAtRead (has_kind_at (P.asked files.old).names)
+        fault) }
     ensures named { IfErr result (FileIs (λ file. file < length (P.asked files.old).names)) }
     ensures found { IfErr result (λ fault. fault ≢ LoadFault.NoConceptFile) }
     ensures asked { P.asked files.new ≡ P.asked files.old }
@@ -182,9 +217,9 @@ fn choices_among<P: PlaceSource>(
     }
 }
 
-// Compares the rows that the first pass read; the keys `repeated` occur several times. Answers for each row
-// whether it is chosen, or else the first conflict. If the files have changed since the first pass and have
-// fewer rows, this is a conflict.
+// Makes the second pass, and returns for each row that the first pass read whether it is chosen.
+// `repeated` has the keys that occur more than once. Fails with the first conflict. If the files
+// have changed and now have fewer rows, that is a conflict too.
 fn compare<P: PlaceSource>(
     alloc: Global,
     files: &mut P,
@@ -195,13 +230,18 @@ fn compare<P: PlaceSource>(
     requires few { length repeated.items < 2 ^ 32 }
     requires covers { Covers repeated.items keys.now.keys }
     requires some { 0 < length (P.asked files.old).names }
-    ensures ok { IfSome (P.places files.old) (λ known. IfOk result (λ chosen. AreChoicesAmong keys.now known chosen.items)) }
+    ensures ok { IfSome (P.places files.old)
+        (λ known. IfOk result (λ chosen. AreChoicesAmong keys.now known chosen.items)) }
     ensures err { FaultOf (P.places files.old) (IsFirstConflict keys.now) result }
-    ensures device { FailsOnlyAt (P.asked files.old).names result (P.history files.old) (P.history files.new) }
+    ensures device { FailsOnlyAt (P.asked files.old).names result (P.history files.old)
+        (P.history files.new) }
     ensures failures { (P.history files.old).failures ≤ (P.history files.new).failures }
-    ensures calm { RaisesOnlyAtDevice result (P.history files.old) (P.history files.new) }
-    ensures bounded { ReadsWithin (P.asked files.old).most (P.history files.old) (P.history files.new) }
-    ensures kind { IfErr result (λ fault. FailsAtRead (has_kind_at (P.asked files.old).names) fault) }
+    ensures failure_is_device { RaisesOnlyAtDevice result (P.history files.old)
+        (P.history files.new) }
+    ensures bounded { ReadsWithin (P.asked files.old).most (P.history files.old)
+        (P.history files.new) }
+    ensures kind { IfErr result (λ fault. FailsAtRead (has_kind_at (P.asked files.old).names)
+        fault) }
     ensures named { IfErr result (FileIs (λ file. file < length (P.asked files.old).names)) }
     ensures found { IfErr result (λ fault. fault ≢ LoadFault.NoConceptFile) }
     ensures asked { P.asked files.new ≡ P.asked files.old }
@@ -213,7 +253,7 @@ fn compare<P: PlaceSource>(
     match files.take_places(&mut comparing) {
         Ok(()) => {
             if !comparing.left.is_empty() {
-                return Err(behind(comparing.last, files.last_file()));
+                return Err(following(comparing.last, files.last_file()));
             }
             Ok(comparing.versions.chosen())
         }
@@ -221,9 +261,10 @@ fn compare<P: PlaceSource>(
     }
 }
 
-// The fault of files that have fewer rows than in the first pass: a conflict at the line after the last row, in
-// a file that is not after the last one.
-fn behind(last: (usize, u64), last_file: usize) -> LoadFault
+// Returns the fault of files that have fewer rows than in the first pass: a conflict on the line
+// after `last`, which is the file and line of the last row met. The file of the fault is at most
+// `last_file`.
+fn following(last: (usize, u64), last_file: usize) -> LoadFault
     ensures { result ≡ LoadFault.Conflict (min last.0 last_file) (min (last.1 + 1) (2 ^ 64 - 1)) }
 {
     let (file, line) = last;
@@ -233,7 +274,7 @@ fn behind(last: (usize, u64), last_file: usize) -> LoadFault
     }
 }
 
-// Whether a fault is want of memory.
+// Whether `fault` is want of memory.
 fn is_memory(fault: &LoadFault) -> bool
     ensures other { result ≡ false → fault.now ≢ LoadFault.Memory }
     ensures memory { result ≡ true → fault.now ≡ LoadFault.Memory }
@@ -241,7 +282,7 @@ fn is_memory(fault: &LoadFault) -> bool
     matches!(fault, LoadFault::Memory)
 }
 
-// Whether a fault is a failure of the device.
+// Whether `fault` is a failure of the device.
 fn is_device(fault: &LoadFault) -> bool
     ensures { result ≡ is_device_of fault.now }
 {

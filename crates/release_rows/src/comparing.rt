@@ -1,4 +1,5 @@
-//! The second pass over the files of a release, which compares the rows of components that have several.
+//! The second pass over the files of a release. It reads again the rows whose key occurs more than
+//! once, and compares them.
 ghost use Rattle.std.specs.Prelude.{◌≡◌, ◌≢◌, ◌<◌, ◌^◌, IfErr, OnOk, false, length};
 ghost use Rattle.release_files.specs.Lines.{line_text};
 ghost use Rattle.rf2_rows.specs.Rows.{IsRow, row_fault};
@@ -13,24 +14,27 @@ use release_files::Line;
 use rf2_rows::{FileKind, Row, RowReader};
 use row_lists::LoadFault;
 
-/// Compares the rows that the first pass read, one for each of their keys. Reads a row again only if its key is
-/// repeated.
+/// The state of the second pass. The pass visits the rows in the order of the first pass, and takes
+/// for each the key that the first pass gave to it. It parses again only a row whose key occurs
+/// more than once.
 #[derive(Drop)]
 pub struct Comparing<'a> {
-    // reads the lines as rows
+    // parses a line as a row
     reader: RowReader,
-    // the keys of the rows, from the first pass
+    // the keys that the first pass gave to the rows
     keys: &'a RowKeys,
-    /// The rows compared so far.
+    /// The table of the rows that the second pass has met.
     pub versions: Versions,
-    /// The keys of the rows that are still to come.
+    /// The keys of the rows that the second pass has not met yet, in the order of the first pass.
     pub left: &'a [u64],
-    /// The file and the line of the row that was met last.
+    /// The index of the file, and the line in it, of the row that was met last; `(0, 0)` before the
+    /// first row.
     pub last: (usize, u64),
 }
 
 impl<'a> Comparing<'a> {
-    /// Begins the second pass; no row has been compared.
+    /// Starts the second pass. `keys` are those of the first pass; `versions` is a table without
+    /// rows.
     pub fn new(keys: &'a RowKeys, versions: Versions) -> Comparing<'a>
         ensures uuids { (compared_in result).uuids ≡ keys.now.uuids }
         ensures taken { (compared_in result).taken ≡ versions }
@@ -46,10 +50,15 @@ impl<'a> Comparing<'a> {
         }
     }
 
-    // Compares the row on a line after the header, if a key is left for it. Ignores the line otherwise.
+    // Takes the next key of `left` for the row on `line`, a line after the header. If that key
+    // occurs more than once, parses the row and compares it with the earlier rows of its component.
+    // Ignores an empty line, and any line once no key is left. Fails if the row conflicts with an
+    // earlier one, or if the line is no row of `kind` any more because the file has changed.
     fn compare_line(&mut self, file: usize, kind: FileKind, line: Line<'_>) -> Result<(), LoadFault>
-        ensures ok { OnOk result (IsCompared (compared_in self.old) (later_line file kind (line_text line.entry)) (compared_in self.new)) }
-        ensures err { IfErr result (λ fault. fault ≢ LoadFault.Memory → IsDenied (compared_in self.old) (later_line file kind (line_text line.entry)) fault) }
+        ensures ok { OnOk result (IsCompared (compared_in self.old)
+            (later_line file kind (line_text line.entry)) (compared_in self.new)) }
+        ensures err { IfErr result (λ fault. fault ≢ LoadFault.Memory
+            → IsDenied (compared_in self.old) (later_line file kind (line_text line.entry)) fault) }
         ensures own { IfErr result (λ fault. is_device fault ≡ false) }
         ensures named { IfErr result (FileIs (λ at. at ≡ file)) }
         ensures found { IfErr result (λ fault. fault ≢ LoadFault.NoConceptFile) }
@@ -77,8 +86,10 @@ impl<'a> Comparing<'a> {
         }
     }
 
-    // Compares a row with the earlier rows of its component. `key` is the key of the row of this turn in the
-    // first pass. A row with another key, or without one, is a conflict: the files have changed.
+    // Compares `row`, which was parsed from `line`, with the earlier rows of its component. `key`
+    // is the key that the first pass gave to the row at this position. Fails with a conflict if an
+    // earlier row with the same effective time differs, and also if `row` has another key or none:
+    // then the files have changed since the first pass.
     fn compare(
         &mut self,
         file: usize,
@@ -89,8 +100,11 @@ impl<'a> Comparing<'a> {
     ) -> Result<(), LoadFault>
         requires row { IsRow kind line.bytes.now row.now }
         requires accepted { row_fault kind line.bytes.now ≡ None }
-        ensures ok { OnOk result (IsTaken (compared_in self.old) key kind line.entry.bytes.now (compared_in self.new)) }
-        ensures err { IfErr result (λ fault. fault ≢ LoadFault.Memory → IsRefused (compared_in self.old) file line.entry.number key kind line.entry.bytes.now fault) }
+        ensures ok { OnOk result (IsTaken (compared_in self.old) key kind line.entry.bytes.now
+            (compared_in self.new)) }
+        ensures err { IfErr result (λ fault. fault ≢ LoadFault.Memory
+            → IsRefused (compared_in self.old) file line.entry.number key kind line.entry.bytes.now
+            fault) }
         ensures own { IfErr result (λ fault. is_device fault ≡ false) }
         ensures named { IfErr result (FileIs (λ at. at ≡ file)) }
         ensures found { IfErr result (λ fault. fault ≢ LoadFault.NoConceptFile) }

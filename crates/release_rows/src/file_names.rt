@@ -8,10 +8,11 @@ ghost use Rattle.release_rows.specs.Pieces.{ListsNames, listing_fault};
 use release_files::{FileSource, SourceFault};
 use row_lists::LoadFault;
 
-/// Replaces `names` by the names of the files that `source` lists, in byte order: the order in which a load
-/// reads the files. Leaves no name if the source fails or memory is refused.
+/// Replaces `names` by the names of the files that `source` lists, in byte order: the order in
+/// which a load reads the files. Leaves no name if the source fails or memory is refused.
 pub fn list_names<S: FileSource>(source: &mut S, names: &mut Vec<String>) -> Result<(), LoadFault>
-    ensures listed { ListsNames (S.files source.old) result (map string_bytes names.new.items) (S.history source.old) (S.history source.new) }
+    ensures listed { ListsNames (S.files source.old) result (map string_bytes names.new.items)
+        (S.history source.old) (S.history source.new) }
     ensures rising { IsSorted (slice_cmp nat_cmp) (map string_bytes names.new.items) }
     ensures taken { (S.history source.new).most ≤ (S.history source.old).most }
     ensures files { S.files source.new ≡ S.files source.old }
@@ -25,7 +26,7 @@ pub fn list_names<S: FileSource>(source: &mut S, names: &mut Vec<String>) -> Res
     Ok(())
 }
 
-// The fault of a load if its source fails with `fault` when it lists the files.
+// Returns the fault of a load whose source fails with `fault` while it lists the files.
 fn listing_fault(fault: SourceFault) -> LoadFault
     ensures { result ≡ listing_fault fault }
 {

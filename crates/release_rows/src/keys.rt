@@ -1,31 +1,34 @@
-//! The key of a row: a number by which rows of one component are found.
+//! Keys of rows. Two rows of one kind have one key exactly if they have one identifier, so a key
+//! stands for a component.
 ghost use Rattle.std.specs.Prelude.{◌≡◌, ◌<◌, ◌^◌, IfOk, IfSome, IsNone, OnOk, length};
 ghost use Rattle.rf2_rows.specs.RowTexts.{text_in};
-ghost use Rattle.release_rows.specs.inside.Keys.{IsMet, IsShort, key_in, keyed_behind, no_keys, uuids_behind};
+ghost use Rattle.release_rows.specs.inside.Keys.{IsMet, IsShort, key_in, keyed_after, no_keys, uuids_following};
 
-use first_met::{FirstMet, Seed};
+use key_interner::{KeyInterner, Seed};
 use rf2_rows::Row;
 use sctid::SctId;
 use std::alloc::{AllocError, Global};
 use std::marker::Model;
 
-// The smallest keys of concepts, descriptions and concrete values. An identifier is below 10^18.
+// The smallest key of each kind of component; the key is this number plus the SCTID. SCTIDs are
+// below 10^18, so that the ranges of the kinds do not overlap.
 const CONCEPTS: u64 = 9_223_372_036_854_775_808;
 
 const DESCRIPTIONS: u64 = 10_223_372_036_854_775_808;
 
 const CONCRETE_VALUES: u64 = 11_223_372_036_854_775_808;
 
-/// The smallest key of a relationship. Relationships have about as many rows as all other kinds together, so
-/// `repeated_keys` sorts their keys apart.
+/// The smallest key of a relationship. About half of all rows are relationships, so `repeated_keys`
+/// sorts their keys apart from the others and needs less memory at once.
 pub const RELATIONSHIPS: u64 = 12_223_372_036_854_775_808;
 
-/// The keys of rows in the order in which they were read. Two rows of one kind have one key exactly if they
-/// have one identifier. In the usual order of files and rows the keys rise.
+/// The keys of the rows in the order in which they were read. Two rows of one kind have one key
+/// exactly if they have one identifier. In the usual order of files and rows the keys rise. The key
+/// of a member is the index of its UUID in the order of first occurrence.
 #[derive(Drop)]
 pub struct RowKeys {
-    // the UUIDs of members, numbered from 0
-    uuids: FirstMet,
+    // gives each distinct UUID of a member row the next index from 0
+    uuids: KeyInterner,
     keys: Vec<u64>,
 }
 
@@ -38,17 +41,17 @@ impl Model for RowKeys {
 }
 
 impl RowKeys {
-    /// Creates a list without keys. Hashes UUIDs over `seed`.
+    /// Creates a list without keys. UUIDs will be hashed with `seed`.
     pub fn new(alloc: Global, seed: Seed) -> RowKeys
         ensures { result ≡ no_keys }
     {
         RowKeys {
-            uuids: FirstMet::new(alloc, seed),
+            uuids: KeyInterner::new(alloc, seed),
             keys: Vec::new(alloc),
         }
     }
 
-    /// Returns the keys of the rows.
+    /// Returns the keys of all rows that were added, in the order of `add`.
     pub fn keys(&self) -> &[u64]
         ensures keys { result.now ≡ self.now.keys }
         ensures few { length self.now.uuids < 2 ^ 63 }
@@ -58,20 +61,21 @@ impl RowKeys {
         self.keys.as_slice()
     }
 
-    /// Adds the key of a row.
+    /// Appends the key of `row`. Fails if memory is refused.
     pub fn add(&mut self, row: &Row<'_>) -> Result<(), AllocError>
-        ensures key { OnOk result (self.new ≡ keyed_behind self.old (text_in row.now)) }
+        ensures key { OnOk result (self.new ≡ keyed_after self.old (text_in row.now)) }
         ensures short { OnOk result (IsShort (text_in row.now)) }
     {
-        let key = self.meet(row)?;
+        let key = self.intern(row)?;
         self.keys.push(key)?;
         Ok(())
     }
 
-    // Returns the key of a row. Records the UUID of a member.
-    fn meet(&mut self, row: &Row<'_>) -> Result<u64, AllocError>
+    // Returns the key of `row`. The UUID of a member gets a new index if it has none yet.
+    fn intern(&mut self, row: &Row<'_>) -> Result<u64, AllocError>
         ensures key { IfOk result (λ key. key ≡ key_in self.old.uuids (text_in row.now)) }
-        ensures uuids { OnOk result (self.new.uuids ≡ uuids_behind self.old.uuids (text_in row.now)) }
+        ensures uuids { OnOk result (self.new.uuids
+            ≡ uuids_following self.old.uuids (text_in row.now)) }
         ensures keys { self.new.keys ≡ self.old.keys }
         ensures short { OnOk result (IsShort (text_in row.now)) }
     {
@@ -81,13 +85,13 @@ impl RowKeys {
             Row::Relationship(row) => Ok(RELATIONSHIPS + row.id.number()),
             Row::Concrete(row) => Ok(CONCRETE_VALUES + row.id.number()),
             Row::Member(row) => {
-                let (place, _) = self.uuids.meet(row.id.as_u128())?;
+                let (place, _) = self.uuids.intern(row.id.as_u128())?;
                 Ok(place as u64)
             }
         }
     }
 
-    /// Returns the key of a row, or `None` for a member whose UUID was not met.
+    /// Returns the key of `row` without adding it: `None` for a member whose UUID no added row has.
     pub fn key_of(&self, row: &Row<'_>) -> Option<u64>
         ensures key { IfSome result (λ key. key ≡ key_in self.now.uuids (text_in row.now)) }
         ensures met { IsNone result → ¬ IsMet self.now.uuids (text_in row.now) }

@@ -1,22 +1,24 @@
-//! Laws about the definitions of this crate, in the words of a reader: functions that do nothing, each
-//! with the law as its contract.
+//! Laws about the definitions of this crate. A law is a function that does nothing; its contract is
+//! a theorem.
 ghost use Rattle.release_rows.specs.Chosen.{ChoosesOne, ChoosesTheLatest};
 ghost use Rattle.release_rows.specs.Faults.{NamesFirstFault};
 ghost use Rattle.number_lists.specs.RisingOrder.{KeepsRising};
 
-/// The first fault of a list of places is the fault of a place before which no place has any.
+/// `first_fault` names the fault of the first place that has one: no earlier place has a fault. It
+/// names none exactly if no place has a fault.
 pub fn first_fault_is_the_first()
     ensures { NamesFirstFault }
 {}
 
-/// Exactly one row of the component of each row is chosen, and no row of the component is later.
+/// Of each component exactly one row is chosen, and no row of the component is later than it.
 #[tactic(auto, using(crate::proofs::LatestLemmas::chosen_latest, crate::proofs::LatestLemmas::chosen_once))]
 pub fn latest_rows_are_chosen()
     ensures latest { ChoosesTheLatest }
     ensures one { ChoosesOne }
 {}
 
-/// Identifiers in rising order are the members of the list, each once.
+/// `rising` of a list of identifiers has exactly the members of the list, each once, in rising
+/// order.
 pub fn rising_keeps_the_members()
     ensures { KeepsRising }
 {}

@@ -1,5 +1,6 @@
-//! The rows of a release. This crate reads the files, and chooses for each component the row that counts, or
-//! finds the first fault of the files.
+//! Reads the rows of a release from its Snapshot files. If several rows have one identifier, the
+//! row with the latest effective time is chosen. Reports the first fault of the files, if they have
+//! one.
 #![tactic(auto)]
 
 mod choosing;

@@ -1,23 +1,24 @@
-//! How much a load reads at most.
+//! Limits of a load: how many rows of each kind it accepts, and how many bytes of a file.
 ghost use Rattle.std.specs.Prelude.{◌≡◌, ◌-◌, nat_le, not};
 
 use rf2_rows::FileKind;
 
-/// Limits of a load: numbers of rows, all files of a kind together, and bytes of a file. A field
-/// above its value in `standard` counts as that value, and `bytes` below 3 as 3.
+/// Limits of a load. The limits of rows count the rows of all files of a kind together; `bytes` is
+/// the limit of each single file. `in_force` lowers a field that is above its value in `standard`,
+/// and raises `bytes` to at least 3.
 #[derive(Clone, Copy, Debug, PartialEq, Eq)]
 pub struct Limits {
-    /// Concept rows.
+    /// How many concept rows, active or not.
     pub concepts: u64,
-    /// Description rows.
+    /// How many description rows, active or not.
     pub descriptions: u64,
-    /// Relationship rows.
+    /// How many relationship rows, active or not.
     pub relationships: u64,
-    /// Rows of concrete values.
+    /// How many rows of concrete values, active or not.
     pub concrete: u64,
-    /// Rows of simple reference sets.
+    /// How many rows of simple reference sets, active or not.
     pub members: u64,
-    /// Bytes of one file.
+    /// How many bytes of one file.
     pub bytes: u64,
 }
 
@@ -30,14 +31,14 @@ const STANDARD: Limits = Limits {
     bytes: 4_294_967_295,
 };
 
-// The smallest limit of bytes that a load keeps to: it leaves room for a byte order mark.
+// The smallest limit of bytes: a file may have a byte order mark of 3 bytes.
 const LEAST_BYTES: u64 = 3;
 
 impl Limits {
-    ghost use Rattle.release_rows.specs.Limits.{left_behind, limits_in_force, row_limit, standard_limits};
+    ghost use Rattle.release_rows.specs.Limits.{left_after, limits_in_force, row_limit, standard_limits};
 
-    /// The limits of a load to which the caller gives none: 4,000,000 concept rows, 20,000,000 description
-    /// rows, 20,000,000 relationship rows, 4,000,000 rows of concrete values, 20,000,000 member rows and
+    /// Returns the default limits: 4,000,000 concept rows, 20,000,000 description rows, 20,000,000
+    /// relationship rows, 4,000,000 rows of concrete values, 20,000,000 member rows, and
     /// 4,294,967,295 bytes in a file.
     pub fn standard() -> Limits
         ensures { result ≡ standard_limits }
@@ -45,8 +46,8 @@ impl Limits {
         STANDARD
     }
 
-    /// The limits that a load keeps to if the caller gives `self`: none is above the standard one, and `bytes`
-    /// is at least 3.
+    /// Returns the limits that a load applies if the caller asks for `self`: none is above the
+    /// standard one, and `bytes` is at least 3.
     pub fn in_force(self) -> Limits
         ensures { result ≡ limits_in_force self }
     {
@@ -60,10 +61,11 @@ impl Limits {
         }
     }
 
-    /// Takes one from the room for rows of `kind`. Returns whether there was room.
+    /// Counts one row of `kind`: lowers its limit by one, unless it is 0. Returns whether the limit
+    /// was above 0, that is, whether the row is allowed.
     pub(crate) fn take(&mut self, kind: FileKind) -> bool
         ensures room { result ≡ not (nat_le (row_limit self.old kind) 0) }
-        ensures left { self.new ≡ left_behind self.old kind }
+        ensures left { self.new ≡ left_after self.old kind }
     {
         match kind {
             FileKind::Concept => take_one(&mut self.concepts),
@@ -75,7 +77,7 @@ impl Limits {
     }
 }
 
-// Takes one from `count`. Returns whether it was above 0.
+// Lowers `count` by one, unless it is 0. Returns whether it was above 0.
 fn take_one(count: &mut u64) -> bool
     ensures room { result ≡ not (nat_le count.old 0) }
     ensures left { count.new ≡ count.old - 1 }

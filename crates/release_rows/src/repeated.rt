@@ -1,4 +1,4 @@
-//! The numbers that occur in a list more than once.
+//! Finds the keys that occur in a list more than once, in little memory.
 ghost use Rattle.std.specs.Prelude.{◌≡◌, ◌==◌, ◌≤◌, ◌+◌, ◌-◌, ◌↔◌, ℕ, Contains, IfOk, count_by, filter, length, nat_lt, not};
 ghost use Rattle.std.specs.Bool.{OnTrue};
 ghost use Rattle.std.specs.List.Sorted.{IsStrictlyIncreasing};
@@ -9,15 +9,17 @@ use crate::keys::RELATIONSHIPS;
 use crate::rising_keys::RisingKeys;
 use std::alloc::{AllocError, Global};
 
-// A key is late if it is not above all keys before it. If more than one in this many keys is late, all keys are
-// sorted.
-const KEYS_FOR_ONE_BEHIND: usize = 4;
+// A key is late if it is not above all keys before it. If more than one key in this many is late,
+// all keys are sorted.
+const KEYS_FOR_ONE_AFTER: usize = 4;
 
-/// Returns the keys that occur at least twice in a list, each once and in rising order. Takes no memory if the
-/// keys rise, since no key occurs twice then, and little if most of them rise.
+/// Returns the keys that occur at least twice in `keys`, each once and in rising order. Allocates
+/// nothing if `keys` rise, since then no key occurs twice, and little if most keys are above all
+/// before them.
 pub fn repeated_keys(alloc: Global, keys: &[u64]) -> Result<Vec<u64>, AllocError>
     ensures rising { IfOk result (λ repeated. IsStrictlyIncreasing repeated.items) }
-    ensures members { IfOk result (λ repeated. (key : ℕ) → Contains repeated.items key ↔ (2 ≤ count_by (λ other. other == key) keys.now)) }
+    ensures members { IfOk result (λ repeated. (key : ℕ)
+        → Contains repeated.items key ↔ (2 ≤ count_by (λ other. other == key) keys.now)) }
     ensures few { IfOk result (λ repeated. length repeated.items ≤ length keys.now) }
 {
     if rises(keys) {
@@ -30,13 +32,16 @@ pub fn repeated_keys(alloc: Global, keys: &[u64]) -> Result<Vec<u64>, AllocError
     Ok(repeated)
 }
 
-// Returns the keys that occur at least twice in a list, in any order and any number of times. If many keys are
-// late, sorts the keys of relationships after the others, so that it never copies all keys at once.
+// Returns the keys that occur at least twice in `keys`, in any order, each one or more times. If
+// many keys are late, sorts the keys of relationships apart from the others, so that it never
+// copies all keys at once.
 fn again_keys(alloc: Global, keys: &[u64]) -> Result<Vec<u64>, AllocError>
-    ensures members { IfOk result (λ again. (key : ℕ) → (1 ≤ count_by (λ other. other == key) again.items) ↔ (2 ≤ count_by (λ other. other == key) keys.now)) }
+    ensures members { IfOk result (λ again. (key : ℕ)
+        → (1 ≤ count_by (λ other. other == key) again.items) ↔
+        (2 ≤ count_by (λ other. other == key) keys.now)) }
     ensures few { IfOk result (λ again. length again.items ≤ length keys.now) }
 {
-    if few_are_behind(keys) {
+    if few_are_after(keys) {
         let doubtful = doubtful_keys(alloc, keys)?;
         let again = sorted_neighbours(alloc, doubtful)?;
         return Ok(again);
@@ -49,9 +54,10 @@ fn again_keys(alloc: Global, keys: &[u64]) -> Result<Vec<u64>, AllocError>
     Ok(again)
 }
 
-// Returns each of `keys` once less than it occurs among them.
+// Returns each key of `keys` one time less than it occurs there.
 fn sorted_neighbours(alloc: Global, mut keys: Vec<u64>) -> Result<Vec<u64>, AllocError>
-    ensures times { IfOk result (λ again. (key : ℕ) → count_by (λ other. other == key) again.items ≡ count_by (λ other. other == key) keys.items - 1) }
+    ensures times { IfOk result (λ again. (key : ℕ) → count_by (λ other. other == key) again.items
+        ≡ count_by (λ other. other == key) keys.items - 1) }
     ensures few { IfOk result (λ again. length again.items ≤ length keys.items) }
 {
     keys.sort_unstable();
@@ -59,7 +65,7 @@ fn sorted_neighbours(alloc: Global, mut keys: Vec<u64>) -> Result<Vec<u64>, Allo
     Ok(again)
 }
 
-// The keys below `bound`.
+// Returns the keys of `keys` below `bound`, in their order.
 fn keys_below(alloc: Global, keys: &[u64], bound: u64) -> Result<Vec<u64>, AllocError>
     ensures { IfOk result (λ below. below.items ≡ filter (λ key. nat_lt key bound) keys.now) }
 {
@@ -72,9 +78,10 @@ fn keys_below(alloc: Global, keys: &[u64], bound: u64) -> Result<Vec<u64>, Alloc
     Ok(below)
 }
 
-// The keys at or above `bound`.
+// Returns the keys of `keys` at or above `bound`, in their order.
 fn keys_from(alloc: Global, keys: &[u64], bound: u64) -> Result<Vec<u64>, AllocError>
-    ensures { IfOk result (λ others. others.items ≡ filter (λ key. not (nat_lt key bound)) keys.now) }
+    ensures { IfOk result (λ others. others.items
+        ≡ filter (λ key. not (nat_lt key bound)) keys.now) }
 {
     let mut others = Vec::new(alloc);
     for key in keys {
@@ -85,29 +92,31 @@ fn keys_from(alloc: Global, keys: &[u64], bound: u64) -> Result<Vec<u64>, AllocE
     Ok(others)
 }
 
-// Whether each key is below the next.
+// Whether each key is below the next one.
 fn rises(keys: &[u64]) -> bool
     ensures { OnTrue result (IsStrictlyIncreasing keys.now) }
 {
     keys.is_sorted_by(|one, other| *one < *other)
 }
 
-// Returns keys of a list, among which exactly those occur twice that do in the list: all keys that equal a late
-// one.
+// Returns all keys of `keys` that equal a late one. A key occurs twice among these exactly if it
+// occurs twice in `keys`.
 fn doubtful_keys(alloc: Global, keys: &[u64]) -> Result<Vec<u64>, AllocError>
-    ensures twice { IfOk result (λ doubtful. (key : ℕ) → (2 ≤ count_by (λ other. other == key) doubtful.items) ↔ (2 ≤ count_by (λ other. other == key) keys.now)) }
+    ensures twice { IfOk result (λ doubtful. (key : ℕ)
+        → (2 ≤ count_by (λ other. other == key) doubtful.items) ↔
+        (2 ≤ count_by (λ other. other == key) keys.now)) }
     ensures few { IfOk result (λ doubtful. length doubtful.items ≤ length keys.now) }
 {
-    let mut behind = keys_behind(alloc, keys)?;
-    behind.sort_unstable();
-    behind.dedup();
-    let doubtful = keys_among(alloc, keys, RisingKeys::new(behind))?;
+    let mut following = keys_after(alloc, keys)?;
+    following.sort_unstable();
+    following.dedup();
+    let doubtful = keys_among(alloc, keys, RisingKeys::new(following))?;
     Ok(doubtful)
 }
 
-// Whether few keys are late: not above all keys before them.
-fn few_are_behind(keys: &[u64]) -> bool {
-    let mut left = keys.len() / KEYS_FOR_ONE_BEHIND;
+// Whether at most one key in `KEYS_FOR_ONE_AFTER` is late.
+fn few_are_after(keys: &[u64]) -> bool {
+    let mut left = keys.len() / KEYS_FOR_ONE_AFTER;
     let mut highest = 0;
     for key in keys {
         if highest < *key {
@@ -121,24 +130,25 @@ fn few_are_behind(keys: &[u64]) -> bool {
     true
 }
 
-// The late keys: not above all keys before them. All equal keys but the first are late, since no key is above
-// itself.
-fn keys_behind(alloc: Global, keys: &[u64]) -> Result<Vec<u64>, AllocError>
-    ensures { IfOk result (λ behind. (key : ℕ) → count_by (λ other. other == key) keys.now ≤ 1 + count_by (λ other. other == key) behind.items) }
+// Returns the late keys: those not above all keys before them. Of equal keys all but the first are
+// late, since no key is above itself.
+fn keys_after(alloc: Global, keys: &[u64]) -> Result<Vec<u64>, AllocError>
+    ensures { IfOk result (λ following. (key : ℕ) → count_by (λ other. other == key) keys.now
+        ≤ 1 + count_by (λ other. other == key) following.items) }
 {
-    let mut behind = Vec::new(alloc);
+    let mut following = Vec::new(alloc);
     let mut highest = 0;
     for key in keys {
         if *key <= highest {
-            behind.push(*key)?;
+            following.push(*key)?;
         } else {
             highest = *key;
         }
     }
-    Ok(behind)
+    Ok(following)
 }
 
-// The keys that are in `others`.
+// Returns the keys of `keys` that are in `others`, in their order.
 fn keys_among(alloc: Global, keys: &[u64], mut others: RisingKeys) -> Result<Vec<u64>, AllocError>
     ensures { IfOk result (λ among. among.items ≡ filter (has others) keys.now) }
 {
@@ -151,7 +161,7 @@ fn keys_among(alloc: Global, keys: &[u64], mut others: RisingKeys) -> Result<Vec
     Ok(among)
 }
 
-// The keys that equal the one before them.
+// Returns each key of `sorted` that equals the key before it.
 #[tactic(auto, using(crate::proofs::NeighbourLemmas::neighbours_by_one))]
 fn equal_neighbours(alloc: Global, sorted: &[u64]) -> Result<Vec<u64>, AllocError>
     ensures { IfOk result (λ repeated. repeated.items ≡ equal_neighbours sorted.now) }

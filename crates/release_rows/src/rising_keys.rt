@@ -5,12 +5,13 @@ ghost use Rattle.number_lists.specs.Members.{has};
 
 use std::marker::Model;
 
-/// Keys in rising order. Contracts see the list of them.
+/// Keys in rising order. Contracts name this type as the list of its keys.
 #[derive(Drop)]
 pub struct RisingKeys {
     keys: Vec<u64>,
-    // the index after the key that was found last, or the index at which a key that was not found would stand;
-    // the next missing key mostly would stand there as well
+    // Where the last search ended: after the key that it found, or where the missing key would
+    // stand. Most searches are for a missing key that would stand at the same index, so this is
+    // tried first.
     near: usize,
 }
 
@@ -26,7 +27,7 @@ impl Model for RisingKeys {
 }
 
 impl RisingKeys {
-    /// Takes a rising list of keys.
+    /// Makes a searchable list of `keys`, which must rise strictly.
     pub fn new(keys: Vec<u64>) -> RisingKeys
         requires { IsStrictlyIncreasing keys.items }
         ensures { result ≡ keys.items }
@@ -34,7 +35,7 @@ impl RisingKeys {
         RisingKeys { keys, near: 0 }
     }
 
-    /// Whether `key` is in the list.
+    /// Whether `key` is in the list. Remembers where the search ended, to speed up the next one.
     pub fn has(&mut self, key: u64) -> bool
         ensures has { result ≡ has self.old key }
         ensures same { self.new ≡ self.old }
@@ -54,14 +55,14 @@ impl RisingKeys {
         }
     }
 
-    /// The keys as a slice.
+    /// Borrows the keys.
     pub fn as_slice(&self) -> &[u64]
         ensures { result.now ≡ self.now }
     {
         self.keys.as_slice()
     }
 
-    /// The keys as the list that was given.
+    /// Returns the vector of keys that `new` was given.
     pub fn into_keys(self) -> Vec<u64>
         ensures { result.items ≡ self }
     {
@@ -69,7 +70,7 @@ impl RisingKeys {
     }
 }
 
-// Whether `key` is above the key before `place` and below the one at `place`.
+// Whether `key` is missing because it lies between the keys at `place - 1` and `place`.
 fn is_between(rising: &[u64], place: usize, key: u64) -> bool
     requires { IsStrictlyIncreasing rising.now }
     ensures { result ≡ true → has rising.now key ≡ false }

@@ -1,4 +1,5 @@
-//! The rows of files as the first pass reads them, place by place.
+//! The first pass over the files of a release: reads each line as a row, and keeps the row's key
+//! and its values.
 ghost use Rattle.std.specs.Prelude.{◌≡◌, ◌≢◌, ◌++◌, [], IfErr, IfOk, None, OnOk, Some, false};
 ghost use Rattle.release_files.specs.Lines.{line_text};
 ghost use Rattle.rf2_rows.specs.RowTexts.{text_in};
@@ -11,27 +12,30 @@ ghost use Rattle.release_rows.specs.DeviceFaults.{FileIs, is_device};
 use crate::keys::RowKeys;
 use crate::limits::Limits;
 use crate::places::{Met, PlaceTaker};
-use first_met::Seed;
+use key_interner::Seed;
 use release_files::Line;
 use rf2_rows::{FileKind, Row, RowReader, header};
 use row_lists::{LoadFault, RowLists};
 use std::alloc::Global;
 
-/// The keys and lists of the rows that a load has read so far.
+/// The state of the first pass: the keys of the rows read until now, the lists made of these rows,
+/// and how many rows may still follow.
 #[derive(Drop)]
 pub struct Rows {
-    // reads the lines as rows
+    // parses a line as a row
     reader: RowReader,
-    /// The keys of the rows.
+    /// The key of each row, in the order of the files and their lines.
     pub keys: RowKeys,
-    // how many rows of each kind may still come, and the limit of bytes
+    // how many more rows of each kind are allowed, and the limit of bytes of a file
     left: Limits,
-    /// The lists made of the rows.
+    /// The lists that a snapshot is later made of: concepts, names, is-a rows, attribute rows and
+    /// members.
     pub lists: RowLists,
 }
 
 impl Rows {
-    /// Begins a load that may read as many rows as `limits` says. Hashes UUIDs over `seed`.
+    /// Starts a first pass that has read no row. `limits` bounds the rows of each kind and the
+    /// bytes of a file. The UUIDs of member rows are hashed with `seed`.
     pub fn new(alloc: Global, limits: Limits, seed: Seed) -> Rows
         ensures { kept_in result ≡ nothing_kept limits }
     {
@@ -43,10 +47,15 @@ impl Rows {
         }
     }
 
-    // Reads a line after the header.
+    // Reads `line`, a line after the header of the file at index `file`, and keeps its row. Ignores
+    // an empty line. Fails if the line ends past the limit of bytes, if it is no row of `kind`, if
+    // its kind already has as many rows as the limit allows, or if memory is refused.
     fn read_line(&mut self, file: usize, kind: FileKind, line: Line<'_>) -> Result<(), LoadFault>
-        ensures ok { OnOk result (IsRead (kept_in self.old) (later_line file kind (line_text line.entry)) (kept_in self.new)) }
-        ensures err { IfErr result (λ fault. fault ≢ LoadFault.Memory → IsStopped (kept_in self.old) (later_line file kind (line_text line.entry)) (kept_in self.new) fault) }
+        ensures ok { OnOk result (IsRead (kept_in self.old)
+            (later_line file kind (line_text line.entry)) (kept_in self.new)) }
+        ensures err { IfErr result (λ fault. fault ≢ LoadFault.Memory
+            → IsStopped (kept_in self.old) (later_line file kind (line_text line.entry))
+            (kept_in self.new) fault) }
         ensures own { IfErr result (λ fault. is_device fault ≡ false) }
         ensures named { IfErr result (FileIs (λ at. at ≡ file)) }
         ensures found { IfErr result (λ fault. fault ≢ LoadFault.NoConceptFile) }
@@ -58,7 +67,7 @@ impl Rows {
         if line.bytes.is_empty() {
             return Ok(());
         }
-        // the row borrows from the reader instead of being copied
+        // `row` is a borrow, so that the row is not copied out of the result
         match &self.reader.read_row(kind, line.bytes) {
             Ok(row) => self.add(file, number, kind, row),
             Err(fault) => Err(LoadFault::Row {
@@ -69,7 +78,8 @@ impl Rows {
         }
     }
 
-    // Keeps a row of `kind`, if one more may come.
+    // Keeps the key and the values of `row`, and counts it against the limit of its kind. Fails if
+    // the limit was already reached. `file` and `line` are the place that the fault names.
     fn add(
         &mut self,
         file: usize,
@@ -77,8 +87,11 @@ impl Rows {
         kind: FileKind,
         row: &Row<'_>,
     ) -> Result<(), LoadFault>
-        ensures ok { OnOk result (IsAdded (kept_in self.old) kind (text_in row.now) (kept_in self.new)) }
-        ensures err { IfErr result (λ fault. fault ≢ LoadFault.Memory → IsCrowded file line (kept_in self.old) kind (text_in row.now) (kept_in self.new) fault) }
+        ensures ok { OnOk result (IsAdded (kept_in self.old) kind (text_in row.now)
+            (kept_in self.new)) }
+        ensures err { IfErr result (λ fault. fault ≢ LoadFault.Memory
+            → IsCrowded file line (kept_in self.old) kind (text_in row.now) (kept_in self.new)
+            fault) }
         ensures own { IfErr result (λ fault. is_device fault ≡ false) }
         ensures named { IfErr result (FileIs (λ at. at ≡ file)) }
         ensures found { IfErr result (λ fault. fault ≢ LoadFault.NoConceptFile) }
@@ -109,15 +122,18 @@ impl PlaceTaker for Rows {
     }
 }
 
-// Checks that the first line is the header of the kind and ends within the limit of bytes.
+// Checks the first line of a file: it must end within the limit of bytes and be exactly the header
+// of `kind`.
 fn check_header(
     file: usize,
     kind: FileKind,
     line: Line<'_>,
     limits: &Limits,
 ) -> Result<(), LoadFault>
-    ensures clean { OnOk result (fault_of_first limits.now file kind (line_text line.entry) ≡ None) }
-    ensures err { IfErr result (λ fault. fault_of_first limits.now file kind (line_text line.entry) ≡ Some fault) }
+    ensures clean { OnOk result (fault_of_first limits.now file kind (line_text line.entry)
+        ≡ None) }
+    ensures err { IfErr result (λ fault. fault_of_first limits.now file kind (line_text line.entry)
+        ≡ Some fault) }
     ensures own { IfErr result (λ fault. is_device fault ≡ false) }
     ensures named { IfErr result (FileIs (λ at. at ≡ file)) }
     ensures found { IfErr result (λ fault. fault ≢ LoadFault.NoConceptFile) }

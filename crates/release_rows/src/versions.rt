@@ -1,5 +1,6 @@
-//! The versions of components that have several rows: which rows conflict, and which row of each component is
-//! chosen.
+//! The versions of components that have several rows. A version is a component at one effective
+//! time. This module finds conflicts between rows of one version, and chooses the row with the
+//! latest effective time of each component.
 ghost use Rattle.std.specs.Prelude.{◌≡◌, ◌<◌, ◌≤◌, ◌+◌, ◌/◌, ◌^◌, ◌&&◌, ◌++◌, ◌∷◌, [], ℕ, List, All, IfOk, OnOk, OnErr, MatchOption, None, true, false, not, length, map, nat_eq, nat_lt, slice_index, slice_index_or};
 ghost use Rattle.std.specs.Option.{ForSome};
 ghost use Rattle.std.specs.List.{list_any};
@@ -11,19 +12,22 @@ ghost use Rattle.release_rows.specs.inside.KeyedRows.{KeyedRow, choices, conflic
 ghost use Rattle.release_rows.specs.inside.VersionTable.{IsCodeOf, Version, is_older, is_outdated, time_code, without};
 
 use crate::rising_keys::RisingKeys;
-use first_met::{FirstMet, Seed};
+use key_interner::{KeyInterner, Seed};
 use rf2_rows::{FileKind, same_row};
 use row_lists::{Span, push_bytes};
 use std::alloc::{AllocError, Global};
 use std::marker::Model;
 
-// The code of a row without an effective time, which is above all times of eight digits.
+// Stands in a code for a missing effective time. It is above all times of eight digits, because a
+// row without a time counts as the latest.
 const NO_TIME: u32 = 100_000_000;
 
-// The number of codes for each key, which is more than there are times.
+// How many codes each key has. This is more than there are times, so that different versions have
+// different codes.
 const CODES: u64 = 1 << 32;
 
-/// A row of a component: the key of the component, the effective time, the kind and the line.
+/// A row to compare: the key of its component, its effective time, the kind of its file, and the
+/// bytes of its line.
 #[derive(Clone, Copy)]
 pub struct NotedRow<'a> {
     pub key: u64,
@@ -32,8 +36,8 @@ pub struct NotedRow<'a> {
     pub text: &'a [u8],
 }
 
-// A version: its code, the index of its first row among all rows, the kind of that row, and the place of its
-// line in the buffer.
+// A version: its code (`code_of`), the index of its first row among all rows, the kind of that row,
+// and the span of its line in the buffer `lines`.
 #[derive(Clone, Copy)]
 struct VersionRow {
     code: u64,
@@ -42,11 +46,11 @@ struct VersionRow {
     line: Span,
 }
 
-// Versions in the order in which they were first met. Contracts see the list of them.
+// Versions in the order of their first rows. Contracts name this type as a list of versions.
 #[derive(Drop)]
 struct VersionRows {
     rows: Vec<VersionRow>,
-    // the line of each version's first row, one after another
+    // the lines of the versions' first rows, joined without separators
     lines: Vec<u8>,
 }
 
@@ -73,14 +77,15 @@ impl VersionRows {
         }
     }
 
-    // The number of versions.
+    // Returns the number of versions.
     fn len(&self) -> usize
         ensures { result ≡ length self.now }
     {
         self.rows.len()
     }
 
-    // Adds a version with its first row.
+    // Appends the version `code`, whose first row has the index `place`, is of `kind`, and has the
+    // line `text`. Copies `text`.
     fn push(
         &mut self,
         code: u64,
@@ -89,7 +94,12 @@ impl VersionRows {
         text: &[u8],
     ) -> Result<(), AllocError>
         requires { row_fault kind text.now ≡ None }
-        ensures ok { OnOk result (self.new ≡ self.old ++ record { code = code; place = place; kind = kind; text = text.now } ∷ []) }
+        ensures ok { OnOk result (self.new ≡ self.old ++ record {
+          code = code;
+          place = place;
+          kind = kind;
+          text = text.now;
+        } ∷ []) }
         ensures err { OnErr result (self.new ≡ self.old) }
     {
         let line = push_bytes(&mut self.lines, text)?;
@@ -102,17 +112,21 @@ impl VersionRows {
         Ok(())
     }
 
-    // The code of the version at index `number`, and the index of its first row.
+    // Returns the code of the version at index `number`, and the index of its first row among all
+    // rows.
     fn code_and_place(&self, number: usize) -> (u64, usize)
         requires { number < length self.now }
-        ensures code { (default : Version) → result.0 ≡ (slice_index_or self.now number default).code }
-        ensures place { (default : Version) → result.1 ≡ (slice_index_or self.now number default).place }
+        ensures code { (default : Version)
+            → result.0 ≡ (slice_index_or self.now number default).code }
+        ensures place { (default : Version)
+            → result.1 ≡ (slice_index_or self.now number default).place }
     {
         let row = self.rows[number];
         (row.code, row.place)
     }
 
-    // Whether `text` is the same row as the first one of the version at index `number`, if that is of `kind`.
+    // Whether a row of `kind` with the line `text` equals the first row of the version at index
+    // `number` in each column. False if that row is of another kind.
     fn agrees(&self, number: usize, kind: FileKind, text: &[u8]) -> bool
         requires number { number < length self.now }
         requires accepted { row_fault kind text.now ≡ None }
@@ -124,17 +138,18 @@ impl VersionRows {
     }
 }
 
-/// Takes the rows of a release in turn, and compares those of components that have several. Once memory has
-/// been refused, this says nothing about the rows taken.
+/// A table of the rows of a release. It is given one row after another, and compares the rows of
+/// components that have several. Once memory has been refused, contracts say nothing about the rows
+/// that the table has been given.
 #[derive(Drop)]
 pub struct Versions {
-    // the keys of the components that have several rows
+    // the keys that occur more than once, that is, the keys of components with several rows
     repeated: RisingKeys,
-    // the codes of the versions, to find the index of a version by its code
-    seen: FirstMet,
-    // the versions in the order in which they were first met
+    // maps the code of a version to the index of the version in `versions`
+    seen: KeyInterner,
+    // the versions of these components, in the order of their first rows
     versions: VersionRows,
-    // for each row so far, whether it is the first of its version
+    // for each row that was given, whether it is the first row of its version
     chosen: Vec<bool>,
 }
 
@@ -154,8 +169,8 @@ impl Versions {
     ghost use Rattle.release_rows.specs.inside.VersionTable.{HasTaken};
     ghost use Rattle.release_rows.specs.inside.VersionsInside.{noted};
 
-    /// Creates an empty table. `repeated` holds the keys of components with several rows. Hashes codes over
-    /// `seed`.
+    /// Creates a table without rows. `repeated` holds the keys of the components with several rows,
+    /// in rising order. Codes will be hashed with `seed`.
     pub fn new(alloc: Global, repeated: Vec<u64>, seed: Seed) -> Versions
         requires rising { IsStrictlyIncreasing repeated.items }
         requires few { length repeated.items < 2 ^ 32 }
@@ -164,13 +179,14 @@ impl Versions {
     {
         Versions {
             repeated: RisingKeys::new(repeated),
-            seen: FirstMet::new(alloc, seed),
+            seen: KeyInterner::new(alloc, seed),
             versions: VersionRows::new(alloc),
             chosen: Vec::new(alloc),
         }
     }
 
-    /// Whether `key` is that of a component with several rows.
+    /// Whether `key` is the key of a component with several rows. Changes only where the next
+    /// search in the list of keys begins.
     pub fn is_repeated(&mut self, key: u64) -> bool
         ensures repeated { result ≡ has self.old.repeated key }
         ensures same { self.new ≡ self.old }
@@ -178,26 +194,30 @@ impl Versions {
         self.repeated.has(key)
     }
 
-    /// Takes a row whose key is not repeated.
+    /// Counts a row whose component has no other row, so that it is chosen. Does not need its text.
     pub fn skip(&mut self) -> Result<(), AllocError>
         ensures repeated { self.new.repeated ≡ self.old.repeated }
-        ensures taken { OnOk result ((rows : List KeyedRow) (row : KeyedRow) → has self.old.repeated row.key ≡ false
-            → HasTaken self.old rows → HasTaken self.new (rows ++ row ∷ [])) }
+        ensures taken { OnOk result ((rows : List KeyedRow) (row : KeyedRow)
+            → has self.old.repeated row.key ≡ false → HasTaken self.old rows
+            → HasTaken self.new (rows ++ row ∷ [])) }
     {
         self.chosen.push(true)?;
         Ok(())
     }
 
-    /// Takes a row. Answers `false` if it differs from an earlier row of its component and time. Compares no
-    /// rows whose key is not repeated.
+    /// Adds `row`. Returns `false` if `row` differs from an earlier row of the same component and
+    /// effective time. A row whose component has no other row is chosen without a comparison.
     pub fn take(&mut self, row: &NotedRow<'_>) -> Result<bool, AllocError>
         requires accepted { row_fault row.now.kind row.now.text.now ≡ None }
         requires time { ForSome row.now.time (λ time. time < 10 ^ 8) }
         ensures repeated { self.new.repeated ≡ self.old.repeated }
-        ensures conflict { IfOk result (λ fits. (rows : List KeyedRow) → HasTaken self.old rows → AreOfItsKind rows (noted row.now)
-            → fits ≡ not (has self.old.repeated row.now.key && list_any (λ earlier. conflicts earlier (noted row.now)) rows)) }
-        ensures taken { IfOk result (λ fits. (rows : List KeyedRow) → HasTaken self.old rows → AreOfItsKind rows (noted row.now)
-            → fits ≡ true → HasTaken self.new (rows ++ noted row.now ∷ [])) }
+        ensures conflict { IfOk result (λ fits. (rows : List KeyedRow) → HasTaken self.old rows
+            → AreOfItsKind rows (noted row.now)
+            → fits ≡ not (has self.old.repeated row.now.key
+            && list_any (λ earlier. conflicts earlier (noted row.now)) rows)) }
+        ensures taken { IfOk result (λ fits. (rows : List KeyedRow) → HasTaken self.old rows
+            → AreOfItsKind rows (noted row.now) → fits ≡ true
+            → HasTaken self.new (rows ++ noted row.now ∷ [])) }
     {
         match code_of(self.repeated.as_slice(), row.key, row.time) {
             Some(code) => {
@@ -211,15 +231,18 @@ impl Versions {
         }
     }
 
-    // Takes a row whose version has `code`.
+    // Adds `row`, whose version has the code `code`: compares it with the first row of the version,
+    // or, if there is none, makes it the first. Returns `false` if the two differ.
     fn take_version(&mut self, code: u64, row: &NotedRow<'_>) -> Result<bool, AllocError>
         requires accepted { row_fault row.now.kind row.now.text.now ≡ None }
         requires code { IsCodeOf self.old.repeated (noted row.now) code }
         ensures repeated { self.new.repeated ≡ self.old.repeated }
-        ensures conflict { IfOk result (λ fits. (rows : List KeyedRow) → HasTaken self.old rows → AreOfItsKind rows (noted row.now)
+        ensures conflict { IfOk result (λ fits. (rows : List KeyedRow) → HasTaken self.old rows
+            → AreOfItsKind rows (noted row.now)
             → fits ≡ not (list_any (λ earlier. conflicts earlier (noted row.now)) rows)) }
-        ensures taken { IfOk result (λ fits. (rows : List KeyedRow) → HasTaken self.old rows → AreOfItsKind rows (noted row.now)
-            → fits ≡ true → HasTaken self.new (rows ++ noted row.now ∷ [])) }
+        ensures taken { IfOk result (λ fits. (rows : List KeyedRow) → HasTaken self.old rows
+            → AreOfItsKind rows (noted row.now) → fits ≡ true
+            → HasTaken self.new (rows ++ noted row.now ∷ [])) }
     {
         match self.seen.place_of(code as u128) {
             Some(number) => {
@@ -236,25 +259,27 @@ impl Versions {
         }
     }
 
-    // Takes the first row of a version.
+    // Adds `row` as the first row of the version `code`.
     fn add_version(&mut self, code: u64, row: &NotedRow<'_>) -> Result<(), AllocError>
         requires accepted { row_fault row.now.kind row.now.text.now ≡ None }
         requires code { IsCodeOf self.old.repeated (noted row.now) code }
         requires new { list_any (nat_eq code) self.old.codes ≡ false }
         ensures repeated { self.new.repeated ≡ self.old.repeated }
-        ensures taken { OnOk result ((rows : List KeyedRow) → HasTaken self.old rows → HasTaken self.new (rows ++ noted row.now ∷ [])) }
+        ensures taken { OnOk result ((rows : List KeyedRow) → HasTaken self.old rows
+            → HasTaken self.new (rows ++ noted row.now ∷ [])) }
     {
         let place = self.chosen.len();
         self.chosen.push(true)?;
         self.versions.push(code, place, row.kind, row.text)?;
-        let _ = self.seen.meet(code as u128)?;
+        let _ = self.seen.intern(code as u128)?;
         Ok(())
     }
 
-    /// For each row taken, whether it is chosen: it has the latest time of its component, and is the first of
-    /// equal rows.
+    /// Returns for each row that was given whether it is chosen: it has the latest effective time
+    /// of its component, and is the first among equal rows.
     pub fn chosen(self) -> Vec<bool>
-        ensures { (rows : List KeyedRow) → HasTaken self rows → Covers self.repeated (map (λ (row : KeyedRow). row.key) rows)
+        ensures { (rows : List KeyedRow) → HasTaken self rows
+            → Covers self.repeated (map (λ (row : KeyedRow). row.key) rows)
             → result.items ≡ choices rows [] rows }
     {
         let Versions {
@@ -270,13 +295,15 @@ impl Versions {
     }
 }
 
-// The code of the version of `key` and `time`: the index of the key among the repeated ones, times 2^32, plus
-// the time. `None` if the key is not repeated.
+// Returns the code of the version of `key` and `time`: the index of `key` in `repeated`, times
+// 2^32, plus the time. So of two versions of one component the later has the greater code. `None`
+// if `key` is not in `repeated`.
 fn code_of(repeated: &[u64], key: u64, time: Option<u32>) -> Option<u64>
     requires rising { IsStrictlyIncreasing repeated.now }
     requires few { length repeated.now < 2 ^ 32 }
     requires time { ForSome time (λ time. time < 10 ^ 8) }
-    ensures { (row : KeyedRow) → row.key ≡ key → row.time ≡ time → MatchOption result (has repeated.now key ≡ false) (IsCodeOf repeated.now row) }
+    ensures { (row : KeyedRow) → row.key ≡ key → row.time ≡ time
+        → MatchOption result (has repeated.now key ≡ false) (IsCodeOf repeated.now row) }
 {
     match repeated.binary_search(&key) {
         Ok(place) => Some(place as u64 * CODES + u64::from(time.unwrap_or(NO_TIME))),
@@ -284,19 +311,22 @@ fn code_of(repeated: &[u64], key: u64, time: Option<u32>) -> Option<u64>
     }
 }
 
-// The index of a version's key among the repeated ones.
+// Returns the index of the version's key in the list of repeated keys.
 fn key_place(code: u64) -> usize
     ensures { result ≡ code / 2 ^ 32 }
 {
     (code / CODES) as usize
 }
 
-// Puts the greatest code of the versions of each key at the index of the key.
+// Overwrites `latest`: at the index of each key it puts the greatest code of the key's versions.
+// The entries that `latest` had before do not matter.
 fn find_latest(latest: &mut Vec<u64>, versions: &VersionRows)
-    requires { All (λ (version : Version). version.code / 2 ^ 32 < length latest.old.items) versions.now }
+    requires { All (λ (version : Version). version.code / 2 ^ 32 < length latest.old.items)
+        versions.now }
     ensures len { length latest.new.items ≡ length latest.old.items }
     ensures latest { (code : ℕ) → code / 2 ^ 32 < length latest.old.items
-        → nat_lt code (slice_index latest.new.items (code / 2 ^ 32)) ≡ is_outdated versions.now code }
+        → nat_lt code (slice_index latest.new.items (code / 2 ^ 32))
+        ≡ is_outdated versions.now code }
 {
     latest.as_mut_slice().fill(0);
     for number in 0..versions.len() {
@@ -308,10 +338,13 @@ fn find_latest(latest: &mut Vec<u64>, versions: &VersionRows)
     }
 }
 
-// Clears the marks of the first rows of versions that are not the latest of their component.
+// Sets `chosen` to false for the first row of each version that is not the latest of its component.
+// `latest` has the greatest code of each key.
 fn leave_latest(chosen: &mut Vec<bool>, latest: &[u64], versions: &VersionRows)
-    requires keys { All (λ (version : Version). version.code / 2 ^ 32 < length latest.now) versions.now }
-    requires places { All (λ (version : Version). version.place < length chosen.old.items) versions.now }
+    requires keys { All (λ (version : Version). version.code / 2 ^ 32 < length latest.now)
+        versions.now }
+    requires places { All (λ (version : Version). version.place < length chosen.old.items)
+        versions.now }
     requires latest { (code : ℕ) → code / 2 ^ 32 < length latest.now
         → nat_lt code (slice_index latest.now (code / 2 ^ 32)) ≡ is_outdated versions.now code }
     ensures { chosen.new.items ≡ without (is_older versions.now) 0 chosen.old.items }

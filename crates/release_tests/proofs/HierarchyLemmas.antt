@@ -1,11 +1,11 @@
--- The hierarchy of a release has a list of each family for each concept.
+-- In the hierarchy of a release, each concept has its lists.
 use Rattle.std.proofs.Common.{ℕ, ◌≡◌, ◌<◌, Bool, length, get_or, subst, sym, arith}
 use Rattle.hierarchy.specs.Hierarchy.{reaches}
 use Rattle.rf2_rows.specs.Release.{Release}
 use Rattle.ancestor_index.specs.HierarchyLists.{Hierarchy, hierarchy_of, is_child, lists_where}
 use Rattle.ancestor_index.proofs.ClosureLemmas.{length-where}
 
--- a concept has a list in each of the four families
+-- the hierarchy has a list of ancestors, of descendants, of parents and of children for `concept`
 pub record HasLists (index : Hierarchy) (concept : ℕ) : Type 0 where
   -- there is a list of ancestors for the concept
   pub ancestors : concept < length index.ancestors
@@ -16,7 +16,8 @@ pub record HasLists (index : Hierarchy) (concept : ℕ) : Type 0 where
   -- there is a list of children for the concept
   pub children : concept < length index.children
 
--- a concept number of a release has a list in each family of its hierarchy
+-- if `index` is the hierarchy of the release, and `concept` is below the count of concepts, then the hierarchy has
+-- all four lists for `concept`
 pub concept_has_lists : (release : Release) (index : Hierarchy) (concept : ℕ) → index ≡ hierarchy_of release
     → concept < length release.concepts → HasLists index concept
 concept_has_lists release index concept is below =
@@ -30,6 +31,6 @@ concept_has_lists release index concept is below =
     id : ℕ → ℕ
     id n = get_or release.concepts n 0
 
-    -- a concept number has a list among the lists by a test
+    -- in lists made by a test, `concept` has a list
     listed : (test : ℕ → ℕ → Bool) → concept < length (lists_where (length release.concepts) test)
     listed test = omega (arith, below, length-where (length release.concepts) test)

@@ -1,5 +1,5 @@
-//! Tests of queries over the sample release and over a chain, executed in each form of set and with each choice of
-//! leaves.
+//! Tests of plans that are executed over the sample release and over a chain, with each form of set
+//! and each choice of leaves.
 ghost use Rattle.postings.specs.Indexed.{IsIndexOf};
 
 use crate::load_tests::{chain_of, files_of, sample};
@@ -16,13 +16,14 @@ use std::alloc::{AllocError, Global};
 use std::process::Abort;
 use std::test::Fail;
 
-// A query line; the numbers of the concepts that answer it: A 0, B 1, C 2, D 3, T 4, U 5, X 6, Y 7, Q 8 and Root 9;
-// and, if worked out, the number of visits if the leaves are answered by value, by type and by a scan. A leaf that
-// can't be answered by value is answered by type then.
+// A query line; the numbers of the concepts in its answer; and, if they are worked out, the numbers
+// of visits if the leaves are answered by value, by type and by a scan. A leaf that can't be
+// answered by value is then answered by type. The concepts have the numbers A 0, B 1, C 2, D 3, T
+// 4, U 5, X 6, Y 7, Q 8 and Root 9.
 //
-// The visits are added up by hand from the lists. For `<100005:104001=106004` by value they are: one value and its
-// two rows, 3; the two concepts found, once more, 2; A and the three concepts below it, 4; and the two concepts
-// left, once more, 2.
+// The visits are added up by hand from the lists. For `<100005:104001=106004` by value, they are:
+// one value and its two rows, 3; the two concepts found, which are read again, 2; A and the three
+// concepts below it, 4; and the two concepts of the answer, which are read again, 2.
 type Row<'a> = (&'a [u8], &'a [u32], &'a [u64]);
 
 const ROWS: [Row<'static>; 45] = [
@@ -77,18 +78,18 @@ const ROWS: [Row<'static>; 45] = [
     (b"107008,(*:R 104001=103007)", &[7], &[]),
 ];
 
-// How many concepts are in the chain.
+// The number of concepts in the chain.
 const CHAIN: u32 = 300;
 
-// The choices that are asked for, for the leaves of a plan.
+// The choices that the tests ask for, for the first two leaves of a plan.
 const ASKED: [[Choice; 2]; 3] = [
     [Choice::ByValue, Choice::ByValue],
     [Choice::ByType, Choice::ByType],
     [Choice::Scan, Choice::Scan],
 ];
 
-// Whether a plan finds exactly the numbers `want`, with visits between its floor and its bound, and with `exactly`
-// visits if that is given.
+// Whether executing a plan finds exactly the concept numbers `want`, with visits between its floor
+// and its bound, and with `exactly` visits if that is given.
 fn is_found<S: ConceptSet>(
     alloc: Global,
     snapshot: &Snapshot,
@@ -109,7 +110,7 @@ fn is_found<S: ConceptSet>(
     Ok(counted && found.items(alloc)?.as_slice() == want)
 }
 
-// Whether a plan finds exactly the numbers `want`, in each form of set.
+// Whether executing a plan finds exactly the concept numbers `want`, with each form of set.
 fn is_executed(
     alloc: Global,
     snapshot: &Snapshot,
@@ -127,8 +128,9 @@ fn is_executed(
     )
 }
 
-// Whether a plan with the asked choices finds exactly the numbers `want`, in each form of set. Here and below, a
-// value that owns much is passed on and dropped: a function that owns it and has several exits is slow to prove.
+// Whether executing a plan with the asked choices finds exactly the concept numbers `want`, with
+// each form of set. Here and below, a function hands on and drops a value that owns much, because a
+// function that owns such a value and has several exits is slow to prove.
 fn is_chosen_and_drop(
     alloc: Global,
     snapshot: &Snapshot,
@@ -150,7 +152,7 @@ fn is_chosen_and_drop(
     }
 }
 
-// Whether a plan finds the concepts of a row with each choice of its leaves.
+// Whether executing a plan finds the concepts of a row, whatever the choices of its leaves are.
 fn is_found_in_each_way(
     alloc: Global,
     snapshot: &Snapshot,
@@ -185,7 +187,7 @@ fn is_found_and_drop(
     is_found
 }
 
-// Whether a constraint is answered as a row says.
+// Whether executing the plan of a constraint finds what a row says.
 fn is_answered(
     alloc: Global,
     snapshot: &Snapshot,
@@ -300,7 +302,8 @@ fn assert_snapshot_and_drop(
     done
 }
 
-// Checks that a release which loads was refused only for want of memory.
+// Returns `AllocError` if a load was refused because memory was refused. Fails the test at any
+// other fault, because the release should load.
 fn memory_alone(rt: &impl Abort, fault: LoadFault) -> Result<(), AllocError> {
     assert!(rt; fault == LoadFault::Memory, "the release loads");
     Err(AllocError)
@@ -317,14 +320,14 @@ fn assert_chain(rt: &impl Abort, alloc: Global) -> Result<(), AllocError> {
     let files = files_of(concepts.as_slice(), rows.as_slice());
     let numbers: Vec<u32> = (0..CHAIN).collect(alloc)?;
     let all = numbers.as_slice();
-    let (first, behind) = all.split_at(1);
+    let (first, following) = all.split_at(1);
     let (before, last) = all.split_at(all.len().saturating_sub(1));
     let wants: [Row<'_>; 8] = [
-        (b"<*", behind, &[]),
+        (b"<*", following, &[]),
         (b"<<*", all, &[]),
         (b">*", before, &[]),
         (b">>*", all, &[]),
-        (b"<!*", behind, &[]),
+        (b"<!*", following, &[]),
         (b">!*", before, &[]),
         (b"!!>*", first, &[]),
         (b"!!<*", last, &[]),
@@ -332,7 +335,8 @@ fn assert_chain(rt: &impl Abort, alloc: Global) -> Result<(), AllocError> {
     assert_all_executed(rt, alloc, &files, &wants)
 }
 
-// The lists of a chain are long: they are kept as words, and joined before the short ones.
+// The lists of a long chain are long too: they are kept as words, and are joined before the short
+// lists.
 #[test]
 fn executes_over_a_chain(rt: HostRuntime) -> Result<(), Fail> {
     assert_chain(&rt, rt.alloc())?;

@@ -1,4 +1,4 @@
-//! Tests of the hierarchies of the sample release and of releases made for a test.
+//! Tests of the hierarchy of the sample release, and of releases that are made for a test.
 ghost use Rattle.std.specs.Prelude.{◌≡◌};
 ghost use Rattle.ancestor_index.specs.HierarchyLists.{hierarchy_of};
 
@@ -10,11 +10,11 @@ use std::alloc::{AllocError, Global};
 use std::process::Abort;
 use std::test::Fail;
 
-// The ancestors, the descendants, the parents and the children of a concept.
+// The ancestors, the descendants, the parents and the children of a concept, by their numbers.
 type Around<'a> = [&'a [u32]; 4];
 
-// For each concept of the sample release, the concepts around it. The numbers are those of A, B, C, D, T, U, X, Y, Q
-// and Root.
+// For each concept of the sample release, the concepts around it. They have the numbers A 0, B 1, C
+// 2, D 3, T 4, U 5, X 6, Y 7, Q 8 and Root 9.
 const SAMPLE: [Around<'static>; 10] = [
     [&[9], &[1, 2, 3], &[9], &[1, 2]],
     [&[0, 9], &[3], &[0], &[3]],
@@ -28,14 +28,14 @@ const SAMPLE: [Around<'static>; 10] = [
     [&[], &[0, 1, 2, 3, 4, 5, 6, 7, 8], &[], &[0, 4, 5, 6, 8]],
 ];
 
-// How many concepts are in the chain. Their lists have 204,480 ancestors.
+// The number of concepts in the chain. Together they have 204,480 ancestors.
 const CHAIN: u32 = 640;
 
-// A row that repeats that D is a B. It is put before the last row.
+// An is-a row that says again that D is a B. It is inserted before the last row.
 const D_IS_B: &[u8] =
     b"122026\t20240101\t1\t900000000000207008\t103007\t101009\t0\t116680003\t900000000000011006\t900000000000451002\r\n121022\t";
 
-// Whether a hierarchy has the wanted concepts around a concept.
+// Whether the hierarchy lists exactly these concepts around `concept`.
 fn is_around(snapshot: &Snapshot, index: &AncestorIndex, concept: u32, want: &Around<'_>) -> bool
     requires { index.now ≡ hierarchy_of snapshot.now.release }
 {
@@ -46,7 +46,8 @@ fn is_around(snapshot: &Snapshot, index: &AncestorIndex, concept: u32, want: &Ar
         && index.children(concept) == want[3]
 }
 
-// Whether the descendants of a concept are kept as words exactly if `is_wide`, and the words are right.
+// Whether the hierarchy keeps the descendants of `concept` as words exactly if `is_wide`, and the
+// words have the right bits.
 fn has_words(snapshot: &Snapshot, index: &AncestorIndex, concept: u32, is_wide: bool) -> bool
     requires { index.now ≡ hierarchy_of snapshot.now.release }
 {
@@ -61,12 +62,12 @@ fn has_words(snapshot: &Snapshot, index: &AncestorIndex, concept: u32, is_wide: 
     }
 }
 
-// Whether, below `count`, exactly the bits of `numbers` are set.
+// Whether, among the bits below `count`, exactly the bits of `numbers` are set.
 fn are_words_of(words: &[u64], numbers: &[u32], count: u32) -> bool {
     (0..count).all(|number| is_set(words, number) == numbers.contains(&number))
 }
 
-// Whether the bit of a number is set. Each word has 64 bits, the lowest first.
+// Whether the bit of `number` is set. Each word has 64 bits, and begins with the lowest.
 fn is_set(words: &[u64], number: u32) -> bool {
     match words.get((number / 64) as usize) {
         Some(word) => (*word >> (number % 64)) & 1 == 1,
@@ -74,7 +75,7 @@ fn is_set(words: &[u64], number: u32) -> bool {
     }
 }
 
-// Whether each number below `count` stands once in an order, and each parent before its child.
+// Whether `order` has each number below `count` exactly once, and each parent before its children.
 pub fn is_parents_first(order: &[u32], count: u32, rows: &[(u32, u32)]) -> bool {
     order.len() == count as usize
         && (0..count).all(|concept| order.contains(&concept))
@@ -85,7 +86,8 @@ pub fn is_parents_first(order: &[u32], count: u32, rows: &[(u32, u32)]) -> bool 
         })
 }
 
-// Checks the lists of each concept in a hierarchy. Lists of more than a 32nd of all concepts are kept as words.
+// Checks the lists of each concept in the hierarchy. It keeps lists of more than a 32nd of all
+// concepts as words.
 fn assert_lists(rt: &impl Abort, snapshot: &Snapshot, index: &AncestorIndex, wants: &[Around<'_>])
     requires { index.now ≡ hierarchy_of snapshot.now.release }
 {
@@ -98,7 +100,7 @@ fn assert_lists(rt: &impl Abort, snapshot: &Snapshot, index: &AncestorIndex, wan
     }
 }
 
-// Checks the hierarchy of a release.
+// Builds the hierarchy of a release, and checks it.
 fn assert_index(
     rt: &impl Abort,
     alloc: Global,
@@ -126,7 +128,8 @@ fn assert_lists_and_drop(
     drop(index);
 }
 
-// Checks the order of a release with `rows` is-a rows and `concepts` concepts.
+// Checks that a release has `rows` is-a rows and `concepts` concepts, and an order with parents
+// first.
 fn assert_order(rt: &impl Abort, snapshot: &Snapshot, rows: usize, concepts: usize) {
     assert_eq!(rt; snapshot.isa_rows().len(), rows);
     assert_eq!(rt; snapshot.concept_count() as usize, concepts);
@@ -139,7 +142,7 @@ fn assert_order(rt: &impl Abort, snapshot: &Snapshot, rows: usize, concepts: usi
     );
 }
 
-// Checks a release with `rows` is-a rows and its hierarchy.
+// Checks that files load as a release with `rows` is-a rows, and checks its hierarchy.
 fn assert_hierarchy(
     rt: &impl Abort,
     alloc: Global,
@@ -153,7 +156,8 @@ fn assert_hierarchy(
     }
 }
 
-// Checks a release and drops it. A function that owns a release and has several exits is slow to prove.
+// Checks a release and its hierarchy, and drops the release. A function that owns a release and has
+// several exits is slow to prove.
 fn assert_order_and_index(
     rt: &impl Abort,
     alloc: Global,
@@ -172,7 +176,8 @@ fn lists_the_sample_hierarchy(rt: HostRuntime) -> Result<(), LoadFault> {
     assert_hierarchy(&rt, rt.alloc(), &sample(), 10, &SAMPLE)
 }
 
-// A row with the ends of another row counts as one row more, and changes no list.
+// An is-a row with the same child and parent as another row adds one to the count of rows, and
+// changes no list.
 #[test]
 fn lists_a_repeated_row_once(rt: HostRuntime) -> Result<(), Fail> {
     let rows = sample()[RELATIONSHIPS].bytes;
@@ -182,7 +187,8 @@ fn lists_a_repeated_row_once(rt: HostRuntime) -> Result<(), Fail> {
     Ok(())
 }
 
-// In a chain each concept has all concepts before it as ancestors and all after it as descendants.
+// In a chain, the ancestors of a concept are all concepts before it, and its descendants all
+// concepts after it.
 #[test]
 fn lists_a_chain(rt: HostRuntime) -> Result<(), Fail> {
     let alloc = rt.alloc();
@@ -194,7 +200,7 @@ fn lists_a_chain(rt: HostRuntime) -> Result<(), Fail> {
     Ok(())
 }
 
-// Returns the concepts around each of `numbers`, which are a chain.
+// Returns the concepts around each of `numbers`, which form a chain.
 fn arounds_in_a_chain<'a>(
     alloc: Global,
     numbers: &'a [u32],
@@ -202,10 +208,10 @@ fn arounds_in_a_chain<'a>(
     let mut arounds = Vec::new(alloc);
     for place in 0..numbers.len() {
         let (before, from) = numbers.split_at(place);
-        let behind = from.get(1..).unwrap_or(&[]);
+        let following = from.get(1..).unwrap_or(&[]);
         let parents = before.get(place.saturating_sub(1)..).unwrap_or(&[]);
-        let children = behind.get(..1).unwrap_or(&[]);
-        arounds.push([before, behind, parents, children])?;
+        let children = following.get(..1).unwrap_or(&[]);
+        arounds.push([before, following, parents, children])?;
     }
     Ok(arounds)
 }

@@ -1,8 +1,8 @@
-//! Tests of lists by a key, orders with parents first and cycles, for the is-a rows of the sample release and for a
-//! ring.
+//! Tests of lists by key, of orders with parents first, and of cycles, over the is-a rows of the
+//! sample release and over a cycle of three concepts.
 ghost use Rattle.std.specs.Prelude.{◌<◌, ◌^◌, length};
 ghost use Rattle.hierarchy.specs.Hierarchy.{IsWithin};
-ghost use Rattle.number_lists.specs.KeyedLists.{AreItemsBelow, AreKeysBelow, lists_by, turned as turned_of};
+ghost use Rattle.number_lists.specs.KeyedLists.{AreItemsBelow, AreKeysBelow, lists_by, transposed as transposed_of};
 
 use crate::hierarchy_tests::is_parents_first;
 use hierarchy::{least_cyclic, parents_first};
@@ -13,7 +13,8 @@ use std::test::Fail;
 // Pairs of a key and an item.
 const PAIRS: [(u32, u32); 5] = [(2, 1), (0, 2), (2, 0), (0, 2), (3, 1)];
 
-// The is-a rows of the sample release, by the numbers of their concepts: A, B, C, D, T, U, X, Y, Q and Root.
+// The is-a rows of the sample release. The concepts have the numbers A 0, B 1, C 2, D 3, T 4, U 5,
+// X 6, Y 7, Q 8 and Root 9.
 const ROWS: [(u32, u32); 10] = [
     (0, 9),
     (1, 0),
@@ -27,10 +28,10 @@ const ROWS: [(u32, u32); 10] = [
     (8, 9),
 ];
 
-// A ring of three, below a concept and above another.
+// A cycle of three concepts, with one concept above and one below it.
 const RING: [(u32, u32); 5] = [(1, 0), (1, 2), (2, 3), (3, 1), (4, 3)];
 
-// Whether the lists are exactly these, one for each key.
+// Whether `lists` has exactly the lists `wants`, one for each key.
 fn are_lists(lists: &KeyedLists, wants: &[&[u32]]) -> bool
     requires { length lists.now < 2 ^ 32 }
 {
@@ -40,34 +41,34 @@ fn are_lists(lists: &KeyedLists, wants: &[&[u32]]) -> bool
             .all(|(key, want)| key < lists.len() && lists.of(key) == *want)
 }
 
-// Whether the lists of pairs, and the transposed lists, are these.
+// Whether the pairs give the lists `wants`, and the transposed lists `transposed`.
 fn are_listed(
     alloc: Global,
     count: u32,
     pairs: &[(u32, u32)],
     wants: &[&[u32]],
-    turned: &[&[u32]],
+    transposed: &[&[u32]],
 ) -> Result<bool, AllocError>
     requires keys { AreKeysBelow count pairs.now }
     requires few_pairs { length pairs.now < 2 ^ 32 }
     requires items { AreItemsBelow count (lists_by count pairs.now) }
     requires few { length (lists_by count pairs.now) < 2 ^ 32 }
-    requires few_turned { length (turned_of count (lists_by count pairs.now)) < 2 ^ 32 }
+    requires few_transposed { length (transposed_of count (lists_by count pairs.now)) < 2 ^ 32 }
 {
     let lists = KeyedLists::from_pairs(alloc, count, pairs)?;
-    let other = lists.turned(alloc, count)?;
-    Ok(are_lists(&lists, wants) && are_lists(&other, turned))
+    let other = lists.transposed(alloc, count)?;
+    Ok(are_lists(&lists, wants) && are_lists(&other, transposed))
 }
 
 #[test]
 fn lists_pairs_by_key(rt: HostRuntime) -> Result<(), Fail> {
     let wants: [&[u32]; 4] = [&[2, 2], &[], &[1, 0], &[1]];
-    let turned: [&[u32]; 4] = [&[2], &[2, 3], &[0, 0], &[]];
-    assert!(rt; are_listed(rt.alloc(), 4, &PAIRS, &wants, &turned)?);
+    let transposed: [&[u32]; 4] = [&[2], &[2, 3], &[0, 0], &[]];
+    assert!(rt; are_listed(rt.alloc(), 4, &PAIRS, &wants, &transposed)?);
     Ok(())
 }
 
-// Makes three lists, one after another.
+// Returns lists to which three lists were pushed.
 fn pushed(alloc: Global) -> Result<KeyedLists, PushFault> {
     KeyedLists::with_capacity(alloc, 3, 3)?
         .push(&[5, 1])?
@@ -75,7 +76,7 @@ fn pushed(alloc: Global) -> Result<KeyedLists, PushFault> {
         .push(&[7])
 }
 
-// Whether the three lists stand one after another.
+// Whether the three pushed lists follow one another in memory.
 fn are_pushed(alloc: Global) -> Result<bool, PushFault> {
     let lists = pushed(alloc)?;
     Ok(lists.flat() == [5, 1, 7].as_slice() && lists.item_count() == 3)
@@ -87,7 +88,8 @@ fn pushes_lists(rt: HostRuntime) -> Result<(), Fail> {
     Ok(())
 }
 
-// Returns whether rows have an order with parents first, and the least concept that reaches itself.
+// Returns whether `rows` have an order with parents first, and the least concept that is its own
+// ancestor.
 fn ordered(
     alloc: Global,
     rows: &[(u32, u32)],

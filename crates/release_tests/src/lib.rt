@@ -1,7 +1,7 @@
-//! Tests of a loaded release, from outside: what is loaded and refused, the hierarchy, the indexes, sets, what plans
-//! find, and what is printed.
+//! Tests of a loaded release: what is loaded and what is refused, the hierarchy, the indexes, sets,
+//! what plans find, and what is printed.
 //!
-//! They stand in a crate of their own, so that the tested crates are not proved once more with them.
+//! The tests have a crate of their own, because a crate is proved a second time with its tests.
 #![tactic(auto)]
 
 #[cfg(test)]

@@ -1,4 +1,4 @@
-//! Tests of loads of the sample release with one thing changed, and of releases made for a test.
+//! Tests of loading the sample release with one change, and releases that are made for a test.
 use arrayvec::ArrayVec;
 use bstr::ByteSlice;
 use release_files::NamedBytes;
@@ -10,17 +10,17 @@ use std::alloc::{AllocError, Global};
 use std::process::Abort;
 use std::test::Fail;
 
-/// The place of the members in the list of the sample's files.
+/// The index of the file of members among the sample's files.
 pub const MEMBERS: usize = 0;
 
-// The places of the other files.
+// The indexes of the other files.
 const CONCEPTS: usize = 1;
 
 const DESCRIPTIONS: usize = 2;
 
 const CONCRETE_VALUES: usize = 3;
 
-/// The place of the relationships in the list of the sample's files.
+/// The index of the file of relationships among the sample's files.
 pub const RELATIONSHIPS: usize = 4;
 
 /// The name of the sample's concept file.
@@ -38,12 +38,13 @@ const RELATIONSHIP_HEADER: &[u8] =
 
 const ISA_REST: &[u8] = b"\t0\t116680003\t900000000000011006\t900000000000451002\r\n";
 
-/// Returns the files of the sample release, without a contract about their bytes.
+/// Returns the files of the sample release. It has no contract, so that proofs do not know their
+/// bytes.
 pub fn sample() -> [NamedBytes<'static>; 5] {
     sample_files()
 }
 
-/// Returns the bytes with the first `from` in them replaced.
+/// Returns `bytes` with the first occurrence of `from` replaced.
 pub fn replaced(
     alloc: Global,
     bytes: &[u8],
@@ -62,7 +63,7 @@ pub fn replaced(
     Ok(changed)
 }
 
-/// Returns the sample's files, with other bytes for the file at a place.
+/// Returns the sample's files, where the file at an index has other bytes.
 pub fn sample_with(
     alloc: Global,
     place: usize,
@@ -79,12 +80,12 @@ pub fn sample_with(
     Ok(files)
 }
 
-// Returns the fault of a load, if it has one.
+// Returns the fault of a load, or `None` if the files load.
 fn fault_of(alloc: Global, files: &[NamedBytes<'_>], limits: Limits) -> Option<LoadFault> {
     Snapshot::load(alloc, files, "en", limits).err()
 }
 
-// Returns the fault of the sample with a file in which the first `from` is replaced.
+// Returns the fault of loading the sample with the first occurrence of `from` in one file replaced.
 fn fault_with(
     alloc: Global,
     place: usize,
@@ -229,7 +230,8 @@ fn refuses_changed_loads(rt: HostRuntime) -> Result<(), Fail> {
             Some(LoadFault::Conflict { file: 3, line: 3 }),
         ),
         (CONCEPTS, b"", b"", None),
-        // allowed are a component of another part, and a concrete value with the identifier of a relationship
+        // a member may be a component of another partition, and a concrete value may have the
+        // identifier of a relationship
         (MEMBERS, b"\t109006\r\n", b"\t100014\r\n", None),
         (CONCRETE_VALUES, b"114022\t", b"100022\t", None),
         // an |Is a| among the concrete values is no is-a row, so it can't make a cycle
@@ -238,7 +240,8 @@ fn refuses_changed_loads(rt: HostRuntime) -> Result<(), Fail> {
     assert_faults(&rt, rt.alloc(), &changed)
 }
 
-// A change of the sample: the place of the file, what is replaced in it and by what, and the fault.
+// A change of the sample: the index of the file, the bytes that are replaced, the bytes in their
+// place, and the fault of the load.
 type Change<'a> = (usize, &'a [u8], &'a [u8], Option<LoadFault>);
 
 fn assert_faults(rt: &impl Abort, alloc: Global, changes: &[Change<'_>]) -> Result<(), Fail> {
@@ -285,8 +288,8 @@ enum Look<'a> {
     Lines(&'a [&'a str]),
 }
 
-// Loads the sample with its names in a language, and lends it to a check. It does little else, because a function
-// that owns a snapshot is slow to prove.
+// Loads the sample with names in `language` preferred, and calls a check on it. It does little
+// else, because a function that owns a snapshot is slow to prove.
 fn look_at_sample(
     rt: &impl Abort,
     alloc: Global,
@@ -315,7 +318,7 @@ fn assert_numbers(rt: &impl Abort, snapshot: &Snapshot) {
     assert!(rt; snapshot.member_rows() == [(8, 1), (8, 3)].as_slice());
 }
 
-// The concepts in force of the sample and their names, as the sample release of the definitions has them.
+// The concepts in force of the sample and their names. The definitions have the same table.
 const CONCEPTS_IN_FORCE: [(u64, Option<&str>); 10] = [
     (100005, Some("Alpha (finding)")),
     (101009, Some("Beta (finding)")),
@@ -343,7 +346,7 @@ fn assert_concepts(rt: &impl Abort, snapshot: &Snapshot) {
     }
 }
 
-// The is-a rows of the sample in the order of the file, child and parent.
+// The is-a rows of the sample (child and parent), in the order of the file.
 const IS_A_IN_FORCE: [(u64, u64); 10] = [
     (100005, 138875005),
     (106004, 138875005),
@@ -370,8 +373,8 @@ fn assert_hierarchy(rt: &impl Abort, snapshot: &Snapshot) {
     }
 }
 
-// Checks the lines of the sample's concepts: the identifier, the name between bars if there is one, and LF. With
-// another language first, a name in that language stands there, if there is one.
+// Checks the line of each concept: the identifier, the name between bars if there is one, and LF.
+// If another language is preferred, a concept that has a name in it shows that name.
 #[test]
 fn keeps_lines(rt: HostRuntime) -> Result<(), LoadFault> {
     let lines = [
@@ -400,7 +403,8 @@ fn assert_lines(rt: &impl Abort, snapshot: &Snapshot, lines: &[&str]) {
     }
 }
 
-/// Returns the first `count` identifiers with a partition, of numbers from 10,000 on.
+/// Returns `count` identifiers with the given partition. Their numbers before the partition begin
+/// at 10,000.
 pub fn identifiers(
     rt: &impl Abort,
     alloc: Global,
@@ -425,13 +429,13 @@ pub fn identifiers(
     Ok(found)
 }
 
-/// Adds an identifier's digits.
+/// Appends the digits of an identifier.
 pub fn push_number(bytes: &mut Vec<u8>, id: SctId) -> Result<(), AllocError> {
     let mut digits = itoa::Buffer::new();
     bytes.extend_from_slice(digits.format(id.number()).as_bytes())
 }
 
-/// A concept file with a row for each identifier.
+/// Returns a concept file with a row for each of `ids`.
 pub fn concept_file(alloc: Global, ids: &[SctId]) -> Result<Vec<u8>, AllocError> {
     let mut bytes = Vec::from_slice(alloc, HEADER)?;
     for id in ids {
@@ -441,14 +445,15 @@ pub fn concept_file(alloc: Global, ids: &[SctId]) -> Result<Vec<u8>, AllocError>
     Ok(bytes)
 }
 
-/// A relationship file whose rows lead from each concept to the one before it.
+/// Returns a relationship file with the identifiers `ids`, in which each concept is a child of the
+/// concept before it.
 pub fn chain_file(alloc: Global, ids: &[SctId], concepts: &[SctId]) -> Result<Vec<u8>, AllocError> {
     let mut bytes = Vec::from_slice(alloc, RELATIONSHIP_HEADER)?;
     push_chain(&mut bytes, ids, concepts)?;
     Ok(bytes)
 }
 
-// Adds the rows that lead from each concept to the one before it.
+// Appends is-a rows in which each concept is a child of the concept before it.
 fn push_chain(bytes: &mut Vec<u8>, ids: &[SctId], concepts: &[SctId]) -> Result<(), AllocError> {
     for (id, ends) in ids.iter().zip(concepts.windows(2)) {
         if let [parent, child] = ends {
@@ -471,7 +476,7 @@ pub fn chain_of(
     Ok((concept_bytes, rows))
 }
 
-/// Returns the files of a release of concepts and relationships.
+/// Returns the two files of a release that has concepts and relationships.
 pub fn files_of<'a>(concepts: &'a [u8], rows: &'a [u8]) -> [NamedBytes<'a>; 2] {
     [
         NamedBytes {
@@ -494,7 +499,8 @@ fn push_row(bytes: &mut Vec<u8>, id: SctId, child: SctId, parent: SctId) -> Resu
     bytes.extend_from_slice(ISA_REST)
 }
 
-// Returns a file of relationships and a file of concepts. The rows stand before the concepts that they name.
+// Returns a relationship file and a concept file. The relationship file is first in the list,
+// before the concepts that its rows name.
 fn two_files<'a>(rows: &'a [u8], concepts: &'a [u8]) -> [NamedBytes<'a>; 2] {
     [
         NamedBytes {
@@ -508,13 +514,13 @@ fn two_files<'a>(rows: &'a [u8], concepts: &'a [u8]) -> [NamedBytes<'a>; 2] {
     ]
 }
 
-// Returns how many concepts and how many is-a rows a release has.
+// Returns how many concepts and how many is-a rows in force a release has.
 fn counts_of(alloc: Global, files: &[NamedBytes<'_>]) -> Result<(u32, usize), LoadFault> {
     let snapshot = Snapshot::load(alloc, files, "en", Limits::standard())?;
     Ok((snapshot.concept_count(), snapshot.isa_rows().len()))
 }
 
-// Adds the row that joins the last of the concepts to the first.
+// Appends the is-a row that makes the first concept a child of the last, which closes a cycle.
 fn join_ends(rows: &mut Vec<u8>, ids: &[SctId], concepts: &[SctId]) -> Result<(), AllocError> {
     if let (Some(first), Some(last), Some(id)) = (concepts.first(), concepts.last(), ids.last()) {
         push_row(rows, *id, *first, *last)?;
@@ -522,7 +528,8 @@ fn join_ends(rows: &mut Vec<u8>, ids: &[SctId], concepts: &[SctId]) -> Result<()
     Ok(())
 }
 
-// A chain of 100,000 concepts loads, and is refused with its ends joined: no search is as deep as the chain.
+// A chain of 100,000 concepts loads, and is refused if it is closed to a cycle. No search recurses
+// along the chain.
 #[test]
 fn loads_a_long_chain(rt: HostRuntime) -> Result<(), Fail> {
     let alloc = rt.alloc();
@@ -540,7 +547,7 @@ fn loads_a_long_chain(rt: HostRuntime) -> Result<(), Fail> {
     Ok(())
 }
 
-// Two concept files make one list of concepts, in which equal rows count once.
+// The rows of two concept files form one list of concepts, in which equal rows count once.
 #[test]
 fn joins_files_of_a_kind(rt: HostRuntime) -> Result<(), Fail> {
     let alloc = rt.alloc();
@@ -558,7 +565,8 @@ fn joins_files_of_a_kind(rt: HostRuntime) -> Result<(), Fail> {
     Ok(())
 }
 
-// Returns how many concepts a release of two concept files has, and the numbers of 100005 and of 1000004.
+// Loads a release of two concept files. Returns how many concepts it has, and the numbers of 100005
+// and of 1000004.
 fn numbers_in(
     alloc: Global,
     one: &[u8],
@@ -591,7 +599,7 @@ fn numbers_of(snapshot: Snapshot) -> (u32, Option<u32>, Option<u32>) {
     numbers
 }
 
-// Equal rows count once, in any order, and each further one is passed over.
+// Equal rows count once, in whatever order they come. Each further one is counted as passed over.
 #[test]
 fn takes_equal_rows_once_in_any_order(rt: HostRuntime) -> Result<(), Fail> {
     let alloc = rt.alloc();
@@ -616,7 +624,8 @@ fn takes_equal_rows_once_in_any_order(rt: HostRuntime) -> Result<(), Fail> {
     Ok(())
 }
 
-// Returns how many concepts of a concept file are in force, and how many of its rows are passed over.
+// Returns how many concepts of a concept file are in force, and how many of its rows are passed
+// over.
 fn concept_counts(alloc: Global, bytes: &[u8]) -> Option<(u64, u64)> {
     let files = [NamedBytes { name: NAME, bytes }];
     match Snapshot::load(alloc, &files, "en", Limits::standard()) {
@@ -634,8 +643,8 @@ fn report_and_drop(snapshot: Snapshot) -> Report {
     report
 }
 
-// Of the rows of one concept the one with the latest time counts. A row without a time is the latest. Rows of one
-// time have to be equal.
+// Of the rows of one concept, the one with the latest effective time counts. A row without a time
+// is the latest. Rows with the same time have to be equal.
 #[test]
 fn takes_the_latest_row_of_a_concept(rt: HostRuntime) -> Result<(), Fail> {
     let alloc = rt.alloc();
@@ -670,8 +679,9 @@ fn takes_the_latest_row_of_a_concept(rt: HostRuntime) -> Result<(), Fail> {
     Ok(())
 }
 
-// Loads the sample with one concept row more, in a file of its own, like that of an extension. Checked are how many
-// concepts, is-a rows, attribute rows, members and names are in force, and how many rows are passed over.
+// Loads the sample with one more concept row in a file of its own, as an extension has it. Checks
+// how many concepts, is-a rows, attribute rows, members and names are in force, and how many rows
+// are passed over.
 #[test]
 fn reads_an_extension(rt: HostRuntime) -> Result<(), Fail> {
     let cases = [
@@ -694,7 +704,7 @@ fn reads_an_extension(rt: HostRuntime) -> Result<(), Fail> {
     Ok(())
 }
 
-// Returns the counts of the sample with one concept row more, in a file before or after the others.
+// Returns the counts of the sample with one more concept row, in a file before or after the others.
 fn report_with(alloc: Global, row: &[u8], first: bool) -> Result<Option<[u64; 6]>, AllocError> {
     let mut bytes = Vec::new(alloc);
     bytes.extend_from_slice(HEADER)?;
@@ -717,7 +727,7 @@ fn report_with(alloc: Global, row: &[u8], first: bool) -> Result<Option<[u64; 6]
     Ok(report_of(alloc, files.as_slice()))
 }
 
-// Returns the counts of a release, or `None` if the files are refused.
+// Returns the counts of a release, or `None` if its files are refused.
 fn report_of(alloc: Global, files: &[NamedBytes<'_>]) -> Option<[u64; 6]> {
     match Snapshot::load(alloc, files, "en", Limits::standard()) {
         Ok(snapshot) => {

@@ -1,4 +1,4 @@
-//! Tests of loads of some thousand rows of each kind of file.
+//! Tests of loading thousands of rows of each kind of file.
 use crate::load_tests::{
     NAME, RELATIONSHIP_NAME, chain_file, concept_file, identifiers, push_number,
 };
@@ -12,14 +12,14 @@ use std::test::Fail;
 
 const ROWS: u64 = 3_000;
 
-// Makes a file of a kind with its header alone.
+// Returns a file of a kind that has no more than its header.
 fn begun(alloc: Global, kind: FileKind) -> Result<Vec<u8>, AllocError> {
     let mut bytes = Vec::from_slice(alloc, header(kind).as_bytes())?;
     bytes.push(b'\n')?;
     Ok(bytes)
 }
 
-// Makes a fully specified name for each concept.
+// Returns a description file with a fully specified name for each concept.
 fn description_file(
     alloc: Global,
     ids: &[SctId],
@@ -35,7 +35,7 @@ fn description_file(
     Ok(bytes)
 }
 
-// Makes a concrete value for each concept.
+// Returns a file with a concrete value for each concept.
 fn concrete_file(alloc: Global, ids: &[SctId], concepts: &[SctId]) -> Result<Vec<u8>, AllocError> {
     let mut bytes = begun(alloc, FileKind::Concrete)?;
     for (id, concept) in ids.iter().zip(concepts) {
@@ -47,7 +47,7 @@ fn concrete_file(alloc: Global, ids: &[SctId], concepts: &[SctId]) -> Result<Vec
     Ok(bytes)
 }
 
-// Makes the reference set of the first concept, with each concept as a member.
+// Returns a file in which each concept is a member of the reference set of the first concept.
 fn member_file(alloc: Global, concepts: &[SctId]) -> Result<Vec<u8>, AllocError> {
     let mut bytes = begun(alloc, FileKind::Member)?;
     let first = concepts.first();
@@ -66,7 +66,7 @@ fn member_file(alloc: Global, concepts: &[SctId]) -> Result<Vec<u8>, AllocError>
     Ok(bytes)
 }
 
-// All rows of all five kinds are kept.
+// The loaded release has all rows of all five kinds.
 #[test]
 fn loads_some_thousand_rows_of_each_kind(rt: HostRuntime) -> Result<(), Fail> {
     let alloc = rt.alloc();

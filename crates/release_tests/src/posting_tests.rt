@@ -1,6 +1,6 @@
-//! Tests of the indexes of the sample release and of releases made for a test.
+//! Tests of the indexes of the sample release, and of releases that are made for a test.
 //!
-//! Concepts go by their numbers: A 0, B 1, C 2, D 3, T 4, U 5, X 6, Y 7, Q 8 and Root 9.
+//! The concepts have the numbers A 0, B 1, C 2, D 3, T 4, U 5, X 6, Y 7, Q 8 and Root 9.
 use crate::load_tests::{MEMBERS, RELATIONSHIPS, replaced, sample, sample_with};
 use postings::{FlaggedNumber, Indexes, Stats};
 use release_files::NamedBytes;
@@ -10,8 +10,8 @@ use std::alloc::Global;
 use std::process::Abort;
 use std::test::Fail;
 
-// The types of the rows: T, U, and one that is no concept in force. The values are X and Y, and the two decimals of
-// the sample in units of 10^-18.
+// The types of the rows: T, U, and a concept that is not in force. The values are X and Y, and the
+// two numbers of the sample in units of 10^-18.
 const T: u64 = 104001;
 
 const U: u64 = 105000;
@@ -24,28 +24,30 @@ const Y: Held = Held::Concept(107008);
 
 const DECIMALS: [i128; 2] = [2_500_000_000_000_000_000, 3_000_000_000_000_000_000];
 
-// A value: a concept by its identifier, or a decimal.
+// A value: a concept by its identifier, or a number.
 #[derive(Clone, Copy)]
 enum Held {
     Concept(u64),
     Decimal(i128),
 }
 
-// The number of a row, its source, its type, its group and its value.
+// A row: its number, its source, its type, its group number and its value.
 type Row = (u32, u32, u64, u32, Held);
 
-// A concept, its rows, its first group and the group after its last, and its members.
+// A concept, the numbers of its rows, its first group and the group after its last, and its
+// members.
 type Lists<'a> = (u32, &'a [u32], (u32, u32), &'a [u32]);
 
-// The concept and the rows of a group.
+// A group: its concept, and the numbers of its rows.
 type Group<'a> = (u32, &'a [u32]);
 
-// A row of a type or of a value: its number; its source, and whether it is the first row there with its pair; its
-// value or the place of its type; and its group, and whether it is the first row there with its pair.
+// A row in the posting list of a type or of a value: the row's number; its source, and whether it
+// is the first row with this pair there; its value (in the list of a type) or the place of its type
+// (in the list of a value); and its group, and whether it is the first row with this pair there.
 type Cells = (u32, (u32, bool), u32, (u32, bool));
 
-// What indexes are to have: how many rows, the contents of the named rows and concepts, all groups, all types, and
-// the rows of the named types and values.
+// What indexes should have: the count of rows; the contents of some rows and of some concepts; all
+// groups and all types; and the posting lists of some types and of some values.
 struct Wants<'a> {
     row_count: u32,
     rows: &'a [Row],
@@ -56,8 +58,9 @@ struct Wants<'a> {
     by_value: &'a [(u32, &'a [Cells])],
 }
 
-// The rows are those of B, of C and of D, each in the order of the files, in which the concrete values come first.
-// The groups of a concept are first those with a number, and then the pairs without one.
+// The rows are those of B, then of C, then of D, each in the order of the files, and the file of
+// concrete values comes first. The groups of a concept are first those with a group number, and
+// then the pairs without one.
 const SAMPLE: Wants<'static> = Wants {
     row_count: 9,
     rows: &[
@@ -121,8 +124,8 @@ const SAMPLE_OF_Y: [Cells; 5] = [
     (8, (3, false), 1, (5, true)),
 ];
 
-// Four more rows of D, put before the last row of the file: the pair of T and X in group 3 and twice in group 4, and
-// a row whose type is no concept in force.
+// Four more rows of D, which are inserted before the last row of the file: the pair of T and X in
+// group 3, twice in group 4, and a row whose type is not in force.
 const ROWS_OF_D: &[u8] = b"\
 122026\t20240101\t1\t900000000000207008\t103007\t106004\t3\t104001\t900000000000011006\t900000000000451002\r\n\
 123020\t20240101\t1\t900000000000207008\t103007\t106004\t4\t104001\t900000000000011006\t900000000000451002\r\n\
@@ -130,7 +133,7 @@ const ROWS_OF_D: &[u8] = b"\
 125029\t20240101\t1\t900000000000207008\t103007\t107008\t0\t109006\t900000000000011006\t900000000000451002\r\n\
 121022\t";
 
-// What the indexes of the sample with the rows of `ROWS_OF_D` are to have.
+// What the indexes of the sample with the rows `ROWS_OF_D` should have.
 const REPEATED: Wants<'static> = Wants {
     row_count: 13,
     rows: &[(9, 3, T, 3, X), (11, 3, T, 4, X), (12, 3, INACTIVE, 0, Y)],
@@ -174,7 +177,7 @@ const REPEATED_OF_Y: [Cells; 6] = [
     (12, (3, true), 2, (10, true)),
 ];
 
-// A row that repeats that B is a member of Q. It is put before the last row.
+// A row that says again that B is a member of Q. It is inserted before the last row.
 const B_IS_A_MEMBER: &[u8] =
     b"00000000-0000-4000-8000-000000000004\t20240101\t1\t900000000000207008\t108003\t101009\r\n00000000-0000-4000-8000-000000000003";
 
@@ -189,7 +192,7 @@ fn assert_rows(rt: &impl Abort, indexes: &Indexes, wants: &[Row]) {
     }
 }
 
-// Whether a value is the wanted one.
+// Whether `value` is `want`.
 fn is_held(value: &Value<'_>, want: Held) -> bool {
     match (value, want) {
         (Value::Concept(id), Held::Concept(number)) => id.number() == number,
@@ -208,7 +211,7 @@ fn assert_lists(rt: &impl Abort, indexes: &Indexes, wants: &[Lists<'_>]) {
     }
 }
 
-// Checks each group, and the group of each of its rows.
+// Checks each group, and for each of its rows that it is the row's group.
 fn assert_groups(rt: &impl Abort, indexes: &Indexes, wants: &[Group<'_>]) {
     assert_eq!(rt; indexes.group_count() as usize, wants.len());
     for (unit, (concept, rows)) in (0u32..).zip(wants) {
@@ -246,7 +249,7 @@ fn assert_by_value(rt: &impl Abort, indexes: &Indexes, wants: &[(u32, &[Cells])]
     }
 }
 
-// Checks the numbers of rows, and the column of their values or of their types.
+// Checks the numbers of the rows in a posting list, and the column of their values or their types.
 fn assert_cells(rt: &impl Abort, rows: &[u32], column: &[u32], wants: &[Cells]) {
     assert!(rt; (rows.len(), column.len()) == (wants.len(), wants.len()));
     for ((row, cell), want) in rows.iter().zip(column).zip(wants) {
@@ -268,8 +271,8 @@ fn assert_marks(
     }
 }
 
-// Checks the counts of indexes. Each of the tested releases has the concepts, the hierarchy and the members of the
-// sample.
+// Checks the counts in the indexes. Each tested release has the concepts, the hierarchy and the
+// members of the sample.
 fn assert_stats(rt: &impl Abort, indexes: &Indexes, wants: &Wants<'_>) {
     let want = Stats {
         n: 10,
@@ -296,8 +299,8 @@ fn assert_indexes(rt: &impl Abort, indexes: &Indexes, wants: &Wants<'_>) {
     assert_by_value(rt, indexes, wants.by_value);
 }
 
-// Returns the indexes of a release. Functions that own a snapshot or indexes are slow to prove, so each of them does
-// little else.
+// Returns the indexes of a release. It does little else, because a function that owns a snapshot or
+// indexes is slow to prove.
 fn indexes_of(alloc: Global, files: &[NamedBytes<'_>]) -> Result<Indexes, LoadFault> {
     let snapshot = Snapshot::load(alloc, files, "en", Limits::standard())?;
     Ok(Indexes::build(alloc, &snapshot)?)
@@ -333,8 +336,8 @@ fn lists_the_sample_rows(rt: HostRuntime) -> Result<(), LoadFault> {
     assert_release(&rt, rt.alloc(), &sample(), &SAMPLE)
 }
 
-// A repeated pair counts once in its concept and once in each of its groups, groups with equal pairs stay two
-// groups, and a type need not be a concept in force.
+// A repeated pair counts once in its concept, and once in each of its groups. Groups with equal
+// pairs stay two groups. A type need not be in force.
 #[test]
 fn tells_repeated_pairs_and_groups(rt: HostRuntime) -> Result<(), Fail> {
     let rows = sample()[RELATIONSHIPS].bytes;
@@ -344,7 +347,8 @@ fn tells_repeated_pairs_and_groups(rt: HostRuntime) -> Result<(), Fail> {
     Ok(())
 }
 
-// A row with the ends of another row counts as one row more, and changes no list.
+// A member row with the same reference set and component as another row adds one to the count of
+// rows, and changes no list.
 #[test]
 fn lists_a_repeated_member_once(rt: HostRuntime) -> Result<(), Fail> {
     let rows = sample()[MEMBERS].bytes;

@@ -1,4 +1,4 @@
-//! Tests of printed texts, as a whole.
+//! Tests of complete printed texts.
 ghost use Rattle.std.specs.Prelude.{◌≡◌, ◌≢◌};
 ghost use Rattle.number_lists.specs.Rising.{IsRisingBelow};
 
@@ -13,10 +13,11 @@ use std::alloc::{AllocError, Global};
 use std::process::Abort;
 use std::test::Fail;
 
-// The bytes that each vector holds before a text is appended.
+// The bytes of each vector before a text is appended to it.
 const BEFORE: &[u8] = b"before\n";
 
-// Four concepts that are not in order. The order of their identifiers as texts is not their order as numbers.
+// Four concepts in no order. Sorted as texts, their identifiers have another order than sorted as
+// numbers.
 const CONCEPTS: &[u8] = b"id\teffectiveTime\tactive\tmoduleId\tdefinitionStatusId\r\n\
 1000004\t20240101\t1\t900000000000207008\t900000000000074008\r\n\
 138875005\t20240101\t1\t900000000000207008\t900000000000074008\r\n\
@@ -30,14 +31,14 @@ const DESCRIPTIONS: &[u8] =
 102018\t20240101\t1\t900000000000207008\t1000004\ten\t900000000000003001\t\t900000000000448009\r\n\
 103011\t20240101\t1\t900000000000207008\t138875005\ten\t900000000000003001\tR\xc3\xb6\xc3\xb6t (test)\t900000000000448009\r\n";
 
-// The answer with the first and the last concept, and the answer with all.
+// The answers with the first and the last concept, and with all concepts.
 const ENDS: &[u8] =
     b"before\nOK 2\n100005 |Alpha (finding)|\n138875005 |R\xc3\xb6\xc3\xb6t (test)|\n";
 
 const ALL: &[u8] =
     b"before\nOK 4\n100005 |Alpha (finding)|\n101009\n1000004 ||\n138875005 |R\xc3\xb6\xc3\xb6t (test)|\n";
 
-// Returns the two files, without a contract about their bytes.
+// Returns the two files. It has no contract, so that proofs do not know their bytes.
 fn files() -> [NamedBytes<'static>; 2] {
     [
         NamedBytes {
@@ -62,7 +63,7 @@ fn loaded(rt: &impl Abort, alloc: Global) -> Result<Snapshot, AllocError> {
     }
 }
 
-// Returns the answer with `concepts`, after what the vector held before.
+// Returns a vector with `BEFORE` to which the answer with `concepts` was appended.
 fn answered<S: ConceptSet>(
     rt: &impl Abort,
     alloc: Global,
@@ -140,7 +141,7 @@ fn answers_of_mixed_sets(rt: HostRuntime) -> Result<(), Fail> {
     Ok(())
 }
 
-// Prints the line that refuses a text.
+// Returns the line that refuses a text.
 fn refused(alloc: Global, fault: QueryFault) -> Result<Vec<u8>, AllocError>
     requires { fault ≢ QueryFault.Memory }
 {
@@ -201,7 +202,7 @@ fn check_forms(
     Ok(())
 }
 
-// Prints the line that refuses a release of two files.
+// Returns the line that refuses a release of two files.
 fn load_refused(alloc: Global, fault: &LoadFault) -> Result<Vec<u8>, AllocError> {
     let names = ["b", "c"];
     let mut output = Vec::from_slice(alloc, BEFORE)?;
@@ -310,10 +311,10 @@ fn check_causes(
     Ok(())
 }
 
-// The fault if the first file can't be read.
+// The fault for a first file that can't be read.
 const UNREAD: LoadFault = LoadFault::Device { file: Some(0) };
 
-// Prints the line for a file that can't be read.
+// Returns the line for a file that can't be read.
 fn device_refused(alloc: Global, name: &str) -> Result<Vec<u8>, AllocError> {
     let mut output = Vec::from_slice(alloc, BEFORE)?;
     print_load_fault(alloc, UNREAD, &[name], &mut output)?;
@@ -341,7 +342,7 @@ fn refuses_files(rt: HostRuntime) -> Result<(), Fail> {
     Ok(())
 }
 
-// Prints a report.
+// Returns the printed report.
 fn reported(alloc: Global, report: &Report) -> Result<Vec<u8>, AllocError> {
     let mut output = Vec::from_slice(alloc, BEFORE)?;
     print_report(alloc, report, &mut output)?;

@@ -1,4 +1,4 @@
-//! Tests of the attribute rows and the report of the sample release.
+//! Tests of the attribute rows and the row counts of the sample release.
 ghost use Rattle.std.specs.Prelude.{◌<◌, length};
 
 use crate::load_tests::sample;
@@ -7,8 +7,8 @@ use snapshot::{Limits, LoadSnapshot, Report, Snapshot};
 use std::process::Abort;
 use std::test::Fail;
 
-// Source, group, type and value of each attribute row, in the order of the rows. The sources are B, C and D, the
-// types T and U, and the values X, Y, 2.5 and 3.
+// Source, group number, type and value of each attribute row, in the order of the rows. The sources
+// are B, C and D, the types T and U, and the values X, Y, 2.5 and 3.
 const ROWS: [(u32, u32, u64, i128); 9] = [
     (1, 1, 104001, 106004),
     (1, 1, 105000, 107008),
@@ -21,7 +21,7 @@ const ROWS: [(u32, u32, u64, i128); 9] = [
     (3, 2, 105000, 107008),
 ];
 
-// Returns the number that a value is, or the identifier of the concept.
+// Returns the number that a value is, in units of 10^-18, or the identifier if it is a concept.
 fn integer_in(value: &Value<'_>) -> i128 {
     match value {
         Value::Concept(concept) => i128::from(concept.number()),
@@ -59,7 +59,7 @@ fn assert_report(rt: &impl Abort, report: &Report) {
     assert_eq!(rt; report.passed, 6);
 }
 
-// The test only lends the snapshot, because a function that owns one is slow to prove.
+// The checks borrow the snapshot, because a function that owns one is slow to prove.
 #[test]
 fn reads_rows_and_report_of_the_sample(rt: HostRuntime) -> Result<(), Fail> {
     let snapshot = Snapshot::load(rt.alloc(), &sample(), "en", Limits::standard())?;

@@ -1,10 +1,10 @@
-//! Tests of the bytes of the built-in files, against the tables of the sample release.
+//! Tests that the built-in files have exactly the rows of the tables in the definitions.
 use sample_release::sample_files;
 use std::alloc::{AllocError, Global};
 use std::test::Fail;
 
-// A table: the header with spaces for tabs, then for each row its identifier, whether it is active, and the columns
-// after the module, with bars for tabs.
+// A table: the header with spaces for tabs, then for each row its identifier, whether it is active,
+// and the columns after the module, with bars for tabs.
 const TABLES: [(&str, &[&str]); 5] = [
     (
         "id effectiveTime active moduleId refsetId referencedComponentId",
@@ -80,7 +80,8 @@ const TABLES: [(&str, &[&str]); 5] = [
     ),
 ];
 
-// Adds a line with tabs in place of the byte `between`. For a row it also adds the time and the module.
+// Appends a line, with tabs in place of the byte `between`. If the line is a row, it also gets the
+// effective time and the module.
 fn push_line(bytes: &mut Vec<u8>, text: &str, between: u8, is_row: bool) -> Result<(), AllocError> {
     let mut column = 0u32;
     for byte in text.as_bytes() {
@@ -100,7 +101,7 @@ fn push_line(bytes: &mut Vec<u8>, text: &str, between: u8, is_row: bool) -> Resu
     bytes.extend_from_slice(b"\r\n")
 }
 
-// Makes the file of a table.
+// Returns the file that a table stands for.
 fn file_of(alloc: Global, header: &str, rows: &[&str]) -> Result<Vec<u8>, AllocError> {
     let mut bytes = Vec::new(alloc);
     push_line(&mut bytes, header, b' ', false)?;

@@ -1,4 +1,4 @@
-//! Tests of operations on sets in each form, and of the forms against each other for many bounds.
+//! Tests of operations on each form of set, and comparisons of the forms for many bounds.
 ghost use Rattle.std.specs.Prelude.{◌≡◌, ◌<◌, ◌++◌, ◌∷◌, [], cond, IfOk, OnOk};
 ghost use Rattle.number_lists.specs.Rising.{IsRisingBelow};
 
@@ -6,13 +6,13 @@ use idset::{ConceptSet, MixedSet, SortedSet, WordSet};
 use std::alloc::{AllocError, Global};
 use std::test::Fail;
 
-// Whether a set has exactly the wanted items, and their count.
+// Whether a set has exactly the wanted items, in its list and in its count.
 fn is_of<S: ConceptSet>(alloc: Global, set: &S, wanted: &[u32]) -> Result<bool, AllocError> {
     let items = set.items(alloc)?;
     Ok(items.as_slice() == wanted && set.count() as usize == wanted.len())
 }
 
-// Whether a set that was made has exactly the wanted items.
+// Whether a set, once it is made, has exactly the wanted items.
 fn holds<S: ConceptSet>(
     alloc: Global,
     made: Result<S, AllocError>,
@@ -24,13 +24,13 @@ fn holds<S: ConceptSet>(
     }
 }
 
-// Returns a copy of a set in the form in which it answers fastest.
+// Returns a copy of a set in the form that answers `has` fastest.
 fn asked<S: ConceptSet>(alloc: Global, set: &S) -> Result<S, AllocError> {
     let own = set.copy(alloc)?;
     own.for_asking(alloc)
 }
 
-// Whether the operations on x = 0 2 5 and y = 2 5 9 below 10 are right.
+// Whether the operations on x = {0, 2, 5} and y = {2, 5, 9} below 10 give the right sets.
 fn operations_hold<S: ConceptSet>(alloc: Global, x: &S, y: &S) -> Result<bool, AllocError>
     requires { S.bound_of x.now ≡ S.bound_of y.now }
 {
@@ -45,7 +45,7 @@ fn operations_hold<S: ConceptSet>(alloc: Global, x: &S, y: &S) -> Result<bool, A
     )
 }
 
-// Whether the answers of x that take no memory are right.
+// Whether count, bound and `has` of x = {0, 2, 5} are right.
 fn tells<S: ConceptSet>(x: &S) -> bool {
     x.count() == 3
         && x.bound() == 10
@@ -55,7 +55,7 @@ fn tells<S: ConceptSet>(x: &S) -> bool {
         && !x.has(4_000_000_000)
 }
 
-// Whether the set x is made of the words of another set.
+// Whether the set x is right if it is made of the words of another set.
 fn made_of_words<S: ConceptSet>(alloc: Global) -> Result<bool, AllocError> {
     let marks = WordSet::from_items(alloc, &[0, 2, 5], 10)?;
     holds::<S>(
@@ -65,7 +65,8 @@ fn made_of_words<S: ConceptSet>(alloc: Global) -> Result<bool, AllocError> {
     )
 }
 
-// Whether the set x is made of numbers in any order and of words, and the set of all numbers is made.
+// Whether the set x is right if it is made of numbers in any order, and of words; and whether the
+// set of all numbers is right.
 fn made_alike<S: ConceptSet>(alloc: Global) -> Result<bool, AllocError> {
     Ok(
         holds::<S>(
@@ -77,7 +78,7 @@ fn made_alike<S: ConceptSet>(alloc: Global) -> Result<bool, AllocError> {
     )
 }
 
-// Whether a list is added to a set in place.
+// Whether adding a list to a set in place gives the right set.
 fn grows<S: ConceptSet>(alloc: Global, set: &mut S) -> Result<bool, AllocError>
     requires { S.bound_of set.old ≡ 10 }
 {
@@ -95,7 +96,7 @@ fn ends_hold<S: ConceptSet>(alloc: Global) -> Result<bool, AllocError> {
     )
 }
 
-// Whether a set shows the wanted items: those after the first `skipped`, at most `most` of them.
+// Whether a page of a set has the wanted items: it skips `skipped` items, and has at most `most`.
 fn shows<S: ConceptSet>(
     alloc: Global,
     set: &S,
@@ -107,7 +108,7 @@ fn shows<S: ConceptSet>(
     Ok(items.as_slice() == wanted)
 }
 
-// Whether pages of the set 0 63 64 127 128 129 are right.
+// Whether pages of the set {0, 63, 64, 127, 128, 129} are right.
 fn pages_of<S: ConceptSet>(alloc: Global, set: &S) -> Result<bool, AllocError> {
     Ok(
         shows(alloc, set, 0, 0, &[])?
@@ -123,7 +124,7 @@ fn pages_of<S: ConceptSet>(alloc: Global, set: &S) -> Result<bool, AllocError> {
     )
 }
 
-// Whether pages are right for a set that has many items for its bound, and for one that has few.
+// Whether pages are right for a set with many items for its bound, and for a set with few.
 fn pages_hold<S: ConceptSet>(alloc: Global) -> Result<bool, AllocError> {
     let ends = [0, 63, 64, 127, 128, 129];
     let many = S::from_items(alloc, &ends, 130)?;
@@ -162,7 +163,7 @@ fn row_of_mixed_sets(rt: HostRuntime) -> Result<(), Fail> {
     Ok(())
 }
 
-// Adds a number if the test holds.
+// Appends `item` if `test` is true.
 fn push_if(items: &mut Vec<u32>, test: bool, item: u32) -> Result<(), AllocError>
     ensures { OnOk result (items.new.items ≡ items.old.items ++ cond test (item ∷ []) []) }
 {
@@ -184,7 +185,7 @@ fn multiples(alloc: Global, of: u32, bound: u32) -> Result<Vec<u32>, AllocError>
     Ok(multiples)
 }
 
-// Adds the items of a set that was made.
+// Appends the items of a set, once it is made.
 fn push_items<S: ConceptSet>(
     alloc: Global,
     made: Result<S, AllocError>,
@@ -194,7 +195,7 @@ fn push_items<S: ConceptSet>(
     items.extend_from_slice(&set.items(alloc)?)
 }
 
-// Adds the items of each operation's result, one after another.
+// Appends the items that each operation results in, one operation after another.
 fn push_answers<S: ConceptSet>(
     alloc: Global,
     x: &S,
@@ -213,7 +214,7 @@ fn push_answers<S: ConceptSet>(
     Ok(())
 }
 
-// Returns the items of each operation's result, one after another.
+// Returns the items that each operation results in, one operation after another.
 fn answers<S: ConceptSet>(
     alloc: Global,
     xs: &[u32],
@@ -230,7 +231,7 @@ fn answers<S: ConceptSet>(
     Ok(answers)
 }
 
-// Whether all forms of set give equal answers below a bound.
+// Whether all forms of set give the same results below a bound.
 fn forms_agree(alloc: Global, bound: u32) -> Result<bool, AllocError> {
     let xs = multiples(alloc, 2, bound)?;
     let ys = multiples(alloc, 3, bound)?;

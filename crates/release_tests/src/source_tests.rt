@@ -1,4 +1,5 @@
-//! Tests of loads of the sample release from a source that reads it in pieces, and fails.
+//! Tests of loading the sample release from a source that gives its files in pieces, and from one
+//! that fails.
 use crate::load_tests::sample;
 use release_files::{MemoryFiles, NamedBytes};
 use rf2_rows::{FileKind, header};
@@ -7,7 +8,7 @@ use std::alloc::{AllocError, Global};
 use std::process::Abort;
 use std::test::Fail;
 
-// The report of the sample.
+// The row counts of the sample.
 const SAMPLE: Report = Report {
     files: 5,
     concepts: 10,
@@ -18,12 +19,13 @@ const SAMPLE: Report = Report {
     passed: 6,
 };
 
-// Checks the report of the sample. The snapshot is lent, because a function that owns one is slow to prove.
+// Checks the row counts of the sample. It borrows the snapshot, because a function that owns one is
+// slow to prove.
 fn assert_sample(rt: &impl Abort, snapshot: &Snapshot) {
     assert!(rt; snapshot.report() == SAMPLE);
 }
 
-// Checks that the names that a load leaves are those of the sample, in byte order.
+// Checks that a load leaves the names of the sample's files, in byte order.
 fn assert_names(rt: &impl Abort, names: &[String]) {
     let files = sample();
     assert!(rt; names.len() == files.len());
@@ -32,7 +34,7 @@ fn assert_names(rt: &impl Abort, names: &[String]) {
     }
 }
 
-// Loads the sample in pieces of `piece` bytes, and checks its report.
+// Loads the sample from pieces of `piece` bytes, and checks its row counts.
 fn check_pieces(
     rt: &impl Abort,
     alloc: Global,
@@ -61,7 +63,7 @@ fn loads_in_pieces(rt: HostRuntime) -> Result<(), Fail> {
     Ok(())
 }
 
-// Returns the files of the sample, and `count` more of a header alone.
+// Returns the files of the sample, and `count` more files that have no more than a header.
 fn with_headers(alloc: Global, count: usize) -> Result<Vec<NamedBytes<'static>>, AllocError> {
     let mut files = Vec::from_array(alloc, sample())?;
     for _ in 0..count {
@@ -73,7 +75,7 @@ fn with_headers(alloc: Global, count: usize) -> Result<Vec<NamedBytes<'static>>,
     Ok(files)
 }
 
-// Returns the report of the release of files that are read in pieces, and how many names are left.
+// Loads files from pieces. Returns the row counts, and how many names the load leaves.
 fn report_in_pieces(alloc: Global, files: &[NamedBytes<'_>]) -> Result<(Report, usize), LoadFault> {
     let mut source = MemoryFiles::new(alloc, files, PIECE, 0);
     let mut names = Vec::new(alloc);
@@ -81,7 +83,7 @@ fn report_in_pieces(alloc: Global, files: &[NamedBytes<'_>]) -> Result<(Report, 
     Ok((snapshot.report(), names.len()))
 }
 
-// Thousands of files are loaded, if there is memory for them.
+// Thousands of files load, if there is memory for them.
 #[test]
 fn loads_thousands_of_files(rt: HostRuntime) -> Result<(), Fail> {
     let files = with_headers(rt.alloc(), 5_000)?;
@@ -93,12 +95,12 @@ fn loads_thousands_of_files(rt: HostRuntime) -> Result<(), Fail> {
     Ok(())
 }
 
-// How many bytes a source reads at once, unless a test asks for others.
+// How many bytes a read of the source returns, unless a test asks for another number.
 const PIECE: usize = 1_000;
 
-// Returns which of the sample's files is in use at a call of its source, or `None` after the last call. Calls count
-// from 1. The first one lists the files. For each file, one call opens it, one reads each piece, and one finds the
-// end.
+// Returns the index of the sample's file that call number `call` of the source uses, or `None`
+// after the last call. Calls count from 1. The first call lists the files. For each file, one call
+// opens it, one call reads each piece, and one more finds the end.
 fn file_at_call(call: u64) -> Option<usize> {
     let mut calls = 1u64;
     for (place, file) in sample().iter().enumerate() {
@@ -110,8 +112,8 @@ fn file_at_call(call: u64) -> Option<usize> {
     None
 }
 
-// Returns the fault of a load of the sample if the call `fail_at` of its source fails, and how many names the load
-// leaves.
+// Loads the sample from a source whose call number `fail_at` fails. Returns the fault of the load,
+// and how many names the load leaves.
 fn failed(alloc: Global, fail_at: u64) -> (Option<LoadFault>, usize) {
     let files = sample();
     let mut source = MemoryFiles::new(alloc, &files, PIECE, fail_at);
@@ -120,7 +122,8 @@ fn failed(alloc: Global, fail_at: u64) -> (Option<LoadFault>, usize) {
     (loaded.err(), names.len())
 }
 
-// Returns what `failed` has to return: a device fault with the file in use, or no fault if there is no such call.
+// Returns what `failed` should return: a device fault with the file in use, or no fault if the load
+// makes fewer calls.
 fn failure_at(fail_at: u64) -> (Option<LoadFault>, usize) {
     if fail_at == 1 {
         return (Some(LoadFault::Device { file: None }), 0);
@@ -131,7 +134,7 @@ fn failure_at(fail_at: u64) -> (Option<LoadFault>, usize) {
     }
 }
 
-// Each call of a source fails in turn, until there are no more.
+// Lets each call of the source fail, one load after another, until `fail_at` is past the last call.
 #[test]
 fn fails_with_its_source(rt: HostRuntime) {
     for fail_at in 1..100 {
@@ -142,14 +145,15 @@ fn fails_with_its_source(rt: HostRuntime) {
     }
 }
 
-// Returns the fault of a load of files that are read in pieces, if it has one.
+// Returns the fault of loading files from pieces, or `None` if they load.
 fn fault_in_pieces(alloc: Global, files: &[NamedBytes<'_>], piece: usize) -> Option<LoadFault> {
     let mut source = MemoryFiles::new(alloc, files, piece.max(1), 0);
     let mut names = Vec::new(alloc);
     Snapshot::load_from(alloc, &mut source, &mut names, "en", Limits::standard()).err()
 }
 
-// Returns whether the load of files has one result in any pieces, and whether the files load.
+// Returns whether loading files gives the same result for each size of pieces, and whether the
+// files load.
 fn are_loaded_alike(alloc: Global, files: &[NamedBytes<'_>]) -> (bool, bool) {
     let fault = Snapshot::load(alloc, files, "en", Limits::standard()).err();
     let is_alike = fault_in_pieces(alloc, files, 1) == fault
@@ -161,8 +165,8 @@ fn are_loaded_alike(alloc: Global, files: &[NamedBytes<'_>]) -> (bool, bool) {
     )
 }
 
-// Returns whether the load of the sample, with a file cut after `length` bytes, has one result in any pieces, and
-// whether it loads.
+// Returns whether loading the sample, with one file cut after `length` bytes, gives the same result
+// for each size of pieces, and whether it loads.
 fn are_cut_alike(alloc: Global, place: usize, length: usize) -> (bool, bool) {
     let mut files = sample();
     if let Some(file) = files.get_mut(place) {
@@ -174,7 +178,8 @@ fn are_cut_alike(alloc: Global, place: usize, length: usize) -> (bool, bool) {
     are_loaded_alike(alloc, &files)
 }
 
-// Checks each cut of a file; the last is the whole file. Returns how many load.
+// Loads the sample with a file cut after each number of bytes up to `length`. Checks that the size
+// of pieces does not matter. Returns how many of the loads succeed.
 fn count_loaded(rt: &impl Abort, alloc: Global, place: usize, length: usize) -> u32 {
     let mut loaded = 0u32;
     for cut in 0..=length {
@@ -185,11 +190,12 @@ fn count_loaded(rt: &impl Abort, alloc: Global, place: usize, length: usize) -> 
     loaded
 }
 
-// How many lines each of the sample's files has.
+// The number of lines of each of the sample's files.
 const LINES: [u32; 5] = [4, 12, 12, 3, 21];
 
-// A file that is cut after any byte is loaded or refused, with one result in any pieces. It loads if the cut comes
-// after the last character of its header or of a row, after the CR, or after the LF.
+// The sample with a file cut after any byte is loaded or refused, whatever the size of pieces is.
+// It loads if the cut comes after the last character of the header or of a row, after the CR, or
+// after the LF.
 #[test]
 fn loads_or_refuses_what_is_cut(rt: HostRuntime) {
     for ((place, file), lines) in sample().iter().enumerate().zip(&LINES) {

@@ -1,6 +1,6 @@
-//! Tests of rewriting, from outside: which plans the rules make, and when they do not apply.
+//! Tests of rewriting: which plans the rules make, and when a rule does not apply.
 //!
-//! They stand in a crate of their own, so that the tested crate is not proved once more with them.
+//! The tests have a crate of their own, because a crate is proved a second time with its tests.
 #![tactic(auto)]
 
 #[cfg(test)]

@@ -1,4 +1,4 @@
-//! Tests of rules at places: which plans they make, and when they do not apply.
+//! Tests of rules at places of a plan: the plans that they make, and when they do not apply.
 use crate::plans::plan_of;
 use constraint_tree::Cardinality;
 use rewrites::{ApplyFault, Rule, Step, apply, apply_all};
@@ -6,7 +6,7 @@ use set_algebra::{Choice, ConceptPlan, ValueTest};
 use std::alloc::{AllocError, Global};
 use std::process::Abort;
 
-// Whether the rule turns the plan of `text` into that of the other text.
+// Whether the rule, at the place, rewrites the plan of `text` to the plan of `other`.
 fn is_made(
     alloc: Global,
     text: &[u8],
@@ -168,7 +168,8 @@ fn rules_apply_in_groups_and_deep(rt: HostRuntime) -> Result<(), AllocError> {
                 &[1, 0],
                 b"*:{105000=*,[0..1]105000=*}",
             ),
-            // in the values of a test, in the names of a dotted constraint, and in what is subtracted
+            // in the values of a test, in the names of a dotted constraint, and in what is
+            // subtracted
             (
                 b"*:{104001=(106004,107008)}",
                 Rule::Turn,
@@ -191,7 +192,7 @@ fn rules_apply_in_groups_and_deep(rt: HostRuntime) -> Result<(), AllocError> {
     )
 }
 
-// `[2..*] 105000=*`, alone
+// The plan of `[2..*] 105000=*` without a focus, which no text has as its plan.
 fn twice(alloc: Global) -> Result<ConceptPlan, AllocError> {
     let types = Box::new(alloc, ConceptPlan::One(105000))?;
     let values = Box::new(alloc, ConceptPlan::All)?;
@@ -204,7 +205,7 @@ fn twice(alloc: Global) -> Result<ConceptPlan, AllocError> {
     })
 }
 
-// All concepts but those of `twice`.
+// The plan of all concepts that the plan `twice` does not mean.
 fn less_than_twice(alloc: Global) -> Result<ConceptPlan, AllocError> {
     let all = Box::new(alloc, ConceptPlan::All)?;
     let twice = Box::new(alloc, twice(alloc)?)?;
@@ -212,7 +213,7 @@ fn less_than_twice(alloc: Global) -> Result<ConceptPlan, AllocError> {
     Ok(ConceptPlan::And(vec![in alloc; ConceptPlan::All, rest]?))
 }
 
-// Checks two rules whose results no text has as its plan.
+// Checks two rules that make plans which no text has.
 fn others_are_made(alloc: Global) -> Result<bool, AllocError> {
     let turn = [at_second(Rule::RangeTurn)];
     let same = [Step {
@@ -231,7 +232,7 @@ fn rules_that_make_what_no_text_has(rt: HostRuntime) -> Result<(), AllocError> {
     Ok(())
 }
 
-// Whether the rule is answered with NotApplicable and the unchanged plan.
+// Whether applying the rule returns `NotApplicable` with the plan unchanged.
 fn is_not_applicable(
     alloc: Global,
     text: &[u8],
@@ -283,7 +284,7 @@ fn rules_that_do_not_apply(rt: HostRuntime) -> Result<(), AllocError> {
             (b"*:[2..*]{104001=* OR 105000=*}", Rule::BraceOr, &[1]),
             (b"*:[2..*]{105000=*}", Rule::BraceOne, &[1]),
             (b"*:{[0..1]104001=*,105000=*}", Rule::BraceGuard, &[1]),
-            // a place that names no node, and a rule for the other sort of plan
+            // a place that names no node, and a rule for the other kind of plan
             (b"100005", Rule::Turn, &[]),
             (b"100005", Rule::Turn, &[0]),
             (b"100005,101009", Rule::Turn, &[2]),
@@ -294,12 +295,12 @@ fn rules_that_do_not_apply(rt: HostRuntime) -> Result<(), AllocError> {
     )
 }
 
-// Makes the step of a rule at the second child.
+// Returns the step that applies `rule` to the second child.
 fn at_second(rule: Rule) -> Step<'static> {
     Step { rule, place: &[1] }
 }
 
-// Checks steps of which only one applies to the plan of braces.
+// Checks several steps on the plan of a query with braces; only one of them applies.
 fn uses_one(alloc: Global) -> Result<bool, AllocError> {
     let steps = [
         at_second(Rule::BraceGuard),
@@ -312,8 +313,8 @@ fn uses_one(alloc: Global) -> Result<bool, AllocError> {
     Ok(used == 1 && found == wanted)
 }
 
-// Checks that Same and then Only leave one of two parts, and that MinusOr and then Only subtract parts one after
-// another.
+// Checks two pairs of steps. After `Same` and `Only`, one of two equal parts is left. After
+// `MinusOr` and `Only`, the parts are subtracted one after another.
 fn uses_both(alloc: Global) -> Result<bool, AllocError> {
     let same = Step {
         rule: Rule::Same,
@@ -349,7 +350,7 @@ fn steps_one_after_another(rt: HostRuntime) -> Result<(), AllocError> {
     Ok(())
 }
 
-// Whether Pair at the root applies 1,022 times, and then would make the plan too deep.
+// Whether `Pair` applies at the root 1,022 times, and then returns that the plan would be too deep.
 fn pairs_until_too_deep(alloc: Global, plan: ConceptPlan) -> bool {
     let mut plan = plan;
     for times in 0..2000u64 {
@@ -363,7 +364,7 @@ fn pairs_until_too_deep(alloc: Global, plan: ConceptPlan) -> bool {
     false
 }
 
-// Makes the plan of `100005`, repeated `times` times, with `,` between.
+// Returns the plan of the text that has `100005` `times` times, with `,` between.
 fn repeated(alloc: Global, times: u64) -> Result<ConceptPlan, AllocError> {
     let mut text = Vec::new(alloc);
     text.extend_from_slice(b"100005")?;
@@ -381,7 +382,7 @@ fn a_plan_that_gets_too_deep(rt: HostRuntime) -> Result<(), AllocError> {
     Ok(())
 }
 
-// Whether the text of a fault is `words`.
+// Whether the printed text of a fault is `words`.
 fn is_told(alloc: Global, fault: ApplyFault, words: &str) -> bool {
     match format!(in alloc; "{fault}") {
         Ok(text) => text.as_str() == words,

@@ -4,7 +4,7 @@ use rewrites::simplify;
 use std::alloc::{AllocError, Global};
 use std::process::Abort;
 
-// Whether the plan of `text` is simplified to that of `other`.
+// Whether `simplify` rewrites the plan of `text` to the plan of `other`.
 fn is_simplified(alloc: Global, text: &[u8], other: &[u8]) -> Result<bool, AllocError> {
     let found = simplify(plan_of(alloc, text)?);
     Ok(found == plan_of(alloc, other)?)

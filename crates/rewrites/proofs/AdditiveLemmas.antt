@@ -1,28 +1,30 @@
--- One law for the five rules that spread something over the parts of an `Or`. A test of a set is additive if it is
--- false of the empty set, and true of a union exactly if it is true of one of the two sets.
+-- One law for the five rules that distribute something over the parts of an `Or`. A test of a set is additive if it
+-- is false for the empty set, and true for a union exactly if it is true for one of the two sets.
 use Rattle.std.proofs.Common.{ℕ, ◌≡◌, ◌&&◌, ◌||◌, Bool, false, List, [], ◌∷◌, refl, sym, ap, ◌∙◌}
 use Rattle.std.specs.List.{list_any}
 use Rattle.std.proofs.Math.Bool.{and-false}
 use Rattle.rf2_rows.specs.Release.{Release, Value, concept_value, number_value, text_value}
 use Rattle.rf2_rows.specs.Pairs.{Pair}
 use Rattle.constraint_tree.specs.Passing.{is_within}
-use Rattle.set_algebra.specs.Meaning.{means, some_means, unit_means, some_unit_means}
-use Rattle.set_algebra.specs.Plan.{Plan, Plans, no_plans, plan_then, PlanOfUnits, PlansOfUnits, no_unit_plans, unit_plan_then}
+use Rattle.set_algebra.specs.Meaning.{means, some_means, group_means, some_group_means}
+use Rattle.set_algebra.specs.Plan.{Plan, Plans, no_plans, plan_then, PlanOfGroups, PlansOfGroups, no_group_plans}
+use Rattle.set_algebra.specs.Plan.{group_plan_then}
 use Rattle.rewrites.specs.PlanLists.{plans_each, groups_each, groups_of_each, plans_of_each}
 use Rattle.rewrites.proofs.BoolLemmas.{either_under, either_over, four}
 
--- a test of a set that is false of the empty set, and true of a union exactly if it is true of one of the two sets
+-- a test of a set is additive: it is false for the empty set, and true for a union exactly if it is true for one of
+-- the two sets
 pub record IsAdditive {X : Type 0} (test : (X → Bool) → Bool) : Type 0 where
-  -- the test is false of the empty set
+  -- the test is false for the empty set
   pub none : test (λ item. false) ≡ false
-  -- the test is true of a union exactly if it is true of one of the two sets
+  -- the test is true for a union exactly if it is true for one of the two sets
   pub either : (one other : X → Bool) → test (λ item. one item || other item) ≡ (test one || test other)
 
--- membership of one item is an additive test
+-- the test whether an item is in a set is additive
 pub holds_of : {X : Type 0} (item : X) → IsAdditive (λ (set : X → Bool). set item)
 holds_of item = record { none = refl; either = λ one other. refl }
 
--- an additive test stays additive with a conjunct `rest` after it that does not depend on the set
+-- if `test` is additive, so is `test set && rest`, if `rest` does not depend on the set
 pub and_after : {X : Type 0} (test : (X → Bool) → Bool) (rest : Bool) → IsAdditive test
     → IsAdditive (λ (set : X → Bool). test set && rest)
 and_after test rest is = record {
@@ -30,7 +32,7 @@ and_after test rest is = record {
   either = λ one other. ap (λ (b : Bool). b && rest) (is.either one other) ∙ either_under (test one) (test other) rest;
 }
 
--- an additive test stays additive with a conjunct `first` before it that does not depend on the set
+-- if `test` is additive, so is `first && test set`, if `first` does not depend on the set
 pub and_before : {X : Type 0} (first : Bool) (test : (X → Bool) → Bool) → IsAdditive test
     → IsAdditive (λ (set : X → Bool). first && test set)
 and_before first test is = record {
@@ -49,7 +51,7 @@ in_either test more is also = record {
       ∙ four (test one) (test other) (more one) (more other);
 }
 
--- the test that a value is a concept of the set is additive
+-- the test whether a value is a concept in a set is additive
 pub within : (value : Value) → IsAdditive (λ (set : ℕ → Bool). is_within set value)
 within (concept_value concept) = record { none = refl; either = λ one other. refl }
 within (number_value number) = record { none = refl; either = λ one other. refl }
@@ -74,14 +76,15 @@ module _ {X Y : Type 0} (test : Y → (X → Bool) → Bool) (each : (item : Y) 
       ∙ four (test first one) (test first other) (list_any (λ item. test item one) rest)
       (list_any (λ item. test item other) rest)
 
-  -- the test that some item of a list passes is additive if the test of each item is
+  -- if the test of each item is additive, so is the test whether some item of a list passes
   pub some_of : (items : List Y) → IsAdditive (λ (set : X → Bool). list_any (λ item. test item set) items)
   some_of items = record { none = none_of items; either = either_of items }
 
--- a test that agrees with an additive test on every set is additive
-pub alike : {X : Type 0} (test other : (X → Bool) → Bool) → ((set : X → Bool) → test set ≡ other set) → IsAdditive other
+-- if `test` gives the same result as the additive test `other` for every set, `test` is additive
+pub equivalent : {X : Type 0} (test other : (X → Bool) → Bool) → ((set : X → Bool) → test set ≡ other set)
+    → IsAdditive other
     → IsAdditive test
-alike test other same is = record {
+equivalent test other same is = record {
   none = same (λ item. false) ∙ is.none;
   either =
       λ one more. same (λ item. one item || more item)
@@ -89,8 +92,8 @@ alike test other same is = record {
       ∙ sym (ap (λ (b : Bool). b || test more) (same one) ∙ ap (λ (b : Bool). other one || b) (same more));
 }
 
--- if each plan made of a part means the concept exactly if the additive `test` holds of the part, then `test` holds
--- of the `Or` of concepts exactly if the `Or` of the made plans of concepts means the concept
+-- if `test` is additive, and `make part` means a concept exactly if `test` is true for the set of `part`, then `test`
+-- is true for the union of the sets of `parts` exactly if the `Or` of `make` of each part means the concept
 pub spread_plans : (release : Release) (concept : ℕ) (make : Plan → Plan) (test : (ℕ → Bool) → Bool) → IsAdditive test
     → ((part : Plan) → means release (make part) concept ≡ test (means release part)) → (parts : Plans)
     → test (some_means release parts) ≡ some_means release (plans_each make parts) concept
@@ -100,40 +103,44 @@ spread_plans release concept make test is each (plan_then first rest) =
     ∙ ap (λ (b : Bool). b || test (some_means release rest)) (sym (each first))
     ∙ ap (λ (b : Bool). means release (make first) concept || b) (spread_plans release concept make test is each rest)
 
--- if each plan made of a part means the group exactly if the additive `test` holds of the part, then `test` holds of
--- the `Or` of groups exactly if the `Or` of the made plans of groups means the group
+-- if `test` is additive, and `make part` means a group exactly if `test` is true for the set of `part`, then `test`
+-- is true for the union of the sets of `parts` exactly if the `Or` of `make` of each part means the group. Both
+-- `part` and `make part` are plans of groups
 pub spread_groups :
-    (release : Release) (pairs : List Pair) (make : PlanOfUnits → PlanOfUnits) (test : (List Pair → Bool) → Bool)
-    → IsAdditive test → ((part : PlanOfUnits) → unit_means release (make part) pairs ≡ test (unit_means release part))
-    → (parts : PlansOfUnits)
-    → test (some_unit_means release parts) ≡ some_unit_means release (groups_each make parts) pairs
-spread_groups release pairs make test is each no_unit_plans = is.none
-spread_groups release pairs make test is each (unit_plan_then first rest) =
-    is.either (unit_means release first) (some_unit_means release rest)
-    ∙ ap (λ (b : Bool). b || test (some_unit_means release rest)) (sym (each first))
-    ∙ ap (λ (b : Bool). unit_means release (make first) pairs || b)
+    (release : Release) (pairs : List Pair) (make : PlanOfGroups → PlanOfGroups) (test : (List Pair → Bool) → Bool)
+    → IsAdditive test → ((part : PlanOfGroups)
+    → group_means release (make part) pairs ≡ test (group_means release part))
+    → (parts : PlansOfGroups)
+    → test (some_group_means release parts) ≡ some_group_means release (groups_each make parts) pairs
+spread_groups release pairs make test is each no_group_plans = is.none
+spread_groups release pairs make test is each (group_plan_then first rest) =
+    is.either (group_means release first) (some_group_means release rest)
+    ∙ ap (λ (b : Bool). b || test (some_group_means release rest)) (sym (each first))
+    ∙ ap (λ (b : Bool). group_means release (make first) pairs || b)
     (spread_groups release pairs make test is each rest)
 
--- if each plan made of a part means the group exactly if the additive `test` holds of the part, then `test` holds of
--- the `Or` of concepts exactly if the `Or` of the made plans of groups means the group
-pub spread_in_groups : (release : Release) (pairs : List Pair) (make : Plan → PlanOfUnits) (test : (ℕ → Bool) → Bool)
-    → IsAdditive test → ((part : Plan) → unit_means release (make part) pairs ≡ test (means release part))
-    → (parts : Plans) → test (some_means release parts) ≡ some_unit_means release (groups_of_each make parts) pairs
+-- if `test` is additive, and the plan of groups `make part` means a group exactly if `test` is true for the set of
+-- the plan of concepts `part`, then `test` is true for the union of the sets of `parts` exactly if the `Or` of `make`
+-- of each part means the group
+pub spread_in_groups : (release : Release) (pairs : List Pair) (make : Plan → PlanOfGroups) (test : (ℕ → Bool) → Bool)
+    → IsAdditive test → ((part : Plan) → group_means release (make part) pairs ≡ test (means release part))
+    → (parts : Plans) → test (some_means release parts) ≡ some_group_means release (groups_of_each make parts) pairs
 spread_in_groups release pairs make test is each no_plans = is.none
 spread_in_groups release pairs make test is each (plan_then first rest) =
     is.either (means release first) (some_means release rest)
     ∙ ap (λ (b : Bool). b || test (some_means release rest)) (sym (each first))
-    ∙ ap (λ (b : Bool). unit_means release (make first) pairs || b)
+    ∙ ap (λ (b : Bool). group_means release (make first) pairs || b)
     (spread_in_groups release pairs make test is each rest)
 
--- if each plan made of a part means the concept exactly if the additive `test` holds of the part, then `test` holds
--- of the `Or` of groups exactly if the `Or` of the made plans of concepts means the concept
-pub spread_braces : (release : Release) (concept : ℕ) (make : PlanOfUnits → Plan) (test : (List Pair → Bool) → Bool)
-    → IsAdditive test → ((part : PlanOfUnits) → means release (make part) concept ≡ test (unit_means release part))
-    → (parts : PlansOfUnits)
-    → test (some_unit_means release parts) ≡ some_means release (plans_of_each make parts) concept
-spread_braces release concept make test is each no_unit_plans = is.none
-spread_braces release concept make test is each (unit_plan_then first rest) =
-    is.either (unit_means release first) (some_unit_means release rest)
-    ∙ ap (λ (b : Bool). b || test (some_unit_means release rest)) (sym (each first))
+-- if `test` is additive, and the plan of concepts `make part` means a concept exactly if `test` is true for the set
+-- of the plan of groups `part`, then `test` is true for the union of the sets of `parts` exactly if the `Or` of
+-- `make` of each part means the concept
+pub spread_braces : (release : Release) (concept : ℕ) (make : PlanOfGroups → Plan) (test : (List Pair → Bool) → Bool)
+    → IsAdditive test → ((part : PlanOfGroups) → means release (make part) concept ≡ test (group_means release part))
+    → (parts : PlansOfGroups)
+    → test (some_group_means release parts) ≡ some_means release (plans_of_each make parts) concept
+spread_braces release concept make test is each no_group_plans = is.none
+spread_braces release concept make test is each (group_plan_then first rest) =
+    is.either (group_means release first) (some_group_means release rest)
+    ∙ ap (λ (b : Bool). b || test (some_group_means release rest)) (sym (each first))
     ∙ ap (λ (b : Bool). means release (make first) concept || b) (spread_braces release concept make test is each rest)

@@ -40,12 +40,12 @@ any_kept test keep (first ∷ rest) = elim (cases_Bool (keep first)) [
 ]
 
 -- two tests that agree on each item agree on whether some item of a list passes
-any_alike : {X : Type 0} (test other : X → Bool) → ((item : X) → test item ≡ other item) → (items : List X)
+any_equivalent : {X : Type 0} (test other : X → Bool) → ((item : X) → test item ≡ other item) → (items : List X)
     → list_any test items ≡ list_any other items
-any_alike test other same [] = refl
-any_alike test other same (first ∷ rest) =
+any_equivalent test other same [] = refl
+any_equivalent test other same (first ∷ rest) =
     ap (λ (b : Bool). b || list_any test rest) (same first)
-    ∙ ap (λ (b : Bool). other first || b) (any_alike test other same rest)
+    ∙ ap (λ (b : Bool). other first || b) (any_equivalent test other same rest)
 
 module _ (release : Release) (concept : ℕ) where
   -- some distinct pair of the concept passes exactly if the pair of some row of the concept does
@@ -101,7 +101,7 @@ module _ (release : Release) (concept : ℕ) where
       ∙ ap (λ (b : Bool). b || list_any (list_any test) (map (λ pair. pair ∷ []) (pairs_in release concept 0)))
       (any_mapped (list_any test) (pairs_in release concept) (group_numbers release concept)
       ∙ by_number (λ group. list_any test (pairs_in release concept group))
-      ∙ any_alike _ _ (λ row. ap (λ (b : Bool). not (row.group == 0) && b) (in_group_rows test row.group))
+      ∙ any_equivalent _ _ (λ row. ap (λ (b : Bool). not (row.group == 0) && b) (in_group_rows test row.group))
       (rows_of release concept))
       ∙ ap (λ (b : Bool). list_any (is_numbered test) (rows_of release concept) || b)
       (any_mapped (list_any test) (λ pair. pair ∷ []) (pairs_in release concept 0)
@@ -137,7 +137,7 @@ module _ (release : Release) (concept : ℕ) where
             (and_from _ _ (eq-eqb found.0.group found.0.group refl) found.2))))
       ]
 
-  -- some pair of some group passes exactly if some distinct pair of the concept does
+  -- some pair of some group of a concept passes `test` exactly if some distinct pair of the concept does
   pub some_pair_of_group : (test : Pair → Bool)
       → list_any (list_any test) (groups_of release concept) ≡ list_any test (out_pairs release concept)
   some_pair_of_group test =

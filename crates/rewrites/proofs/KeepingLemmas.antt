@@ -2,7 +2,7 @@
 use Rattle.std.proofs.Common.{ℕ, ◌≡◌, Option, Some, None, List, [], ◌∷◌, option_map, refl, sym, ap, ◌∙◌, subst}
 use Rattle.std.specs.Prelude.{slice_get}
 use Rattle.rf2_rows.specs.Release.{Release}
-use Rattle.set_algebra.specs.Plan.{Plan, PlanOfUnits}
+use Rattle.set_algebra.specs.Plan.{Plan, PlanOfGroups}
 use Rattle.set_algebra.specs.Places.{Node, concept_node, group_node, children, inside, with_child, with_changed}
 use Rattle.set_algebra.specs.Places.{node_at, put_at, MeanTheSame}
 use Rattle.set_algebra.proofs.PlaceLemmas.{keeps_meaning_at_places}
@@ -22,7 +22,8 @@ plan_root release old (Some made) new keeps is =
     subst (λ (node : Node). MeanTheSame release (concept_node old) node) new_is keeps
 
 -- the node made of a plan of groups means the same if the rule keeps the meaning of plans of groups
-group_root : (release : Release) (old : PlanOfUnits) (made : Option PlanOfUnits) (new : Node) → KeepsGroup release old made
+group_root : (release : Release) (old : PlanOfGroups) (made : Option PlanOfGroups) (new : Node)
+    → KeepsGroup release old made
     → option_map group_node made ≡ Some new → MeanTheSame release (group_node old) new
 group_root release old None new keeps is = absurd (cc)
 group_root release old (Some made) new keeps is =
@@ -103,8 +104,8 @@ made_there rule (number ∷ place) whole here there at taken =
     made_in_child rule number place whole here there (slice_get (children whole) number) refl
     (λ child at_child. made_there rule place child here there at_child taken) at
 
--- a rule makes a node at a place exactly if the place names a node of which it makes one, and the result is the whole
--- with that node put there
+-- a rule makes a node of `whole` at a place exactly if the place names a node and the rule makes another of it; the
+-- result is `whole` with that node put there
 pub is_there_alone : IsThereAlone
 is_there_alone rule place whole new = (
   λ made. let is = is_there rule place whole new made in (is.here, is.there, is.found, is.taken, is.put),
@@ -116,4 +117,5 @@ pub keeps_meaning : KeepsMeaning
 keeps_meaning release rule place whole new made =
     let is = is_there rule place whole new made in
     subst (λ (node : Node). MeanTheSame release whole node) (sym is.put)
-    (keeps_meaning_at_places release place whole is.here is.there is.found (keeps_meaning_at_root release rule is.here is.there is.taken))
+    (keeps_meaning_at_places release place whole is.here is.there is.found
+    (keeps_meaning_at_root release rule is.here is.there is.taken))

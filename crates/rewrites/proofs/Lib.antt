@@ -1,6 +1,6 @@
 pub mod AdditiveLemmas
-pub mod Alike
-pub mod AlikeLemmas
+pub mod Equivalent
+pub mod EquivalentLemmas
 pub mod BoolLemmas
 pub mod ChildLemmas
 pub mod CountLemmas

@@ -5,9 +5,10 @@ use Rattle.std.proofs.lemmas.Bool.{false≢true}
 use Rattle.set_algebra.specs.declared.plan.ConceptPlan.{ConceptPlan}
 use Rattle.set_algebra.specs.declared.plan.UnitPlan.{UnitPlan}
 use Rattle.set_algebra.specs.EqualLaws.{decides_plan, decides_group}
-use Rattle.set_algebra.specs.Plan.{Plan, Plans, no_plans, plan_then, and_plan, or_plan, plan_of, plans_of, PlanOfUnits}
-use Rattle.set_algebra.specs.Plan.{PlansOfUnits, no_unit_plans, unit_plan_then, and_units, or_units, unit_plan_of}
-use Rattle.set_algebra.specs.Plan.{unit_plans_of}
+use Rattle.set_algebra.specs.Plan.{Plan, Plans, no_plans, plan_then, and_plan, or_plan, plan_of, plans_of, PlanOfGroups}
+use Rattle.set_algebra.specs.Plan.{PlansOfGroups, no_group_plans, group_plan_then, and_group_plan, or_group_plan}
+use Rattle.set_algebra.specs.Plan.{group_plan_of}
+use Rattle.set_algebra.specs.Plan.{group_plans_of}
 use Rattle.rewrites.specs.declared.connective.Connective.{Connective}
 use Rattle.rewrites.specs.declared.connective.Connective.TheVariants.{And, Or}
 use Rattle.rewrites.specs.declared.rule.Rule.TheVariants.{Turn, Join, Pair, Same}
@@ -22,7 +23,7 @@ last_joined : (parts : Plans) (last : Plan) → plans_then parts last ≡ plans_
 last_joined no_plans last = refl
 last_joined (plan_then first rest) last = ap (plan_then first) (last_joined rest last)
 
--- Turn puts the first part of two or more parts of concepts after the others
+-- if there are at least two parts of concepts, Turn makes the node with the first part moved to the end
 pub turned : (connective : Connective) (parts : List ConceptPlan) → 2 ≤ length parts
     → rewritten Turn (connected connective (plans_of parts))
     ≡ Some (connected connective (plans_joined (plans_of (drop 1 parts)) (plans_of (take 1 parts))))
@@ -33,7 +34,7 @@ turned And (one ∷ (other ∷ more)) long =
 turned Or (one ∷ (other ∷ more)) long =
     ap (λ plans. Some (or_plan plans)) (last_joined (plans_of (other ∷ more)) (plan_of one))
 
--- Turn makes nothing of fewer than two parts of concepts
+-- if there are fewer than two parts of concepts, Turn makes nothing
 pub not_turned : (connective : Connective) (parts : List ConceptPlan) → length parts < 2
     → rewritten Turn (connected connective (plans_of parts)) ≡ None
 not_turned And [] few = refl
@@ -45,14 +46,16 @@ not_turned connective (first ∷ (second ∷ rest)) few = absurd (omega arith)
 -- the lemmas on Turn for parts of concepts: two or more, and fewer
 pub ruleset turning = (turned, not_turned)
 
--- Join moves the parts of a first part with the outer connective up among the other parts of concepts
+-- if the first part of concepts has the same connective as the node, Join makes the node with the parts of that part
+-- in its place
 pub joined : (connective : Connective) (parts rest : Plans)
     → rewritten Join (connected connective (plan_then (connected connective parts) rest))
     ≡ Some (connected connective (plans_joined parts rest))
 joined And parts rest = refl
 joined Or parts rest = refl
 
--- Pair joins the first two of three or more parts of concepts in one part with the outer connective
+-- if there are at least three parts of concepts, Pair makes the node whose first part has the same connective and the
+-- first two parts
 pub paired : (connective : Connective) (parts : List ConceptPlan) → 3 ≤ length parts
     → rewritten Pair (connected connective (plans_of parts))
     ≡ Some
@@ -63,7 +66,7 @@ paired connective (one ∷ (other ∷ [])) long = absurd (omega arith)
 paired And (one ∷ (other ∷ (third ∷ more))) long = refl
 paired Or (one ∷ (other ∷ (third ∷ more))) long = refl
 
--- Pair makes nothing of fewer than three parts of concepts
+-- if there are fewer than three parts of concepts, Pair makes nothing
 pub not_paired : (connective : Connective) (parts : List ConceptPlan) → length parts < 3
     → rewritten Pair (connected connective (plans_of parts)) ≡ None
 not_paired And [] few = refl
@@ -77,7 +80,7 @@ not_paired connective (first ∷ (second ∷ (third ∷ rest))) few = absurd (om
 -- the lemmas on Pair for parts of concepts: three or more, and fewer
 pub ruleset pairing = (paired, not_paired)
 
--- Same drops the first part of concepts if the second one is equal to it
+-- if the first two parts of concepts are equal, Same makes the node without the first
 pub dropped : (connective : Connective) (parts : List ConceptPlan) → begins_twice (plans_of parts) ≡ true
     → rewritten Same (connected connective (plans_of parts)) ≡ Some (connected connective (plans_of (drop 1 parts)))
 dropped connective [] twice = absurd (false≢true twice)
@@ -91,7 +94,7 @@ dropped Or (one ∷ (other ∷ more)) twice =
     ∙ ap (λ (plan : Plan). Some (or_plan (plan_then plan (plans_of more))))
     ((decides_plan (plan_of one) (plan_of other)).0 twice)
 
--- Same makes nothing of parts of concepts whose first two are not equal
+-- if there are no first two parts of concepts that are equal, Same makes nothing
 pub not_dropped : (connective : Connective) (parts : List ConceptPlan) → begins_twice (plans_of parts) ≡ false
     → rewritten Same (connected connective (plans_of parts)) ≡ None
 not_dropped And [] differ = refl
@@ -103,7 +106,7 @@ not_dropped And (first ∷ (second ∷ rest)) differ =
 not_dropped Or (first ∷ (second ∷ rest)) differ =
     ap (λ (same : Bool). only_if same (or_plan (plan_then (plan_of first) (plans_of rest)))) differ
 
--- a list of plans of concepts that begins with two equal plans has at least two
+-- if a list of plans of concepts begins with two equal plans, it has at least two plans
 pub are_two : (parts : List ConceptPlan) → begins_twice (plans_of parts) ≡ true → 2 ≤ length parts
 are_two [] twice = absurd (false≢true twice)
 are_two (first ∷ []) twice = absurd (false≢true twice)
@@ -113,26 +116,26 @@ are_two (first ∷ (second ∷ rest)) twice = omega arith
 pub ruleset dropping = (dropped, not_dropped, are_two)
 
 -- adding `last` at the end of a list of plans of groups is joining the list of `last` alone
-last_group_joined : (parts : PlansOfUnits) (last : PlanOfUnits)
-    → groups_then parts last ≡ groups_joined parts (unit_plan_then last no_unit_plans)
-last_group_joined no_unit_plans last = refl
-last_group_joined (unit_plan_then first rest) last = ap (unit_plan_then first) (last_group_joined rest last)
+last_group_joined : (parts : PlansOfGroups) (last : PlanOfGroups)
+    → groups_then parts last ≡ groups_joined parts (group_plan_then last no_group_plans)
+last_group_joined no_group_plans last = refl
+last_group_joined (group_plan_then first rest) last = ap (group_plan_then first) (last_group_joined rest last)
 
--- Turn puts the first part of two or more parts of groups after the others
+-- if there are at least two parts of groups, Turn makes the node with the first part moved to the end
 pub group_turned : (connective : Connective) (parts : List UnitPlan) → 2 ≤ length parts
-    → rewritten_group Turn (connected_groups connective (unit_plans_of parts))
+    → rewritten_group Turn (connected_groups connective (group_plans_of parts))
     ≡ Some
-    (connected_groups connective (groups_joined (unit_plans_of (drop 1 parts)) (unit_plans_of (take 1 parts))))
+    (connected_groups connective (groups_joined (group_plans_of (drop 1 parts)) (group_plans_of (take 1 parts))))
 group_turned connective [] long = absurd (omega arith)
 group_turned connective (one ∷ []) long = absurd (omega arith)
 group_turned And (one ∷ (other ∷ more)) long =
-    ap (λ plans. Some (and_units plans)) (last_group_joined (unit_plans_of (other ∷ more)) (unit_plan_of one))
+    ap (λ plans. Some (and_group_plan plans)) (last_group_joined (group_plans_of (other ∷ more)) (group_plan_of one))
 group_turned Or (one ∷ (other ∷ more)) long =
-    ap (λ plans. Some (or_units plans)) (last_group_joined (unit_plans_of (other ∷ more)) (unit_plan_of one))
+    ap (λ plans. Some (or_group_plan plans)) (last_group_joined (group_plans_of (other ∷ more)) (group_plan_of one))
 
--- Turn makes nothing of fewer than two parts of groups
+-- if there are fewer than two parts of groups, Turn makes nothing
 pub group_not_turned : (connective : Connective) (parts : List UnitPlan) → length parts < 2
-    → rewritten_group Turn (connected_groups connective (unit_plans_of parts)) ≡ None
+    → rewritten_group Turn (connected_groups connective (group_plans_of parts)) ≡ None
 group_not_turned And [] few = refl
 group_not_turned Or [] few = refl
 group_not_turned And (first ∷ []) few = refl
@@ -142,28 +145,30 @@ group_not_turned connective (first ∷ (second ∷ rest)) few = absurd (omega ar
 -- the lemmas on Turn for parts of groups: two or more, and fewer
 pub ruleset group_turning = (group_turned, group_not_turned)
 
--- Join moves the parts of a first part with the outer connective up among the other parts of groups
-pub groups_joined_up : (connective : Connective) (parts rest : PlansOfUnits)
-    → rewritten_group Join (connected_groups connective (unit_plan_then (connected_groups connective parts) rest))
+-- if the first part of groups has the same connective as the node, Join makes the node with the parts of that part in
+-- its place
+pub groups_joined_up : (connective : Connective) (parts rest : PlansOfGroups)
+    → rewritten_group Join (connected_groups connective (group_plan_then (connected_groups connective parts) rest))
     ≡ Some (connected_groups connective (groups_joined parts rest))
 groups_joined_up And parts rest = refl
 groups_joined_up Or parts rest = refl
 
--- Pair joins the first two of three or more parts of groups in one part with the outer connective
+-- if there are at least three parts of groups, Pair makes the node whose first part has the same connective and the
+-- first two parts
 pub group_paired : (connective : Connective) (parts : List UnitPlan) → 3 ≤ length parts
-    → rewritten_group Pair (connected_groups connective (unit_plans_of parts))
+    → rewritten_group Pair (connected_groups connective (group_plans_of parts))
     ≡ Some
     (connected_groups connective
-    (unit_plan_then (connected_groups connective (unit_plans_of (take 2 parts))) (unit_plans_of (drop 2 parts))))
+    (group_plan_then (connected_groups connective (group_plans_of (take 2 parts))) (group_plans_of (drop 2 parts))))
 group_paired connective [] long = absurd (omega arith)
 group_paired connective (one ∷ []) long = absurd (omega arith)
 group_paired connective (one ∷ (other ∷ [])) long = absurd (omega arith)
 group_paired And (one ∷ (other ∷ (third ∷ more))) long = refl
 group_paired Or (one ∷ (other ∷ (third ∷ more))) long = refl
 
--- Pair makes nothing of fewer than three parts of groups
+-- if there are fewer than three parts of groups, Pair makes nothing
 pub group_not_paired : (connective : Connective) (parts : List UnitPlan) → length parts < 3
-    → rewritten_group Pair (connected_groups connective (unit_plans_of parts)) ≡ None
+    → rewritten_group Pair (connected_groups connective (group_plans_of parts)) ≡ None
 group_not_paired And [] few = refl
 group_not_paired Or [] few = refl
 group_not_paired And (first ∷ []) few = refl
@@ -175,37 +180,40 @@ group_not_paired connective (first ∷ (second ∷ (third ∷ rest))) few = absu
 -- the lemmas on Pair for parts of groups: three or more, and fewer
 pub ruleset group_pairing = (group_paired, group_not_paired)
 
--- Same drops the first part of groups if the second one is equal to it
+-- if the first two parts of groups are equal, Same makes the node without the first
 pub group_dropped : (connective : Connective) (parts : List UnitPlan)
-    → group_begins_twice (unit_plans_of parts) ≡ true
-    → rewritten_group Same (connected_groups connective (unit_plans_of parts))
-    ≡ Some (connected_groups connective (unit_plans_of (drop 1 parts)))
+    → group_begins_twice (group_plans_of parts) ≡ true
+    → rewritten_group Same (connected_groups connective (group_plans_of parts))
+    ≡ Some (connected_groups connective (group_plans_of (drop 1 parts)))
 group_dropped connective [] twice = absurd (false≢true twice)
 group_dropped connective (one ∷ []) twice = absurd (false≢true twice)
 group_dropped And (one ∷ (other ∷ more)) twice =
-    ap (λ (same : Bool). only_if same (and_units (unit_plan_then (unit_plan_of one) (unit_plans_of more)))) twice
-    ∙ ap (λ (plan : PlanOfUnits). Some (and_units (unit_plan_then plan (unit_plans_of more))))
-    ((decides_group (unit_plan_of one) (unit_plan_of other)).0 twice)
+    ap (λ (same : Bool). only_if same (and_group_plan (group_plan_then (group_plan_of one) (group_plans_of more))))
+    twice
+    ∙ ap (λ (plan : PlanOfGroups). Some (and_group_plan (group_plan_then plan (group_plans_of more))))
+    ((decides_group (group_plan_of one) (group_plan_of other)).0 twice)
 group_dropped Or (one ∷ (other ∷ more)) twice =
-    ap (λ (same : Bool). only_if same (or_units (unit_plan_then (unit_plan_of one) (unit_plans_of more)))) twice
-    ∙ ap (λ (plan : PlanOfUnits). Some (or_units (unit_plan_then plan (unit_plans_of more))))
-    ((decides_group (unit_plan_of one) (unit_plan_of other)).0 twice)
+    ap (λ (same : Bool). only_if same (or_group_plan (group_plan_then (group_plan_of one) (group_plans_of more)))) twice
+    ∙ ap (λ (plan : PlanOfGroups). Some (or_group_plan (group_plan_then plan (group_plans_of more))))
+    ((decides_group (group_plan_of one) (group_plan_of other)).0 twice)
 
--- Same makes nothing of parts of groups whose first two are not equal
+-- if there are no first two parts of groups that are equal, Same makes nothing
 pub group_not_dropped : (connective : Connective) (parts : List UnitPlan)
-    → group_begins_twice (unit_plans_of parts) ≡ false
-    → rewritten_group Same (connected_groups connective (unit_plans_of parts)) ≡ None
+    → group_begins_twice (group_plans_of parts) ≡ false
+    → rewritten_group Same (connected_groups connective (group_plans_of parts)) ≡ None
 group_not_dropped And [] differ = refl
 group_not_dropped Or [] differ = refl
 group_not_dropped And (first ∷ []) differ = refl
 group_not_dropped Or (first ∷ []) differ = refl
 group_not_dropped And (first ∷ (second ∷ rest)) differ =
-    ap (λ (same : Bool). only_if same (and_units (unit_plan_then (unit_plan_of first) (unit_plans_of rest)))) differ
+    ap (λ (same : Bool). only_if same (and_group_plan (group_plan_then (group_plan_of first) (group_plans_of rest))))
+    differ
 group_not_dropped Or (first ∷ (second ∷ rest)) differ =
-    ap (λ (same : Bool). only_if same (or_units (unit_plan_then (unit_plan_of first) (unit_plans_of rest)))) differ
+    ap (λ (same : Bool). only_if same (or_group_plan (group_plan_then (group_plan_of first) (group_plans_of rest))))
+    differ
 
--- a list of plans of groups that begins with two equal plans has at least two
-pub groups_are_two : (parts : List UnitPlan) → group_begins_twice (unit_plans_of parts) ≡ true → 2 ≤ length parts
+-- if a list of plans of groups begins with two equal plans, it has at least two plans
+pub groups_are_two : (parts : List UnitPlan) → group_begins_twice (group_plans_of parts) ≡ true → 2 ≤ length parts
 groups_are_two [] twice = absurd (false≢true twice)
 groups_are_two (first ∷ []) twice = absurd (false≢true twice)
 groups_are_two (first ∷ (second ∷ rest)) twice = omega arith

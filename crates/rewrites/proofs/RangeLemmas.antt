@@ -3,7 +3,7 @@ use Rattle.std.proofs.Common.{ℕ, ◌≡◌, Bool, true, false, Option, Some, N
 use Rattle.std.specs.Option.{option_and_then}
 use Rattle.constraint_tree.specs.declared.operator.Cardinality.{Cardinality}
 use Rattle.set_algebra.specs.Lowering.{both_plan}
-use Rattle.set_algebra.specs.Plan.{Plan, pairs_plan, units_plan}
+use Rattle.set_algebra.specs.Plan.{Plan, pairs_plan, groups_plan}
 use Rattle.rewrites.specs.declared.rule.Rule.TheVariants.{RangeSplit}
 use Rattle.rewrites.specs.Counts.{only_if, at_least, up_to, split_at, split}
 use Rattle.rewrites.specs.inside.Counted.{count_of, with_count}
@@ -31,7 +31,8 @@ made_of : {X : Type 0} (make : Cardinality × Cardinality → X) (own count : Ca
 made_of make own count both is told =
     made_at make own.min own.max ∙ ap (option_map make) (sym (told ∙ ap (option_and_then parts_of) is))
 
--- RangeSplit makes the conjunction of the plan with the cardinality `least` and the plan with the cardinality `most`
+-- if the count of `Pairs` or `Units` splits into `least` and `most`, RangeSplit makes the conjunction of the plan
+-- with the count `least` and the plan with the count `most`
 pub range_split_made : (plan : Plan) (count least most : Cardinality) → Some count ≡ count_of plan
     → Some (least, most) ≡ parts_of count
     → rewritten RangeSplit plan ≡ Some (both_plan (with_count least plan) (with_count most plan))
@@ -40,7 +41,8 @@ range_split_made (pairs_plan back own types test) count least most is told =
     (λ (both : Cardinality × Cardinality).
     both_plan (pairs_plan back both.0 types test) (pairs_plan back both.1 types test))
     own count (least, most) is told
-range_split_made (units_plan own units) count least most is told =
-    made_of (λ (both : Cardinality × Cardinality). both_plan (units_plan both.0 units) (units_plan both.1 units)) own count
+range_split_made (groups_plan own units) count least most is told =
+    made_of (λ (both : Cardinality × Cardinality). both_plan (groups_plan both.0 units) (groups_plan both.1 units)) own
+    count
     (least, most) is told
 range_split_made plan count least most is told = cc

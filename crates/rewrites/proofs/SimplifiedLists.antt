@@ -4,14 +4,14 @@ use Rattle.std.proofs.Common.{get_or, refl, ap, ◌∙◌, arith, add-one}
 use Rattle.std.specs.Prelude.{slice_set}
 use Rattle.set_algebra.specs.declared.plan.ConceptPlan.{ConceptPlan}
 use Rattle.set_algebra.specs.declared.plan.UnitPlan.{UnitPlan}
-use Rattle.set_algebra.specs.Plan.{Plan, Plans, no_plans, plan_then, plan_of, plans_of, PlanOfUnits}
-use Rattle.set_algebra.specs.Plan.{PlansOfUnits, no_unit_plans, unit_plan_then, unit_plan_of}
-use Rattle.set_algebra.specs.Plan.{unit_plans_of}
+use Rattle.set_algebra.specs.Plan.{Plan, Plans, no_plans, plan_then, plan_of, plans_of, PlanOfGroups}
+use Rattle.set_algebra.specs.Plan.{PlansOfGroups, no_group_plans, group_plan_then, group_plan_of}
+use Rattle.set_algebra.specs.Plan.{group_plans_of}
 use Rattle.set_algebra.specs.inside.Views.{only_part, only_group_part}
 use Rattle.rewrites.specs.Simplified.{simplified, all_simplified}
 use Rattle.rewrites.specs.Simplified.{group_simplified, all_groups_simplified}
 
--- a list of plans of concepts whose length is not 1 has no only plan
+-- if a list of plans of concepts has not exactly one plan, `only_part` returns `None` for it
 pub not_only : (items : List ConceptPlan) → (length items ≡ 1 → ⊥) → only_part (plans_of items) ≡ None
 not_only [] long = refl
 not_only (first ∷ []) long = absurd (long refl)
@@ -23,8 +23,8 @@ up_to_here zero parts = parts
 up_to_here (suc i) no_plans = no_plans
 up_to_here (suc i) (plan_then first rest) = plan_then (simplified first) (up_to_here i rest)
 
--- loop step: simplifying plan `i` of a list whose first `i` plans of concepts are simplified gives the list whose
--- first `i + 1` are
+-- loop step: if the plans of concepts below index `i` are simplified, and then the plan at `i` is, the plans below `i
+-- + 1` are
 pub here_more : (parts items : List ConceptPlan) (i : ℕ) (old new : ConceptPlan)
     → plans_of items ≡ up_to_here i (plans_of parts) → i < length items → old ≡ get_or items i old
     → plan_of new ≡ simplified (plan_of old) → plans_of (slice_set items i new) ≡ up_to_here (i + 1) (plans_of parts)
@@ -45,7 +45,7 @@ here_more (part ∷ parts) (first ∷ rest) (suc i) old new so_far within is one
     ∙ ap (plan_then (simplified (plan_of part)))
     (here_more parts rest i old new tail (omega arith) is one ∙ rw add-one refl))
 
--- after the last turn of the loop all plans of concepts are simplified
+-- if the plans of concepts below index `i` are simplified, and there are `i` plans, all are simplified
 pub all_here : (parts : List ConceptPlan) (i : ℕ) → i ≡ length parts
     → up_to_here i (plans_of parts) ≡ all_simplified (plans_of parts)
 all_here [] zero is = refl
@@ -53,47 +53,48 @@ all_here [] (suc i) is = refl
 all_here (first ∷ rest) zero is = absurd (omega arith)
 all_here (first ∷ rest) (suc i) is = ap (plan_then (simplified (plan_of first))) (all_here rest i (omega arith))
 
--- a list of plans of groups whose length is not 1 has no only plan
+-- if a list of plans of groups has not exactly one plan, `only_group_part` returns `None` for it
 pub not_only_group_part : (items : List UnitPlan) → (length items ≡ 1 → ⊥)
-    → only_group_part (unit_plans_of items) ≡ None
+    → only_group_part (group_plans_of items) ≡ None
 not_only_group_part [] long = refl
 not_only_group_part (first ∷ []) long = absurd (long refl)
 not_only_group_part (first ∷ (second ∷ rest)) long = refl
 
 -- the list of plans of groups with its first `i` plans simplified
-abbrev pub groups_up_to_here : ℕ → PlansOfUnits → PlansOfUnits
+abbrev pub groups_up_to_here : ℕ → PlansOfGroups → PlansOfGroups
 groups_up_to_here zero parts = parts
-groups_up_to_here (suc i) no_unit_plans = no_unit_plans
-groups_up_to_here (suc i) (unit_plan_then first rest) = unit_plan_then (group_simplified first) (groups_up_to_here i rest)
+groups_up_to_here (suc i) no_group_plans = no_group_plans
+groups_up_to_here (suc i) (group_plan_then first rest) =
+    group_plan_then (group_simplified first) (groups_up_to_here i rest)
 
--- loop step: simplifying plan `i` of a list whose first `i` plans of groups are simplified gives the list whose first
--- `i + 1` are
+-- loop step: if the plans of groups below index `i` are simplified, and then the plan at `i` is, the plans below `i +
+-- 1` are
 pub groups_here_more : (parts items : List UnitPlan) (i : ℕ) (old new : UnitPlan)
-    → unit_plans_of items ≡ groups_up_to_here i (unit_plans_of parts) → i < length items → old ≡ get_or items i old
-    → unit_plan_of new ≡ group_simplified (unit_plan_of old)
-    → unit_plans_of (slice_set items i new) ≡ groups_up_to_here (i + 1) (unit_plans_of parts)
+    → group_plans_of items ≡ groups_up_to_here i (group_plans_of parts) → i < length items → old ≡ get_or items i old
+    → group_plan_of new ≡ group_simplified (group_plan_of old)
+    → group_plans_of (slice_set items i new) ≡ groups_up_to_here (i + 1) (group_plans_of parts)
 groups_here_more parts [] i old new so_far within is one = absurd (omega arith)
 groups_here_more [] (first ∷ rest) zero old new so_far within is one = absurd (cc)
 groups_here_more [] (first ∷ rest) (suc i) old new so_far within is one = absurd (cc)
 groups_here_more (part ∷ parts) (first ∷ rest) zero old new so_far within is one =
-    let head : unit_plan_of first ≡ unit_plan_of part = cc in
-    let tail : unit_plans_of rest ≡ unit_plans_of parts = cc in
-    ap (λ (plan : PlanOfUnits). unit_plan_then plan (unit_plans_of rest))
-    (one ∙ ap (λ (plan : UnitPlan). group_simplified (unit_plan_of plan)) is ∙ ap group_simplified head)
-    ∙ ap (unit_plan_then (group_simplified (unit_plan_of part))) tail
+    let head : group_plan_of first ≡ group_plan_of part = cc in
+    let tail : group_plans_of rest ≡ group_plans_of parts = cc in
+    ap (λ (plan : PlanOfGroups). group_plan_then plan (group_plans_of rest))
+    (one ∙ ap (λ (plan : UnitPlan). group_simplified (group_plan_of plan)) is ∙ ap group_simplified head)
+    ∙ ap (group_plan_then (group_simplified (group_plan_of part))) tail
 groups_here_more (part ∷ parts) (first ∷ rest) (suc i) old new so_far within is one =
-    let head : unit_plan_of first ≡ group_simplified (unit_plan_of part) = cc in
-    let tail : unit_plans_of rest ≡ groups_up_to_here i (unit_plans_of parts) = cc in
+    let head : group_plan_of first ≡ group_simplified (group_plan_of part) = cc in
+    let tail : group_plans_of rest ≡ groups_up_to_here i (group_plans_of parts) = cc in
     rw add-one
-    (ap (λ (plan : PlanOfUnits). unit_plan_then plan (unit_plans_of (slice_set rest i new))) head
-    ∙ ap (unit_plan_then (group_simplified (unit_plan_of part)))
+    (ap (λ (plan : PlanOfGroups). group_plan_then plan (group_plans_of (slice_set rest i new))) head
+    ∙ ap (group_plan_then (group_simplified (group_plan_of part)))
     (groups_here_more parts rest i old new tail (omega arith) is one ∙ rw add-one refl))
 
--- after the last turn of the loop all plans of groups are simplified
+-- if the plans of groups below index `i` are simplified, and there are `i` plans, all are simplified
 pub all_groups_here : (parts : List UnitPlan) (i : ℕ) → i ≡ length parts
-    → groups_up_to_here i (unit_plans_of parts) ≡ all_groups_simplified (unit_plans_of parts)
+    → groups_up_to_here i (group_plans_of parts) ≡ all_groups_simplified (group_plans_of parts)
 all_groups_here [] zero is = refl
 all_groups_here [] (suc i) is = refl
 all_groups_here (first ∷ rest) zero is = absurd (omega arith)
 all_groups_here (first ∷ rest) (suc i) is =
-    ap (unit_plan_then (group_simplified (unit_plan_of first))) (all_groups_here rest i (omega arith))
+    ap (group_plan_then (group_simplified (group_plan_of first))) (all_groups_here rest i (omega arith))

@@ -1,4 +1,4 @@
--- Two walks in a row along one transitive test.
+-- A walk of a walk, both along one transitive test.
 use Rattle.std.proofs.Common.{ℕ, ◌≡◌, ◌&&◌, ◌||◌, Bool, true, List, inl, inr}
 use Rattle.std.proofs.lemmas.Bool.{and_parts, and_from, or_cases, or_left}
 use Rattle.rf2_rows.specs.Release.{Release}
@@ -9,16 +9,17 @@ use Rattle.number_lists.proofs.ListLemmas.{passing_item, some_item_passes}
 use Rattle.constraint_tree.proofs.WalkLemmas.{tells_in_force}
 use Rattle.rewrites.proofs.BoolLemmas.{same_if}
 
--- a test of two concepts is transitive: if `from` leads to `between`, and `between` to `to`, then `from` leads to `to`
+-- a test of two concepts is transitive: if it is true for `from` and `between`, and for `between` and `to`, it is
+-- true for `from` and `to`
 abbrev pub IsTransitive : (ℕ → ℕ → Bool) → Type 0
 IsTransitive leads = (from between to : ℕ) → leads from between ≡ true → leads between to ≡ true → leads from to ≡ true
 
--- being a descendant is transitive
+-- to be a descendant is transitive
 pub below_is_transitive : (rows : List (ℕ × ℕ)) → IsTransitive (λ (from to : ℕ). reaches rows from to)
 below_is_transitive rows from between to first then =
     test_from_chain rows (chain_of_two (chain_from_test rows from between first) (chain_from_test rows between to then))
 
--- being an ancestor is transitive
+-- to be an ancestor is transitive
 pub above_is_transitive : (rows : List (ℕ × ℕ)) → IsTransitive (λ (from to : ℕ). reaches rows to from)
 above_is_transitive rows from between to first then =
     test_from_chain rows (chain_of_two (chain_from_test rows to between then) (chain_from_test rows between from first))
@@ -41,7 +42,8 @@ module _ (release : Release) (set : ℕ → Bool) (leads : ℕ → ℕ → Bool)
       some_item_passes (λ member. set member && leads concept member) release.concepts found.0 found.1
       (and_from _ _ parts.0 (transitive concept between found.0 first parts.1))
 
-  -- a concept that leads to one that leads to a concept of the set leads to a concept of the set
+  -- if `leads` is true for `concept` and some concept in force, and for this one and a member of the set, then it is
+  -- true for `concept` and a member of the set
   pub beyond_twice : (concept : ℕ) → some_member release beyond (leads concept) ≡ true
       → some_member release set (leads concept) ≡ true
   beyond_twice concept holds =
@@ -74,6 +76,7 @@ module _ (release : Release) (set : ℕ → Bool) (leads : ℕ → ℕ → Bool)
       some_item_passes (λ member. there member && leads concept member) release.concepts found.0 found.1
       (and_from _ _ (and_from _ _ ((tells_in_force release found.0).1 found.1) (or_left _ _ parts.0)) parts.1)
 
-  -- leading to a concept of the set and leading to one that is in the set or leads there are one test
+  -- `leads` is true for `concept` and a member of the set exactly if it is true for `concept` and some concept in
+  -- force that is in the set or for which `leads` is true with a member of it
   pub there_same : (concept : ℕ) → some_member release there (leads concept) ≡ some_member release set (leads concept)
   there_same concept = same_if _ _ (there_then concept) (then_there concept)

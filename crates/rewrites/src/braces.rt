@@ -1,7 +1,7 @@
-//! Rules of braces: BraceOr, BraceOne and BraceGuard.
+//! Rules for `Units`, the plans of braces: BraceOr, BraceOne and BraceGuard.
 ghost use Rattle.std.specs.Prelude.{◌≡◌, false, IfOk};
 ghost use Rattle.set_algebra.specs.Lowering.{both_plan};
-ghost use Rattle.set_algebra.specs.Plan.{plan_of, plans_of, test_plan_of, unit_plan_of, unit_plans_of, pairs_plan, units_plan};
+ghost use Rattle.set_algebra.specs.Plan.{plan_of, plans_of, test_plan_of, group_plan_of, group_plans_of, pairs_plan, groups_plan};
 ghost use Rattle.rewrites.specs.Counts.{at_least};
 ghost use Rattle.rewrites.specs.inside.Gives.{Gives};
 ghost use Rattle.rewrites.specs.PlanLists.{plans_of_each};
@@ -13,33 +13,38 @@ use crate::counts::{asks_none, asks_some, at_least};
 use crate::fault::RuleFault;
 use crate::made::{both, given, pairs, units, with_last};
 use constraint_tree::Cardinality;
-use set_algebra::views::{first_unit_of, unit_and_of, unit_or_of, unit_pairs_of, units_of};
+use set_algebra::views::{first_group_of, group_and_of, group_or_of, group_pairs_of, units_of};
 use set_algebra::{ConceptPlan, UnitPlan, ValueTest};
 use std::alloc::{AllocError, Global};
 
+// Applies BraceOr at the root of `plan`: `Units` of `Or(u..)` with `[1..*]` become the `Or`, and
+// with `[0..0]` the `And`, of `Units` of each u with the same count. Returns `NotApplicable` for
+// any other plan.
 #[tactic(auto, using(set_algebra::proofs::PlanLemmas::plans_of_items))]
 pub(crate) fn brace_or(alloc: Global, plan: &ConceptPlan) -> Result<ConceptPlan, RuleFault>
     ensures { Gives (rewritten BraceOr (plan_of plan.now)) result }
 {
     if let Ok((count, groups)) = units_of(plan)
-        && let Ok(parts) = unit_or_of(groups)
+        && let Ok(parts) = group_or_of(groups)
     {
         if asks_some(count) {
-            return given_parts(Connective::Or, each_units(alloc, count, parts));
+            return given_parts(Connective::Or, each_groups(alloc, count, parts));
         }
         if asks_none(count) {
-            return given_parts(Connective::And, each_units(alloc, count, parts));
+            return given_parts(Connective::And, each_groups(alloc, count, parts));
         }
     }
     Err(RuleFault::NotApplicable)
 }
 
-fn each_units(
+// Makes for each plan of groups in `parts` a `Units` with the count `count`.
+fn each_groups(
     alloc: Global,
     count: Cardinality,
     parts: &[UnitPlan],
 ) -> Result<Vec<ConceptPlan>, AllocError>
-    ensures { IfOk result (λ made. plans_of made.items ≡ plans_of_each (units_plan count) (unit_plans_of parts.now)) }
+    ensures { IfOk result (λ made. plans_of made.items
+        ≡ plans_of_each (groups_plan count) (group_plans_of parts.now)) }
 {
     let mut made = Vec::new(alloc);
     for part in parts {
@@ -48,11 +53,14 @@ fn each_units(
     Ok(made)
 }
 
+// Applies BraceOne at the root of `plan`: `Units` with `[1..*]` or `[0..0]` of `Pairs` with
+// `[1..*]` become forward `Pairs` with the count of the `Units`. Returns `NotApplicable` for any
+// other plan.
 pub(crate) fn brace_one(alloc: Global, plan: &ConceptPlan) -> Result<ConceptPlan, RuleFault>
     ensures { Gives (rewritten BraceOne (plan_of plan.now)) result }
 {
     if let Ok((count, groups)) = units_of(plan)
-        && let Ok((some, types, test)) = unit_pairs_of(groups)
+        && let Ok((some, types, test)) = group_pairs_of(groups)
         && (asks_some(count) || asks_none(count))
         && asks_some(some)
     {
@@ -61,13 +69,16 @@ pub(crate) fn brace_one(alloc: Global, plan: &ConceptPlan) -> Result<ConceptPlan
     Err(RuleFault::NotApplicable)
 }
 
+// Applies BraceGuard at the root of `plan`: `Units` of `And(Pairs, u..)`, both counts with a
+// minimum of at least 1, become the `And` of forward `Pairs` with `[1..*]` and of the `Units`.
+// Returns `NotApplicable` for any other plan.
 pub(crate) fn brace_guard(alloc: Global, plan: &ConceptPlan) -> Result<ConceptPlan, RuleFault>
     ensures { Gives (rewritten BraceGuard (plan_of plan.now)) result }
 {
     if let Ok((count, groups)) = units_of(plan)
-        && let Ok(parts) = unit_and_of(groups)
-        && let Ok((first, _rest)) = first_unit_of(parts)
-        && let Ok((some, types, test)) = unit_pairs_of(first)
+        && let Ok(parts) = group_and_of(groups)
+        && let Ok((first, _rest)) = first_group_of(parts)
+        && let Ok((some, types, test)) = group_pairs_of(first)
         && count.min >= 1
         && some.min >= 1
     {
@@ -76,7 +87,8 @@ pub(crate) fn brace_guard(alloc: Global, plan: &ConceptPlan) -> Result<ConceptPl
     Err(RuleFault::NotApplicable)
 }
 
-// Makes the `And` of forward `Pairs` with [1..*] and of `Units` with the count and the groups.
+// Makes the `And` of forward `Pairs` with `[1..*]`, `types` and `test`, and of `Units` with `count`
+// and `groups`.
 fn guarded(
     alloc: Global,
     count: Cardinality,
@@ -85,7 +97,8 @@ fn guarded(
     test: &ValueTest,
 ) -> Result<ConceptPlan, AllocError>
     ensures { IfOk result (λ new. plan_of new
-        ≡ both_plan (pairs_plan false (at_least 1) (plan_of types.now) (test_plan_of test.now)) (units_plan count (unit_plan_of groups.now))) }
+        ≡ both_plan (pairs_plan false (at_least 1) (plan_of types.now) (test_plan_of test.now))
+        (groups_plan count (group_plan_of groups.now))) }
 {
     let guard = pairs(alloc, false, at_least(1), types, test);
     let groups = units(alloc, count, groups);

@@ -1,31 +1,31 @@
-//! Cardinalities that rules ask for, and those that they make.
+//! Tests of cardinalities, and the cardinalities that rules make.
 ghost use Rattle.std.specs.Prelude.{◌≡◌};
 ghost use Rattle.rewrites.specs.Counts.{asks_some, asks_none, asks_nothing, asks_too_much, at_least, up_to, split, complement};
 
 use constraint_tree::Cardinality;
 
-// Whether the cardinality is [1..*].
+// Whether `count` is [1..*].
 pub(crate) fn asks_some(count: Cardinality) -> bool
     ensures { result ≡ asks_some count }
 {
     count.min == 1 && count.max.is_none()
 }
 
-// Whether the cardinality is [0..0].
+// Whether `count` is [0..0].
 pub(crate) fn asks_none(count: Cardinality) -> bool
     ensures { result ≡ asks_none count }
 {
     count.min == 0 && count.max == Some(0)
 }
 
-// Whether the cardinality is [0..*].
+// Whether `count` is [0..*], which each number satisfies.
 pub(crate) fn asks_nothing(count: Cardinality) -> bool
     ensures { result ≡ asks_nothing count }
 {
     count.min == 0 && count.max.is_none()
 }
 
-// Whether the cardinality has its minimum above its maximum.
+// Whether the minimum of `count` is above its maximum, so that no number satisfies it.
 pub(crate) fn asks_too_much(count: Cardinality) -> bool
     ensures { result ≡ asks_too_much count }
 {
@@ -35,6 +35,7 @@ pub(crate) fn asks_too_much(count: Cardinality) -> bool
     }
 }
 
+// Returns the cardinality [least..*].
 pub(crate) fn at_least(least: u64) -> Cardinality
     ensures { result ≡ at_least least }
 {
@@ -44,6 +45,7 @@ pub(crate) fn at_least(least: u64) -> Cardinality
     }
 }
 
+// Returns the cardinality [0..most].
 fn up_to(most: u64) -> Cardinality
     ensures { result ≡ up_to most }
 {
@@ -53,7 +55,8 @@ fn up_to(most: u64) -> Cardinality
     }
 }
 
-// Splits [m..k] into [m..*] and [0..k], if m is at least 1.
+// Returns [m..*] and [0..k] if `count` is [m..k] with m at least 1, or else `None`. A number lies
+// in [m..k] if it lies in both.
 pub(crate) fn split(count: Cardinality) -> Option<(Cardinality, Cardinality)>
     ensures { result ≡ split (λ least most. (least, most)) count }
 {
@@ -63,7 +66,8 @@ pub(crate) fn split(count: Cardinality) -> Option<(Cardinality, Cardinality)>
     }
 }
 
-// Makes [k+1..*] of [0..k], if k is below `u64::MAX`: the largest number has no successor.
+// Returns [k+1..*] if `count` is [0..k] with k below `u64::MAX`, or else `None`. A number lies in
+// [k+1..*] if it does not lie in [0..k].
 pub(crate) fn complement(count: Cardinality) -> Option<Cardinality>
     ensures { result ≡ complement (λ above. above) count }
 {

@@ -4,7 +4,7 @@ ghost use Rattle.std.specs.Prelude.{◌≡◌};
 use std::alloc::AllocError;
 use thiserror::Error;
 
-/// Why `apply` did not apply a rule at a place.
+/// Why `apply` did not apply a rule.
 #[derive(Clone, Copy, Debug, PartialEq, Eq, Error)]
 pub enum ApplyFault {
     /// The place names no node, or the rule makes nothing of the node there.
@@ -21,7 +21,7 @@ pub enum ApplyFault {
 impl ApplyFault {
     ghost use Rattle.rewrites.specs.Faults.{fault_number};
 
-    /// The number of the fault, from 1.
+    /// Returns the number of the fault, from 1 in the order of the variants.
     pub fn number(self) -> u8
         ensures { result ≡ fault_number self }
     {
@@ -43,8 +43,8 @@ impl From<AllocError> for ApplyFault {
     }
 }
 
-// Why a rule makes no plan of a node: the node has another form or does not meet the rule's condition, or memory
-// ran out.
+// Why a rule makes no plan of a node: the node has another form or does not meet the rule's
+// condition, or memory ran out.
 #[derive(Clone, Copy)]
 pub(crate) enum RuleFault {
     NotApplicable,

@@ -1,4 +1,5 @@
-//! Rewriting of plans that keeps their meaning: eighteen rules at every place, and a pass of four of them.
+//! Rewrites plans without a change of meaning: `apply` applies one of eighteen rules at one place,
+//! and `simplify` tries four of the rules at each node.
 #![tactic(auto)]
 
 mod applying;
@@ -7,6 +8,10 @@ mod changing;
 mod connective;
 mod counts;
 mod fault;
+mod group_lists;
+mod group_pairs;
+mod group_parts;
+mod group_shortening;
 mod laws;
 mod lists;
 mod made;
@@ -17,10 +22,6 @@ mod root;
 mod rule;
 mod shortening;
 mod simplifying;
-mod unit_lists;
-mod unit_pairs;
-mod unit_parts;
-mod unit_shortening;
 mod walks;
 
 pub use crate::applying::{apply, apply_all};

@@ -1,4 +1,4 @@
-//! Lists of plans of concepts, made of copies.
+//! Makes lists of plans of concepts from copies of plans.
 ghost use Rattle.std.specs.Prelude.{◌≡◌, IfOk};
 ghost use Rattle.set_algebra.specs.Plan.{Plans, plan_of, plans_of, plan_then, and_plan};
 ghost use Rattle.rewrites.specs.PlanLists.{plans_joined, plans_each};
@@ -8,19 +8,20 @@ use set_algebra::ConceptPlan;
 use set_algebra::copy::each;
 use std::alloc::{AllocError, Global};
 
-// Makes a list of copies of `parts` and then of `others`.
+// Returns copies of `parts`, followed by copies of `others`.
 #[tactic(auto, using(crate::proofs::ListLemmas::plans_of_joined))]
 pub(crate) fn joined(
     alloc: Global,
     parts: &[ConceptPlan],
     others: &[ConceptPlan],
 ) -> Result<Vec<ConceptPlan>, AllocError>
-    ensures { IfOk result (λ both. plans_of both.items ≡ plans_joined (plans_of parts.now) (plans_of others.now)) }
+    ensures { IfOk result (λ both. plans_of both.items
+        ≡ plans_joined (plans_of parts.now) (plans_of others.now)) }
 {
     with_copies(alloc, each(alloc, parts), others)
 }
 
-// Adds copies of `others` at the end of the list `parts`, if memory did not run out before.
+// Appends copies of `others` to the list `parts`, or returns the error that `parts` is.
 #[tactic(auto, using(crate::proofs::ListLemmas::plans_of_joined))]
 fn with_copies(
     alloc: Global,
@@ -36,39 +37,42 @@ fn with_copies(
     Ok(parts)
 }
 
-// Makes a list of `first` and then copies of `rest`.
+// Returns a list of `first`, followed by copies of `rest`.
 #[tactic(auto, using(crate::proofs::ListLemmas::plans_of_joined))]
 pub(crate) fn with_first(
     alloc: Global,
     first: ConceptPlan,
     rest: &[ConceptPlan],
 ) -> Result<Vec<ConceptPlan>, AllocError>
-    ensures { IfOk result (λ all. plans_of all.items ≡ plan_then (plan_of first) (plans_of rest.now)) }
+    ensures { IfOk result (λ all. plans_of all.items
+        ≡ plan_then (plan_of first) (plans_of rest.now)) }
 {
     let first = vec![in alloc; first]?;
     with_copies(alloc, Ok(first), rest)
 }
 
-// Makes the `And` of copies of `first` and of the plans of concepts `rest`.
+// Makes the `And` of copies of the plan `first` and of the plans `rest`.
 #[tactic(auto, using(set_algebra::proofs::PlanLemmas::plans_of_items))]
 pub(crate) fn and_first(
     alloc: Global,
     first: &ConceptPlan,
     rest: &[ConceptPlan],
 ) -> Result<ConceptPlan, AllocError>
-    ensures { IfOk result (λ new. plan_of new ≡ and_plan (plan_then (plan_of first.now) (plans_of rest.now))) }
+    ensures { IfOk result (λ new. plan_of new
+        ≡ and_plan (plan_then (plan_of first.now) (plans_of rest.now))) }
 {
     let first = first.copy(alloc)?;
     Ok(ConceptPlan::And(with_first(alloc, first, rest)?))
 }
 
-// Makes an `And` of each plan of concepts in `parts` with the plans `rest`.
+// Makes for each plan in `parts` the `And` of copies of it and of the plans `rest`.
 pub(crate) fn each_with(
     alloc: Global,
     parts: &[ConceptPlan],
     rest: &[ConceptPlan],
 ) -> Result<Vec<ConceptPlan>, AllocError>
-    ensures { IfOk result (λ made. plans_of made.items ≡ plans_each (λ part. and_plan (plan_then part (plans_of rest.now))) (plans_of parts.now)) }
+    ensures { IfOk result (λ made. plans_of made.items
+        ≡ plans_each (λ part. and_plan (plan_then part (plans_of rest.now))) (plans_of parts.now)) }
 {
     let mut made = Vec::new(alloc);
     for part in parts {

@@ -1,4 +1,4 @@
-//! Rules of the types and the test of pairs: TypesOr and TestOr.
+//! Rules for the types and the test of `Pairs` of concepts: TypesOr and TestOr.
 ghost use Rattle.std.specs.Prelude.{◌≡◌, IfOk};
 ghost use Rattle.set_algebra.specs.Plan.{plan_of, plans_of, test_plan_of, pairs_plan, within_plan};
 ghost use Rattle.rewrites.specs.inside.Gives.{Gives};
@@ -16,6 +16,8 @@ use set_algebra::views::{or_of, pairs_of, within_of};
 use set_algebra::{Choice, ConceptPlan, ValueTest};
 use std::alloc::{AllocError, Global};
 
+// Applies TypesOr at the root of `plan`: `Pairs` with the count `[1..*]` and the types `Or(t..)`
+// become the `Or` of `Pairs` with each t. Returns `NotApplicable` for any other plan.
 #[tactic(auto, using(set_algebra::proofs::PlanLemmas::plans_of_items))]
 pub(crate) fn types_or(alloc: Global, plan: &ConceptPlan) -> Result<ConceptPlan, RuleFault>
     ensures { Gives (rewritten TypesOr (plan_of plan.now)) result }
@@ -29,6 +31,7 @@ pub(crate) fn types_or(alloc: Global, plan: &ConceptPlan) -> Result<ConceptPlan,
     Err(RuleFault::NotApplicable)
 }
 
+// Makes for each plan in `parts` the `Pairs` with it as types, and with `back`, `count` and `test`.
 fn each_type(
     alloc: Global,
     back: bool,
@@ -36,7 +39,9 @@ fn each_type(
     parts: &[ConceptPlan],
     test: &ValueTest,
 ) -> Result<Vec<ConceptPlan>, AllocError>
-    ensures { IfOk result (λ made. plans_of made.items ≡ plans_each (λ part. pairs_plan back count part (test_plan_of test.now)) (plans_of parts.now)) }
+    ensures { IfOk result (λ made. plans_of made.items
+        ≡ plans_each (λ part. pairs_plan back count part (test_plan_of test.now))
+        (plans_of parts.now)) }
 {
     let mut made = Vec::new(alloc);
     for part in parts {
@@ -45,6 +50,9 @@ fn each_type(
     Ok(made)
 }
 
+// Applies TestOr at the root of `plan`: `Pairs` with the count `[1..*]` and the test
+// `Within(Or(v..))` become the `Or` of `Pairs` with each `Within(v)`. Returns `NotApplicable` for
+// any other plan.
 #[tactic(auto, using(set_algebra::proofs::PlanLemmas::plans_of_items))]
 pub(crate) fn test_or(alloc: Global, plan: &ConceptPlan) -> Result<ConceptPlan, RuleFault>
     ensures { Gives (rewritten TestOr (plan_of plan.now)) result }
@@ -59,6 +67,8 @@ pub(crate) fn test_or(alloc: Global, plan: &ConceptPlan) -> Result<ConceptPlan, 
     Err(RuleFault::NotApplicable)
 }
 
+// Makes for each plan in `parts` the `Pairs` with the test `Within` of it, and with `back`, `count`
+// and `types`.
 fn each_value(
     alloc: Global,
     back: bool,
@@ -67,7 +77,8 @@ fn each_value(
     parts: &[ConceptPlan],
 ) -> Result<Vec<ConceptPlan>, AllocError>
     ensures { IfOk result (λ made. plans_of made.items
-        ≡ plans_each (λ part. pairs_plan back count (plan_of types.now) (within_plan part)) (plans_of parts.now)) }
+        ≡ plans_each (λ part. pairs_plan back count (plan_of types.now) (within_plan part))
+        (plans_of parts.now)) }
 {
     let mut made = Vec::new(alloc);
     for part in parts {
@@ -76,6 +87,7 @@ fn each_value(
     Ok(made)
 }
 
+// Makes `Pairs` with `back`, `count`, `types` and the test `Within` of `operand`.
 fn pairs_within(
     alloc: Global,
     back: bool,
@@ -83,7 +95,8 @@ fn pairs_within(
     types: &ConceptPlan,
     operand: &ConceptPlan,
 ) -> Result<ConceptPlan, AllocError>
-    ensures { IfOk result (λ new. plan_of new ≡ pairs_plan back count (plan_of types.now) (within_plan (plan_of operand.now))) }
+    ensures { IfOk result (λ new. plan_of new ≡ pairs_plan back count (plan_of types.now)
+        (within_plan (plan_of operand.now))) }
 {
     Ok(ConceptPlan::Pairs {
         back,

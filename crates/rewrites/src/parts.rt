@@ -1,5 +1,5 @@
-//! Rules of the parts of `And`, `Or` and `Minus` of concepts: Turn, Join, Pair, Spread, Same, Only, MinusAnd and
-//! MinusOr.
+//! Rules for `And`, `Or` and `Minus` of concepts: Turn, Join, Pair, Spread, Same, Only, MinusAnd
+//! and MinusOr.
 ghost use Rattle.std.specs.Prelude.{◌≡◌, IfOk};
 ghost use Rattle.set_algebra.specs.Plan.{plan_of, plans_of, plan_then, and_plan, or_plan, minus_plan};
 ghost use Rattle.rewrites.specs.inside.Connected.{connected};
@@ -17,6 +17,8 @@ use set_algebra::copy::{boxed, each};
 use set_algebra::views::{and_of, first_of, minus_of, only_of, or_of};
 use std::alloc::{AllocError, Global};
 
+// Applies Turn at the root of `plan`: `And(x1, x..)` of two or more parts becomes `And(x.., x1)`;
+// `Or` alike. Returns `NotApplicable` for any other plan.
 #[tactic(auto, using(crate::proofs::PartLemmas::turning))]
 pub(crate) fn turn(alloc: Global, plan: &ConceptPlan) -> Result<ConceptPlan, RuleFault>
     ensures { Gives (rewritten Turn (plan_of plan.now)) result }
@@ -30,6 +32,8 @@ pub(crate) fn turn(alloc: Global, plan: &ConceptPlan) -> Result<ConceptPlan, Rul
     Err(RuleFault::NotApplicable)
 }
 
+// Applies Join at the root of `plan`: `And(And(y..), x..)` becomes `And(y.., x..)`; `Or` alike.
+// Returns `NotApplicable` for any other plan.
 #[tactic(auto, using(crate::proofs::PartLemmas::joined))]
 pub(crate) fn join(alloc: Global, plan: &ConceptPlan) -> Result<ConceptPlan, RuleFault>
     ensures { Gives (rewritten Join (plan_of plan.now)) result }
@@ -43,6 +47,8 @@ pub(crate) fn join(alloc: Global, plan: &ConceptPlan) -> Result<ConceptPlan, Rul
     Err(RuleFault::NotApplicable)
 }
 
+// Applies Pair at the root of `plan`: `And(x1, x2, x..)` of three or more parts becomes
+// `And(And(x1, x2), x..)`; `Or` alike. Returns `NotApplicable` for any other plan.
 #[tactic(auto, using(crate::proofs::PartLemmas::pairing))]
 pub(crate) fn pair(alloc: Global, plan: &ConceptPlan) -> Result<ConceptPlan, RuleFault>
     ensures { Gives (rewritten Pair (plan_of plan.now)) result }
@@ -56,19 +62,23 @@ pub(crate) fn pair(alloc: Global, plan: &ConceptPlan) -> Result<ConceptPlan, Rul
     Err(RuleFault::NotApplicable)
 }
 
-// Makes a list whose first plan connects the parts `two`, and whose others are copies of `rest`.
+// Makes a list: first the plan with the connective `connective` and copies of the parts `two`, then
+// copies of `rest`.
 fn paired(
     alloc: Global,
     connective: Connective,
     two: &[ConceptPlan],
     rest: &[ConceptPlan],
 ) -> Result<Vec<ConceptPlan>, AllocError>
-    ensures { IfOk result (λ all. plans_of all.items ≡ plan_then (connected connective (plans_of two.now)) (plans_of rest.now)) }
+    ensures { IfOk result (λ all. plans_of all.items
+        ≡ plan_then (connected connective (plans_of two.now)) (plans_of rest.now)) }
 {
     let pair = connected(connective, each(alloc, two)?);
     with_first(alloc, pair, rest)
 }
 
+// Applies Spread at the root of `plan`: `And(Or(y..), x..)` becomes the `Or` of `And(y, x..)` for
+// each y. Returns `NotApplicable` for any other plan.
 #[tactic(auto, using(set_algebra::proofs::PlanLemmas::plans_of_items))]
 pub(crate) fn spread(alloc: Global, plan: &ConceptPlan) -> Result<ConceptPlan, RuleFault>
     ensures { Gives (rewritten Spread (plan_of plan.now)) result }
@@ -82,6 +92,8 @@ pub(crate) fn spread(alloc: Global, plan: &ConceptPlan) -> Result<ConceptPlan, R
     Err(RuleFault::NotApplicable)
 }
 
+// Applies Same at the root of `plan`: `And(x, x, y..)` becomes `And(x, y..)`; `Or` alike; `Minus(x,
+// x)` becomes `Empty`. Returns `NotApplicable` for any other plan.
 #[tactic(auto, using(crate::proofs::PartLemmas::dropping))]
 pub(crate) fn same(alloc: Global, plan: &ConceptPlan) -> Result<ConceptPlan, RuleFault>
     ensures { Gives (rewritten Same (plan_of plan.now)) result }
@@ -100,6 +112,8 @@ pub(crate) fn same(alloc: Global, plan: &ConceptPlan) -> Result<ConceptPlan, Rul
     Err(RuleFault::NotApplicable)
 }
 
+// Applies Only at the root of `plan`: `And(x)` or `Or(x)` becomes x. Returns `NotApplicable` for
+// any other plan.
 pub(crate) fn only(alloc: Global, plan: &ConceptPlan) -> Result<ConceptPlan, RuleFault>
     ensures { Gives (rewritten Only (plan_of plan.now)) result }
 {
@@ -111,6 +125,8 @@ pub(crate) fn only(alloc: Global, plan: &ConceptPlan) -> Result<ConceptPlan, Rul
     Err(RuleFault::NotApplicable)
 }
 
+// Applies MinusAnd at the root of `plan`: `And(Minus(a, b), x..)` becomes `Minus(And(a, x..), b)`.
+// Returns `NotApplicable` for any other plan.
 #[tactic(auto, using(set_algebra::proofs::PlanLemmas::plans_of_items))]
 pub(crate) fn minus_and(alloc: Global, plan: &ConceptPlan) -> Result<ConceptPlan, RuleFault>
     ensures { Gives (rewritten MinusAnd (plan_of plan.now)) result }
@@ -124,18 +140,24 @@ pub(crate) fn minus_and(alloc: Global, plan: &ConceptPlan) -> Result<ConceptPlan
     Err(RuleFault::NotApplicable)
 }
 
+// Makes the `Minus` whose first operand is the `And` of `from` and `rest`, and whose second is
+// `without`.
 fn minus_from_and(
     alloc: Global,
     from: &ConceptPlan,
     rest: &[ConceptPlan],
     without: &ConceptPlan,
 ) -> Result<ConceptPlan, AllocError>
-    ensures { IfOk result (λ new. plan_of new ≡ minus_plan (and_plan (plan_then (plan_of from.now) (plans_of rest.now))) (plan_of without.now)) }
+    ensures { IfOk result (λ new. plan_of new
+        ≡ minus_plan (and_plan (plan_then (plan_of from.now) (plans_of rest.now)))
+        (plan_of without.now)) }
 {
     let kept = in_box(alloc, and_first(alloc, from, rest));
     minus(kept, boxed(alloc, without))
 }
 
+// Applies MinusOr at the root of `plan`: `Minus(a, Or(b, x..))` becomes `Minus(Minus(a, b),
+// Or(x..))`. Returns `NotApplicable` for any other plan.
 #[tactic(auto, using(set_algebra::proofs::PlanLemmas::plans_of_items))]
 pub(crate) fn minus_or(alloc: Global, plan: &ConceptPlan) -> Result<ConceptPlan, RuleFault>
     ensures { Gives (rewritten MinusOr (plan_of plan.now)) result }
@@ -149,7 +171,7 @@ pub(crate) fn minus_or(alloc: Global, plan: &ConceptPlan) -> Result<ConceptPlan,
     Err(RuleFault::NotApplicable)
 }
 
-// Makes the `Minus` of the `Minus` of `from` and `first`, and the `Or` of `rest`.
+// Makes `Minus(Minus(from, first), Or(rest))` of copies.
 #[tactic(auto, using(set_algebra::proofs::PlanLemmas::plans_of_items))]
 fn minus_each(
     alloc: Global,
@@ -157,7 +179,9 @@ fn minus_each(
     first: &ConceptPlan,
     rest: &[ConceptPlan],
 ) -> Result<ConceptPlan, AllocError>
-    ensures { IfOk result (λ new. plan_of new ≡ minus_plan (minus_plan (plan_of from.now) (plan_of first.now)) (or_plan (plans_of rest.now))) }
+    ensures { IfOk result (λ new. plan_of new
+        ≡ minus_plan (minus_plan (plan_of from.now) (plan_of first.now))
+        (or_plan (plans_of rest.now))) }
 {
     let kept = minus(boxed(alloc, from), boxed(alloc, first));
     minus(
@@ -166,6 +190,7 @@ fn minus_each(
     )
 }
 
+// Makes the `Or` of copies of the plans `parts`.
 #[tactic(auto, using(set_algebra::proofs::PlanLemmas::plans_of_items))]
 fn or_of_copies(alloc: Global, parts: &[ConceptPlan]) -> Result<ConceptPlan, AllocError>
     ensures { IfOk result (λ new. plan_of new ≡ or_plan (plans_of parts.now)) }

@@ -1,8 +1,8 @@
-//! Rules of the counts of `Pairs` and `Units`: RangeSplit, RangeTurn and RangeAll.
+//! Rules for the counts of `Pairs` and `Units` of concepts: RangeSplit, RangeTurn and RangeAll.
 ghost use Rattle.std.specs.Prelude.{◌≡◌, option_map, IfOk};
 ghost use Rattle.set_algebra.specs.Lowering.{both_plan};
 ghost use Rattle.set_algebra.specs.Plan.{plan_of, all_plan, empty_plan, minus_plan};
-ghost use Rattle.rewrites.specs.Counts.{settled};
+ghost use Rattle.rewrites.specs.Counts.{trivial_cardinality};
 ghost use Rattle.rewrites.specs.inside.Counted.{count_of, with_count};
 ghost use Rattle.rewrites.specs.inside.Gives.{Gives};
 ghost use Rattle.rewrites.specs.Rules.{rewritten};
@@ -15,6 +15,8 @@ use constraint_tree::Cardinality;
 use set_algebra::ConceptPlan;
 use std::alloc::{AllocError, Global};
 
+// Applies RangeSplit at the root of `plan`: `Pairs` or `Units` with `[m..k]`, m at least 1, become
+// the `And` of two copies with `[m..*]` and `[0..k]`. Returns `NotApplicable` for any other plan.
 pub(crate) fn range_split(alloc: Global, plan: &ConceptPlan) -> Result<ConceptPlan, RuleFault>
     ensures { Gives (rewritten RangeSplit (plan_of plan.now)) result }
 {
@@ -26,20 +28,24 @@ pub(crate) fn range_split(alloc: Global, plan: &ConceptPlan) -> Result<ConceptPl
     Err(RuleFault::NotApplicable)
 }
 
-// Makes the `And` of the `Pairs` or `Units` with the count `one` and with the count `other`.
+// Makes the `And` of two copies of `plan`, one with the count `one` and one with the count `other`.
 fn with_counts(
     alloc: Global,
     plan: &ConceptPlan,
     one: Cardinality,
     other: Cardinality,
 ) -> Result<ConceptPlan, AllocError>
-    ensures { IfOk result (λ new. plan_of new ≡ both_plan (with_count one (plan_of plan.now)) (with_count other (plan_of plan.now))) }
+    ensures { IfOk result (λ new. plan_of new ≡ both_plan (with_count one (plan_of plan.now))
+        (with_count other (plan_of plan.now))) }
 {
     let one = with_count(alloc, plan, one);
     let other = with_count(alloc, plan, other);
     both(alloc, one, other)
 }
 
+// Applies RangeTurn at the root of `plan`: `Pairs` or `Units` with `[0..k]`, k below `u64::MAX`,
+// become the `Minus` of `All` and of a copy with `[k+1..*]`. Returns `NotApplicable` for any other
+// plan.
 pub(crate) fn range_turn(alloc: Global, plan: &ConceptPlan) -> Result<ConceptPlan, RuleFault>
     ensures { Gives (rewritten RangeTurn (plan_of plan.now)) result }
 {
@@ -51,20 +57,21 @@ pub(crate) fn range_turn(alloc: Global, plan: &ConceptPlan) -> Result<ConceptPla
     Err(RuleFault::NotApplicable)
 }
 
-// Makes the `Minus` of `All` and the `Pairs` or `Units` with `count`.
+// Makes the `Minus` of `All` and of a copy of `plan` with the count `count`.
 fn all_but_with(
     alloc: Global,
     plan: &ConceptPlan,
     count: Cardinality,
 ) -> Result<ConceptPlan, AllocError>
-    ensures { IfOk result (λ new. plan_of new ≡ minus_plan all_plan (with_count count (plan_of plan.now))) }
+    ensures { IfOk result (λ new. plan_of new
+        ≡ minus_plan all_plan (with_count count (plan_of plan.now))) }
 {
     let all = in_box(alloc, Ok(ConceptPlan::All));
     let more = in_box(alloc, with_count(alloc, plan, count));
     minus(all, more)
 }
 
-// The count of `Pairs` or `Units`, or `None` for any other plan.
+// Returns the count of `plan` if it is `Pairs` or `Units`, or else `None`.
 fn count_of(plan: &ConceptPlan) -> Option<Cardinality>
     ensures { result ≡ count_of (plan_of plan.now) }
 {
@@ -75,7 +82,7 @@ fn count_of(plan: &ConceptPlan) -> Option<Cardinality>
     }
 }
 
-// Copies `Pairs` or `Units` with `count` as their count. Copies any other plan as it is.
+// Copies `plan`. If it is `Pairs` or `Units`, the copy has the count `count`.
 fn with_count(
     alloc: Global,
     plan: &ConceptPlan,
@@ -95,25 +102,29 @@ fn with_count(
     }
 }
 
+// Applies RangeAll at the root of `plan`: `Pairs` or `Units` with `[0..*]` become `All`, and with
+// `[m..k]`, m above k, `Empty`. Returns `NotApplicable` for any other plan.
 pub(crate) fn range_all(plan: &ConceptPlan) -> Result<ConceptPlan, RuleFault>
     ensures { Gives (rewritten RangeAll (plan_of plan.now)) result }
 {
-    settled(plan).ok_or(RuleFault::NotApplicable)
+    trivial_cardinality(plan).ok_or(RuleFault::NotApplicable)
 }
 
-// Makes the plan that RangeAll makes, or `None` if it makes none. It takes no memory.
-pub(crate) fn settled(plan: &ConceptPlan) -> Option<ConceptPlan>
+// Returns the plan that RangeAll makes of `plan`, or `None` if it makes none. The function
+// allocates nothing.
+pub(crate) fn trivial_cardinality(plan: &ConceptPlan) -> Option<ConceptPlan>
     ensures { option_map plan_of result ≡ rewritten RangeAll (plan_of plan.now) }
 {
     match plan {
-        ConceptPlan::Pairs { count, .. } => settled_count(*count),
-        ConceptPlan::Units { count, .. } => settled_count(*count),
+        ConceptPlan::Pairs { count, .. } => trivial_count(*count),
+        ConceptPlan::Units { count, .. } => trivial_count(*count),
         _ => None,
     }
 }
 
-fn settled_count(count: Cardinality) -> Option<ConceptPlan>
-    ensures { option_map plan_of result ≡ settled all_plan empty_plan count }
+// Returns `All` if `count` is [0..*], `Empty` if its minimum is above its maximum, or else `None`.
+fn trivial_count(count: Cardinality) -> Option<ConceptPlan>
+    ensures { option_map plan_of result ≡ trivial_cardinality all_plan empty_plan count }
 {
     if asks_nothing(count) {
         return Some(ConceptPlan::All);

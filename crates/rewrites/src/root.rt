@@ -1,15 +1,16 @@
-//! Applies each rule at the root of a plan.
-ghost use Rattle.set_algebra.specs.Plan.{plan_of, unit_plan_of};
+//! Applies a rule at the root of a plan.
+ghost use Rattle.set_algebra.specs.Plan.{plan_of, group_plan_of};
 ghost use Rattle.rewrites.specs.inside.Gives.{Gives, GivesGroup};
 ghost use Rattle.rewrites.specs.Rules.{rewritten, rewritten_group};
 
 use crate::fault::RuleFault;
 use crate::rule::Rule;
-use crate::{braces, pairs, parts, ranges, unit_pairs, unit_parts, walks};
+use crate::{braces, group_pairs, group_parts, pairs, parts, ranges, walks};
 use set_algebra::{ConceptPlan, UnitPlan};
 use std::alloc::Global;
 
-// Makes the plan that the rule makes of a plan of concepts, from copies of its parts.
+// Returns the plan that `rule` makes of the plan of concepts `plan`. The new plan consists of
+// copies. Returns `NotApplicable` if the rule makes none, and `Memory` if memory runs out.
 pub(crate) fn rewritten(
     alloc: Global,
     rule: Rule,
@@ -39,27 +40,29 @@ pub(crate) fn rewritten(
     }
 }
 
-pub(crate) fn unit_rewritten(
+// Returns the plan that `rule` makes of the plan of groups `plan`. The new plan consists of
+// copies. Returns `NotApplicable` if the rule makes none, and `Memory` if memory runs out.
+pub(crate) fn group_rewritten(
     alloc: Global,
     rule: Rule,
     plan: &UnitPlan,
 ) -> Result<UnitPlan, RuleFault>
-    ensures { GivesGroup (rewritten_group rule (unit_plan_of plan.now)) result }
+    ensures { GivesGroup (rewritten_group rule (group_plan_of plan.now)) result }
 {
     match rule {
-        Rule::Turn => unit_parts::turn(alloc, plan),
-        Rule::Join => unit_parts::join(alloc, plan),
-        Rule::Pair => unit_parts::pair(alloc, plan),
-        Rule::Spread => unit_parts::spread(alloc, plan),
-        Rule::Same => unit_parts::same(alloc, plan),
-        Rule::Only => unit_parts::only(alloc, plan),
-        Rule::MinusAnd => unit_parts::minus_and(alloc, plan),
-        Rule::MinusOr => unit_parts::minus_or(alloc, plan),
-        Rule::TypesOr => unit_pairs::types_or(alloc, plan),
-        Rule::TestOr => unit_pairs::test_or(alloc, plan),
-        Rule::RangeSplit => unit_pairs::range_split(alloc, plan),
-        Rule::RangeTurn => unit_pairs::range_turn(alloc, plan),
-        Rule::RangeAll => unit_pairs::range_all(plan),
+        Rule::Turn => group_parts::turn(alloc, plan),
+        Rule::Join => group_parts::join(alloc, plan),
+        Rule::Pair => group_parts::pair(alloc, plan),
+        Rule::Spread => group_parts::spread(alloc, plan),
+        Rule::Same => group_parts::same(alloc, plan),
+        Rule::Only => group_parts::only(alloc, plan),
+        Rule::MinusAnd => group_parts::minus_and(alloc, plan),
+        Rule::MinusOr => group_parts::minus_or(alloc, plan),
+        Rule::TypesOr => group_pairs::types_or(alloc, plan),
+        Rule::TestOr => group_pairs::test_or(alloc, plan),
+        Rule::RangeSplit => group_pairs::range_split(alloc, plan),
+        Rule::RangeTurn => group_pairs::range_turn(alloc, plan),
+        Rule::RangeAll => group_pairs::range_all(plan),
         Rule::WalkOr | Rule::WalkTwice | Rule::BraceOr | Rule::BraceOne | Rule::BraceGuard => Err(
             RuleFault::NotApplicable,
         ),

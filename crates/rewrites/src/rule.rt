@@ -1,8 +1,9 @@
-//! The rules, and a rule at a place.
+//! The rules of rewriting, and a rule with a place.
 
-/// A rule that rewrites a plan as one that means the same over every release. In the comments of the rules x..
-/// stands for any further children; `specs/Rules.antt` has each rule in lines of its own. The rules from Turn to
-/// MinusOr and from TypesOr to RangeAll apply to plans of concepts and of groups, the others to plans of concepts.
+/// A rule that rewrites a node of a plan as one that means the same over every release. In the
+/// comments of the rules, x.. stands for any further children; `specs/Rules.antt` defines each
+/// rule. The rules from Turn to MinusOr and from TypesOr to RangeAll apply to plans of concepts and
+/// of groups, the others only to plans of concepts.
 #[derive(Clone, Copy, Debug, PartialEq, Eq)]
 pub enum Rule {
     /// `And(x1, x..)` to `And(x.., x1)`, of two or more children; `Or` alike.
@@ -21,32 +22,34 @@ pub enum Rule {
     MinusAnd,
     /// `Minus(a, Or(b, x..))` to `Minus(Minus(a, b), Or(x..))`.
     MinusOr,
-    /// `Walk(w, Or(y..))` or `Members(Or(y..))` to the `Or` of `Walk(w, y)` or `Members(y)` for each y, if w is
-    /// neither `!!>` nor `!!<`.
+    /// `Walk(w, Or(y..))` or `Members(Or(y..))` to the `Or` of `Walk(w, y)` or `Members(y)` for
+    /// each y, if w is neither `!!>` nor `!!<`.
     WalkOr,
-    /// `Walk(w, Walk(v, a))` to one walk of a: `<<` if both are `<<`, and `<` if one is `<` and one `<<`;
-    /// `>>` and `>` alike.
+    /// `Walk(w, Walk(v, a))` to one `Walk` of a: with `<<` if w and v are `<<`, with `<` if one of
+    /// them is `<` and the other `<<`; `>>` and `>` alike.
     WalkTwice,
     /// `Pairs` with types `Or(t..)` to the `Or` of `Pairs` with each t, if the count is `[1..*]`.
     TypesOr,
-    /// `Pairs` with test `Within(Or(v..))` to the `Or` of `Pairs` with each `Within(v)`, if the count is
-    /// `[1..*]`.
+    /// `Pairs` with test `Within(Or(v..))` to the `Or` of `Pairs` with each `Within(v)`, if the
+    /// count is `[1..*]`.
     TestOr,
-    /// `Pairs` or `Units` with `[m..k]` to the `And` of them with `[m..*]` and `[0..k]`, if m is at least 1.
+    /// `Pairs` or `Units` with `[m..k]` to the `And` of two copies, with `[m..*]` and with
+    /// `[0..k]`, if m is at least 1.
     RangeSplit,
-    /// `Pairs` or `Units` with `[0..k]` to `Minus` of `All` or `Every` and them with `[k+1..*]`, if k is
-    /// below `u64::MAX`.
+    /// `Pairs` or `Units` with `[0..k]` to the `Minus` of `All` or `Every` and of a copy with
+    /// `[k+1..*]`, if k is below `u64::MAX`.
     RangeTurn,
-    /// `Pairs` or `Units` with `[0..*]` to `All` or `Every`, and with `[m..k]` to `Empty` or `Nothing`, if m
-    /// is above k.
+    /// `Pairs` or `Units` with `[0..*]` to `All` or `Every`; with `[m..k]` to `Empty` or `Nothing`,
+    /// if m is above k.
     RangeAll,
-    /// `Units` of `Or(u..)` with `[1..*]` to the `Or` of `Units` of each u with `[1..*]`, and with `[0..0]` to the
-    /// `And` of `Units` of each u with `[0..0]`.
+    /// `Units` of `Or(u..)`: with `[1..*]` to the `Or` of `Units` of each u with `[1..*]`, and with
+    /// `[0..0]` to the `And` of `Units` of each u with `[0..0]`.
     BraceOr,
-    /// `Units` with `[1..*]` or `[0..0]` of `Pairs` with `[1..*]` to forward `Pairs` with the count of the `Units`.
+    /// `Units` with `[1..*]` or `[0..0]` of `Pairs` with `[1..*]` to forward `Pairs` with the count
+    /// of the `Units`.
     BraceOne,
-    /// `Units` with `[m..k]` of `And(Pairs [j..i], u..)` to the `And` of forward `Pairs` with `[1..*]` and of the
-    /// `Units` as they were, if m and j are at least 1.
+    /// `Units` with `[m..k]` of `And(Pairs [j..i], u..)` to the `And` of forward `Pairs` with
+    /// `[1..*]` and of the unchanged `Units`, if m and j are at least 1.
     BraceGuard,
 }
 
@@ -55,7 +58,8 @@ pub enum Rule {
 pub struct Step<'a> {
     /// The rule.
     pub rule: Rule,
-    /// The child numbers from the root, from 0; the empty list names the root. The start of `Values`
-    /// comes before its names, and the types of `Pairs` before the plan of its test.
+    /// The child numbers from the root, from 0; the empty list names the root. In `Values` the
+    /// start has the number 0, and its names follow. In `Pairs` the types have the number 0, and
+    /// the plan of the test has 1.
     pub place: &'a [u32],
 }

@@ -1,4 +1,5 @@
-//! Applies RangeAll, BraceOne, Same and Only to a node of concepts, in place and without memory.
+//! Applies RangeAll, BraceOne, Same and Only to a node of a plan of concepts. The functions change
+//! the node itself and allocate nothing.
 ghost use Rattle.std.specs.Prelude.{◌≡◌, true, None, MatchResult};
 ghost use Rattle.set_algebra.specs.Plan.{plan_of, plans_of, no_plans, plan_then, and_plan, or_plan};
 ghost use Rattle.set_algebra.specs.inside.Views.{only_part};
@@ -6,11 +7,13 @@ ghost use Rattle.rewrites.specs.Simplified.{begins_twice, tried, shortened};
 ghost use Rattle.rewrites.specs.declared.rule.Rule.TheVariants.{RangeAll, BraceOne, Same, Only};
 
 use crate::counts::{asks_none, asks_some};
-use crate::ranges::settled;
+use crate::ranges::trivial_cardinality;
 use set_algebra::views::first_of;
 use set_algebra::{ConceptPlan, UnitPlan};
 use std::mem;
 
+// Tries RangeAll, BraceOne, Same and Only, in this order, at the root of `plan`, and changes
+// `plan`.
 #[tactic(auto, unfolding(crate::specs::Simplified::shortened))]
 pub(crate) fn shorten(plan: &mut ConceptPlan)
     ensures { plan_of plan.new ≡ shortened (plan_of plan.old) }
@@ -22,7 +25,8 @@ pub(crate) fn shorten(plan: &mut ConceptPlan)
     *plan = without_only(without_same(without_braces(without_range(node))));
 }
 
-// Whether none of the four rules is about the node's variant, so that the node need not be moved.
+// Whether no rule of the four applies to the variant of the root of `plan`. Then `shorten` need not
+// move the node out and back.
 #[tactic(auto, unfolding(crate::specs::Simplified::shortened))]
 fn is_short(plan: &ConceptPlan) -> bool
     ensures { result ≡ true → shortened (plan_of plan.now) ≡ plan_of plan.now }
@@ -36,16 +40,18 @@ fn is_short(plan: &ConceptPlan) -> bool
     }
 }
 
-// Applies RangeAll to the node. Returns the node unchanged if the rule makes nothing of it.
+// Applies RangeAll at the root of `plan`. Returns `plan` if the rule does not apply.
 fn without_range(plan: ConceptPlan) -> ConceptPlan
     ensures { plan_of result ≡ tried RangeAll (plan_of plan) }
 {
-    match settled(&plan) {
+    match trivial_cardinality(&plan) {
         Some(new) => new,
         None => plan,
     }
 }
 
+// Applies BraceOne at the root of `plan`. Returns `plan` if the rule does not apply. It moves the
+// parts of the node and copies none, so it allocates nothing.
 fn without_braces(plan: ConceptPlan) -> ConceptPlan
     ensures { plan_of result ≡ tried BraceOne (plan_of plan) }
 {
@@ -88,6 +94,7 @@ fn without_braces(plan: ConceptPlan) -> ConceptPlan
     }
 }
 
+// Applies Same at the root of `plan`. Returns `plan` if the rule does not apply.
 #[tactic(auto, using(set_algebra::proofs::PlanLemmas::plans_of_items))]
 fn without_same(plan: ConceptPlan) -> ConceptPlan
     ensures { plan_of result ≡ tried Same (plan_of plan) }
@@ -106,7 +113,7 @@ fn without_same(plan: ConceptPlan) -> ConceptPlan
     }
 }
 
-// Drops the first part if the second one is equal to it.
+// Drops the first part if the first two parts are equal.
 fn fewer(parts: Vec<ConceptPlan>) -> Vec<ConceptPlan>
     ensures and { and_plan (plans_of result.items) ≡ tried Same (and_plan (plans_of parts.items)) }
     ensures or { or_plan (plans_of result.items) ≡ tried Same (or_plan (plans_of parts.items)) }
@@ -131,6 +138,7 @@ pub(crate) fn begins_twice(parts: &[ConceptPlan]) -> bool
     *first == *second
 }
 
+// Applies Only at the root of `plan`. Returns `plan` if the rule does not apply.
 #[tactic(auto, using(set_algebra::proofs::PlanLemmas::plans_of_items))]
 fn without_only(plan: ConceptPlan) -> ConceptPlan
     ensures { plan_of result ≡ tried Only (plan_of plan) }
@@ -148,10 +156,11 @@ fn without_only(plan: ConceptPlan) -> ConceptPlan
     }
 }
 
-// Returns the only part, or the parts unchanged if their number is not 1.
+// Returns the only part, or the list `parts` as it is if it has not exactly one part.
 fn take_only(parts: Vec<ConceptPlan>) -> Result<ConceptPlan, Vec<ConceptPlan>>
     ensures { MatchResult result (λ only. plans_of parts.items ≡ plan_then (plan_of only) no_plans)
-        (λ same. (plans_of same.items ≡ plans_of parts.items) × (only_part (plans_of parts.items) ≡ None)) }
+        (λ same. (plans_of same.items ≡ plans_of parts.items)
+        × (only_part (plans_of parts.items) ≡ None)) }
 {
     let mut parts = parts;
     if parts.len() != 1 {

@@ -1,15 +1,16 @@
-//! Applies four of the rules to each node of a plan.
+//! Applies four of the rules at each node of a plan.
 ghost use Rattle.std.specs.Prelude.{◌≡◌};
-ghost use Rattle.set_algebra.specs.Plan.{plan_of, plans_of, unit_plan_of, unit_plans_of, test_plan_of};
+ghost use Rattle.set_algebra.specs.Plan.{plan_of, plans_of, group_plan_of, group_plans_of, test_plan_of};
 ghost use Rattle.rewrites.specs.RulesAtPlaces.{AlwaysMeanTheSame};
 ghost use Rattle.rewrites.specs.Simplified.{shortened, shortened_group, simplified, all_simplified, group_simplified, all_groups_simplified, test_simplified};
 
+use crate::group_shortening::shorten_group;
 use crate::shortening::shorten;
-use crate::unit_shortening::shorten_unit;
 use set_algebra::{ConceptPlan, UnitPlan, ValueTest};
 
-/// Simplifies a plan: tries RangeAll, BraceOne, Same and Only at each node, in this order and each once, children
-/// before their parent (`specs/Simplified.antt`). The result means the same over every release. It takes no memory.
+/// Tries RangeAll, BraceOne, Same and Only at each node of `plan`, in this order and each once, and
+/// at the children of a node before the node (`specs/Simplified.antt`). The result means the same
+/// over every release. The function allocates nothing.
 pub fn simplify(plan: ConceptPlan) -> ConceptPlan
     ensures plan { plan_of result ≡ simplified (plan_of plan) }
     ensures meaning { AlwaysMeanTheSame (plan_of plan) (plan_of result) }
@@ -19,6 +20,7 @@ pub fn simplify(plan: ConceptPlan) -> ConceptPlan
     plan
 }
 
+// Simplifies the plan of concepts `plan` itself: first its children, then its root.
 #[cycle(simplify)]
 fn simplify_plan(plan: &mut ConceptPlan)
     ensures { plan_of plan.new ≡ simplified (plan_of plan.old) }
@@ -27,7 +29,7 @@ fn simplify_plan(plan: &mut ConceptPlan)
     shorten(plan);
 }
 
-// Simplifies the children of a plan of concepts. After it only the node itself is left to be shortened.
+// Simplifies the children of the root of `plan`. The root is left to `shorten`.
 #[cycle(simplify)]
 #[tactic(auto, using(set_algebra::proofs::PlanLemmas::plans_of_items))]
 fn simplify_children(plan: &mut ConceptPlan)
@@ -50,11 +52,12 @@ fn simplify_children(plan: &mut ConceptPlan)
             simplify_plan(types);
             simplify_test(test);
         }
-        ConceptPlan::Units { units, .. } => simplify_unit(units),
+        ConceptPlan::Units { units, .. } => simplify_group(units),
         ConceptPlan::Empty | ConceptPlan::All | ConceptPlan::One(_) => {}
     }
 }
 
+// Simplifies each plan in `parts`.
 #[cycle(simplify)]
 fn simplify_parts(parts: &mut Vec<ConceptPlan>)
     ensures { plans_of parts.new.items ≡ all_simplified (plans_of parts.old.items) }
@@ -64,6 +67,7 @@ fn simplify_parts(parts: &mut Vec<ConceptPlan>)
     }
 }
 
+// Simplifies the plan of `test`, if it has one.
 #[cycle(simplify)]
 fn simplify_test(test: &mut ValueTest)
     ensures { test_plan_of test.new ≡ test_simplified (test_plan_of test.old) }
@@ -75,25 +79,27 @@ fn simplify_test(test: &mut ValueTest)
     }
 }
 
+// Simplifies the plan of groups `plan` itself: first its children, then its root.
 #[cycle(simplify)]
-fn simplify_unit(plan: &mut UnitPlan)
-    ensures { unit_plan_of plan.new ≡ group_simplified (unit_plan_of plan.old) }
+fn simplify_group(plan: &mut UnitPlan)
+    ensures { group_plan_of plan.new ≡ group_simplified (group_plan_of plan.old) }
 {
-    simplify_unit_children(plan);
-    shorten_unit(plan);
+    simplify_group_children(plan);
+    shorten_group(plan);
 }
 
+// Simplifies the children of the root of `plan`. The root is left to `shorten_group`.
 #[cycle(simplify)]
 #[tactic(auto, using(set_algebra::proofs::PlanLemmas::plans_of_items))]
-fn simplify_unit_children(plan: &mut UnitPlan)
-    ensures { shortened_group (unit_plan_of plan.new) ≡ group_simplified (unit_plan_of plan.old) }
+fn simplify_group_children(plan: &mut UnitPlan)
+    ensures { shortened_group (group_plan_of plan.new) ≡ group_simplified (group_plan_of plan.old) }
 {
     match plan {
-        UnitPlan::And(parts) => simplify_unit_parts(parts),
-        UnitPlan::Or(parts) => simplify_unit_parts(parts),
+        UnitPlan::And(parts) => simplify_group_parts(parts),
+        UnitPlan::Or(parts) => simplify_group_parts(parts),
         UnitPlan::Minus(first, second) => {
-            simplify_unit(first);
-            simplify_unit(second);
+            simplify_group(first);
+            simplify_group(second);
         }
         UnitPlan::Pairs { types, test, .. } => {
             simplify_plan(types);
@@ -103,11 +109,13 @@ fn simplify_unit_children(plan: &mut UnitPlan)
     }
 }
 
+// Simplifies each plan of groups in `parts`.
 #[cycle(simplify)]
-fn simplify_unit_parts(parts: &mut Vec<UnitPlan>)
-    ensures { unit_plans_of parts.new.items ≡ all_groups_simplified (unit_plans_of parts.old.items) }
+fn simplify_group_parts(parts: &mut Vec<UnitPlan>)
+    ensures { group_plans_of parts.new.items
+        ≡ all_groups_simplified (group_plans_of parts.old.items) }
 {
     for i in 0..parts.len() {
-        simplify_unit(&mut parts[i]);
+        simplify_group(&mut parts[i]);
     }
 }

@@ -1,4 +1,4 @@
-//! Rules of `Walk` and `Members`: WalkOr and WalkTwice.
+//! Rules for `Walk` and `Members`: WalkOr and WalkTwice.
 ghost use Rattle.std.specs.Prelude.{◌≡◌, IfOk};
 ghost use Rattle.set_algebra.specs.Plan.{plan_of, plans_of, walk_plan, members_plan};
 ghost use Rattle.rewrites.specs.inside.Gives.{Gives};
@@ -14,6 +14,9 @@ use set_algebra::ConceptPlan;
 use set_algebra::views::{or_of, walk_of};
 use std::alloc::{AllocError, Global};
 
+// Applies WalkOr at the root of `plan`: `Walk(w, Or(y..))` becomes the `Or` of `Walk(w, y)` for
+// each y, if w is neither `!!>` nor `!!<`; `Members(Or(y..))` becomes the `Or` of `Members(y)`.
+// Returns `NotApplicable` for any other plan.
 #[tactic(auto, using(set_algebra::proofs::PlanLemmas::plans_of_items))]
 pub(crate) fn walk_or(alloc: Global, plan: &ConceptPlan) -> Result<ConceptPlan, RuleFault>
     ensures { Gives (rewritten WalkOr (plan_of plan.now)) result }
@@ -37,7 +40,8 @@ pub(crate) fn walk_or(alloc: Global, plan: &ConceptPlan) -> Result<ConceptPlan, 
     }
 }
 
-// Whether the operator may be moved into an `Or`: all may but `!!>` and `!!<`, which look at the set as a whole.
+// Whether a `Walk` with `operator` over an `Or` may be moved into the `Or`. Only `!!>` and `!!<`
+// may not: they compare the members of the whole set with each other.
 fn goes_through(operator: Operator) -> bool
     ensures { result ≡ goes_through operator }
 {
@@ -47,12 +51,14 @@ fn goes_through(operator: Operator) -> bool
     }
 }
 
+// Makes for each plan in `parts` a `Walk` with `operator` and this plan.
 fn each_walk(
     alloc: Global,
     operator: Operator,
     parts: &[ConceptPlan],
 ) -> Result<Vec<ConceptPlan>, AllocError>
-    ensures { IfOk result (λ made. plans_of made.items ≡ plans_each (walk_plan operator) (plans_of parts.now)) }
+    ensures { IfOk result (λ made. plans_of made.items
+        ≡ plans_each (walk_plan operator) (plans_of parts.now)) }
 {
     let mut made = Vec::new(alloc);
     for part in parts {
@@ -61,8 +67,10 @@ fn each_walk(
     Ok(made)
 }
 
+// Makes for each plan in `parts` a `Members` of this plan.
 fn each_members(alloc: Global, parts: &[ConceptPlan]) -> Result<Vec<ConceptPlan>, AllocError>
-    ensures { IfOk result (λ made. plans_of made.items ≡ plans_each members_plan (plans_of parts.now)) }
+    ensures { IfOk result (λ made. plans_of made.items
+        ≡ plans_each members_plan (plans_of parts.now)) }
 {
     let mut made = Vec::new(alloc);
     for part in parts {
@@ -71,6 +79,8 @@ fn each_members(alloc: Global, parts: &[ConceptPlan]) -> Result<Vec<ConceptPlan>
     Ok(made)
 }
 
+// Applies WalkTwice at the root of `plan`: `Walk(w, Walk(v, a))` becomes one `Walk` of a, if one
+// operator stands for w and v together. Returns `NotApplicable` for any other plan.
 pub(crate) fn walk_twice(alloc: Global, plan: &ConceptPlan) -> Result<ConceptPlan, RuleFault>
     ensures { Gives (rewritten WalkTwice (plan_of plan.now)) result }
 {
@@ -83,7 +93,7 @@ pub(crate) fn walk_twice(alloc: Global, plan: &ConceptPlan) -> Result<ConceptPla
     Err(RuleFault::NotApplicable)
 }
 
-// The one operator that stands for two in a row, or `None` if there is none.
+// Returns the one operator that finds the same as `outer` of `inner`, or `None` if there is none.
 fn walk_of_walk(outer: Operator, inner: Operator) -> Option<Operator>
     ensures { result ≡ walk_of_walk outer inner }
 {

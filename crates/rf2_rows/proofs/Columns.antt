@@ -11,17 +11,21 @@ abbrev pub text_at : List (Bor (List ℕ)) → ℕ → List ℕ
 text_at fields place = (get_or fields place (record { ref_ptr = (0, 0); now = [] })).now
 
 -- the text at a place of `texts_of fields` is `text_at fields place`
-pub get_or-texts_of : (fields : List (Bor (List ℕ))) (place : ℕ) → get_or (texts_of fields) place [] ≡ text_at fields place
+pub get_or-texts_of : (fields : List (Bor (List ℕ))) (place : ℕ)
+    → get_or (texts_of fields) place [] ≡ text_at fields place
 get_or-texts_of fields place = get_or-map (λ field. field.now) fields place (record { ref_ptr = (0, 0); now = [] })
 
 -- the texts of `count` fields are the texts at the places below `count`
-pub texts_by_place : (fields : List (Bor (List ℕ))) (count : ℕ) → length fields ≡ count → texts_of fields ≡ map (text_at fields) (range_with_len 0 count)
+pub texts_by_place : (fields : List (Bor (List ℕ))) (count : ℕ) → length fields ≡ count
+    → texts_of fields ≡ map (text_at fields) (range_with_len 0 count)
 texts_by_place fields count same =
-    fill_by_all (text_at fields) (texts_of fields) count [] (length-map fields (λ field. field.now) ∙ same) (λ place below. get_or-texts_of fields place)
+    fill_by_all (text_at fields) (texts_of fields) count [] (length-map fields (λ field. field.now) ∙ same)
+    (λ place below. get_or-texts_of fields place)
 
 -- five fields have the texts at places 0 to 4
 pub five_texts : (fields : List (Bor (List ℕ))) → length fields ≡ 5
-    → texts_of fields ≡ text_at fields 0 ∷ text_at fields 1 ∷ text_at fields 2 ∷ text_at fields 3 ∷ text_at fields 4 ∷ []
+    → texts_of fields ≡ text_at fields 0 ∷ text_at fields 1 ∷ text_at fields 2 ∷ text_at fields 3 ∷ text_at fields 4
+    ∷ []
 five_texts fields same = texts_by_place fields 5 same
 
 -- six fields have the texts at places 0 to 5

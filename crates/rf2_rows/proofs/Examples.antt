@@ -27,7 +27,8 @@ unfolding file_kind_of
 kinds_of_files = (refl, refl, refl, refl, refl, refl)
 
 headers :
-    (header_of Concept ≡ join_with_byte 9 (codes "id" ∷ codes "effectiveTime" ∷ codes "active" ∷ codes "moduleId" ∷ codes "definitionStatusId" ∷ []))
+    (header_of Concept ≡ join_with_byte 9 (codes "id" ∷ codes "effectiveTime" ∷ codes "active" ∷ codes "moduleId"
+    ∷ codes "definitionStatusId" ∷ []))
     × (header_of Member ≡ join_with_byte 9 (codes "id" ∷ codes "effectiveTime" ∷ codes "active" ∷ codes "moduleId"
     ∷ codes "refsetId" ∷ codes "referencedComponentId" ∷ []))
 unfolding header_of
@@ -38,7 +39,8 @@ abbrev line : List (List ℕ) → List ℕ
 line texts = join_with_byte 9 texts
 
 published : List ℕ
-published = line (codes "100005" ∷ codes "20240101" ∷ codes "1" ∷ codes "900000000000207008" ∷ codes "900000000000074008" ∷ [])
+published = line (codes "100005" ∷ codes "20240101" ∷ codes "1" ∷ codes "900000000000207008"
+    ∷ codes "900000000000074008" ∷ [])
 
 its_row : concept_row published
     ≡ record {
@@ -55,9 +57,12 @@ its_row = refl
 faults_of_concepts :
     (row_fault Concept published ≡ None)
     × (row_fault Concept (line (codes "100005" ∷ [])) ≡ Some (record { cause = Fields; column = 0 }))
-    × (row_fault Concept (line (codes "100005" ∷ codes "2024" ∷ codes "2" ∷ codes "100005" ∷ codes "100005" ∷ [])) ≡ Some (record { cause = Time; column = 2 }))
-    × (row_fault Concept (line (codes "100022" ∷ [] ∷ codes "0" ∷ codes "100005" ∷ codes "100005" ∷ [])) ≡ Some (record { cause = Id Partition; column = 1 }))
-    × (row_fault Concept (line (codes "100016" ∷ [] ∷ codes "0" ∷ codes "100005" ∷ codes "100005" ∷ [])) ≡ Some (record { cause = Id Check; column = 1 }))
+    × (row_fault Concept (line (codes "100005" ∷ codes "2024" ∷ codes "2" ∷ codes "100005" ∷ codes "100005" ∷ []))
+    ≡ Some (record { cause = Time; column = 2 }))
+    × (row_fault Concept (line (codes "100022" ∷ [] ∷ codes "0" ∷ codes "100005" ∷ codes "100005" ∷ []))
+    ≡ Some (record { cause = Id Partition; column = 1 }))
+    × (row_fault Concept (line (codes "100016" ∷ [] ∷ codes "0" ∷ codes "100005" ∷ codes "100005" ∷ []))
+    ≡ Some (record { cause = Id Check; column = 1 }))
 unfolding row_fault cause_of published
 faults_of_concepts = (refl, refl, refl, refl, refl)
 
@@ -158,7 +163,9 @@ its_member = refl
 -- an accepted member, one with a letter that is no hexadecimal digit, and one whose UUID has no hyphens
 faults_of_members :
     (row_fault Member (listed (codes "80000a05-C6DB-5a02-9b8a-0b1c2d3e4f50")) ≡ None)
-    × (row_fault Member (listed (codes "g0000a05-c6db-5a02-9b8a-0b1c2d3e4f50")) ≡ Some (record { cause = Uuid; column = 1 }))
-    × (row_fault Member (listed (codes "80000a05c6db5a029b8a0b1c2d3e4f50")) ≡ Some (record { cause = Uuid; column = 1 }))
+    × (row_fault Member (listed (codes "g0000a05-c6db-5a02-9b8a-0b1c2d3e4f50"))
+    ≡ Some (record { cause = Uuid; column = 1 }))
+    × (row_fault Member (listed (codes "80000a05c6db5a029b8a0b1c2d3e4f50"))
+    ≡ Some (record { cause = Uuid; column = 1 }))
 unfolding row_fault cause_of by_index
 faults_of_members = (refl, refl, refl)

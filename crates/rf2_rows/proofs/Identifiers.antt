@@ -1,5 +1,6 @@
 -- The number of an identifier, from its decimal text.
-use Rattle.std.proofs.Common.{◌≡◌, ℕ, zero, suc, ◌+◌, ◌/◌, ◌%◌, ◌^◌, ◌<◌, ◌≤◌, false, eqb, decimal, List, [], ◌∷◌, None, length, sym, inl, inr, pow-suc, arith, eqb-true}
+use Rattle.std.proofs.Common.{◌≡◌, ℕ, zero, suc, ◌+◌, ◌/◌, ◌%◌, ◌^◌, ◌<◌, ◌≤◌, false, eqb, decimal, List, [], ◌∷◌, None}
+use Rattle.std.proofs.Common.{length, sym, inl, inr, pow-suc, arith, eqb-true}
 use Rattle.std.specs.Fmt.{digits, digits_onto, digit_glyph}
 use Rattle.std.specs.Str.Parse.{digits_value}
 use Rattle.std.proofs.Math.Nat.{one-le-pow}
@@ -8,7 +9,7 @@ use Rattle.std.proofs.lemmas.Bool.Decides.{nat_tests}
 use Rattle.std.proofs.lemmas.Fmt.{decimal_is_IsNumeral_wide}
 use Rattle.sctid.specs.Identifier.{fault_of}
 
--- a number is below 10^`k` if fewer than `k` digits are written for it
+-- if the decimal text of `n` has fewer than `k` digits, `n` is below 10^`k`
 digits_short : (k n : ℕ) (text : List ℕ) → length (digits_onto k 10 false n text) < k + length text → n < 10 ^ k
 digits_short zero n text short = absurd (omega arith)
 digits_short (suc k) n text short = elim (cases_Bool (eqb (n / 10) 0)) [
@@ -27,6 +28,7 @@ decimal_short n short = digits_short 64 n [] short
 valid_short : (text : List ℕ) → fault_of text ≡ None → length text ≤ 18
 valid_short text valid = grind (arith, nat_tests)
 
--- a number whose decimal text is a valid identifier is the number that the text writes
+-- if the decimal text of `n` is a valid identifier, `n` is the value of its digits
 pub number_read : (n : ℕ) → fault_of (decimal n) ≡ None → n ≡ digits_value 10 (decimal n)
-number_read n valid = sym ((decimal_is_IsNumeral_wide n (decimal_short n (omega (arith, valid_short (decimal n) valid)))).1)
+number_read n valid = sym ((decimal_is_IsNumeral_wide n
+    (decimal_short n (omega (arith, valid_short (decimal n) valid)))).1)

@@ -9,20 +9,22 @@ use Rattle.rf2_rows.specs.Columns.{text_format, time_format, uuid_format, value_
 use Rattle.rf2_rows.specs.Rows.{column_fault, fields_fault}
 use Rattle.rf2_rows.specs.inside.SharedColumns.{description_end_fault, end_fault, version_fault}
 use Rattle.rf2_rows.specs.declared.fault.RowFault.{RowFault}
-use Rattle.rf2_rows.specs.declared.kind.FileKind.TheVariants.{Concept as ConceptFile, Description as DescriptionFile, Relationship as RelationshipFile}
+use Rattle.rf2_rows.specs.declared.kind.FileKind.TheVariants.{Concept as ConceptFile, Description as DescriptionFile}
+use Rattle.rf2_rows.specs.declared.kind.FileKind.TheVariants.{Relationship as RelationshipFile}
 use Rattle.rf2_rows.specs.declared.kind.FileKind.TheVariants.{Concrete as ConcreteFile, Member as MemberFile}
 use Rattle.rf2_rows.proofs.Columns.{five_texts, nine_texts, six_texts, ten_texts, text_at}
 
--- the first fault of four options is that of the first three together, or else that of the last
+-- the first of four faults is the first of the first three, or else the fourth
 three_first : (one two three rest : Option RowFault)
     → option_or one (option_or two (option_or three rest)) ≡ option_or (option_or one (option_or two three)) rest
 three_first (Some fault) two three rest = refl
 three_first None (Some fault) three rest = refl
 three_first None None three rest = refl
 
--- after the last of four options, a further `None` changes nothing
+-- the first of four faults does not change if a further `None` comes after them
 four_last : (one two three four : Option RowFault)
-    → option_or one (option_or two (option_or three (option_or four None))) ≡ option_or one (option_or two (option_or three four))
+    → option_or one (option_or two (option_or three (option_or four None)))
+    ≡ option_or one (option_or two (option_or three four))
 four_last (Some fault) two three four = refl
 four_last None (Some fault) three four = refl
 four_last None None (Some fault) four = refl
@@ -34,22 +36,28 @@ module _ (fields : List (Bor (List ℕ))) where
   abbrev pub fault_at : ℕ → Format → Option RowFault
   fault_at number format = column_fault number (cause_of format (text_at fields (number - 1)))
 
-  -- faults 2 to 4 in a row are the fault of the version columns as one part
+  -- the faults of columns 2 to 4, one after another, are the fault of the version columns
   versioned : (one rest : Option RowFault)
-      → option_or one (option_or (fault_at 2 time_format) (option_or (fault_at 3 active_format) (option_or (fault_at 4 (id_format Concept)) rest)))
-      ≡ option_or one (option_or (option_or (fault_at 2 time_format) (option_or (fault_at 3 active_format) (fault_at 4 (id_format Concept)))) rest)
-  versioned one rest = ap (option_or one) (three_first (fault_at 2 time_format) (fault_at 3 active_format) (fault_at 4 (id_format Concept)) rest)
+      → option_or one (option_or (fault_at 2 time_format)
+      (option_or (fault_at 3 active_format) (option_or (fault_at 4 (id_format Concept)) rest)))
+      ≡ option_or one (option_or (option_or (fault_at 2 time_format)
+      (option_or (fault_at 3 active_format) (fault_at 4 (id_format Concept)))) rest)
+  versioned one rest = ap (option_or one)
+      (three_first (fault_at 2 time_format) (fault_at 3 active_format) (fault_at 4 (id_format Concept)) rest)
 
   -- the first fault of five fields of a Concept file, in the order in which `read_concept` reads them
   pub concept_fault : length fields ≡ 5
       → fields_fault ConceptFile (texts_of fields)
-      ≡ option_or (fault_at 1 (id_format Concept)) (option_or (version_fault (texts_of fields)) (option_or (fault_at 5 (id_format Concept)) None))
-  concept_fault same = rw (five_texts fields same) (versioned (fault_at 1 (id_format Concept)) (option_or (fault_at 5 (id_format Concept)) None))
+      ≡ option_or (fault_at 1 (id_format Concept))
+      (option_or (version_fault (texts_of fields)) (option_or (fault_at 5 (id_format Concept)) None))
+  concept_fault same = rw (five_texts fields same)
+      (versioned (fault_at 1 (id_format Concept)) (option_or (fault_at 5 (id_format Concept)) None))
 
-  -- the faults 5 to 8 of a description, and then `last`
+  -- the first fault of the columns 5 to 8 of a description, or else `last`
   abbrev description_end : Option RowFault → Option RowFault
   description_end last =
-      option_or (fault_at 5 (id_format Concept)) (option_or (fault_at 6 text_format) (option_or (fault_at 7 (id_format Concept))
+      option_or (fault_at 5 (id_format Concept))
+      (option_or (fault_at 6 text_format) (option_or (fault_at 7 (id_format Concept))
       (option_or (fault_at 8 text_format) last)))
 
   -- `option_or` with `None` on the right changes nothing
@@ -60,15 +68,17 @@ module _ (fields : List (Bor (List ℕ))) where
   -- the first fault of nine fields of a Description file, in the order in which `read_description` reads them
   pub description_fault : length fields ≡ 9
       → fields_fault DescriptionFile (texts_of fields)
-      ≡ option_or (fault_at 1 (id_format Description)) (option_or (version_fault (texts_of fields)) (description_end_fault (texts_of fields)))
+      ≡ option_or (fault_at 1 (id_format Description))
+      (option_or (version_fault (texts_of fields)) (description_end_fault (texts_of fields)))
   description_fault same =
       rw (nine_texts fields same)
-      (versioned (fault_at 1 (id_format Description)) (description_end (option_or (fault_at 9 (id_format Concept)) None))
+      (versioned (fault_at 1 (id_format Description))
+      (description_end (option_or (fault_at 9 (id_format Concept)) None))
       ∙ ap (λ last. option_or (fault_at 1 (id_format Description)) (option_or
       (option_or (fault_at 2 time_format) (option_or (fault_at 3 active_format) (fault_at 4 (id_format Concept))))
       (description_end last))) (description_ended (fault_at 9 (id_format Concept))))
 
-  -- the first fault of the reference set and of the component of a member
+  -- the first fault of the columns 5 and 6 of a member: of the reference set, and then of the component
   abbrev pub member_end : Option RowFault
   member_end = option_or (fault_at 5 (id_format Concept)) (option_or (fault_at 6 component_format) None)
 
@@ -78,13 +88,14 @@ module _ (fields : List (Bor (List ℕ))) where
       ≡ option_or (fault_at 1 uuid_format) (option_or (version_fault (texts_of fields)) member_end)
   member_fault same = rw (six_texts fields same) (versioned (fault_at 1 uuid_format) member_end)
 
-  -- the first fault of a relationship whose value has a format: that of a concept, or of a concrete value
+  -- the first fault of a relationship row whose sixth column has the given format: that of a concept, or of a
+  -- concrete value
   abbrev pub relationship_faults : Format → Option RowFault
   relationship_faults value =
       option_or (fault_at 1 (id_format Relationship)) (option_or (version_fault (texts_of fields))
       (option_or (fault_at 5 (id_format Concept)) (option_or (fault_at 6 value) (end_fault (texts_of fields)))))
 
-  -- faults 7 to 10 in a row are the fault of the columns after the value, as one part
+  -- the faults of columns 7 to 10, one after another, are the fault of the columns after the value
   ended : (one version source value : Option RowFault)
       → option_or one (option_or version (option_or source (option_or value
       (option_or (fault_at 7 group_format) (option_or (fault_at 8 (id_format Concept))
@@ -94,11 +105,13 @@ module _ (fields : List (Bor (List ℕ))) where
       (option_or (fault_at 9 (id_format Concept)) (fault_at 10 (id_format Concept))))))))
   ended one version source value =
       ap (λ end. option_or one (option_or version (option_or source (option_or value end))))
-      (four_last (fault_at 7 group_format) (fault_at 8 (id_format Concept)) (fault_at 9 (id_format Concept)) (fault_at 10 (id_format Concept)))
+      (four_last (fault_at 7 group_format) (fault_at 8 (id_format Concept)) (fault_at 9 (id_format Concept))
+      (fault_at 10 (id_format Concept)))
 
   -- the first fault of the version columns, from the texts at their places
   abbrev version_at : Option RowFault
-  version_at = option_or (fault_at 2 time_format) (option_or (fault_at 3 active_format) (fault_at 4 (id_format Concept)))
+  version_at = option_or (fault_at 2 time_format)
+      (option_or (fault_at 3 active_format) (fault_at 4 (id_format Concept)))
 
   -- the first fault of the columns after the value, from the texts at their places
   abbrev end_at : Option RowFault
@@ -106,23 +119,29 @@ module _ (fields : List (Bor (List ℕ))) where
       option_or (fault_at 7 group_format) (option_or (fault_at 8 (id_format Concept))
       (option_or (fault_at 9 (id_format Concept)) (option_or (fault_at 10 (id_format Concept)) None)))
 
-  -- the faults of ten columns in a row are grouped into version columns, source, value and end
+  -- the first fault of ten columns is that of the first column, the version columns, the source, the value and the
+  -- end columns, in this order
   in_relationship : (value : Format)
-      → option_or (fault_at 1 (id_format Relationship)) (option_or (fault_at 2 time_format) (option_or (fault_at 3 active_format)
-      (option_or (fault_at 4 (id_format Concept)) (option_or (fault_at 5 (id_format Concept)) (option_or (fault_at 6 value) end_at)))))
+      → option_or (fault_at 1 (id_format Relationship))
+      (option_or (fault_at 2 time_format) (option_or (fault_at 3 active_format)
+      (option_or (fault_at 4 (id_format Concept))
+      (option_or (fault_at 5 (id_format Concept)) (option_or (fault_at 6 value) end_at)))))
       ≡ option_or (fault_at 1 (id_format Relationship)) (option_or version_at
       (option_or (fault_at 5 (id_format Concept)) (option_or (fault_at 6 value)
       (option_or (fault_at 7 group_format) (option_or (fault_at 8 (id_format Concept))
       (option_or (fault_at 9 (id_format Concept)) (fault_at 10 (id_format Concept))))))))
   in_relationship value =
-      versioned (fault_at 1 (id_format Relationship)) (option_or (fault_at 5 (id_format Concept)) (option_or (fault_at 6 value) end_at))
+      versioned (fault_at 1 (id_format Relationship))
+      (option_or (fault_at 5 (id_format Concept)) (option_or (fault_at 6 value) end_at))
       ∙ ended (fault_at 1 (id_format Relationship)) version_at (fault_at 5 (id_format Concept)) (fault_at 6 value)
 
   -- the first fault of ten fields of a Relationship file, in the order in which `read_relationship` reads them
-  pub relationship_fault : length fields ≡ 10 → fields_fault RelationshipFile (texts_of fields) ≡ relationship_faults (id_format Concept)
+  pub relationship_fault : length fields ≡ 10
+      → fields_fault RelationshipFile (texts_of fields) ≡ relationship_faults (id_format Concept)
   relationship_fault same = rw (ten_texts fields same) (in_relationship (id_format Concept))
 
   -- the first fault of ten fields of a Relationship concrete values file, in the order in which `read_concrete` reads
   -- them
-  pub concrete_fault : length fields ≡ 10 → fields_fault ConcreteFile (texts_of fields) ≡ relationship_faults value_format
+  pub concrete_fault : length fields ≡ 10
+      → fields_fault ConcreteFile (texts_of fields) ≡ relationship_faults value_format
   concrete_fault same = rw (ten_texts fields same) (in_relationship value_format)

@@ -1,5 +1,8 @@
--- The tabs of a line as bits: what a shift leaves of them, and where the lowest one stands.
-use Rattle.std.proofs.Common.{rules, ◌≡◌, ℕ, zero, suc, ◌+◌, ◌-◌, ◌*◌, ◌/◌, ◌^◌, ◌<◌, ◌≤◌, Bool, true, false, cond, not, eqb, ◌==◌, List, [], ◌∷◌, ◌++◌, length, get_or, take, drop, replicate, min, refl, sym, ap, subst, ◌∙◌, arith, length-drop, inl, inr, Bor, append_assoc, length-append, drop-drop, get_or-drop, get_or-take, length-take, take_all}
+-- The tabs of a line as bits: which are left after a shift, and which is the lowest.
+use Rattle.std.proofs.Common.{rules, ◌≡◌, ℕ, zero, suc, ◌+◌, ◌-◌, ◌*◌, ◌/◌, ◌^◌, ◌<◌, ◌≤◌, Bool, true, false, cond, not}
+use Rattle.std.proofs.Common.{eqb, ◌==◌, List, [], ◌∷◌, ◌++◌, length, get_or, take, drop, replicate, min, refl, sym, ap}
+use Rattle.std.proofs.Common.{subst, ◌∙◌, arith, length-drop, inl, inr, Bor, append_assoc, length-append, drop-drop}
+use Rattle.std.proofs.Common.{get_or-drop, get_or-take, length-take, take_all}
 use Rattle.std.proofs.Math.Nat.{div-div-eq-div-mul, pow-suc, pow-succ', zero-div, div-one}
 use Rattle.std.proofs.lemmas.List.{drop-take, drop-replicate, get_or_past, length-map, map-append, map_push, take_rest}
 use Rattle.std.proofs.lemmas.Slice.{between_to_end}
@@ -18,14 +21,15 @@ use Rattle.std.proofs.lemmas.Bool.Decides.{nat_tests}
 halved : (b : Bool) (n : ℕ) → (cond b 1 0 + 2 * n) / 2 ≡ n
 halved x0 n = grind arith
 
--- a right shift of `tab_bits bytes` by `k` leaves the tabs of the bytes after the first `k`
+-- `tab_bits bytes`, shifted right by `k`, has the tabs of the bytes after the first `k`
 pub tab_bits-shifted : (k : ℕ) (bytes : List ℕ) → tab_bits bytes / 2 ^ k ≡ tab_bits (drop k bytes)
 tab_bits-shifted zero bytes = div-one (tab_bits bytes)
 tab_bits-shifted (suc k) [] = zero-div (2 ^ suc k)
 tab_bits-shifted (suc k) (byte ∷ bytes) =
     let all = tab_bits (byte ∷ bytes) in
     let one : all / 2 ≡ tab_bits bytes = halved (eqb byte 9) (tab_bits bytes) in
-    ap (λ n. all / n) (pow-succ' 2 k) ∙ sym (div-div-eq-div-mul all 2 (2 ^ k)) ∙ ap (λ n. n / 2 ^ k) one ∙ tab_bits-shifted k bytes
+    ap (λ n. all / n) (pow-succ' 2 k) ∙ sym (div-div-eq-div-mul all 2 (2 ^ k)) ∙ ap (λ n. n / 2 ^ k) one
+    ∙ tab_bits-shifted k bytes
 
 -- zeros after `bytes` are no tabs
 tab_bits-padded : (bytes : List ℕ) (count : ℕ) → tab_bits (bytes ++ replicate count 0) ≡ tab_bits bytes
@@ -33,12 +37,13 @@ tab_bits-padded [] zero = refl
 tab_bits-padded [] (suc count) = let rest = tab_bits-padded [] count in omega (arith, rest)
 tab_bits-padded (byte ∷ bytes) count = ap (λ n. cond (eqb byte 9) 1 0 + 2 * n) (tab_bits-padded bytes count)
 
--- `bytes` in a block filled up with zeros have the tabs of `bytes` alone
+-- a block of `bytes` and zeros after them has the tabs of `bytes` alone
 pub padded_block : (bytes : List ℕ) (k : ℕ) → tab_bits (bytes ++ drop k (replicate 64 0)) ≡ tab_bits bytes
 padded_block bytes k = ap (λ zeros. tab_bits (bytes ++ zeros)) (drop-replicate k 64 0) ∙ tab_bits-padded bytes (64 - k)
 
 module _ (line : List ℕ) where
-  -- a right shift of the tabs between `from` and `to` by `k` leaves the tabs between `from + k` and `to`
+  -- the bits of the tabs between `from` and `to`, shifted right by `k`, are those of the tabs between `from + k`
+  -- and `to`
   pub tabs_in-shifted : (from to k : ℕ) → from + k ≤ to → tabs_in line from to / 2 ^ k ≡ tabs_in line (from + k) to
   tabs_in-shifted from to k le =
       grind (
@@ -54,7 +59,8 @@ module _ (line : List ℕ) where
 
   -- the tabs of the last 64 bytes, shifted by the bytes before `from`, are the tabs from `from` on
   pub tabs_in-last : (from : ℕ) → 64 ≤ length line → from < length line → length line < from + 64
-      → tab_bits (take 64 (drop (length line - 64) line)) / 2 ^ (from + 64 - length line) ≡ tabs_in line from (from + 64)
+      → tab_bits (take 64 (drop (length line - 64) line)) / 2 ^ (from + 64 - length line)
+      ≡ tabs_in line from (from + 64)
   tabs_in-last from long in_line last =
       grind (
         arith,
@@ -85,8 +91,10 @@ module _ (line : List ℕ) (from to : ℕ) where
   size = length-take (to - from) (drop from line) ∙ ap (min (to - from)) (length-drop from line)
 
   -- byte `k` of the slice is a tab exactly if byte `from + k` of the line is
-  byte_at : (k : ℕ) → k < to - from → (get_or (take (to - from) (drop from line)) k 0 == 9) ≡ (get_or line (from + k) 0 == 9)
-  byte_at k below = ap (λ byte. byte == 9) (get_or-take (to - from) (drop from line) k 0 below ∙ get_or-drop from line k 0)
+  byte_at : (k : ℕ) → k < to - from → (get_or (take (to - from) (drop from line)) k 0 == 9)
+      ≡ (get_or line (from + k) 0 == 9)
+  byte_at k below = ap (λ byte. byte == 9) (get_or-take (to - from) (drop from line) k 0 below
+      ∙ get_or-drop from line k 0)
 
   -- no byte from `from` up to the first tab is a tab
   clear_front : NoTab line from (from + prefix_len (λ byte. not (byte == 9)) (take (to - from) (drop from line)))
@@ -125,10 +133,17 @@ module _ (line : List ℕ) (from to : ℕ) where
   -- if no bit is set, no byte between `from` and `to` is a tab
   no_tab : tabs_in line from to ≡ 0 → NoTab line from (min to (length line))
   no_tab none k above below =
-      clear_front k above (omega (arith, size, leading_from_mask_l (λ byte. byte == 9) (take (to - from) (drop from line)) none))
+      clear_front k above (omega (
+        arith,
+        size,
+        leading_from_mask_l (λ byte. byte == 9)
+            (take (to - from) (drop from line)) none,
+      ))
 
--- if no bit is set from `place` on and no tab stands before `place`, no tab stands between `from` and `to`
-pub none_left : (line : List ℕ) (from place to : ℕ) → NoTab line from place → tabs_in line place to ≡ 0 → NoTab line from to
+-- if there is no tab between `from` and `place`, and no bit is set for the bytes between `place` and `to`, there is
+-- no tab between `from` and `to`
+pub none_left : (line : List ℕ) (from place to : ℕ) → NoTab line from place → tabs_in line place to ≡ 0
+    → NoTab line from to
 none_left line from place to before none = grind (arith, cases_lt, get_or_past, no_tab, inl, inr)
 
 -- ---- the parts of a line from a place on, up to the next tab or the end
@@ -138,10 +153,20 @@ module _ (line : List ℕ) where
       → parts_from line start ≡ take (at - start) (drop start line) ∷ parts_from line (at + 1)
   next_part start at le in_line clear is =
       let count = at - start in
-      grind (arith, (parts_cut 9 (drop start line) count), (length-drop start line), (get_or-drop start line), clear, is, (drop-drop (count + 1) start line))
+      grind (
+        arith,
+        (parts_cut 9 (drop start line) count),
+        (length-drop start line),
+        (get_or-drop start line),
+        clear,
+        is,
+        (drop-drop (count + 1) start line),
+      )
 
-  -- without a tab from `start` on, the rest of the line is the one part left
-  pub last_part : (start : ℕ) → start ≤ length line → NoTab line start (length line) → parts_from line start ≡ take (length line - start) (drop start line) ∷ []
+  -- if there is no tab from `start` on, the parts of the line from `start` on are one part: the bytes from `start`
+  -- to the end
+  pub last_part : (start : ℕ) → start ≤ length line → NoTab line start (length line)
+      → parts_from line start ≡ take (length line - start) (drop start line) ∷ []
   last_part start le clear =
       grind (
         arith,
@@ -153,10 +178,13 @@ module _ (line : List ℕ) where
         (take_rest line start),
       )
 
--- the lowest set bit of the tabs is the next tab; shifted past it, the bits are the tabs after it
+-- if a bit is set for the bytes between `from` and `to`, the lowest such bit is that of the next tab, which is
+-- before `to` and in the line; shifted past it, the bits are those of the tabs after it
 pub lowest_tab : (line : List ℕ) (from to : ℕ) → to ≤ from + 64 → 0 < tabs_in line from to
-    → (tabs_in line from to ≡ tabs_in line from to) × (next_tab line from to < to) × (next_tab line from to < length line)
-    × (tabs_in line from to / 2 ^ count_trailing_zeros 64 (tabs_in line from to) / 2 ≡ tabs_in line (next_tab line from to + 1) to)
+    → (tabs_in line from to ≡ tabs_in line from to) × (next_tab line from to < to)
+    × (next_tab line from to < length line)
+    × (tabs_in line from to / 2 ^ count_trailing_zeros 64 (tabs_in line from to) / 2
+    ≡ tabs_in line (next_tab line from to + 1) to)
 lowest_tab line from to few some =
     let tab = first_tab line from to few some in
     let lane = count_trailing_zeros 64 (tabs_in line from to) in (
@@ -172,9 +200,12 @@ lowest_tab line from to few some =
       ),
     )
 
--- the bytes up to the next tab, then the parts after it, are the parts from `start` on
-pub next_field : (line : List ℕ) (start from to : ℕ) → start ≤ from → NoTab line start from → to ≤ from + 64 → 0 < tabs_in line from to
-    → take (next_tab line from to - start) (drop start line) ∷ parts_from line (next_tab line from to + 1) ≡ parts_from line start
+-- if there is no tab between `start` and `from`, the parts of a line from `start` on are the bytes up to the next
+-- tab, followed by the parts after this tab
+pub next_field : (line : List ℕ) (start from to : ℕ) → start ≤ from → NoTab line start from → to ≤ from + 64
+    → 0 < tabs_in line from to
+    → take (next_tab line from to - start) (drop start line) ∷ parts_from line (next_tab line from to + 1)
+    ≡ parts_from line start
 next_field line start from to ahead clear few some = search (rules, first_tab, next_part)
 
 -- rules for `grind` for a field that a tab ends

@@ -1,6 +1,7 @@
 -- The kind of a file of a release, by its name (Release File Specification, "File naming
 -- convention": FileType_ContentType_ContentSubType_.. and at last .txt).
-use Rattle.std.specs.Prelude.{ℕ, ◌-◌, Bool, false, ◌||◌, ◌==◌, nat_eq, if◌then◌else◌, List, [], ◌∷◌, length, take, codes, bytes_eq, Option, None, Some, option_and_then}
+use Rattle.std.specs.Prelude.{ℕ, ◌-◌, Bool, false, ◌||◌, ◌==◌, nat_eq, if◌then◌else◌, List, [], ◌∷◌, length, take}
+use Rattle.std.specs.Prelude.{codes, bytes_eq, Option, None, Some, option_and_then}
 use Rattle.std.specs.List.{after_last, starts_with, ends_with}
 use Rattle.text_parts.specs.Parts.{parts_at}
 use Rattle.rf2_rows.specs.declared.kind.FileKind.{FileKind}
@@ -14,7 +15,7 @@ file_name path = after_last (λ byte. byte == 47) path
 abbrev pub elements_of : List ℕ → List (List ℕ)
 elements_of name = parts_at 95 name
 
--- whether the word stands somewhere in the text
+-- whether `word` is somewhere in a text
 abbrev pub holds : List ℕ → List ℕ → Bool
 holds word [] = false
 holds word (byte ∷ text) = starts_with nat_eq (byte ∷ text) word || holds word text
@@ -36,32 +37,36 @@ component_kind content =
     else if bytes_eq content (codes "RelationshipConcreteValues") then Some Concrete
     else None
 
--- the kind of a file of reference sets, by its ContentType: without letters before `Refset` the file has no columns of
--- its own
+-- the kind of a file of reference sets, by its ContentType: the file of a simple reference set has
+-- no letters before `Refset`, because it has no columns of its own
 abbrev pub reference_set_kind : List ℕ → Option FileKind
 reference_set_kind content = if bytes_eq content (codes "Refset") then Some Member else None
 
--- the kind of file that a FileType and a ContentType name
+-- the kind of a file by the FileType and the ContentType in its name
 abbrev pub kind_named : List ℕ → List ℕ → Option FileKind
 kind_named file_type content =
     if is_terminology file_type then component_kind content
     else if is_reference_set file_type then reference_set_kind content
     else None
 
--- whether a ContentSubType has the release type Snapshot, at its end or before the code of a language
+-- whether a ContentSubType has the release type Snapshot, at its end or before the code of a
+-- language
 abbrev pub is_snapshot : List ℕ → Bool
-is_snapshot subtype = ends_with nat_eq subtype (codes "Snapshot") || holds (codes "Snapshot-") subtype
+is_snapshot subtype = ends_with nat_eq subtype (codes "Snapshot")
+    || holds (codes "Snapshot-") subtype
 
--- the kind of file that the elements of a name name
+-- the kind of a Snapshot file by the elements of its name, or none if it is another file
 abbrev pub kind_of_elements : List (List ℕ) → Option FileKind
 kind_of_elements (file_type ∷ content ∷ subtype ∷ others) =
     if is_snapshot subtype then kind_named file_type content else None
 kind_of_elements _ = None
 
--- a file's name without the extension .txt, if it has that
+-- a file's name without the extension .txt, or none if it does not end so
 abbrev pub stem_of : List ℕ → Option (List ℕ)
-stem_of name = if ends_with nat_eq name (codes ".txt") then Some (take (length name - 4) name) else None
+stem_of name = if ends_with nat_eq name (codes ".txt") then Some (take (length name - 4) name)
+    else None
 
--- the kind of a file by its path, or none if the file is no part of the release
+-- the kind of a Snapshot file by its path, or none if the engine does not read the file
 unfoldable pub file_kind_of : List ℕ → Option FileKind
-file_kind_of path = option_and_then (λ stem. kind_of_elements (elements_of stem)) (stem_of (file_name path))
+file_kind_of path = option_and_then (λ stem. kind_of_elements (elements_of stem))
+    (stem_of (file_name path))

@@ -1,5 +1,6 @@
--- Attributes as pairs of a type and a value (Release File Specification, "Relationship file" and "Relationship
--- concrete values file"). A query counts distinct pairs, and not rows (this project's choice).
+-- Attributes as pairs of a type and a value (Release File Specification, "Relationship file" and
+-- "Relationship concrete values file"). A query counts distinct pairs, and not rows (this project's
+-- choice).
 use Rattle.std.specs.Prelude.{ℕ, ◌≡◌, ◌↔◌, ◌==◌, ◌&&◌, Bool, false, IsTrue, List, map, filter, bytes_eq}
 use Rattle.std.specs.Ordering.{int_eq}
 use Rattle.number_lists.specs.Distinct.{KeepsEachOnce, distinct}
@@ -7,7 +8,7 @@ use Rattle.rf2_rows.specs.Release.{Value, concept_value, number_value, text_valu
 
 -- an attribute as a pair of its type and its value
 pub record Pair : Type 0 where
-  -- the attribute
+  -- the type of the attribute
   pub type_id : ℕ
   -- the value
   pub value : Value
@@ -43,16 +44,17 @@ out_pairs release concept = distinct pair_eq (map pair_of (rows_of release conce
 -- (Expression Constraint Language, "Reverse attributes")
 abbrev pub in_pairs : Release → ℕ → List Pair
 in_pairs release concept =
-    distinct pair_eq (map reverse_pair_of (filter (λ row. value_eq row.value (concept_value concept)) release.attributes))
+    distinct pair_eq (map reverse_pair_of
+    (filter (λ row. value_eq row.value (concept_value concept)) release.attributes))
 
--- the test of pairs holds exactly if the two pairs are equal
+-- `pair_eq one other` holds exactly if the two pairs are equal
 abbrev pub TellsSamePair : Type 0
 TellsSamePair = (one other : Pair) → IsTrue (pair_eq one other) ↔ (one ≡ other)
 
--- the test of values holds exactly if the two values are equal
+-- `value_eq one other` holds exactly if the two values are equal
 abbrev pub TellsSameValue : Type 0
 TellsSameValue = (one other : Value) → IsTrue (value_eq one other) ↔ (one ≡ other)
 
--- `distinct` keeps each pair of a list once and adds none
+-- for every list of pairs, `distinct` gives a list without repeats that has exactly its members
 abbrev pub KeepsEachPairOnce : Type 0
 KeepsEachPairOnce = (pairs : List Pair) → KeepsEachOnce pair_eq pairs

@@ -1,5 +1,5 @@
--- A release as the engine sees it: five lists of rows in force. The definitions of the crate `row_lists` say which
--- rows are in force.
+-- A release as the engine sees it: five lists of rows in force. The definitions of the crate
+-- `row_lists` say which rows are in force.
 use Rattle.std.specs.Prelude.{ℕ, ℤ, List}
 
 -- the value of an attribute: a concept, a number in units of 10^-18, or another text
@@ -12,7 +12,7 @@ pub data Value : Type 0 where
 pub record Attribute : Type 0 where
   -- the concept that has the attribute
   pub source : ℕ
-  -- the attribute that the row is of
+  -- the type of the attribute
   pub type_id : ℕ
   -- the relationship group, 0 for none
   pub group : ℕ
@@ -23,14 +23,15 @@ pub record Attribute : Type 0 where
 pub record Name : Type 0 where
   -- the identifier of the description
   pub id : ℕ
-  -- the concept that is named
+  -- the concept that has the name
   pub concept : ℕ
   -- the language code
   pub language : List ℕ
   -- the term in UTF-8
   pub term : List ℕ
 
--- a release: five lists of rows in force. All lists but the concepts are in the order of the files and their lines
+-- a release: five lists of rows in force. All lists but the concepts are in the order of the files
+-- and their lines
 pub record Release : Type 0 where
   -- the identifiers of the concepts in force, rising
   pub concepts : List ℕ

@@ -1,12 +1,15 @@
--- A line of a file as a row (Release File Specification, "Concept file", "Description file", "Relationship file",
--- "Relationship concrete values file" and "Simple reference set"): its fields, its first fault, and the row that an
--- accepted line stands for.
-use Rattle.std.specs.Prelude.{◌≡◌, ℕ, ◌+◌, ◌==◌, Bool, if◌then◌else◌, List, [], ◌∷◌, length, codes, bytes_eq, slice_index_or, Option, None, Some, option_map, unwrap_or, Result, MatchResult}
+-- A line of a file as a row (Release File Specification, "Concept file", "Description file",
+-- "Relationship file", "Relationship concrete values file" and "Simple reference set"): its fields,
+-- its first fault, and the row that an accepted line stands for.
+use Rattle.std.specs.Prelude.{◌≡◌, ℕ, ◌+◌, ◌==◌, Bool, if◌then◌else◌, List, [], ◌∷◌, length, codes, bytes_eq}
+use Rattle.std.specs.Prelude.{slice_index_or, Option, None, Some, option_map, unwrap_or, Result, MatchResult}
 use Rattle.std.specs.Option.{option_or}
 use Rattle.std.specs.List.{position_or_len}
 use Rattle.uuid.specs.Text.{parsed_hyphenated}
 use Rattle.rf2_rows.specs.declared.kind.FileKind.{FileKind}
-use Rattle.rf2_rows.specs.declared.kind.FileKind.TheVariants.{Concept as ConceptFile, Description as DescriptionFile, Relationship as RelationshipFile, Concrete as ConcreteFile, Member as MemberFile}
+use Rattle.rf2_rows.specs.declared.kind.FileKind.TheVariants.{Concept as ConceptFile, Description as DescriptionFile}
+use Rattle.rf2_rows.specs.declared.kind.FileKind.TheVariants.{Relationship as RelationshipFile}
+use Rattle.rf2_rows.specs.declared.kind.FileKind.TheVariants.{Concrete as ConcreteFile, Member as MemberFile}
 use Rattle.rf2_rows.specs.declared.fault.RowCause.{RowCause}
 use Rattle.rf2_rows.specs.declared.fault.RowCause.TheVariants.{Fields}
 use Rattle.rf2_rows.specs.declared.fault.RowFault.{RowFault}
@@ -18,7 +21,8 @@ use Rattle.rf2_rows.specs.declared.row.MemberRow.{MemberRow}
 use Rattle.rf2_rows.specs.declared.row.Row.{Row}
 use Rattle.rf2_rows.specs.declared.row.Row.TheVariants.{Concept, Description, Relationship, Concrete, Member}
 use Rattle.rf2_rows.specs.declared.value.Value.{Value as LentValue}
-use Rattle.rf2_rows.specs.declared.value.Value.TheVariants.{Concept as LentConcept, Decimal as LentDecimal, Other as LentOther}
+use Rattle.rf2_rows.specs.declared.value.Value.TheVariants.{Concept as LentConcept, Decimal as LentDecimal}
+use Rattle.rf2_rows.specs.declared.value.Value.TheVariants.{Other as LentOther}
 use Rattle.rf2_rows.specs.Columns.{Column, columns_of, cause_of, tab}
 use Rattle.numerals.specs.Numbers.{number_of}
 use Rattle.text_parts.specs.Parts.{parts_at}
@@ -29,14 +33,16 @@ use Rattle.rf2_rows.specs.Values.{value_of}
 abbrev pub fields_of : List ℕ → List (List ℕ)
 fields_of line = parts_at tab line
 
--- the fault of a column, by its number and the cause for which its text is not accepted
+-- the fault of the column `number`, if there is a cause for which its text is not accepted
 abbrev pub column_fault : ℕ → Option RowCause → Option RowFault
 column_fault number cause = option_map (λ cause. record { cause = cause; column = number }) cause
 
--- the fault of the first of `columns` whose text is not accepted; `number` is the number of the first column
+-- the first fault of `texts` in `columns`, from left to right, or none; `number` is the number of
+-- the first of these columns
 abbrev pub first_column_fault : ℕ → List Column → List (List ℕ) → Option RowFault
 first_column_fault number (column ∷ columns) (text ∷ texts) =
-    option_or (column_fault number (cause_of column.format text)) (first_column_fault (number + 1) columns texts)
+    option_or (column_fault number (cause_of column.format text))
+    (first_column_fault (number + 1) columns texts)
 first_column_fault number _ _ = None
 
 -- the first fault of a line's fields: first their number, and then the columns from left to right
@@ -49,19 +55,21 @@ fields_fault kind fields =
 unfoldable pub row_fault : FileKind → List ℕ → Option RowFault
 row_fault kind line = fields_fault kind (fields_of line)
 
--- the text in the column with a name
+-- the text of the column that the header of a kind of file calls `name`
 abbrev pub text_in : FileKind → List (List ℕ) → List ℕ → List ℕ
-text_in kind fields name = slice_index_or fields (position_or_len (λ column. bytes_eq column.name name) (columns_of kind)) []
+text_in kind fields name =
+    slice_index_or fields (position_or_len (λ column. bytes_eq column.name name) (columns_of kind))
+    []
 
--- an effective time: the number that its digits write, or none if the text is empty
+-- the effective time of a row: the number YYYYMMDD of its digits, or none if the text is empty
 abbrev pub time_of : List ℕ → Option ℕ
 time_of text = if length text == 0 then None else Some (number_of text)
 
--- whether a component is active
+-- whether a row is active: its text is `1`
 abbrev pub active_of : List ℕ → Bool
 active_of text = bytes_eq text (codes "1")
 
--- the row of the Concept file that fields stand for
+-- the row of the Concept file that the fields of a line stand for
 abbrev pub concept_of : List (List ℕ) → ConceptRow
 concept_of fields =
     let text = text_in ConceptFile fields in
@@ -73,7 +81,7 @@ concept_of fields =
       definition_status_id = number_of (text (codes "definitionStatusId"));
     }
 
--- a row of the Description file, whose texts are bytes
+-- a row of the Description file, with its texts as bytes
 pub record DescriptionText : Type 0 where
   -- the identifier of the description
   pub id : ℕ
@@ -94,7 +102,7 @@ pub record DescriptionText : Type 0 where
   -- which letters of the term may change their case
   pub case_significance_id : ℕ
 
--- a row with the bytes of the texts that it was lent
+-- a row of the Description file as the program has it, with its borrowed texts as bytes
 abbrev pub description_text : DescriptionRow → DescriptionText
 description_text row = record {
   id = row.id;
@@ -108,7 +116,7 @@ description_text row = record {
   case_significance_id = row.case_significance_id;
 }
 
--- the row of the Description file that fields stand for
+-- the row of the Description file that the fields of a line stand for
 abbrev pub description_of : List (List ℕ) → DescriptionText
 description_of fields =
     let text = text_in DescriptionFile fields in
@@ -124,7 +132,7 @@ description_of fields =
       case_significance_id = number_of (text (codes "caseSignificanceId"));
     }
 
--- the row of the Relationship file that fields stand for
+-- the row of the Relationship file that the fields of a line stand for
 abbrev pub relationship_of : List (List ℕ) → RelationshipRow
 relationship_of fields =
     let text = text_in RelationshipFile fields in
@@ -141,13 +149,13 @@ relationship_of fields =
       modifier_id = number_of (text (codes "modifierId"));
     }
 
--- a value with the bytes of the text that it was lent
+-- a value as the program has it, with its borrowed text as bytes
 abbrev pub value_lent : LentValue → Value
 value_lent (LentConcept id) = concept_value id
 value_lent (LentDecimal decimal) = number_value decimal.0
 value_lent (LentOther text) = text_value text.now
 
--- a row of the Relationship concrete values file, whose value is that of a release
+-- a row of the Relationship concrete values file, with its value as in a release
 pub record ConcreteText : Type 0 where
   -- the identifier of the relationship
   pub id : ℕ
@@ -170,7 +178,8 @@ pub record ConcreteText : Type 0 where
   -- the modifier of the relationship
   pub modifier_id : ℕ
 
--- a row with the bytes of the value that it was lent
+-- a row of the Relationship concrete values file as the program has it, with its borrowed value as
+-- bytes
 abbrev pub concrete_text : ConcreteRow → ConcreteText
 concrete_text row = record {
   id = row.id;
@@ -185,7 +194,7 @@ concrete_text row = record {
   modifier_id = row.modifier_id;
 }
 
--- the row of the Relationship concrete values file that fields stand for
+-- the row of the Relationship concrete values file that the fields of a line stand for
 abbrev pub concrete_of : List (List ℕ) → ConcreteText
 concrete_of fields =
     let text = text_in ConcreteFile fields in
@@ -202,11 +211,11 @@ concrete_of fields =
       modifier_id = number_of (text (codes "modifierId"));
     }
 
--- the 16 bytes that the text of a UUID writes
+-- the 16 bytes of a UUID, by its text
 abbrev pub uuid_of : List ℕ → List ℕ
 uuid_of text = unwrap_or (parsed_hyphenated text) []
 
--- the row of a simple reference set file that fields stand for
+-- the row of a simple reference set file that the fields of a line stand for
 abbrev pub member_of : List (List ℕ) → MemberRow
 member_of fields =
     let text = text_in MemberFile fields in
@@ -239,13 +248,19 @@ concrete_row line = concrete_of (fields_of line)
 unfoldable pub member_row : List ℕ → MemberRow
 member_row line = member_of (fields_of line)
 
--- the result of reading: `value` if there is no fault, otherwise the fault
+-- `result` is what a function that reads returns: `value` if `fault` is none, and otherwise the
+-- fault
 abbrev pub IsReading : {T : Type 0} → Option RowFault → T → Result T RowFault → Type 0
-IsReading fault value result = MatchResult result (λ found. (fault ≡ None) × (found ≡ value)) (λ found. fault ≡ Some found)
+IsReading fault value result =
+    MatchResult result (λ found. (fault ≡ None) × (found ≡ value)) (λ found. fault ≡ Some found)
 
--- the result of reading a lent value: its `view` is `value` if there is no fault, otherwise the result is the fault
-abbrev pub IsReadingLent : {Lent T : Type 0} → (Lent → T) → Option RowFault → T → Result Lent RowFault → Type 0
-IsReadingLent view fault value result = MatchResult result (λ found. (fault ≡ None) × (view found ≡ value)) (λ found. fault ≡ Some found)
+-- `result` is what a function that reads borrowed data returns: something whose `view` is `value`
+-- if `fault` is none, and otherwise the fault
+abbrev pub IsReadingLent : {Lent T : Type 0} → (Lent → T) → Option RowFault → T
+    → Result Lent RowFault → Type 0
+IsReadingLent view fault value result =
+    MatchResult result (λ found. (fault ≡ None) × (view found ≡ value))
+    (λ found. fault ≡ Some found)
 
 -- the row is the one that a line of a kind of file stands for
 abbrev pub IsRow : FileKind → List ℕ → Row → Type 0

@@ -14,13 +14,14 @@ use crate::value::Value;
 use numerals::decimal;
 use sctid::Part;
 
-/// Reads the row of the Relationship concrete values file that the fields of a line stand for.
+/// Reads the fields of a line as a row of the Relationship concrete values file. Returns the row or
+/// the first fault.
 pub fn read_concrete<'a>(
     recent: &mut RecentConcepts,
     fields: &[&'a [u8]],
 ) -> Result<ConcreteRow<'a>, RowFault>
-    ensures { let texts = texts_of fields.now in
-        IsReadingLent concrete_text (fields_fault FileKind.Concrete texts) (concrete_of texts) result }
+    ensures { let texts = texts_of fields.now in IsReadingLent concrete_text
+        (fields_fault FileKind.Concrete texts) (concrete_of texts) result }
 {
     if fields.len() != 10 {
         return Err(fault(RowCause::Fields, 0));
@@ -47,7 +48,7 @@ pub fn read_concrete<'a>(
     })
 }
 
-// Reads a value: a number after `#`, or another text.
+// Reads a concrete value: a number after `#`, or any other text in UTF-8.
 #[tactic(auto, unfolding(crate::specs::Columns::cause_of))]
 fn concrete_value<'a>(field: &'a [u8], column: u8) -> Result<Value<'a>, RowFault>
     ensures { IsReadingLent value_lent (column_fault column (cause_of value_format field.now))

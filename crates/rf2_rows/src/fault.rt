@@ -1,4 +1,4 @@
-//! Why a line is no row.
+//! Why a line is not accepted as a row.
 ghost use Rattle.std.specs.Prelude.{◌≡◌};
 
 use sctid::IdFault;
@@ -10,8 +10,8 @@ pub enum RowCause {
     /// The line has more or fewer fields than the header has columns.
     #[error("the line has not as many fields as the header")]
     Fields,
-    /// The text is no identifier of the part that the column asks for. A valid identifier of another part has the
-    /// fault `IdFault::Partition`.
+    /// The text is no identifier of the kind that the column needs: of a concept, a description or
+    /// a relationship. A valid identifier of another kind has the fault `IdFault::Partition`.
     #[error("no identifier of this column: {0}")]
     Id(IdFault),
     /// The text is neither empty nor eight digits.
@@ -23,19 +23,19 @@ pub enum RowCause {
     /// The text is not 1 to 9 digits.
     #[error("a relationship group has 1 to 9 digits")]
     Group,
-    /// No number follows `#`. A number is an optional sign, 1 to 18 digits, and optionally a point and 1 to 18
-    /// digits.
+    /// The text begins with `#`, but no number follows. A number is an optional sign, 1 to 18
+    /// digits, and optionally a point and 1 to 18 digits.
     #[error("a value that begins with # has 1 to 18 digits before and behind its point")]
     Value,
     /// The text is not UTF-8.
     #[error("the text is not UTF-8")]
     Utf8,
-    /// The text is no UUID of 36 characters, with hyphens.
+    /// The text is no UUID of 36 characters, written with hyphens.
     #[error("a member is identified by a UUID of 36 characters")]
     Uuid,
 }
 
-/// The first fault of a line: its cause, and the column that it is in.
+/// The first fault of a line: its cause, and its column.
 #[derive(Clone, Copy, Debug, PartialEq, Eq, Error)]
 #[error("column {column}: {cause}")]
 pub struct RowFault {
@@ -48,7 +48,7 @@ pub struct RowFault {
 impl RowCause {
     ghost use Rattle.rf2_rows.specs.Columns.{cause_number};
 
-    /// The number of the cause, from 1.
+    /// Returns the number of the cause, from 1, in the order of `RowCause`.
     pub fn number(self) -> u8
         ensures { result ≡ cause_number self }
     {

@@ -1,4 +1,4 @@
-//! The kinds of file, which the names of files tell, and their headers.
+//! The kinds of file that the engine reads, by the names of the files, and the header of each kind.
 ghost use Rattle.std.specs.Prelude.{◌≡◌, None, Some, IsNone, IfSome};
 ghost use Rattle.rf2_rows.specs.Columns.{header_of};
 ghost use Rattle.rf2_rows.specs.Files.{file_kind_of, file_name, stem_of, elements_of, kind_of_elements, kind_named};
@@ -16,16 +16,17 @@ pub enum FileKind {
     Description,
     /// Relationships between concepts (Release File Specification, "Relationship file").
     Relationship,
-    /// Values of concepts that are no concepts themselves (Release File Specification, "Relationship
-    /// concrete values file").
+    /// Attributes of concepts whose values are numbers or texts (Release File Specification,
+    /// "Relationship concrete values file").
     Concrete,
-    /// Members of simple reference sets, which have no columns of their own (Release File
-    /// Specification, "Simple reference set").
+    /// Members of simple reference sets, whose files have only the columns that all reference set
+    /// files have (Release File Specification, "Simple reference set").
     Member,
 }
 
-/// Returns the kind of a Snapshot file by its name (Release File Specification, "File naming convention"). Only what
-/// follows the last `/` counts. Returns `None` for every file that the engine passes over.
+/// Returns the kind of a Snapshot file by its name (Release File Specification, "File naming
+/// convention"). `name` may be a path: only the part after the last `/` counts. Returns `None` for
+/// a file that the engine does not read.
 #[tactic(auto, unfolding(crate::specs::Files::file_kind_of))]
 pub fn file_kind(name: &str) -> Option<FileKind>
     ensures { result ≡ file_kind_of name.now }
@@ -33,7 +34,8 @@ pub fn file_kind(name: &str) -> Option<FileKind>
     kind_of_stem(stem_of(file_name(name.as_bytes()))?)
 }
 
-/// Returns the first line of each file of a kind: the names of its columns, joined by tabs.
+/// Returns the header, which is the first line of each file of `kind`: the names of its columns,
+/// joined by tabs.
 #[tactic(auto, unfolding(crate::specs::Columns::header_of))]
 pub fn header(kind: FileKind) -> &'static str
     ensures { result.now ≡ header_of kind }
@@ -53,7 +55,7 @@ pub fn header(kind: FileKind) -> &'static str
     }
 }
 
-// Returns what follows the last `/` of a path.
+// Returns what follows the last `/` of `path`, or all of it if it has no `/`.
 #[tactic(auto, using(crate::proofs::Texts::names_in_paths))]
 fn file_name(path: &[u8]) -> &[u8]
     ensures { result.now ≡ file_name path.now }
@@ -64,7 +66,7 @@ fn file_name(path: &[u8]) -> &[u8]
     }
 }
 
-// Returns a file's name without the extension `.txt`, if the name has it.
+// Returns a file's name without the extension `.txt`, or `None` if the name does not end so.
 fn stem_of(name: &[u8]) -> Option<&[u8]>
     ensures other { IsNone result → stem_of name.now ≡ None }
     ensures stem { IfSome result (λ stem. stem_of name.now ≡ Some stem.now) }
@@ -76,7 +78,8 @@ fn stem_of(name: &[u8]) -> Option<&[u8]>
     }
 }
 
-// Returns the kind of file that the elements of a name tell.
+// Returns the kind of a Snapshot file. `stem` is its name without the extension; the first three
+// elements of it, with `_` between them, decide.
 fn kind_of_stem(stem: &[u8]) -> Option<FileKind>
     ensures { result ≡ kind_of_elements (elements_of stem.now) }
 {
@@ -90,7 +93,7 @@ fn kind_of_stem(stem: &[u8]) -> Option<FileKind>
     }
 }
 
-// Returns the kind of file that the first two elements of a name tell.
+// Returns the kind of a file by the first two elements of its name, `file_type` and `content`.
 fn kind_named(file_type: &[u8], content: &[u8]) -> Option<FileKind>
     ensures { result ≡ kind_named file_type.now content.now }
 {
@@ -103,21 +106,23 @@ fn kind_named(file_type: &[u8], content: &[u8]) -> Option<FileKind>
     }
 }
 
-// Whether the first element of a file's name is that of a terminology file, released or in test.
+// Whether `file_type`, the first element of a file's name, is that of a terminology file, released
+// or for test.
 fn is_terminology(file_type: &[u8]) -> bool
     ensures { result ≡ is_terminology file_type.now }
 {
     file_type == b"sct2".as_slice() || file_type == b"xsct2".as_slice()
 }
 
-// Whether the first element of a file's name is that of a reference set file, released or in test.
+// Whether `file_type`, the first element of a file's name, is that of a reference set file,
+// released or for test.
 fn is_reference_set(file_type: &[u8]) -> bool
     ensures { result ≡ is_reference_set file_type.now }
 {
     file_type == b"der2".as_slice() || file_type == b"xder2".as_slice()
 }
 
-// Returns the kind of file that the second element of a terminology file's name tells.
+// Returns the kind of a terminology file by `content`, the second element of its name.
 fn component_kind(content: &[u8]) -> Option<FileKind>
     ensures { result ≡ component_kind content.now }
 {
@@ -134,7 +139,7 @@ fn component_kind(content: &[u8]) -> Option<FileKind>
     }
 }
 
-// Returns the kind of file that the second element of a reference set file's name tells.
+// Returns the kind of a reference set file by `content`, the second element of its name.
 fn reference_set_kind(content: &[u8]) -> Option<FileKind>
     ensures { result ≡ reference_set_kind content.now }
 {
@@ -145,8 +150,8 @@ fn reference_set_kind(content: &[u8]) -> Option<FileKind>
     }
 }
 
-// Whether the third element of a file's name is that of a Snapshot file. A language or the mark of an extension may
-// stand in it.
+// Whether `subtype`, the third element of a file's name, is that of a Snapshot file. `Snapshot`
+// ends it, or is followed by a hyphen and a language. The mark of an extension may stand before.
 #[tactic(auto, using(crate::proofs::Texts::holds_tells))]
 fn is_snapshot(subtype: &[u8]) -> bool
     ensures { result ≡ is_snapshot subtype.now }

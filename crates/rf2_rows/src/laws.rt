@@ -1,4 +1,5 @@
-//! Laws about the definitions of this crate: functions that do nothing, each with the law as its contract.
+//! Laws about the definitions of this crate: functions that do nothing, each with the law as its
+//! contract.
 ghost use Rattle.number_lists.specs.Distinct.{KeepsEachNumberOnce};
 ghost use Rattle.rf2_rows.specs.Pairs.{KeepsEachPairOnce, TellsSamePair, TellsSameValue};
 ghost use Rattle.rf2_rows.specs.Versions.{IsEquivalenceOfRows};
@@ -16,7 +17,7 @@ pub fn distinct_keeps_each_once()
     ensures pairs { KeepsEachPairOnce }
 {}
 
-/// Being one row is an equivalence of the accepted lines of a kind.
+/// `same_row` is an equivalence relation on the accepted lines of a kind of file.
 pub fn same_row_is_an_equivalence()
     ensures { IsEquivalenceOfRows }
 {}

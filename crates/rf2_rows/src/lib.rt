@@ -1,5 +1,6 @@
-//! The files and rows of an RF2 release (SNOMED CT Release File Specification): the kind of a file by its name, the
-//! header of each kind, the typed row that a line stands for, and whether two lines stand for one row.
+//! The files and rows of an RF2 release (SNOMED CT Release File Specification): the kind of a file
+//! by its name, the header of each kind, the typed row that a line stands for, and whether two
+//! lines are one row.
 #![tactic(auto)]
 
 mod concrete;

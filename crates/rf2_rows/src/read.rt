@@ -15,8 +15,9 @@ use crate::shared::{VersionColumns, read_relationship_end, read_version_columns}
 use crate::tabs::{Fields, push_fields};
 use sctid::{Part, SctId};
 
-/// Reads a line, without its end, as a row of a kind. Returns the first fault: the number of fields, then the
-/// columns from left to right. The texts of a row are lent from the line. Takes no memory.
+/// Reads `line`, without its line end, as a row of `kind`. Returns the row, whose texts are
+/// borrowed from `line`, or the first fault: a wrong number of fields, and then the columns from
+/// left to right. Takes no memory.
 pub fn read_row<'a>(kind: FileKind, line: &'a [u8]) -> Result<Row<'a>, RowFault>
     ensures row { IfOk result (λ row. IsRow kind line.now row) }
     ensures accepted { IfOk result (λ _. row_fault kind line.now ≡ None) }
@@ -25,22 +26,24 @@ pub fn read_row<'a>(kind: FileKind, line: &'a [u8]) -> Result<Row<'a>, RowFault>
     RowReader::new().read_row(kind, line)
 }
 
-/// Reads lines as rows, one after another. It returns what `read_row` returns, and is faster: in columns such as
-/// that of the module most rows are alike, and an identifier whose text the column had before is not read again.
+/// A reader for many lines. Its method `read_row` returns what the function `read_row` returns, and
+/// is faster: columns such as the module repeat a few identifiers, and the reader does not parse
+/// again an identifier that a column had just before.
 #[derive(Drop)]
 pub struct RowReader {
     recent: RecentConcepts,
 }
 
 impl RowReader {
-    /// Makes a reader that has read no row yet. Takes no memory.
+    /// Creates a reader that has read no line yet. Takes no memory.
     pub fn new() -> RowReader {
         RowReader {
             recent: RecentConcepts::new(),
         }
     }
 
-    /// Reads a line; returns what the function `read_row` returns. Takes no memory.
+    /// Reads `line` as a row of `kind`. Returns what the function `read_row` returns. Takes no
+    /// memory.
     #[tactic(auto, unfolding(crate::specs::Rows::row_fault, crate::specs::Rows::concept_row, crate::specs::Rows::description_row, crate::specs::Rows::relationship_row, crate::specs::Rows::concrete_row, crate::specs::Rows::member_row))]
     pub fn read_row<'a>(&mut self, kind: FileKind, line: &'a [u8]) -> Result<Row<'a>, RowFault>
         ensures row { IfOk result (λ row. IsRow kind line.now row) }
@@ -78,7 +81,7 @@ impl RowReader {
     }
 }
 
-// Reads the row of the Concept file that the fields of a line stand for.
+// Reads the fields of a line as a row of the Concept file. Returns the row or the first fault.
 fn read_concept(recent: &mut RecentConcepts, fields: &[&[u8]]) -> Result<ConceptRow, RowFault>
     ensures { let texts = texts_of fields.now in
         IsReading (fields_fault FileKind.Concept texts) (concept_of texts) result }
@@ -98,13 +101,13 @@ fn read_concept(recent: &mut RecentConcepts, fields: &[&[u8]]) -> Result<Concept
     })
 }
 
-// Reads the row of the Description file that the fields of a line stand for.
+// Reads the fields of a line as a row of the Description file. Returns the row or the first fault.
 fn read_description<'a>(
     recent: &mut RecentConcepts,
     fields: &[&'a [u8]],
 ) -> Result<DescriptionRow<'a>, RowFault>
-    ensures { let texts = texts_of fields.now in
-        IsReadingLent description_text (fields_fault FileKind.Description texts) (description_of texts) result }
+    ensures { let texts = texts_of fields.now in IsReadingLent description_text
+        (fields_fault FileKind.Description texts) (description_of texts) result }
 {
     if fields.len() != 9 {
         return Err(fault(RowCause::Fields, 0));
@@ -114,7 +117,8 @@ fn read_description<'a>(
     read_description_end(recent, id, version, fields)
 }
 
-// Reads the columns of a description after its module, and makes the row. `id` and `version` are the columns before.
+// Reads the columns of a description row after the module, and makes the row. `id` and `version`
+// are the columns before, already read.
 fn read_description_end<'a>(
     recent: &mut RecentConcepts,
     id: SctId,
@@ -122,8 +126,8 @@ fn read_description_end<'a>(
     fields: &[&'a [u8]],
 ) -> Result<DescriptionRow<'a>, RowFault>
     requires { length fields.now ≡ 9 }
-    ensures { let texts = texts_of fields.now in
-        IsReadingLent description_text (description_end_fault texts) (description_from id version texts) result }
+    ensures { let texts = texts_of fields.now in IsReadingLent description_text
+        (description_end_fault texts) (description_from id version texts) result }
 {
     let concept_id = identifier(fields[4], Part::Concept, 5)?;
     let language_code = text(fields[5], 6)?;
@@ -143,7 +147,7 @@ fn read_description_end<'a>(
     })
 }
 
-// Reads the row of the Relationship file that the fields of a line stand for.
+// Reads the fields of a line as a row of the Relationship file. Returns the row or the first fault.
 fn read_relationship(
     recent: &mut RecentConcepts,
     fields: &[&[u8]],
@@ -173,7 +177,8 @@ fn read_relationship(
     })
 }
 
-// Reads the row of a simple reference set file that the fields of a line stand for.
+// Reads the fields of a line as a row of a simple reference set file. Returns the row or the first
+// fault.
 fn read_member(recent: &mut RecentConcepts, fields: &[&[u8]]) -> Result<MemberRow, RowFault>
     ensures { let texts = texts_of fields.now in
         IsReading (fields_fault FileKind.Member texts) (member_of texts) result }

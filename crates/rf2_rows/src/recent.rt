@@ -1,4 +1,5 @@
-//! The concepts that a column had last. Columns such as module, type and modifier have few concepts, row after row.
+//! A cache of the concepts that a column had last. Columns such as module, type and modifier repeat
+//! a few concepts, row after row.
 ghost use Rattle.std.specs.Prelude.{◌≡◌, true, None, IfSome, length};
 ghost use Rattle.rf2_rows.specs.Columns.{cause_of, id_format};
 ghost use Rattle.numerals.specs.Numbers.{number_of};
@@ -15,8 +16,9 @@ use std::mem::swap;
 // How many digits the identifiers of SNOMED CT's own metadata have.
 const METADATA_DIGITS: usize = 18;
 
-/// The two concepts that a column had last. If the next text is that of one of them, the text is not read again.
-/// Many columns alternate between two concepts, for example the type of a description.
+/// The last two concepts that were parsed in a column, each with its text. A field that has one of
+/// these texts is not parsed again. Many columns alternate between two concepts, for example the
+/// type of a description.
 #[derive(Drop)]
 pub struct Recent {
     last: ReadConcept,
@@ -24,7 +26,7 @@ pub struct Recent {
 }
 
 impl Recent {
-    /// Makes a reader of a column that keeps no concept yet.
+    /// Creates an empty cache for a column.
     pub fn new() -> Recent {
         Recent {
             last: ReadConcept::none(),
@@ -32,9 +34,11 @@ impl Recent {
         }
     }
 
-    /// Reads the identifier of a concept; returns what `identifier` returns.
+    /// Reads `text` as the identifier of a concept. Returns what `identifier` returns for a
+    /// concept.
     pub fn read(&mut self, text: &[u8], column: u8) -> Result<SctId, RowFault>
-        ensures { IsReading (column_fault column (cause_of (id_format Concept) text.now)) (number_of text.now) result }
+        ensures { IsReading (column_fault column (cause_of (id_format Concept) text.now))
+            (number_of text.now) result }
     {
         if let Some(concept) = self.last.concept_of(text) {
             return Ok(concept);
@@ -45,9 +49,10 @@ impl Recent {
         self.read_anew(text, column)
     }
 
-    // Reads an identifier and keeps it with its text. It replaces the one that was read before the last.
+    // Parses an identifier and keeps it with its text, in place of the older of the two kept ones.
     fn read_anew(&mut self, text: &[u8], column: u8) -> Result<SctId, RowFault>
-        ensures { IsReading (column_fault column (cause_of (id_format Concept) text.now)) (number_of text.now) result }
+        ensures { IsReading (column_fault column (cause_of (id_format Concept) text.now))
+            (number_of text.now) result }
     {
         let concept = identifier(text, Part::Concept, column)?;
         let mut kept = ArrayVec::new();
@@ -62,7 +67,7 @@ impl Recent {
     }
 }
 
-/// A concept that was read, with its text, or none. Contracts see the concept.
+/// A parsed concept and its text, or none. Contracts see the concept.
 #[derive(Drop)]
 struct ReadConcept {
     text: ArrayVec<u8, METADATA_DIGITS>,
@@ -93,7 +98,8 @@ impl ReadConcept {
 
     // Returns the kept concept, if `text` is its text.
     fn concept_of(&self, text: &[u8]) -> Option<SctId>
-        ensures { IfSome result (λ concept. (cause_of (id_format Concept) text.now ≡ None) × (concept ≡ number_of text.now)) }
+        ensures { IfSome result (λ concept. (cause_of (id_format Concept) text.now ≡ None)
+            × (concept ≡ number_of text.now)) }
     {
         match self.concept {
             Some(concept) if is_same(self.text.as_slice(), text) => Some(concept),
@@ -102,8 +108,8 @@ impl ReadConcept {
     }
 }
 
-// Returns true only if two texts are the same. Most have `METADATA_DIGITS` bytes; those are compared as arrays,
-// which is faster.
+// Whether two texts are the same. Most have `METADATA_DIGITS` bytes, and those are compared as
+// arrays, which is faster.
 fn is_same(one: &[u8], other: &[u8]) -> bool
     ensures { result ≡ true → one.now ≡ other.now }
 {
@@ -113,7 +119,7 @@ fn is_same(one: &[u8], other: &[u8]) -> bool
     one == other
 }
 
-// Returns true only if two texts of `METADATA_DIGITS` bytes are the same.
+// Whether two texts of `METADATA_DIGITS` bytes are the same.
 fn is_same_start(one: &[u8], other: &[u8]) -> bool
     requires one { length one.now ≡ 18 }
     requires other { length other.now ≡ 18 }

@@ -1,7 +1,7 @@
-//! The concepts that are kept from row to row, for each column in which most rows are alike.
+//! Caches of concepts, for the columns in which most rows have one of a few concepts.
 use crate::recent::Recent;
 
-/// For each column in which most rows are alike, the concepts that the column had last.
+/// A cache for each column in which most rows have one of a few concepts.
 #[derive(Drop)]
 pub struct RecentConcepts {
     pub module_id: Recent,
@@ -13,7 +13,7 @@ pub struct RecentConcepts {
 }
 
 impl RecentConcepts {
-    /// Makes readers of all such columns, with no concept kept yet.
+    /// Creates the caches, all empty.
     pub fn new() -> RecentConcepts {
         RecentConcepts {
             module_id: Recent::new(),

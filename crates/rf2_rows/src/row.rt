@@ -22,7 +22,7 @@ pub struct ConceptRow {
 }
 
 /// A row of the Description file (Release File Specification, "Description file"). Its texts are
-/// lent from the line.
+/// borrowed from the line.
 #[derive(Clone, Copy, Debug, PartialEq, Eq)]
 pub struct DescriptionRow<'a> {
     /// The description.
@@ -35,7 +35,7 @@ pub struct DescriptionRow<'a> {
     pub module_id: SctId,
     /// The concept that is described.
     pub concept_id: SctId,
-    /// The code of the term's language, as `en`.
+    /// The code of the term's language, for example `en`.
     pub language_code: &'a str,
     /// Whether the term is a fully specified name, a synonym or a definition.
     pub type_id: SctId,
@@ -71,7 +71,7 @@ pub struct RelationshipRow {
 }
 
 /// A row of the Relationship concrete values file (Release File Specification, "Relationship
-/// concrete values file"). Its value may be lent from the line.
+/// concrete values file"). If its value is a text, it is borrowed from the line.
 #[derive(Clone, Copy, Debug, PartialEq, Eq)]
 pub struct ConcreteRow<'a> {
     /// The relationship.

@@ -10,7 +10,8 @@ use crate::recent::Recent;
 use crate::recent_concepts::RecentConcepts;
 use sctid::{Part, SctId};
 
-/// The second to the fourth column, which rows of every kind have.
+/// The second to the fourth column, which rows of every kind have: effective time, active and
+/// module.
 #[derive(Clone, Copy)]
 pub struct VersionColumns {
     pub effective_time: Option<u32>,
@@ -18,13 +19,15 @@ pub struct VersionColumns {
     pub module_id: SctId,
 }
 
-/// Reads the second to the fourth column.
+/// Reads the second to the fourth of `fields`, which are at least four. `recent` keeps the modules
+/// that were read last.
 pub fn read_version_columns(
     recent: &mut Recent,
     fields: &[&[u8]],
 ) -> Result<VersionColumns, RowFault>
     requires { 4 ≤ length fields.now }
-    ensures { let texts = texts_of fields.now in IsReading (version_fault texts) (version_of texts) result }
+    ensures { let texts = texts_of fields.now in IsReading (version_fault texts) (version_of texts)
+        result }
 {
     let effective_time = time(fields[1], 2)?;
     let active = flag(fields[2], 3)?;
@@ -45,7 +48,8 @@ pub struct RelationshipEnd {
     pub modifier_id: SctId,
 }
 
-/// Reads the seventh to the tenth column of a row of a relationship file.
+/// Reads the seventh to the tenth of `fields`, the ten fields of a row of a relationship file.
+/// `recent` keeps concepts that were read last.
 pub fn read_relationship_end(
     recent: &mut RecentConcepts,
     fields: &[&[u8]],

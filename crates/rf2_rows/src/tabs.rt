@@ -20,8 +20,9 @@ pub fn cut_fields(line: &[u8]) -> Option<Fields<'_>>
     Some(fields)
 }
 
-/// Cuts a line at its tabs and puts the fields into the empty list `fields`. Returns `None` if there are more than
-/// 10. A caller that has a place for the fields saves the copy that `cut_fields` makes. Takes no memory.
+/// Cuts `line` at its tabs and puts the fields into `fields`, which is empty. Returns `None` if
+/// there are more than 10. A caller that has a place for the fields saves the copy that
+/// `cut_fields` makes. Takes no memory.
 #[tactic(auto, using(crate::proofs::TabBits::last_field))]
 pub fn push_fields<'a>(fields: &mut Fields<'a>, line: &'a [u8]) -> Option<()>
     requires empty { fields.old.items ≡ [] }
@@ -41,8 +42,10 @@ pub fn push_fields<'a>(fields: &mut Fields<'a>, line: &'a [u8]) -> Option<()>
     }
 }
 
-// Adds the fields that end at the tabs among 64 bytes of a line. `marks` has a bit for each of these bytes, set for
-// a tab. Returns the start of the next field, or `None` if `fields` is full.
+// Adds to `fields` the fields that end at a tab among the 64 bytes of `line` from `from` on.
+// `marks` has a bit for each of these bytes, the lowest first, set for a tab. The first of the
+// fields starts at `start`. Returns where the next field starts, or `None` if `fields` has no room
+// for them.
 #[inline]
 #[tactic(auto, using(crate::proofs::TabBits::fields_cut))]
 fn push_ended<'a>(
@@ -56,9 +59,12 @@ fn push_ended<'a>(
     requires in_line { from < length line.now }
     requires marked { marks ≡ tabs_in line.now from (from + 64) }
     requires clear { NoTab line.now start from }
-    ensures more { IsNone result → 10 < length (texts_of fields.old.items ++ parts_from line.now start) }
-    ensures parts { IfSome result (λ next. texts_of fields.new.items ++ parts_from line.now next ≡ texts_of fields.old.items ++ parts_from line.now start) }
-    ensures next { IfSome result (λ next. (next ≤ from + 64) × (next ≤ length line.now) × NoTab line.now next (from + 64)) }
+    ensures more { IsNone result
+        → 10 < length (texts_of fields.old.items ++ parts_from line.now start) }
+    ensures parts { IfSome result (λ next. texts_of fields.new.items ++ parts_from line.now next
+        ≡ texts_of fields.old.items ++ parts_from line.now start) }
+    ensures next { IfSome result (λ next. (next ≤ from + 64) × (next ≤ length line.now)
+        × NoTab line.now next (from + 64)) }
 {
     let mut start = start;
     let mut place = from;
@@ -77,7 +83,8 @@ fn push_ended<'a>(
     Some(start)
 }
 
-// Returns the tabs among the next 64 bytes of a line as bits. Bytes after the end of the line have no tab.
+// Returns a bit for each of the 64 bytes of `line` from `from` on, the lowest first, set for a tab.
+// The bits of bytes after the end of the line are 0.
 #[inline]
 #[tactic(auto, using(crate::proofs::TabBits::shifts))]
 fn tabs_from(line: &[u8], from: usize) -> u64
@@ -95,7 +102,7 @@ fn tabs_from(line: &[u8], from: usize) -> u64
     }
 }
 
-// Returns the tabs of a line that is shorter than 64 bytes.
+// Returns a bit for each of the bytes of a line of fewer than 64, the lowest first, set for a tab.
 #[tactic(auto, using(crate::proofs::TabBits::padded_block))]
 fn tabs_of_short(line: &[u8]) -> u64
     requires { length line.now < 64 }
@@ -106,7 +113,7 @@ fn tabs_of_short(line: &[u8]) -> u64
     tabs(u8x64::from_array(block))
 }
 
-// Returns the tabs among 64 bytes as bits, one to a byte.
+// Returns a bit for each of 64 bytes, the lowest first, set for a tab.
 #[inline]
 fn tabs(block: u8x64) -> u64
     ensures { result ≡ tab_bits block }

@@ -1,4 +1,4 @@
-//! Whether two lines are one row, even if the texts of their columns differ.
+//! Whether two lines are one row: they have equal values in all columns, even if the texts differ.
 ghost use Rattle.std.specs.Prelude.{◌≡◌, ◌==◌, true, map, None, bytes_eq};
 ghost use Rattle.rf2_rows.specs.Columns.{cause_of, columns_of, time_format, uuid_format, value_format};
 ghost use Rattle.rf2_rows.specs.inside.Formats.{format_of};
@@ -19,9 +19,9 @@ use uuid::Uuid;
 // The format of a column: what its texts may be.
 #[derive(Clone, Copy)]
 enum Format {
-    // The identifier of a component of the part.
+    // The identifier of a component of this kind.
     Id(Part),
-    // The identifier of a component of any part.
+    // The identifier of a component of any kind.
     Component,
     // A UUID.
     Uuid,
@@ -97,9 +97,10 @@ static MEMBER: [Format; 6] = [
     Format::Component,
 ];
 
-/// Whether two lines, each a row of the kind, are one row: each column has one value. Texts compare by their bytes,
-/// identifiers, groups and times by their numbers, and UUIDs by their 16 bytes. Concrete values compare by the
-/// numbers that they write, or if they are texts, by their bytes. Takes no memory.
+/// Whether `one` and `other`, two lines that are accepted as rows of `kind`, are one row: each
+/// column has equal values in both. Texts are compared by their bytes; identifiers, groups and
+/// times by their numbers; UUIDs by their 16 bytes. Concrete values are compared by their numbers,
+/// or by their bytes if they are texts. Takes no memory.
 #[tactic(auto, unfolding(crate::specs::Rows::row_fault), using(crate::proofs::VersionLemmas::accepted_lines))]
 pub fn same_row(kind: FileKind, one: &[u8], other: &[u8]) -> bool
     requires one { row_fault kind one.now ≡ None }
@@ -119,7 +120,7 @@ pub fn same_row(kind: FileKind, one: &[u8], other: &[u8]) -> bool
     same_fields(kind, ones.as_slice(), others.as_slice())
 }
 
-// Whether the fields of two rows of a kind have one value in each column.
+// Whether the fields of two rows of `kind` have equal values in each column.
 fn same_fields(kind: FileKind, ones: &[&[u8]], others: &[&[u8]]) -> bool
     requires one { fields_fault kind (texts_of ones.now) ≡ None }
     requires other { fields_fault kind (texts_of others.now) ≡ None }
@@ -146,7 +147,7 @@ fn formats(kind: FileKind) -> &'static [Format]
     }
 }
 
-// Whether two texts of a column have one value.
+// Whether two texts of a column with this format have equal values.
 #[tactic(auto, unfolding(crate::specs::Columns::cause_of), using(std::proofs::lemmas::Bool::Decides::nat_tests))]
 fn same_value(format: Format, one: &[u8], other: &[u8]) -> bool
     requires one { cause_of (format_of format) one.now ≡ None }
@@ -164,7 +165,7 @@ fn same_value(format: Format, one: &[u8], other: &[u8]) -> bool
     }
 }
 
-// Whether two texts of digits write one number.
+// Whether two texts of 1 to 18 digits are equal as numbers.
 fn same_number(one: &[u8], other: &[u8]) -> bool
     requires one { is_number 1 18 one.now ≡ true }
     requires other { is_number 1 18 other.now ≡ true }
@@ -173,7 +174,7 @@ fn same_number(one: &[u8], other: &[u8]) -> bool
     digits(one, 1, 18) == digits(other, 1, 18)
 }
 
-// Whether two UUIDs have the same 16 bytes.
+// Whether two texts of UUIDs have the same 16 bytes.
 fn same_uuid(one: &[u8], other: &[u8]) -> bool
     requires one { cause_of uuid_format one.now ≡ None }
     requires other { cause_of uuid_format other.now ≡ None }
@@ -186,7 +187,7 @@ fn same_uuid(one: &[u8], other: &[u8]) -> bool
     }
 }
 
-// Whether two effective times are equal, or both are none.
+// Whether two texts of effective times are the same date, or both empty.
 #[tactic(auto, unfolding(crate::specs::Columns::cause_of))]
 fn same_time(one: &[u8], other: &[u8]) -> bool
     requires one { cause_of time_format one.now ≡ None }
@@ -196,14 +197,14 @@ fn same_time(one: &[u8], other: &[u8]) -> bool
     digits(one, 8, 8) == digits(other, 8, 8)
 }
 
-// Whether a row is active.
+// Whether the text of the column `active` is `1`.
 fn is_active(text: &[u8]) -> bool
     ensures { result ≡ active_of text.now }
 {
     text == b"1".as_slice()
 }
 
-// Whether two concrete values are equal.
+// Whether two texts of concrete values have equal values: equal numbers after `#`, or equal texts.
 #[tactic(auto, unfolding(crate::specs::Columns::cause_of))]
 fn same_concrete(one: &[u8], other: &[u8]) -> bool
     requires one { cause_of value_format one.now ≡ None }

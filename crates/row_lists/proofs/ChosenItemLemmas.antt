@@ -1,7 +1,8 @@
--- Going over the rows that were read, and over the items that one list has of them.
+-- The loop over the rows that were read and the items that one list has of them.
 use Rattle.std.proofs.lemmas.Bool.Decides.{nat_tests}
 use Rattle.std.proofs.lemmas.Grind.{common_steps}
-use Rattle.std.proofs.Common.{ℕ, ◌≡◌, ◌+◌, ◌<◌, ◌≤◌, ◌∙◌, List, [], ◌∷◌, length, true, false, Bool, Option, ap, arith, cond, drop, drop-cons, get_or, map, refl, suc, All, is_some, filter_map}
+use Rattle.std.proofs.Common.{ℕ, ◌≡◌, ◌+◌, ◌<◌, ◌≤◌, ◌∙◌, List, [], ◌∷◌, length, true, false, Bool, Option, ap, arith}
+use Rattle.std.proofs.Common.{cond, drop, drop-cons, get_or, map, refl, suc, All, is_some, filter_map}
 use Rattle.std.specs.List.{cons_option}
 use Rattle.std.proofs.lemmas.List.{drop_all}
 use Rattle.std.proofs.lemmas.List.Elements.{All-cons, All-drop, All-nil}
@@ -14,17 +15,21 @@ use Rattle.row_lists.specs.declared.row_lists.Listing.{Listing}
 abbrev pub to_come : {X : Type 0} → Listing → List Listing → List Bool → ℕ → List X → List X
 to_come list marks choices place left = items_chosen (in_list list (drop place marks)) (drop place choices) left
 
-open_marks : (marks : List Listing) (place : ℕ) (d : Listing) → place < length marks → drop place marks ≡ get_or marks place d ∷ drop (place + 1) marks
+open_marks : (marks : List Listing) (place : ℕ) (d : Listing) → place < length marks
+    → drop place marks ≡ get_or marks place d ∷ drop (place + 1) marks
 open_marks marks place d within = let next : suc place ≡ place + 1 = omega arith in
     rw (drop-cons marks place d) (ap (λ (at : ℕ). get_or marks place d ∷ drop at marks) next)
 
-open_choices : (choices : List Bool) (place : ℕ) (e : Bool) → place < length choices → drop place choices ≡ get_or choices place e ∷ drop (place + 1) choices
+open_choices : (choices : List Bool) (place : ℕ) (e : Bool) → place < length choices
+    → drop place choices ≡ get_or choices place e ∷ drop (place + 1) choices
 open_choices choices place e within = let next : suc place ≡ place + 1 = omega arith in
     rw (drop-cons choices place e) (ap (λ (at : ℕ). get_or choices place e ∷ drop at choices) next)
 
 module _ {X : Type 0} (list : Listing) where
-  passed-step : (mark : Listing) (marks : List Listing) (choice : Bool) (choices : List Bool) (left : List X) → same_listing mark list ≡ false
-      → items_chosen (in_list list (mark ∷ marks)) (choice ∷ choices) left ≡ items_chosen (in_list list marks) choices left
+  passed-step : (mark : Listing) (marks : List Listing) (choice : Bool) (choices : List Bool) (left : List X)
+      → same_listing mark list ≡ false
+      → items_chosen (in_list list (mark ∷ marks)) (choice ∷ choices) left
+      ≡ items_chosen (in_list list marks) choices left
   passed-step mark marks choice choices left other = grind (arith, common_steps, nat_tests)
 
   no_choices : (heres : List Bool) (left : List X) → items_chosen heres [] left ≡ []
@@ -38,16 +43,21 @@ module _ {X : Type 0} (list : Listing) where
 
   module _ (marks : List Listing) (choices : List Bool) (place : ℕ) (d : Listing) where
     -- a row that is not in the list has no item to come
-    pub row_passed : (e : Bool) (left : List X) → place < length marks → place < length choices → same_listing (get_or marks place d) list ≡ false
+    pub row_passed : (e : Bool) (left : List X) → place < length marks → place < length choices
+        → same_listing (get_or marks place d) list ≡ false
         → to_come list marks choices place left ≡ to_come list marks choices (place + 1) left
     row_passed e left in_marks in_choices other =
-        (λ i. items_chosen (in_list list (open_marks marks place d in_marks i)) (open_choices choices place e in_choices i) left)
-        ∙ passed-step (get_or marks place d) (drop (place + 1) marks) (get_or choices place e) (drop (place + 1) choices) left other
+        (λ i. items_chosen (in_list list (open_marks marks place d in_marks i))
+        (open_choices choices place e in_choices i) left)
+        ∙ passed-step (get_or marks place d) (drop (place + 1) marks) (get_or choices place e)
+        (drop (place + 1) choices) left other
 
     -- a row that is in the list has the next item, which comes if the row is chosen
-    pub row_listed : (e : Bool) (left : List X) → place < length marks → place < length choices → same_listing (get_or marks place d) list ≡ true
+    pub row_listed : (e : Bool) (left : List X) → place < length marks → place < length choices
+        → same_listing (get_or marks place d) list ≡ true
         → to_come list marks choices place left
-        ≡ marked (get_or choices place e ∷ marked (in_list list (drop (place + 1) marks)) (drop (place + 1) choices)) left
+        ≡ marked (get_or choices place e ∷ marked (in_list list (drop (place + 1) marks)) (drop (place + 1) choices))
+        left
     row_listed e left in_marks in_choices same = grind (arith, common_steps, nat_tests, get_or)
 
     -- if a row is in the list but no item is left, no chosen item is to come
@@ -58,20 +68,22 @@ module _ {X : Type 0} (list : Listing) where
 
     -- after the last choice no chosen item is to come
     pub choices_ended : (left : List X) → length choices ≤ place → to_come list marks choices place left ≡ []
-    choices_ended left behind =
+    choices_ended left following =
         ap (λ (rest : List Bool). items_chosen (in_list list (drop place marks)) rest left)
-        (drop_all place choices behind) ∙ no_choices (in_list list (drop place marks)) left
+        (drop_all place choices following) ∙ no_choices (in_list list (drop place marks)) left
 
     -- after the last mark no chosen item is to come
     pub marks_ended : (left : List X) → length marks ≤ place → to_come list marks choices place left ≡ []
-    marks_ended left behind =
+    marks_ended left following =
         ap (λ (rest : List Listing). items_chosen (in_list list rest) (drop place choices) left)
-        (drop_all place marks behind) ∙ no_marks (drop place choices) left
+        (drop_all place marks following) ∙ no_marks (drop place choices) left
 
 -- ---- the lists of the chosen rows
--- the items of the chosen rows are what picking from the chosen rows yields
+-- if a list has the items that `pick` gives for `rows`, its items of chosen rows are those that `pick` gives for the
+-- chosen rows
 pub chosen-picked : {X : Type 0} (pick : RowText → Option X) (rows : List RowText) (choices : List Bool)
-    → items_chosen (map (λ row. is_some (pick row)) rows) choices (filter_map pick rows) ≡ filter_map pick (marked choices rows)
+    → items_chosen (map (λ row. is_some (pick row)) rows) choices (filter_map pick rows)
+    ≡ filter_map pick (marked choices rows)
 chosen-picked {X} pick [] [] = refl
 chosen-picked {X} pick [] (choice ∷ choices) = refl
 chosen-picked {X} pick (row ∷ rows) [] = grind (arith, common_steps, nat_tests)
@@ -79,14 +91,16 @@ chosen-picked {X} pick (row ∷ rows) (choice ∷ choices) =
     grind (arith, marked, is_some, filter_map, items_chosen, cons_option, cond, (chosen-picked pick rows choices))
 
 -- ---- the marked items of a list
--- marking and then applying `f` is applying `f` and then marking
-pub map-marked : {X Y : Type 0} (f : X → Y) (marks : List Bool) (items : List X) → map f (marked marks items) ≡ marked marks (map f items)
+-- applying `f` to the marked items of a list gives the marked items of the list after `f` was applied
+pub map-marked : {X Y : Type 0} (f : X → Y) (marks : List Bool) (items : List X)
+    → map f (marked marks items) ≡ marked marks (map f items)
 map-marked f [] items = refl
 map-marked f (mark ∷ marks) [] = refl
 map-marked {X} {Y} f (mark ∷ marks) (item ∷ items) = grind (arith, marked, cond, (map-marked f marks items))
 
--- a claim that holds of all items holds of all marked items
-pub All-marked : {X : Type 0} (P : X → Type 0) (marks : List Bool) (items : List X) → All P items → All P (marked marks items)
+-- if `P` holds of all items, it holds of all marked items
+pub All-marked : {X : Type 0} (P : X → Type 0) (marks : List Bool) (items : List X) → All P items
+    → All P (marked marks items)
 All-marked P [] items all = All-nil P
 All-marked P (mark ∷ marks) [] all = All-nil P
 All-marked P (mark ∷ marks) (item ∷ items) all = by mark (All-marked P marks items (All-drop P 1 (item ∷ items) all))

@@ -1,4 +1,4 @@
--- Values that are not concepts stay the same if the buffer of their texts grows.
+-- Stored values that are not concepts keep their meaning if texts are appended to the buffer.
 use Rattle.std.proofs.Common.{ℕ, ◌≡◌, List, ap, refl}
 use Rattle.row_lists.specs.inside.ConcreteInside.{IsPlaced, concrete_in}
 use Rattle.row_lists.specs.ConcreteValues.{a_text}
@@ -14,6 +14,7 @@ module _ (texts grown : List ℕ) (extends : Extends texts grown) where
   placed-extends (Other span) placed = span-extends texts grown extends span placed
 
   -- a kept value stands for one value before and after the buffer grows
-  pub concrete-extends : (value : KeptConcrete) → IsPlaced texts value → concrete_in grown value ≡ concrete_in texts value
+  pub concrete-extends : (value : KeptConcrete) → IsPlaced texts value
+      → concrete_in grown value ≡ concrete_in texts value
   concrete-extends (Decimal decimal) placed = refl
   concrete-extends (Other span) placed = ap a_text (text-extends texts grown extends span placed)

@@ -1,4 +1,4 @@
--- Name rows keep their texts if the buffer grows.
+-- Stored name rows keep their texts if texts are appended to the buffer.
 use Rattle.std.proofs.Common.{rules, arith, ℕ, ◌≡◌, ◌<◌, length, get_or, List, [], ◌∷◌, map, refl, IsUtf8, Bool, filter}
 use Rattle.std.proofs.lemmas.Bool.Decides.{nat_tests}
 use Rattle.std.proofs.lemmas.Grind.{common_steps}
@@ -20,8 +20,9 @@ module _ (texts grown : List ℕ) (extends : Extends texts grown) where
   pub placed-extends : IsUtf8 texts → IsUtf8 grown → (row : NameRow) → IsPlaced texts row → IsPlaced grown row
   placed-extends whole all row placed = search (rules, text_span-extends)
 
--- filtering rows by what they stand for, and then applying `f`, is applying `f` and then filtering
-pub map-filter : {X Y : Type 0} (f : X → Y) (test : Y → Bool) (xs : List X) → map f (filter (λ x. test (f x)) xs) ≡ filter test (map f xs)
+-- filtering a list by `test (f x)` and then applying `f` is the same as applying `f` and then filtering by `test`
+pub map-filter : {X Y : Type 0} (f : X → Y) (test : Y → Bool) (xs : List X)
+    → map f (filter (λ x. test (f x)) xs) ≡ filter test (map f xs)
 map-filter f test [] = refl
 map-filter f test (x ∷ xs) = grind (arith, common_steps, nat_tests, cases_Bool, (map-filter f test xs))
 
@@ -29,13 +30,14 @@ map-filter f test (x ∷ xs) = grind (arith, common_steps, nat_tests, cases_Bool
 abbrev no_row : NameRow
 no_row = record { id = 0; concept = 0; language = no_span; term = no_span }
 
--- the row at index `place` stands for the name at that index
+-- the name at index `place` is the one that the stored row at this index means
 pub name_at_place : (texts : List ℕ) (rows : List NameRow) (place : ℕ) (default : Name) → place < length rows
     → get_or (map (name_in texts) rows) place default ≡ name_in texts (get_or rows place no_row)
 name_at_place texts rows place default within = get_or-map (name_in texts) rows place no_row default within
 
--- a row that is read at an index within the list does not depend on the default of reading
-pub row_at_place : (rows : List NameRow) (place : ℕ) (row : NameRow) → place < length rows → row ≡ get_or rows place row → row ≡ get_or rows place no_row
+-- the row at an index within the list is the same for each default value
+pub row_at_place : (rows : List NameRow) (place : ℕ) (row : NameRow) → place < length rows → row ≡ get_or rows place row
+    → row ≡ get_or rows place no_row
 row_at_place rows place row within is = get_or_read rows place row within is no_row
 
 -- the rules with which `grind` reads a row

@@ -1,7 +1,8 @@
 -- The numbers of the faults of a load, in the order in which a load looks for the faults.
 use Rattle.std.specs.Prelude.{ℕ}
 use Rattle.row_lists.specs.declared.fault.LoadFault.{LoadFault}
-use Rattle.row_lists.specs.declared.fault.LoadFault.TheVariants.{NoConceptFile, Header, Row, Conflict, TooMany, Cycle, Device, Memory}
+use Rattle.row_lists.specs.declared.fault.LoadFault.TheVariants.{NoConceptFile, Header, Row, Conflict, TooMany, Cycle}
+use Rattle.row_lists.specs.declared.fault.LoadFault.TheVariants.{Device, Memory}
 
 -- the number of a fault of a load
 abbrev pub fault_number : LoadFault → ℕ

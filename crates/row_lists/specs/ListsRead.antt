@@ -1,4 +1,4 @@
--- How contracts see the lists of rows that were read.
+-- The lists that a `RowLists` of the program holds, as contracts name them.
 use Rattle.std.specs.Prelude.{◌≤◌, ℕ, [], length}
 use Rattle.row_lists.specs.ReleaseLists.{ReleaseLists}
 use Rattle.row_lists.specs.declared.row_lists.RowLists.{RowLists}
@@ -31,7 +31,7 @@ read_in lists = record {
 abbrev pub unmarked : ReleaseLists → ReleaseLists
 unmarked listed = record listed { marks = [] }
 
--- there are few enough rows to number, and no list has more items than there are rows
+-- there are at most 68,000,000 rows, and no list has more items than there are rows
 pub record AreFew (count : ℕ) (listed : ReleaseLists) : Type 0 where
   -- there are at most 68,000,000 rows
   pub few : count ≤ 68000000

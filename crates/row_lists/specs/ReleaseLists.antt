@@ -1,4 +1,5 @@
--- The lists that a load makes of the rows that it has read, by what each row itself says.
+-- The lists that a load makes of the rows that it has read. A row goes into a list by what the row
+-- itself says, whether or not the concepts that it names are in force.
 use Rattle.std.specs.Prelude.{ℕ, ◌==◌, ◌&&◌, Bool, not, if◌then◌else◌, List, map, Option, None, Some, option_and_then}
 use Rattle.std.specs.List.{filter_map}
 use Rattle.rf2_rows.specs.Release.{Attribute, Name}
@@ -7,7 +8,8 @@ use Rattle.rf2_rows.specs.Rows.{ConcreteText, DescriptionText}
 use Rattle.rf2_rows.specs.declared.row.ConceptRow.{ConceptRow}
 use Rattle.rf2_rows.specs.declared.row.MemberRow.{MemberRow}
 use Rattle.rf2_rows.specs.declared.row.RelationshipRow.{RelationshipRow}
-use Rattle.row_lists.specs.InForce.{concept_in, concrete_attribute, description_in, is_name, member_in, name_on, relationship_attribute, relationship_in}
+use Rattle.row_lists.specs.InForce.{concept_in, concrete_attribute, description_in, is_name, member_in, name_on}
+use Rattle.row_lists.specs.InForce.{relationship_attribute, relationship_in}
 use Rattle.row_lists.specs.Metadata.{is_a, inferred_relationship}
 use Rattle.row_lists.specs.declared.row_lists.Listing.{Listing}
 use Rattle.row_lists.specs.declared.row_lists.Listing.TheVariants as listing
@@ -29,54 +31,71 @@ pub record ReleaseLists : Type 0 where
   -- reference set and component of the active member rows
   pub member_ends : List (ℕ × ℕ)
 
--- the relationship row says of itself that it belongs to the hierarchy: it is active, inferred and of type |Is a|
+-- whether the relationship row is an is-a row by its own columns: active, inferred and of type |Is
+-- a|
 abbrev pub is_isa : RelationshipRow → Bool
-is_isa row = row.active && (row.characteristic_type_id == inferred_relationship) && (row.type_id == is_a)
+is_isa row = row.active && (row.characteristic_type_id == inferred_relationship)
+    && (row.type_id == is_a)
 
--- the relationship row says of itself that it is an attribute: it is active, inferred and not of type |Is a|
+-- whether the relationship row is an attribute row by its own columns: active, inferred and not of
+-- type |Is a|
 abbrev pub is_attribute : RelationshipRow → Bool
-is_attribute row = row.active && (row.characteristic_type_id == inferred_relationship) && not (row.type_id == is_a)
+is_attribute row = row.active && (row.characteristic_type_id == inferred_relationship)
+    && not (row.type_id == is_a)
 
--- the row of a concrete value says of itself that it is an attribute: it is active, inferred and not of type |Is a|
+-- whether the row of a concrete value is an attribute row by its own columns: active, inferred and
+-- not of type |Is a|
 abbrev pub is_concrete_attribute : ConcreteText → Bool
-is_concrete_attribute row = row.active && (row.characteristic_type_id == inferred_relationship) && not (row.type_id == is_a)
+is_concrete_attribute row = row.active && (row.characteristic_type_id == inferred_relationship)
+    && not (row.type_id == is_a)
 
--- the list that a row is in
+-- which list a row is in
 abbrev pub listing_of : RowText → Listing
 listing_of (of_concept row) = if row.active then listing.Concept else listing.Inactive
 listing_of (of_description row) = if is_name row then listing.Name else listing.Nowhere
-listing_of (of_relationship row) = if is_isa row then listing.IsA else if is_attribute row then listing.Attribute else listing.Nowhere
-listing_of (of_concrete row) = if is_concrete_attribute row then listing.Attribute else listing.Nowhere
+listing_of (of_relationship row) =
+    if is_isa row then listing.IsA else if is_attribute row then listing.Attribute
+    else listing.Nowhere
+listing_of (of_concrete row) =
+    if is_concrete_attribute row then listing.Attribute else listing.Nowhere
 listing_of (of_member row) = if row.active then listing.Member else listing.Nowhere
 
 -- the identifier of the row's concept, if the row is an active concept row
 abbrev pub concept_listed : RowText → Option ℕ
-concept_listed row = option_and_then (λ (row : ConceptRow). if row.active then Some row.id else None) (concept_in row)
+concept_listed row = option_and_then
+    (λ (row : ConceptRow). if row.active then Some row.id else None) (concept_in row)
 
 -- the identifier of the row's concept, if the row is an inactive concept row
 abbrev pub inactive_listed : RowText → Option ℕ
 inactive_listed row =
-    option_and_then (λ (row : ConceptRow). if not row.active then Some row.id else None) (concept_in row)
+    option_and_then (λ (row : ConceptRow). if not row.active then Some row.id else None)
+    (concept_in row)
 
--- the name row that the row stands for, if it is an active fully specified name
+-- the row as a name row, if it is an active fully specified name
 abbrev pub name_listed : RowText → Option Name
-name_listed row = option_and_then (λ (row : DescriptionText). if is_name row then Some (name_on row) else None) (description_in row)
+name_listed row = option_and_then
+    (λ (row : DescriptionText). if is_name row then Some (name_on row) else None)
+    (description_in row)
 
--- child and parent of the row, if it is an active, inferred is-a row
+-- the child and the parent in the row, if it is an active, inferred is-a row
 abbrev pub isa_listed : RowText → Option (ℕ × ℕ)
 isa_listed row =
-    option_and_then (λ (row : RelationshipRow). if is_isa row then Some (row.source_id, row.destination_id) else None) (relationship_in row)
+    option_and_then (λ (row : RelationshipRow). if is_isa row then Some
+    (row.source_id, row.destination_id) else None) (relationship_in row)
 
--- the attribute of the row, if the row says of itself that it is one
+-- the attribute that the row gives, if it is an attribute row by its own columns
 abbrev pub attribute_listed : RowText → Option Attribute
-attribute_listed (of_relationship row) = if is_attribute row then Some (relationship_attribute row) else None
-attribute_listed (of_concrete row) = if is_concrete_attribute row then Some (concrete_attribute row) else None
+attribute_listed (of_relationship row) =
+    if is_attribute row then Some (relationship_attribute row) else None
+attribute_listed (of_concrete row) =
+    if is_concrete_attribute row then Some (concrete_attribute row) else None
 attribute_listed other = None
 
--- reference set and component of the row, if it is an active member row
+-- the reference set and the component in the row, if it is an active member row
 abbrev pub member_listed : RowText → Option (ℕ × ℕ)
 member_listed row =
-    option_and_then (λ (row : MemberRow). if row.active then Some (row.refset_id, row.referenced_component_id) else None) (member_in row)
+    option_and_then (λ (row : MemberRow). if row.active then Some
+    (row.refset_id, row.referenced_component_id) else None) (member_in row)
 
 -- the lists that a load makes of `rows`
 abbrev pub listed_of : List RowText → ReleaseLists

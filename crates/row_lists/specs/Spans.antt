@@ -1,8 +1,8 @@
--- Texts in a buffer, and where each stands.
+-- Texts in a buffer, and their positions, called spans.
 use Rattle.std.specs.Prelude.{ℕ, ◌≡◌, ◌≤◌, ◌++◌, List, All, length, slice_range, IsCharBoundary}
 use Rattle.row_lists.specs.declared.spans.Span.{Span}
 
--- the text that stands at `span`
+-- the text at `span` in the buffer `texts`
 abbrev pub text_at : List ℕ → Span → List ℕ
 text_at texts span = slice_range texts span.start span.end
 
@@ -30,7 +30,7 @@ pub record IsTextSpanOf (texts : List ℕ) (span : Span) : Type 0 where
   -- the span ends between two characters
   pub end : IsCharBoundary texts span.end
 
--- the text `text` stands at the span
+-- the text at the span is `text`
 pub record StandsAt (texts text : List ℕ) (span : Span) : Type 0 where
   -- the span lies within the buffer
   pub placed : IsSpanOf texts span

@@ -1,4 +1,4 @@
-//! Attribute rows in the order in which they were read.
+//! The list of attribute rows, with the values that are not concepts kept apart.
 ghost use Rattle.std.specs.Prelude.{◌≡◌, ◌<◌, ◌++◌, ◌∷◌, [], IfOk, OnOk, length, slice_index_or};
 ghost use Rattle.rf2_rows.specs.Release.{Attribute};
 ghost use Rattle.rf2_rows.specs.Rows.{value_lent};
@@ -15,14 +15,15 @@ use sctid::SctId;
 use std::alloc::{AllocError, Global};
 use std::marker::Model;
 
-/// The value of an attribute: a concept, or the index of a value that is not a concept.
+/// The value of a stored attribute row: a concept, or an index into the list of values that are not
+/// concepts.
 #[derive(Clone, Copy)]
 enum KeptValue {
     Concept(SctId),
     Concrete(usize),
 }
 
-/// An attribute row as the program keeps it: source, type, group and value.
+/// An attribute row as it is stored: source, type, relationship group number and value.
 #[derive(Clone, Copy)]
 struct KeptRow {
     source: SctId,
@@ -31,7 +32,7 @@ struct KeptRow {
     value: KeptValue,
 }
 
-/// An attribute row as it was read; it borrows its text.
+/// An attribute row as callers see it. A value that is a text is borrowed.
 #[derive(Clone, Copy)]
 pub struct ReadRow<'a> {
     pub source: SctId,
@@ -40,7 +41,8 @@ pub struct ReadRow<'a> {
     pub value: Value<'a>,
 }
 
-/// Attribute rows in the order in which they were read. Contracts see the list of them.
+/// Attribute rows in the order in which they were read. Contracts name this type as the list of the
+/// rows.
 #[derive(Drop)]
 pub struct Attributes {
     rows: Vec<KeptRow>,
@@ -71,17 +73,18 @@ impl Attributes {
         }
     }
 
-    /// The number of rows.
+    /// Returns the number of rows.
     pub fn len(&self) -> usize
         ensures { result ≡ length self.now }
     {
         self.rows.len()
     }
 
-    /// The row at index `place`.
+    /// Returns the row at index `place`.
     pub fn row(&self, place: usize) -> ReadRow<'_>
         requires { place < length self.now }
-        ensures { (default : Attribute) → attribute_read result ≡ slice_index_or self.now place default }
+        ensures { (default : Attribute)
+            → attribute_read result ≡ slice_index_or self.now place default }
     {
         let row = self.rows[place];
         ReadRow {
@@ -92,7 +95,7 @@ impl Attributes {
         }
     }
 
-    /// Adds a row.
+    /// Appends a row with these four columns. Copies a value that is a text.
     pub(crate) fn push(
         &mut self,
         source: SctId,
@@ -100,7 +103,12 @@ impl Attributes {
         group: u32,
         value: &Value<'_>,
     ) -> Result<(), AllocError>
-        ensures { OnOk result (self.new ≡ self.old ++ record { source = source; type_id = type_id; group = group; value = value_lent value.now } ∷ []) }
+        ensures { OnOk result (self.new ≡ self.old ++ record {
+          source = source;
+          type_id = type_id;
+          group = group;
+          value = value_lent value.now;
+        } ∷ []) }
     {
         let kept = keep_value(&mut self.concrete, value)?;
         self.rows.push(KeptRow {
@@ -112,15 +120,16 @@ impl Attributes {
         Ok(())
     }
 
-    /// Keeps the rows that were made of chosen rows of the release. For each row of the release, `marks` says
-    /// which list it is in, and `choices` whether it is chosen.
+    /// Keeps only the attribute rows whose row in the files is chosen. For each row of the files,
+    /// `marks` says which list it is in, and `choices` whether it is chosen.
     pub(crate) fn choose(
         &mut self,
         alloc: Global,
         marks: &[Listing],
         choices: &[bool],
     ) -> Result<(), AllocError>
-        ensures { OnOk result (self.new ≡ items_chosen (in_list Listing.Attribute marks.now) choices.now self.old) }
+        ensures { OnOk result (self.new ≡ items_chosen (in_list Listing.Attribute marks.now)
+            choices.now self.old) }
     {
         self.rows = chosen_items(
             alloc,
@@ -133,7 +142,7 @@ impl Attributes {
     }
 }
 
-// Keeps a value. Adds it at the end of `concrete` if it is not a concept.
+// Stores `value`: appends it to `concrete` if it is not a concept. Returns the stored form.
 fn keep_value(concrete: &mut ConcreteValues, value: &Value<'_>) -> Result<KeptValue, AllocError>
     ensures grown { Extends concrete.old concrete.new }
     ensures value { IfOk result (λ kept. value_in concrete.new kept ≡ value_lent value.now) }
@@ -152,7 +161,7 @@ fn keep_value(concrete: &mut ConcreteValues, value: &Value<'_>) -> Result<KeptVa
     }
 }
 
-// Lends a kept value with its text.
+// Returns the value that the stored form `value` means; a text is borrowed from `concrete`.
 fn lend_value(concrete: &ConcreteValues, value: KeptValue) -> Value<'_>
     requires { IsWithinValues concrete.now value }
     ensures { value_lent result ≡ value_in concrete.now value }
@@ -163,7 +172,7 @@ fn lend_value(concrete: &ConcreteValues, value: KeptValue) -> Value<'_>
     }
 }
 
-// The value of an attribute for a value that is not a concept.
+// Converts a value that is not a concept into a value of an attribute.
 fn as_value(value: LentConcrete<'_>) -> Value<'_>
     ensures { value_lent result ≡ concrete_value (concrete_lent value.entry) }
 {

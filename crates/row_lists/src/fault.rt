@@ -1,34 +1,35 @@
-//! The faults for which a list of files is not a release.
+//! The faults for which a load refuses a list of files.
 use rf2_rows::RowFault;
 use sctid::SctId;
 use std::alloc::{AllocError, AllocFailed};
 use thiserror::Error;
 
-/// The first fault of a list of files, or want of memory. A `file` is an index in the list that the caller
-/// gave, from 0, and a `line` is the number of a line in that file, from 1.
+/// Why a load failed: the first fault of a list of files, or want of memory. A `file` is an index
+/// into the caller's list of files, from 0, and a `line` is the number of a line in that file, from
+/// 1.
 #[derive(Clone, Copy, Debug, PartialEq, Eq, Error)]
 pub enum LoadFault {
     /// No file of the list has the name of a Concept file. A load looks for this fault first.
     #[error("there is no Snapshot file of concepts")]
     NoConceptFile,
-    /// The first line is not the header of the file's kind, or there is no line.
+    /// The first line is not the header of the file's kind, or the file has no line.
     #[error("file {file}: the first line is not the header of its kind")]
     Header {
         /// The file.
         file: usize,
     },
-    /// A line is not a row of its kind.
+    /// A line is not a row of the file's kind.
     #[error("file {file}, line {line}: {fault}")]
     Row {
         /// The file.
         file: usize,
         /// The line.
         line: u64,
-        /// The fault of the row.
+        /// The first fault of the row.
         fault: RowFault,
     },
-    /// An earlier row of the same kind, active or not, has the same identifier and the same effective
-    /// time, and differs in another column.
+    /// An earlier row of the same kind, active or not, has the same identifier and the same
+    /// effective time, and differs in another column.
     #[error("file {file}, line {line}: the row conflicts with an earlier one")]
     Conflict {
         /// The file.
@@ -36,7 +37,8 @@ pub enum LoadFault {
         /// The line of the later row.
         line: u64,
     },
-    /// The line ends past the limit of bytes of a file, or its row is past the limit of rows of its kind.
+    /// The line ends past the limit of bytes of a file, or its row is one more than the limit of
+    /// rows of its kind.
     #[error("file {file}, line {line}: more than the limits allow")]
     TooMany {
         /// The file.
@@ -44,16 +46,17 @@ pub enum LoadFault {
         /// The first line past the limit.
         line: u64,
     },
-    /// This concept reaches itself by is-a rows, and is the least that does. A load looks for this fault last.
+    /// This concept is its own descendant by is-a rows, and has the least identifier of all such
+    /// concepts. A load looks for this fault last.
     #[error("concept {} is its own descendant", .0.number())]
     Cycle(SctId),
-    /// The device failed at the file, or, if there is none, when it was to list the files.
+    /// The file, or the list of files, could not be read.
     #[error("a file could not be read")]
     Device {
         /// The file, or `None` if the files could not be listed.
         file: Option<usize>,
     },
-    /// A growth of memory was refused.
+    /// Memory was refused.
     #[error("out of memory")]
     Memory,
 }
@@ -62,7 +65,7 @@ impl LoadFault {
     ghost use Rattle.std.specs.Prelude.{◌≡◌};
     ghost use Rattle.row_lists.specs.FaultNumbers.{fault_number};
 
-    /// The number of the fault, from 1 to 8.
+    /// Returns the number of the fault, from 1 to 8.
     pub fn number(self) -> u8
         ensures { result ≡ fault_number self }
     {

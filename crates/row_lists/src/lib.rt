@@ -1,5 +1,6 @@
-//! The lists that a load makes of the rows of a release, by what each row itself says; or the fault for which a
-//! list of files is not a release.
+//! The lists that a load makes of the rows of a release. A row goes into a list by what the row
+//! itself says, before it is known which concepts are in force. Also has the faults for which a
+//! load refuses files.
 #![tactic(auto)]
 
 mod attributes;

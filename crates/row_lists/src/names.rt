@@ -1,4 +1,4 @@
-//! Name rows in the order in which they were read, with their texts in one buffer.
+//! The list of name rows, with their texts in one buffer.
 ghost use Rattle.std.specs.Prelude.{◌≡◌, ◌<◌, ◌++◌, ◌∷◌, [], OnOk, filter, length, slice_index_or};
 ghost use Rattle.rf2_rows.specs.Release.{Name};
 ghost use Rattle.row_lists.specs.ChosenLists.{in_list, items_chosen};
@@ -11,8 +11,8 @@ use sctid::SctId;
 use std::alloc::{AllocError, Global};
 use std::marker::Model;
 
-/// A name row as the program keeps it: the description, the concept that it names, and the places of its texts
-/// in the buffer.
+/// A name row as it is stored: the description's identifier, the concept that it names, and the
+/// spans of its language code and its term in the buffer.
 #[derive(Clone, Copy)]
 struct NameRow {
     id: SctId,
@@ -21,7 +21,7 @@ struct NameRow {
     term: Span,
 }
 
-/// A name row as it was read; it borrows its texts.
+/// A name row as callers see it. The texts are borrowed.
 #[derive(Clone, Copy)]
 pub struct ReadName<'a> {
     pub id: SctId,
@@ -30,11 +30,11 @@ pub struct ReadName<'a> {
     pub term: &'a str,
 }
 
-/// A set of concepts, which it tells by their identifiers.
+/// A set of concepts that can be asked by identifier.
 pub trait KnownConcepts {
     ghost use Rattle.std.specs.Prelude.{◌≡◌, ℕ, Bool};
 
-    /// The concept with the identifier is in the set.
+    /// Whether the concept with the identifier is in the set.
     ghost knows: { Self → ℕ → Bool };
 
     /// Whether the concept with the identifier `id` is in the set.
@@ -42,11 +42,12 @@ pub trait KnownConcepts {
         ensures { result ≡ knows self.now id };
 }
 
-/// Name rows in the order in which they were read. Contracts see the list of them.
+/// Name rows, which are active fully specified names, in the order in which they were read.
+/// Contracts name this type as the list of the rows.
 #[derive(Drop)]
 pub struct Names {
     rows: Vec<NameRow>,
-    // the language code and the term of each row, one after another
+    // the language code and the term of each row, joined without separators
     texts: String,
 }
 
@@ -73,14 +74,14 @@ impl Names {
         }
     }
 
-    /// The number of rows.
+    /// Returns the number of rows.
     pub fn len(&self) -> usize
         ensures { result ≡ length self.now }
     {
         self.rows.len()
     }
 
-    /// Adds a row.
+    /// Appends a row. `id` is the description's identifier. Copies the texts.
     pub(crate) fn push(
         &mut self,
         id: SctId,
@@ -88,7 +89,12 @@ impl Names {
         language: &str,
         term: &str,
     ) -> Result<(), AllocError>
-        ensures { OnOk result (self.new ≡ self.old ++ record { id = id; concept = concept; language = language.now; term = term.now } ∷ []) }
+        ensures { OnOk result (self.new ≡ self.old ++ record {
+          id = id;
+          concept = concept;
+          language = language.now;
+          term = term.now;
+        } ∷ []) }
     {
         let language = push_text(&mut self.texts, language)?;
         let term = push_text(&mut self.texts, term)?;
@@ -101,8 +107,8 @@ impl Names {
         Ok(())
     }
 
-    /// Keeps the rows that were made of chosen rows of the release. For each row of the release, `marks` says
-    /// which list it is in, and `choices` whether it is chosen.
+    /// Keeps only the name rows whose row in the files is chosen. For each row of the files,
+    /// `marks` says which list it is in, and `choices` whether it is chosen.
     #[tactic(auto, using(crate::proofs::NameLemmas::rows_chosen))]
     pub(crate) fn choose(
         &mut self,
@@ -110,13 +116,14 @@ impl Names {
         marks: &[Listing],
         choices: &[bool],
     ) -> Result<(), AllocError>
-        ensures { OnOk result (self.new ≡ items_chosen (in_list Listing.Name marks.now) choices.now self.old) }
+        ensures { OnOk result (self.new ≡ items_chosen (in_list Listing.Name marks.now) choices.now
+            self.old) }
     {
         self.rows = chosen_items(alloc, self.rows.as_slice(), marks, Listing::Name, choices)?;
         Ok(())
     }
 
-    /// The row at index `place`.
+    /// Returns the row at index `place`.
     #[tactic(auto, using(crate::proofs::NameLemmas::rows_read))]
     pub fn row(&self, place: usize) -> ReadName<'_>
         requires { place < length self.now }
@@ -131,7 +138,8 @@ impl Names {
         }
     }
 
-    /// Keeps the rows of `concepts`. The texts of the other rows stay in the buffer.
+    /// Keeps only the rows that name a concept of `concepts`. The texts of the removed rows stay in
+    /// the buffer.
     pub fn retain_among<C: KnownConcepts>(&mut self, concepts: &C)
         ensures { self.new ≡ filter (λ (name : Name). C.knows concepts.now name.concept) self.old }
     {
@@ -139,7 +147,7 @@ impl Names {
     }
 }
 
-// The language code of a row.
+// Returns the language code of `row`.
 fn language_of<'a>(texts: &'a str, row: &NameRow) -> &'a str
     requires { IsPlaced texts.now row.now }
     ensures { result.now ≡ (name_in texts.now row.now).language }
@@ -147,7 +155,7 @@ fn language_of<'a>(texts: &'a str, row: &NameRow) -> &'a str
     row.language.text_in(texts)
 }
 
-// The term of a row.
+// Returns the term of `row`.
 fn term_of<'a>(texts: &'a str, row: &NameRow) -> &'a str
     requires { IsPlaced texts.now row.now }
     ensures { result.now ≡ (name_in texts.now row.now).term }
@@ -155,7 +163,7 @@ fn term_of<'a>(texts: &'a str, row: &NameRow) -> &'a str
     row.term.text_in(texts)
 }
 
-// Whether the concept of a row is in `concepts`.
+// Whether the concept that `row` names is in `concepts`.
 fn is_row_among<C: KnownConcepts>(concepts: &C, row: &NameRow) -> bool
     ensures { result ≡ C.knows concepts.now row.now.concept }
 {

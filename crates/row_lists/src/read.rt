@@ -4,21 +4,23 @@ ghost use Rattle.row_lists.specs.ListsRead.{AreFew, read_in};
 
 use crate::row_lists::RowLists;
 
-/// The greatest number of rows that are numbered. Files that a source tells never have more within the limits.
-/// About other files nothing is known, so a load counts their rows before it numbers them.
+/// The greatest number of rows that a release may have. The limits of a load never allow more.
+/// Contracts state this only for files whose bytes the source tells, so a load also checks it when
+/// it runs.
 pub const MOST_ROWS: u64 = 68_000_000;
 
-/// The lists made of the chosen rows of files, and the number of all rows.
+/// What reading the files of a release yields: the lists made of the chosen rows, and the number of
+/// all rows.
 #[derive(Drop)]
 pub struct ReadRows {
     /// The lists made of the chosen rows.
     pub lists: RowLists,
-    /// The number of rows, chosen or not.
+    /// The number of rows in the files, chosen or not.
     pub count: u64,
 }
 
 impl ReadRows {
-    /// Whether the rows and the items of each list are few enough to number.
+    /// Whether there are at most `MOST_ROWS` rows, and no list has more items than there are rows.
     pub fn are_few(&self) -> bool
         ensures few { result ≡ true → AreFew self.now.count (read_in self.now.lists) }
         ensures told { AreFew self.now.count (read_in self.now.lists) → result ≡ true }

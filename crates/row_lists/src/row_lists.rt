@@ -1,10 +1,11 @@
-//! The lists that a load makes of the rows that it reads, by what each row itself says.
+//! The lists that a load makes of the rows that it reads. A row goes into a list by what the row
+//! itself says.
 ghost use Rattle.std.specs.Prelude.{◌≡◌, ◌&&◌, ◌==◌, [], IfOk, OnOk};
 ghost use Rattle.rf2_rows.specs.RowTexts.{of_concept, of_concrete, of_description, of_member, of_relationship, text_in};
 ghost use Rattle.rf2_rows.specs.Rows.{concrete_text, description_text};
 ghost use Rattle.row_lists.specs.InForce.{is_name as is_name_row};
 ghost use Rattle.row_lists.specs.ReleaseLists.{listed_of, listing_of};
-ghost use Rattle.row_lists.specs.ChosenLists.{filled, in_list, items_chosen, listed_behind, listed_chosen, same_listing};
+ghost use Rattle.row_lists.specs.ChosenLists.{filled, in_list, items_chosen, listed_after, listed_chosen, same_listing};
 ghost use Rattle.row_lists.specs.ListsRead.{listed_in};
 ghost use Rattle.row_lists.specs.Metadata.{inferred_relationship};
 
@@ -14,16 +15,17 @@ use rf2_rows::{ConceptRow, ConcreteRow, DescriptionRow, MemberRow, RelationshipR
 use sctid::SctId;
 use std::alloc::{AllocError, Global};
 
-// |Is a|, the type of the rows that make the hierarchy.
+// |Is a|, the type of the relationships that form the hierarchy.
 const IS_A: u64 = 116680003;
 
-// |Inferred relationship|, the characteristic type of the rows that count.
+// |Inferred relationship|, the characteristic type of the relationships in the inferred view. Other
+// relationships are ignored.
 const INFERRED: u64 = 900000000000011006;
 
 // |Fully specified name|, the type of the descriptions that name concepts.
 const FULLY_SPECIFIED_NAME: u64 = 900000000000003001;
 
-/// The list that a row is in.
+/// Which list a row is in; `Nowhere` if it is in none.
 #[derive(Clone, Copy, PartialEq, Eq)]
 pub enum Listing {
     Nowhere,
@@ -35,7 +37,9 @@ pub enum Listing {
     Inactive,
 }
 
-/// The lists that a load makes of the rows of a release, by what each row itself says.
+/// The lists that a load makes of the rows of a release. A row goes into a list by what the row
+/// itself says: whether the concepts that it names are active is checked only once all rows are
+/// read.
 #[derive(Drop)]
 pub struct RowLists {
     /// The active concepts.
@@ -44,18 +48,19 @@ pub struct RowLists {
     pub inactive_concepts: Vec<SctId>,
     /// The active fully specified names.
     pub names: Names,
-    /// Child and parent of the active, inferred is-a rows.
+    /// The child and the parent of each active, inferred is-a row.
     pub isa_ends: Vec<(SctId, SctId)>,
-    /// The other active, inferred rows of both kinds of relationship.
+    /// The active, inferred attribute rows, from the relationship files and the concrete values
+    /// files.
     pub attributes: Attributes,
-    /// Reference set and component of the active member rows.
+    /// The reference set and the component of each active member row.
     pub member_ends: Vec<(SctId, SctId)>,
-    // for each row, the list that it is in
+    // for each row that was added, the list that it is in
     marks: Vec<Listing>,
 }
 
 impl RowLists {
-    /// Creates the lists of no rows.
+    /// Creates empty lists.
     pub fn new(alloc: Global) -> RowLists
         ensures { listed_in result ≡ listed_of [] }
     {
@@ -70,9 +75,11 @@ impl RowLists {
         }
     }
 
-    /// Adds a row to the list that it belongs to.
+    /// Appends what is needed of `row` to the list that it belongs to, if there is one. Fails if
+    /// memory is refused.
     pub fn add(&mut self, row: &Row<'_>) -> Result<(), AllocError>
-        ensures { OnOk result (listed_in self.new ≡ listed_behind (listed_in self.old) (text_in row.now)) }
+        ensures { OnOk result (listed_in self.new
+            ≡ listed_after (listed_in self.old) (text_in row.now)) }
     {
         let listing = match row {
             Row::Concept(row) => self.add_concept(row)?,
@@ -85,9 +92,11 @@ impl RowLists {
         Ok(())
     }
 
+    // Appends the concept to the active or the inactive concepts. Returns that list.
     fn add_concept(&mut self, row: &ConceptRow) -> Result<Listing, AllocError>
         ensures list { IfOk result (λ listing. listing ≡ listing_of (of_concept row.now)) }
-        ensures lists { OnOk result (listed_in self.new ≡ filled (listed_in self.old) (of_concept row.now)) }
+        ensures lists { OnOk result (listed_in self.new
+            ≡ filled (listed_in self.old) (of_concept row.now)) }
     {
         if row.active {
             self.concepts.push(row.id)?;
@@ -97,9 +106,12 @@ impl RowLists {
         Ok(Listing::Inactive)
     }
 
+    // Appends an active fully specified name to the names. Returns the list of the row.
     fn add_description(&mut self, row: &DescriptionRow<'_>) -> Result<Listing, AllocError>
-        ensures list { IfOk result (λ listing. listing ≡ listing_of (of_description (description_text row.now))) }
-        ensures lists { OnOk result (listed_in self.new ≡ filled (listed_in self.old) (of_description (description_text row.now))) }
+        ensures list { IfOk result (λ listing. listing
+            ≡ listing_of (of_description (description_text row.now))) }
+        ensures lists { OnOk result (listed_in self.new
+            ≡ filled (listed_in self.old) (of_description (description_text row.now))) }
     {
         if !is_name(row) {
             return Ok(Listing::Nowhere);
@@ -109,9 +121,12 @@ impl RowLists {
         Ok(Listing::Name)
     }
 
+    // Appends an active, inferred row to the is-a rows or the attribute rows. Returns the list of
+    // the row.
     fn add_relationship(&mut self, row: &RelationshipRow) -> Result<Listing, AllocError>
         ensures list { IfOk result (λ listing. listing ≡ listing_of (of_relationship row.now)) }
-        ensures lists { OnOk result (listed_in self.new ≡ filled (listed_in self.old) (of_relationship row.now)) }
+        ensures lists { OnOk result (listed_in self.new
+            ≡ filled (listed_in self.old) (of_relationship row.now)) }
     {
         if !is_inferred(row.active, row.characteristic_type_id) {
             return Ok(Listing::Nowhere);
@@ -126,9 +141,13 @@ impl RowLists {
         Ok(Listing::Attribute)
     }
 
+    // Appends an active, inferred row to the attribute rows. A concrete value of the type |Is a| is
+    // ignored. Returns the list of the row.
     fn add_concrete(&mut self, row: &ConcreteRow<'_>) -> Result<Listing, AllocError>
-        ensures list { IfOk result (λ listing. listing ≡ listing_of (of_concrete (concrete_text row.now))) }
-        ensures lists { OnOk result (listed_in self.new ≡ filled (listed_in self.old) (of_concrete (concrete_text row.now))) }
+        ensures list { IfOk result (λ listing. listing
+            ≡ listing_of (of_concrete (concrete_text row.now))) }
+        ensures lists { OnOk result (listed_in self.new
+            ≡ filled (listed_in self.old) (of_concrete (concrete_text row.now))) }
     {
         let ConcreteRow { value, .. } = row;
         if !is_inferred(row.active, row.characteristic_type_id) || row.type_id.number() == IS_A {
@@ -139,9 +158,11 @@ impl RowLists {
         Ok(Listing::Attribute)
     }
 
+    // Appends an active member row to the members. Returns the list of the row.
     fn add_member(&mut self, row: &MemberRow) -> Result<Listing, AllocError>
         ensures list { IfOk result (λ listing. listing ≡ listing_of (of_member row.now)) }
-        ensures lists { OnOk result (listed_in self.new ≡ filled (listed_in self.old) (of_member row.now)) }
+        ensures lists { OnOk result (listed_in self.new
+            ≡ filled (listed_in self.old) (of_member row.now)) }
     {
         if !row.active {
             return Ok(Listing::Nowhere);
@@ -151,9 +172,11 @@ impl RowLists {
         Ok(Listing::Member)
     }
 
-    /// Keeps the items that were made of chosen rows.
+    /// Keeps in each list only the items whose row is chosen. `choices` says for each row that was
+    /// added whether it is chosen.
     pub fn choose(&mut self, alloc: Global, choices: &[bool]) -> Result<(), AllocError>
-        ensures { OnOk result (listed_in self.new ≡ listed_chosen (listed_in self.old) choices.now) }
+        ensures { OnOk result (listed_in self.new
+            ≡ listed_chosen (listed_in self.old) choices.now) }
     {
         let marks = self.marks.as_slice();
         self.concepts = chosen_items(
@@ -189,8 +212,9 @@ impl RowLists {
     }
 }
 
-/// Returns the items of `list` whose rows are chosen. For each row, `marks` says which list it is in, and
-/// `choices` whether it is chosen.
+/// Returns the items of `items` whose rows are chosen. `items` is the list `list`, which has one
+/// item for each of its rows. For each row, `marks` says which list it is in, and `choices` whether
+/// it is chosen.
 pub fn chosen_items<T: Copy>(
     alloc: Global,
     items: &[T],
@@ -198,7 +222,8 @@ pub fn chosen_items<T: Copy>(
     list: Listing,
     choices: &[bool],
 ) -> Result<Vec<T>, AllocError>
-    ensures { IfOk result (λ chosen. chosen.items ≡ items_chosen (in_list list marks.now) choices.now items.now) }
+    ensures { IfOk result (λ chosen. chosen.items
+        ≡ items_chosen (in_list list marks.now) choices.now items.now) }
 {
     let mut chosen = Vec::new(alloc);
     let mut left = items;
@@ -221,21 +246,21 @@ pub fn chosen_items<T: Copy>(
     Ok(chosen)
 }
 
-// Whether `one` and `other` are one list.
+// Whether `one` and `other` name the same list.
 fn is_listing(one: Listing, other: Listing) -> bool
     ensures { result ≡ same_listing one other }
 {
     one == other
 }
 
-// Whether a row of a relationship says of itself that it counts: it is active and inferred.
+// Whether a relationship row or a concrete value row is active and inferred, by its two columns.
 fn is_inferred(active: bool, characteristic_type: SctId) -> bool
     ensures { result ≡ (active && (characteristic_type == inferred_relationship)) }
 {
     active && characteristic_type.number() == INFERRED
 }
 
-// Whether a description row says of itself that it names a concept: it is active and a fully specified name.
+// Whether a description row is an active fully specified name.
 fn is_name(row: &DescriptionRow<'_>) -> bool
     ensures { result ≡ is_name_row (description_text row.now) }
 {

@@ -1,27 +1,27 @@
-//! Texts in a buffer, and the spans at which they stand.
+//! Spans: the positions of texts that are joined in one buffer.
 ghost use Rattle.std.specs.Prelude.{◌≡◌, ◌≤◌, ◌+◌, ◌++◌, IfOk, OnErr, OnOk, string_bytes};
 ghost use Rattle.row_lists.specs.Spans.{IsSpanOf, IsTextSpanOf, StandsAt, text_at};
 
 use std::alloc::AllocError;
 
-/// Where a text stands in a buffer.
+/// The position of a text in a buffer.
 #[derive(Clone, Copy)]
 pub struct Span {
-    /// The index of its first byte.
+    /// The index of the text's first byte.
     pub start: usize,
-    /// The index after its last byte.
+    /// The index after the text's last byte.
     pub end: usize,
 }
 
 impl Span {
-    /// The index of its first byte.
+    /// Returns the index of the text's first byte.
     pub fn start(self) -> usize
         ensures { result ≡ self.start }
     {
         self.start
     }
 
-    /// The number of its bytes.
+    /// Returns the length of the text in bytes.
     pub fn len(self) -> usize
         requires { self.start ≤ self.end }
         ensures { self.start + result ≡ self.end }
@@ -29,7 +29,7 @@ impl Span {
         self.end - self.start
     }
 
-    /// Its bytes in `texts`.
+    /// Returns the bytes of the text. `texts` is the buffer.
     pub fn bytes_in<'a>(self, texts: &'a [u8]) -> &'a [u8]
         requires { IsSpanOf texts.now self }
         ensures { result.now ≡ text_at texts.now self }
@@ -37,7 +37,7 @@ impl Span {
         &texts[self.start..self.end]
     }
 
-    /// Its text in `texts`.
+    /// Returns the text. `texts` is the buffer.
     pub fn text_in<'a>(self, texts: &'a str) -> &'a str
         requires { IsTextSpanOf texts.now self }
         ensures { result.now ≡ text_at texts.now self }
@@ -46,7 +46,7 @@ impl Span {
     }
 }
 
-/// Adds a text at the end of `texts`. Returns where it stands.
+/// Appends `text` to the buffer `texts`. Returns its span there.
 #[tactic(auto, using(crate::proofs::SpanLemmas::ends_of_text))]
 pub fn push_text(texts: &mut String, text: &str) -> Result<Span, AllocError>
     ensures grown { OnOk result (string_bytes texts.new ≡ string_bytes texts.old ++ text.now) }
@@ -60,7 +60,7 @@ pub fn push_text(texts: &mut String, text: &str) -> Result<Span, AllocError>
     Ok(Span { start, end })
 }
 
-/// Adds the bytes of a text at the end of `texts`. Returns where they stand.
+/// Appends the bytes `text` to the buffer `texts`. Returns their span there.
 pub fn push_bytes(texts: &mut Vec<u8>, text: &[u8]) -> Result<Span, AllocError>
     ensures grown { OnOk result (texts.new.items ≡ texts.old.items ++ text.now) }
     ensures same { OnErr result (texts.new.items ≡ texts.old.items) }

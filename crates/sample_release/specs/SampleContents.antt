@@ -1,10 +1,10 @@
--- The contents that the built-in files load as.
+-- The contents of the sample release.
 use Rattle.std.specs.Prelude.{ℕ, List, [], ◌∷◌, codes}
 use Rattle.constraint_tree.specs.Sample.{sample}
 use Rattle.held_release.specs.Contents.{Contents}
 
--- the contents of the sample release, with English names first. One concept is inactive, all five files are read, and
--- six of their rows are in no list of the release
+-- the contents of the sample release, if English names are preferred. One concept is inactive, all
+-- five files are read, and six of their rows are in none of the five lists
 abbrev pub sample_contents : Contents
 sample_contents = record {
   release = sample;

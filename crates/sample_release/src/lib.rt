@@ -1,4 +1,4 @@
-//! The sample release: a small release of eleven concepts, which the program has built in.
+//! The sample release: a small release of eleven concepts, which is built into the program.
 #![tactic(auto)]
 
 ghost use Rattle.std.specs.Prelude.{◌≡◌, Ok, codes, map};
@@ -9,9 +9,11 @@ ghost use Rattle.sample_release.specs.SampleContents.{sample_contents, sample_na
 
 use release_files::NamedBytes;
 
-/// Returns the five files of the sample release, in the byte order of their names. Their lines end in CR LF.
+/// Returns the five files of the sample release, in the byte order of their names. Their lines end
+/// in CR LF.
 pub fn sample_files() -> [NamedBytes<'static>; 5]
-    ensures release { load_of standard_limits (codes "en") (map file_text result) ≡ Ok sample_contents }
+    ensures release { load_of standard_limits (codes "en") (map file_text result)
+        ≡ Ok sample_contents }
     ensures names { map (λ (file : FileText). file.name) (map file_text result) ≡ sample_names }
 {
     [
@@ -38,13 +40,13 @@ pub fn sample_files() -> [NamedBytes<'static>; 5]
     ]
 }
 
-// The members of one simple reference set: three, of which the last is inactive.
+// Members of one simple reference set: three rows, of which the last names an inactive concept.
 const MEMBERS: &[u8] = b"id\teffectiveTime\tactive\tmoduleId\trefsetId\treferencedComponentId\r\n\
 00000000-0000-4000-8000-000000000001\t20240101\t1\t900000000000207008\t108003\t101009\r\n\
 00000000-0000-4000-8000-000000000002\t20240101\t1\t900000000000207008\t108003\t103007\r\n\
 00000000-0000-4000-8000-000000000003\t20240101\t1\t900000000000207008\t108003\t109006\r\n";
 
-// Ten active concepts and an inactive one.
+// Ten active concepts, and an inactive one.
 const CONCEPTS: &[u8] = b"id\teffectiveTime\tactive\tmoduleId\tdefinitionStatusId\r\n\
 138875005\t20240101\t1\t900000000000207008\t900000000000074008\r\n\
 100005\t20240101\t1\t900000000000207008\t900000000000074008\r\n\
@@ -58,7 +60,7 @@ const CONCEPTS: &[u8] = b"id\teffectiveTime\tactive\tmoduleId\tdefinitionStatusI
 108003\t20240101\t1\t900000000000207008\t900000000000074008\r\n\
 109006\t20240101\t0\t900000000000207008\t900000000000074008\r\n";
 
-// A synonym, then fully specified names, of which the last is Danish.
+// A synonym, then ten fully specified names, of which the last is Danish.
 const DESCRIPTIONS: &[u8] =
     b"id\teffectiveTime\tactive\tmoduleId\tconceptId\tlanguageCode\ttypeId\tterm\tcaseSignificanceId\r\n\
 100014\t20240101\t1\t900000000000207008\t100005\ten\t900000000000013009\tAlpha\t900000000000448009\r\n\
@@ -73,14 +75,14 @@ const DESCRIPTIONS: &[u8] =
 109010\t20240101\t1\t900000000000207008\t138875005\ten\t900000000000003001\tRoot (test)\t900000000000448009\r\n\
 110017\t20240101\t1\t900000000000207008\t103007\tda\t900000000000003001\tDelta (fund)\t900000000000448009\r\n";
 
-// Two concrete values.
+// Two rows with a number as value.
 const CONCRETE_VALUES: &[u8] =
     b"id\teffectiveTime\tactive\tmoduleId\tsourceId\tvalue\trelationshipGroup\ttypeId\tcharacteristicTypeId\tmodifierId\r\n\
 114022\t20240101\t1\t900000000000207008\t102002\t#2.5\t0\t105000\t900000000000011006\t900000000000451002\r\n\
 117026\t20240101\t1\t900000000000207008\t103007\t#3\t1\t105000\t900000000000011006\t900000000000451002\r\n";
 
-// Ten is-a rows, seven attribute rows, and three rows that are not in force: a stated one, one into an
-// inactive concept, and an inactive one.
+// Ten is-a rows, seven attribute rows, and three rows that are not in force: a stated row, a row
+// whose destination is inactive, and an inactive row.
 const RELATIONSHIPS: &[u8] =
     b"id\teffectiveTime\tactive\tmoduleId\tsourceId\tdestinationId\trelationshipGroup\ttypeId\tcharacteristicTypeId\tmodifierId\r\n\
 100022\t20240101\t1\t900000000000207008\t100005\t138875005\t0\t116680003\t900000000000011006\t900000000000451002\r\n\

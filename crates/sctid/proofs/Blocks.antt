@@ -1,6 +1,7 @@
--- A text of digits, read from the left: first the part in front of its whole blocks of eight, and then block
--- by block.
-use Rattle.std.proofs.Common.{◌≡◌, ℕ, ◌+◌, ◌*◌, ◌/◌, ◌%◌, ◌<◌, ◌&&◌, zero, suc, true, false, List, [], ◌∷◌, ◌++◌, length, get_or, take, drop, length-drop, refl, sym, ap, ◌∙◌, arith}
+-- A text of digits, read from the left: first the part in front of the blocks, and then block by block, each of
+-- eight digits.
+use Rattle.std.proofs.Common.{◌≡◌, ℕ, ◌+◌, ◌*◌, ◌/◌, ◌%◌, ◌<◌, ◌&&◌, zero, suc, true, false, List, [], ◌∷◌, ◌++◌}
+use Rattle.std.proofs.Common.{length, get_or, take, drop, length-drop, refl, sym, ap, ◌∙◌, arith}
 use Rattle.std.specs.Char.{is_ascii_digit}
 use Rattle.std.specs.List.{list_all}
 use Rattle.std.specs.Simd.{first_chunks}
@@ -28,13 +29,13 @@ chunk_at (suc k) (suc i) xs within =
     let next : 8 + 8 * i ≡ 8 * suc i = omega arith in
     chunk_at k i (drop 8 xs) (omega arith) ∙ ap (take 8) (drop-drop (8 * i) 8 xs ∙ ap (λ n. drop n xs) next)
 
--- block `i` of the chunks of a text is the text's block at `i`
+-- chunk `i` of a text, cut into chunks of eight from its end on, is `block_at text i`
 pub block_is : (text : List ℕ) (blocks : List (List ℕ)) (i : ℕ) → i < length text / 8
     → blocks ≡ first_chunks 8 (length text / 8) (drop (length text % 8) text) → get_or blocks i [] ≡ block_at text i
 block_is text blocks i within blocks_are =
     ap (λ bs. get_or bs i []) blocks_are ∙ chunk_at (length text / 8) i (drop (length text % 8) text) within
 
--- before the first block, the text so far is the part in front of the blocks
+-- the text up to the first block is the part in front of the blocks
 pub front_is : (text front : List ℕ) → front ≡ take (length text % 8) text → so_far text 0 ≡ front
 front_is text front is =
     let same : length text % 8 + 0 ≡ length text % 8 = omega arith in
@@ -43,11 +44,11 @@ front_is text front is =
 -- a block has eight bytes
 block_long : (text : List ℕ) (i : ℕ) → i < length text / 8 → length (block_at text i) ≡ 8
 block_long text i within =
-    let behind = length-drop (8 * i) (drop (length text % 8) text) in
+    let following = length-drop (8 * i) (drop (length text % 8) text) in
     let front = length-drop (length text % 8) text in
     length-take-le 8 (drop (8 * i) (drop (length text % 8) text)) (omega arith)
 
--- the text so far with one block more is the text so far and this block
+-- the text up to the end of block `i` is the text up to its start, followed by block `i`
 so_far-more : (text : List ℕ) (i : ℕ) → so_far text (i + 1) ≡ so_far text i ++ block_at text i
 so_far-more text i =
     let more : length text % 8 + 8 * (i + 1) ≡ (length text % 8 + 8 * i) + 8 = omega arith in
@@ -55,13 +56,15 @@ so_far-more text i =
     ∙ take-add (length text % 8 + 8 * i) 8 text
     ∙ ap (λ rest. so_far text i ++ take 8 rest) (sym (drop-drop (8 * i) (length text % 8) text))
 
--- a text that begins with a part not made of digits is not made of digits
-pub not_digits : (text : List ℕ) (n : ℕ) → list_all is_ascii_digit (take n text) ≡ false → list_all is_ascii_digit text ≡ false
+-- if the first `n` bytes of a text are not all digits, the text is not all digits
+pub not_digits : (text : List ℕ) (n : ℕ) → list_all is_ascii_digit (take n text) ≡ false
+    → list_all is_ascii_digit text ≡ false
 not_digits text n front =
     ap (list_all is_ascii_digit) (sym (take-append-drop n text))
-    ∙ list_all-append is_ascii_digit (take n text) (drop n text) ∙ ap (λ b. b && list_all is_ascii_digit (drop n text)) front
+    ∙ list_all-append is_ascii_digit (take n text) (drop n text)
+    ∙ ap (λ b. b && list_all is_ascii_digit (drop n text)) front
 
--- the text so far with one block more is digits exactly if the block is, given that the text so far is
+-- if the text up to block `i` is digits, the text up to block `i + 1` is digits exactly if block `i` is
 pub digits-block : (text : List ℕ) (i : ℕ) → list_all is_ascii_digit (so_far text i) ≡ true
     → list_all is_ascii_digit (so_far text (i + 1)) ≡ list_all is_ascii_digit (block_at text i)
 digits-block text i front =
@@ -69,18 +72,23 @@ digits-block text i front =
     ∙ list_all-append is_ascii_digit (so_far text i) (block_at text i)
     ∙ ap (λ b. b && list_all is_ascii_digit (block_at text i)) front
 
--- the value of a text after `n` is the value of its end after that of its beginning
-value_append : (left right : List ℕ) (n : ℕ) → digits_value_after 10 n (left ++ right) ≡ digits_value_after 10 (digits_value_after 10 n left) right
+-- the value of two joined texts, read on from the value `n`, is that of the second text read on from that of the
+-- first
+value_append : (left right : List ℕ) (n : ℕ)
+    → digits_value_after 10 n (left ++ right) ≡ digits_value_after 10 (digits_value_after 10 n left) right
 value_append [] right n = refl
 value_append (byte ∷ left) right n = value_append left right _
 
--- the value of eight digits after `n` is `n` times 10^8 plus their value
-value_after : (n : ℕ) (digit : ℕ → ℕ) → digits_value_after 10 n (block_text digit) ≡ n * 100000000 + digits_value 10 (block_text digit)
+-- the value of eight digits, read on from the value `n`, is `n` times 10^8 plus their value
+value_after : (n : ℕ) (digit : ℕ → ℕ)
+    → digits_value_after 10 n (block_text digit) ≡ n * 100000000 + digits_value 10 (block_text digit)
 value_after n digit = omega arith
 
--- the value with one block more is the value so far times 10^8 plus the value of the block
+-- the value of the text up to block `i + 1` is that of the text up to block `i` times 10^8 plus that of block `i`,
+-- which is digits
 pub value-block : (text : List ℕ) (i : ℕ) → i < length text / 8 → list_all is_ascii_digit (block_at text i) ≡ true →
-    digits_value 10 (so_far text (i + 1)) ≡ digits_value 10 (so_far text i) * 100000000 + digits_value 10 (block_at text i)
+    digits_value 10 (so_far text (i + 1)) ≡ digits_value 10 (so_far text i) * 100000000
+    + digits_value 10 (block_at text i)
 value-block text i within digits =
     let block_is = spelled (block_at text i) (block_long text i within) digits in
     ap (digits_value 10) (so_far-more text i)
@@ -89,9 +97,11 @@ value-block text i within digits =
     ∙ value_after (digits_value 10 (so_far text i)) (digit_in_text (block_at text i))
     ∙ ap (λ block. digits_value 10 (so_far text i) * 100000000 + digits_value 10 block) (sym block_is)
 
--- the check product with one block more is the product of the block times the product so far
+-- if the text up to block `i + 1` is digits, its check product is that of block `i` times that of the text up to
+-- block `i`
 pub product-block : (text : List ℕ) (i : ℕ) → i < length text / 8 → list_all is_ascii_digit (so_far text i) ≡ true
     → list_all is_ascii_digit (block_at text i) ≡ true →
     check_product (so_far text (i + 1)) ≡ times (check_product (block_at text i)) (check_product (so_far text i))
 product-block text i within front digits =
-    ap check_product (so_far-more text i) ∙ check_product-block (so_far text i) (block_at text i) front digits (block_long text i within)
+    ap check_product (so_far-more text i)
+    ∙ check_product-block (so_far text i) (block_at text i) front digits (block_long text i within)

@@ -18,8 +18,8 @@ const PRODUCTS: [[u8; 10]; 10] = [
     [9, 8, 7, 6, 5, 4, 3, 2, 1, 0],
 ];
 
-// How a digit is permuted before it enters the product: a row for each place counted from the
-// right, modulo 8.
+// How a digit is permuted before it enters the product. Row `p` is for the digits at place `p`,
+// counted from the right, modulo 8.
 const PERMUTATIONS: [[u8; 10]; 8] = [
     [0, 1, 2, 3, 4, 5, 6, 7, 8, 9],
     [1, 5, 7, 6, 2, 8, 3, 0, 9, 4],
@@ -31,9 +31,8 @@ const PERMUTATIONS: [[u8; 10]; 8] = [
     [7, 0, 4, 6, 9, 1, 3, 2, 5, 8],
 ];
 
-// The product of two permuted digits that stand side by side, the factor of the right one first: a
-// row for each even place of the right one, modulo 8, and in it an entry for each number that the two
-// can write.
+// The product of two adjacent permuted digits, the right digit's factor first. Row `i` is for a
+// right digit at place `2 * i`, modulo 8. Entry `p` is for the two digits of the number `p`.
 const PAIR_PRODUCTS: [[u8; 100]; 4] = [
     [
         1, 2, 3, 4, 0, 9, 5, 6, 7, 8, 5, 6, 7, 8, 9, 0, 1, 2, 3, 4, 7, 8, 9, 5, 6, 3, 4, 0, 1, 2,
@@ -61,7 +60,7 @@ const PAIR_PRODUCTS: [[u8; 100]; 4] = [
     ],
 ];
 
-/// Multiplies two elements of the dihedral group of order 10.
+/// Returns the product `a * b` in the dihedral group of order 10, whose elements are 0 to 9.
 pub fn times(a: u8, b: u8) -> u8
     requires left { a < 10 }
     requires right { b < 10 }
@@ -71,7 +70,8 @@ pub fn times(a: u8, b: u8) -> u8
     PRODUCTS[usize::from(a)][usize::from(b)]
 }
 
-/// Permutes a digit once for each place that it stands to the left of the check digit.
+/// Permutes `digit` once for each place that it stands to the left of the check digit, which has
+/// the place 0.
 pub fn permuted(place: usize, digit: u8) -> u8
     requires { digit < 10 }
     ensures digit { result ≡ permuted place digit }
@@ -80,12 +80,13 @@ pub fn permuted(place: usize, digit: u8) -> u8
     PERMUTATIONS[place % 8][usize::from(digit)]
 }
 
-/// Multiplies two permuted digits that stand side by side, the factor of the right one first. The digits
-/// write the number `pair`, and the place of the right one is `2 * index`.
+/// Returns the product of two adjacent permuted digits, the right digit's factor first. The two
+/// digits are those of the number `pair`, and the place of the right one is `2 * index`.
 pub fn pair_product(index: usize, pair: u8) -> u8
     requires index { index < 4 }
     requires pair { pair < 100 }
-    ensures product { result ≡ times (permuted (2 * index) (pair % 10)) (permuted (2 * index + 1) (pair / 10)) }
+    ensures product { result ≡ times (permuted (2 * index) (pair % 10))
+        (permuted (2 * index + 1) (pair / 10)) }
     ensures element { result < 10 }
 {
     PAIR_PRODUCTS[index][usize::from(pair)]

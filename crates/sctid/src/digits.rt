@@ -1,5 +1,6 @@
-//! Reads the digits of a text: the number that they write and their check product, in one pass. It reads
-//! blocks of eight digits that end where the text ends, and the part in front of them digit by digit.
+//! Reads a text of digits in one pass: its number and its check product. The text is cut into
+//! blocks of eight digits from its end on, and what is left in front of them is read digit by
+//! digit.
 
 ghost use Rattle.std.specs.Prelude.{◌≡◌, ◌^◌, ◌<◌, ◌≤◌, true, IfSome, is_some, length};
 ghost use Rattle.std.specs.Char.{is_ascii_digit};
@@ -12,13 +13,14 @@ use crate::check::{pair_product, permuted, times};
 /// The number and the check product of a text of digits.
 #[derive(Clone, Copy)]
 pub struct Digits {
-    /// The number that the digits write.
+    /// The digits as a decimal number.
     pub number: u64,
-    /// The product of the permuted digits, the factor of the rightmost first.
+    /// The product of the permuted digits, the factor of the rightmost first. It is 0 exactly if
+    /// the check digit is right.
     pub check_product: u8,
 }
 
-/// Reads a text of at most 18 digits. It answers `None` if a byte is no digit.
+/// Reads a text of at most 18 bytes. Returns `None` if a byte is no decimal digit.
 pub fn read_digits(text: &[u8]) -> Option<Digits>
     requires { length text.now ≤ 18 }
     ensures digits { is_some result ≡ list_all is_ascii_digit text.now }
@@ -30,7 +32,7 @@ pub fn read_digits(text: &[u8]) -> Option<Digits>
     let Some(mut read) = read_front(front) else {
         return None;
     };
-    // The places of eight digits are a whole round of the permutation, so that a block does not change the
+    // The permutation repeats after eight places, so a block of eight digits does not change the
     // product of the digits in front of it.
     for block in blocks {
         if !is_digits(block) {
@@ -45,8 +47,9 @@ pub fn read_digits(text: &[u8]) -> Option<Digits>
     Some(read)
 }
 
-// Reads the part in front of the blocks, digit by digit from the left. Each factor goes in front of the
-// product so far.
+// Reads a text digit by digit from the left: the part in front of the blocks. The factor of each
+// digit goes in front of the product of the digits before it. Returns `None` if a byte is no
+// decimal digit.
 fn read_front(text: &[u8]) -> Option<Digits>
     requires { length text.now ≤ 18 }
     ensures digits { is_some result ≡ list_all is_ascii_digit text.now }
@@ -71,8 +74,8 @@ fn read_front(text: &[u8]) -> Option<Digits>
     })
 }
 
-// Tells whether eight bytes are digits. It looks at each of them whatever the others are, so that it compiles
-// to a few steps for all of them.
+// Whether eight bytes are decimal digits. It tests every byte, even after one that is no digit, so
+// that it compiles to a few steps for all eight.
 fn is_digits(block: &[u8; 8]) -> bool
     ensures { result ≡ list_all is_ascii_digit block.now }
 {
@@ -83,14 +86,15 @@ fn is_digits(block: &[u8; 8]) -> bool
     all
 }
 
-// Reads eight digits, by the numbers of four pairs.
+// Reads eight digits as four numbers of two digits.
 fn read_block(block: &[u8; 8]) -> Digits
     requires { list_all is_ascii_digit block.now ≡ true }
     ensures number { result.number ≡ digits_value 10 block.now }
     ensures product { result.check_product ≡ check_product block.now }
 {
-    // A word has a digit in each byte, the leftmost in the lowest. Ten times the word, and the word
-    // moved down by a byte, add up to the number of a digit and its right neighbour in each byte.
+    // `digits` has a digit in each byte, the leftmost digit in the lowest byte. Ten times `digits`
+    // plus `digits` moved down by a byte has in each byte the number of a digit and its right
+    // neighbour. Every second of these numbers is used.
     let digits = u64::from_le_bytes(*block) - 0x3030_3030_3030_3030;
     let [first, _, second, _, third, _, last, _] = (digits * 10 + digits / 0x100).to_le_bytes();
     let left = times(pair_product(2, second), pair_product(3, first));

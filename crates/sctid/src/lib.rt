@@ -18,8 +18,8 @@ use digits::read_digits;
 use std::marker::Model;
 use thiserror::Error;
 
-/// The kind of component that an identifier names, by its partition (Release File Specification,
-/// "Partition identifier"): the second digit of the partition, in the short and the long form alike.
+/// The kind of component that an identifier names. The second digit of its partition decides it, in
+/// the short and in the long format (Release File Specification, "Partition identifier").
 #[derive(Clone, Copy, Debug, PartialEq, Eq)]
 pub enum Part {
     /// Partitions 00 and 10.
@@ -30,7 +30,7 @@ pub enum Part {
     Relationship,
 }
 
-/// Why a text is no identifier: the first cause, in this order, that holds of it.
+/// Why a text is no identifier: the first of these causes that applies.
 #[derive(Clone, Copy, Debug, PartialEq, Eq, Error)]
 pub enum IdFault {
     /// Fewer than 6 or more than 18 bytes.
@@ -42,11 +42,11 @@ pub enum IdFault {
     /// The first digit is 0.
     #[error("an identifier does not begin with 0")]
     LeadingZero,
-    /// The two digits before the last are none of the six partitions, or they stand for the long
-    /// form, which names a namespace, in fewer than 11 digits.
+    /// The two digits before the last are none of the six partitions; or they stand for the long
+    /// format, which has a namespace, and the text has fewer than 11 digits.
     #[error("the partition is none of 00, 01, 02, 10, 11 and 12, or has no room for its namespace")]
     Partition,
-    /// The check digit does not fit the others.
+    /// The last digit is not the check digit of the others.
     #[error("the check digit does not fit")]
     Check,
 }
@@ -54,7 +54,7 @@ pub enum IdFault {
 impl IdFault {
     ghost use Rattle.sctid.specs.Identifier.{fault_number};
 
-    /// The number of the fault, from 1 in the order in which `parse` looks for faults.
+    /// Returns the number of the fault, from 1, in the order in which `parse` looks for faults.
     pub fn number(self) -> u8
         ensures { result ≡ fault_number self }
     {
@@ -68,9 +68,9 @@ impl IdFault {
     }
 }
 
-/// A valid SNOMED CT identifier (Release File Specification, "Component identifiers"). Contracts see
-/// it as its number, which is below 10^18 and whose decimal text has no fault. Identifiers are in
-/// the order of their numbers.
+/// A valid SNOMED CT identifier (Release File Specification, "Component identifiers"). Contracts
+/// see it as a number below 10^18 whose decimal text is a valid identifier. Identifiers are ordered
+/// by these numbers.
 #[derive(Clone, Copy, Debug, PartialEq, Eq, PartialOrd, Ord, Hash)]
 pub struct SctId {
     number: u64,
@@ -94,7 +94,7 @@ impl SctId {
     ghost use Rattle.sctid.specs.Identifier.{fault_of, part_of};
 
     /// Reads an identifier from its decimal text. It answers `Ok` exactly if the text is valid, and
-    /// else the first fault in the order of `IdFault`.
+    /// otherwise the first fault in the order of `IdFault`.
     pub fn parse(text: &[u8]) -> Result<SctId, IdFault>
         ensures valid { IfOk result (λ id. fault_of text.now ≡ None) }
         ensures same { IfOk result (λ id. decimal id ≡ text.now) }
@@ -120,7 +120,7 @@ impl SctId {
         })
     }
 
-    /// The kind of component that the identifier names.
+    /// Returns the kind of component that the identifier names.
     pub fn part(self) -> Part
         ensures { result ≡ part_of (decimal self) }
     {
@@ -131,7 +131,7 @@ impl SctId {
         }
     }
 
-    /// The identifier read as a whole number. Its decimal text is the text that was parsed.
+    /// Returns the identifier as a whole number, whose decimal text is the text that was parsed.
     pub fn number(self) -> u64
         ensures number { result ≡ self }
         ensures small { result < 10 ^ 18 }
@@ -140,7 +140,7 @@ impl SctId {
         self.number
     }
 
-    /// Replaces the content of `digits` by the digits of the identifier.
+    /// Replaces the content of `digits` by the decimal text of the identifier, in ASCII.
     pub fn write_to(self, digits: &mut ArrayVec<u8, 18>)
         ensures { digits.new.items ≡ decimal self }
     {
@@ -150,8 +150,8 @@ impl SctId {
     }
 }
 
-// Tells whether the two digits before the last are a partition, and the long form has room for its
-// namespace of seven digits.
+// Whether the two digits before the last are a partition, and the text has room for a namespace of
+// seven digits if they stand for the long format. `text` has only digits, at least 3.
 fn has_partition(text: &[u8]) -> bool
     requires room { 3 ≤ length text.now }
     requires digits { list_all is_ascii_digit text.now ≡ true }

@@ -1,4 +1,4 @@
--- Words before a space, and texts of digits.
+-- Cutting a text at its first space, and reading a text of digits.
 use Rattle.std.proofs.Common.{◌≡◌, ◌∙◌, ℕ, zero, suc, ◌+◌, ◌-◌, ◌<◌, ◌≤◌, ◌==◌, ◌&&◌, ◌^◌, true, false, cond, List, []}
 use Rattle.std.proofs.Common.{◌∷◌, None, Some, option_map, length, get_or, take, drop, refl, ap, subst, sym, arith}
 use Rattle.std.specs.Prelude.{nat_le, nat_lt, IsUtf8}
@@ -12,7 +12,7 @@ use Rattle.std.proofs.lemmas.Slice.{between_to_end}
 use Rattle.numerals.proofs.DigitLemmas.{digit_in, numerals}
 use Rattle.session_line.specs.SessionRequest.{cut_of, is_number, number_in}
 
--- `cut_of` cuts a text at its first space
+-- if the first space of `text` is at `at`, then `cut_of` cuts the text there
 cut_there : (text : List ℕ) (at : ℕ) → at < length text
     → ((k : ℕ) → 0 ≤ k → k < at → (get_or text k 0 == 32) ≡ true → ⊥)
     → (get_or text at 0 == 32) ≡ true → cut_of text ≡ Some (take at text, drop (suc at) text)
@@ -26,7 +26,7 @@ cut_there (byte ∷ bytes) (suc at) within before is =
     ∙ ap (option_map (λ (cut : List ℕ × List ℕ). (byte ∷ cut.0, cut.1)))
     (cut_there bytes at (omega arith) (λ k least below. before (suc k) (omega arith) (omega arith)) is)
 
--- `cut_of` gives the bytes before the first space, and the slice from after the space to the end of the text
+-- if the first space of `text` is at `at`, then `cut_of` gives the bytes before it and those after it
 pub cut_at : (text : List ℕ) (at : ℕ) → at < length text
     → ((k : ℕ) → 0 ≤ k → k < at → (get_or text k 0 == 32) ≡ true → ⊥) → (get_or text at 0 == 32) ≡ true
     → Some (take at text, take (length text - (at + 1)) (drop (at + 1) text)) ≡ cut_of text
@@ -38,7 +38,7 @@ cut_at text at within before is =
     next : at + 1 ≡ suc at
     next = omega arith
 
--- a text without a space is not cut
+-- if `text` has no space, `cut_of` gives `None`
 pub not_cut : (text : List ℕ) → ((k : ℕ) → 0 ≤ k → k < length text → (get_or text k 0 == 32) ≡ true → ⊥)
     → None ≡ cut_of text
 not_cut [] none = refl
@@ -52,7 +52,7 @@ not_cut (byte ∷ bytes) none =
 -- the lemmas for `cut_word`: a text with a space is cut, and a text without one is not
 pub ruleset cuts = (cut_at, not_cut)
 
--- a text of digits begins with no sign
+-- a text of digits alone does not begin with a plus sign
 no_sign : (text : List ℕ) → list_all is_ascii_digit text ≡ true → without_leading_plus text ≡ text
 no_sign [] digits = refl
 no_sign (byte ∷ bytes) digits =
@@ -60,11 +60,11 @@ no_sign (byte ∷ bytes) digits =
     let least : 48 ≤ byte = leb-true 48 byte (and_parts (nat_le 48 byte) (nat_le byte 57) first.0).0 in
     λ i. drop (cond (ne_eqb byte 43 (λ same. absurd (omega arith)) i) 1 0) (byte ∷ bytes)
 
--- a text is a numeral in base ten, and its number is below 2^64
+-- `text` is a number in base ten, and is below 2^64
 abbrev IsShort : List ℕ → Type 0
 IsShort text = IsNumeral 10 text × (digits_value 10 text < 2 ^ 64)
 
--- the number that is read from a text of digits is `number_in` of the text, if 64 bits hold it
+-- if a text has digits alone and 64 bits hold its number, then `number_in` gives that number
 pub digits_read : (text : List ℕ) (number : ℕ) → list_all is_ascii_digit text ≡ true
     → IsShort (without_leading_plus text) → number ≡ digits_value 10 (without_leading_plus text)
     → Some number ≡ number_in text
@@ -86,7 +86,7 @@ number_parts text are =
       ((ltb-true 0 (length text) some.0, numerals.to text small.0), ltb-true (digits_value 10 text) (2 ^ 64) small.1),
     )
 
--- a text of digits has no number if it is empty or 64 bits do not hold its number
+-- if a text has digits alone, but is empty or 64 bits do not hold its number, then `number_in` gives `None`
 pub digits_refused : (text : List ℕ) → list_all is_ascii_digit text ≡ true → ¬ IsShort (without_leading_plus text)
     → None ≡ number_in text
 digits_refused text digits refused =
@@ -94,16 +94,16 @@ digits_refused text digits refused =
     λ are. refused (subst IsShort (sym (no_sign text digits)) (number_parts text are).1) in
     sym (λ i. cond (false_from_ne_true (is_number text) never i) (Some (digits_value 10 text)) None)
 
--- a text with a byte that is no digit has no number
+-- if a text has a byte that is no digit, `number_in` gives `None`
 pub not_digits : (text : List ℕ) → list_all is_ascii_digit text ≡ false → None ≡ number_in text
 not_digits text other =
     let never : ¬ (is_number text ≡ true) =
     λ are. both_ways (list_all is_ascii_digit text) other (number_parts text are).0 in
     sym (λ i. cond (false_from_ne_true (is_number text) never i) (Some (digits_value 10 text)) None)
 
--- a text of digits is UTF-8
+-- a text of digits alone is UTF-8
 pub digits_utf8 : (text : List ℕ) → list_all is_ascii_digit text ≡ true → IsUtf8 text
 digits_utf8 text digits = IsUtf8-from_ascii text (IsAscii-from_digits text (numerals.to text digits))
 
--- the lemmas for `number`: digits that are read, digits that are refused, and a text with another byte
+-- the lemmas for `number`: digits whose number fits, digits whose number does not, and a text with another byte
 pub ruleset numbers = (digits_read, digits_refused, not_digits)

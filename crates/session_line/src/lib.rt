@@ -1,4 +1,4 @@
-//! The lines of `session`: what each asks for.
+//! The lines of `session`: which request each makes.
 #![tactic(auto)]
 
 mod request;

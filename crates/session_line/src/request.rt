@@ -1,4 +1,4 @@
-//! Reading what a line of `session` asks for.
+//! Reading the request in a line of `session`.
 ghost use Rattle.std.specs.Prelude.{◌≡◌, true};
 ghost use Rattle.std.specs.Char.{is_ascii_digit};
 ghost use Rattle.std.specs.List.{list_all};
@@ -9,36 +9,38 @@ ghost use Rattle.session_line.specs.SessionRequest.{asks_concept, asks_plan, pag
 use bstr::ByteSlice;
 use std::str::from_utf8;
 
-/// The part of an answer that a line asks for.
+/// A part of an answer, as a line of `session` asks for it.
 #[derive(Clone, Copy, Debug, PartialEq, Eq)]
 pub struct Page {
-    /// How many concepts of the answer to skip.
+    /// How many concepts of the answer are skipped.
     pub offset: u64,
-    /// How many concepts to list at most; `None` for all that are left.
+    /// How many concepts are listed at most after the skipped ones; `None` lists all.
     pub count: Option<u64>,
-    /// How many items the plan may visit at most; `None` for any number.
+    /// How many items the plan may visit at most; `None` sets no limit.
     pub limit: Option<u64>,
-    /// Whether to list the names of the concepts.
+    /// Whether the concepts are listed with their names.
     pub names: bool,
 }
 
-/// The request that a line of `session` makes.
+/// The request that a line of `session` makes. It borrows texts from the line.
 #[derive(Clone, Copy, Debug, PartialEq, Eq)]
 pub enum SessionRequest<'a> {
-    /// A page of the answer to a constraint's text.
+    /// A page of the answer to a constraint, with the constraint's text.
     Page(Page, &'a [u8]),
-    /// The plan of a constraint's text.
+    /// The plan of a constraint, with the constraint's text.
     Plan(&'a [u8]),
-    /// What a release says of a concept.
+    /// What the release says of a concept, with the text that names the concept.
     Concept(&'a [u8]),
     /// No request: the verb is unknown, a number is malformed, or the text is missing.
     Nothing,
 }
 
-/// Reads a line. `list OFFSET COUNT LIMIT ECL` asks for a page with names, `ids OFFSET COUNT LIMIT ECL` for one
-/// without, `explain ECL` for a plan, `describe ID` for a concept. One space stands between the words. OFFSET,
-/// COUNT and LIMIT are decimal numbers of 64 bits; COUNT and LIMIT may be `-` for none. The text at the end is not
-/// empty.
+/// Reads the request in a line of `session`. `list OFFSET COUNT LIMIT ECL` asks for a page with
+/// names, `ids OFFSET COUNT LIMIT ECL` for one without, `explain ECL` for a plan, `describe ID` for
+/// a concept. One space separates two words. OFFSET, COUNT and LIMIT are decimal numbers of 64
+/// bits; COUNT and LIMIT may be `-`, which sets no limit. The text at the end may have spaces and
+/// must not be empty. It returns `Nothing` for any other line. It does not check the constraint or
+/// the identifier.
 pub fn read_request(line: &[u8]) -> SessionRequest<'_>
     ensures { asked_in result ≡ asked line.now }
 {
@@ -63,7 +65,7 @@ pub fn read_request(line: &[u8]) -> SessionRequest<'_>
     SessionRequest::Nothing
 }
 
-// Makes the request for a page, if a page was read and the text after it is not empty.
+// Makes the request for a page, if `read_page` found one and the text after it is not empty.
 fn page_request(page: Option<(Page, &[u8])>) -> SessionRequest<'_>
     ensures { asked_in result ≡ page_asked (page_read page.entry) }
 {
@@ -73,7 +75,8 @@ fn page_request(page: Option<(Page, &[u8])>) -> SessionRequest<'_>
     }
 }
 
-// Reads a page, and returns it with the text after it.
+// Reads offset, count and limit from the beginning of `text`. Returns the page and the text after
+// it, or `None` if a number is malformed or missing.
 fn read_page(names: bool, text: &[u8]) -> Option<(Page, &[u8])>
     ensures { page_read result ≡ page_in names text.now }
 {
@@ -89,7 +92,7 @@ fn read_page(names: bool, text: &[u8]) -> Option<(Page, &[u8])>
     Some((page, text))
 }
 
-// Reads the number before the first space, and returns it with the text after that space.
+// Reads the number before the first space of `text`. Returns it with the text after the space.
 fn number_before(text: &[u8]) -> Option<(u64, &[u8])>
     ensures { read_first result ≡ first_read number_in text.now }
 {
@@ -98,7 +101,8 @@ fn number_before(text: &[u8]) -> Option<(u64, &[u8])>
     Some((number, rest))
 }
 
-// Reads the number before the first space, or `-` for none, and returns it with the text after that space.
+// Reads a number or `-` before the first space of `text`. Returns it, `None` for `-`, with the text
+// after the space.
 fn number_or_none_before(text: &[u8]) -> Option<(Option<u64>, &[u8])>
     ensures { read_first result ≡ first_read number_or_none_in text.now }
 {
@@ -107,7 +111,7 @@ fn number_or_none_before(text: &[u8]) -> Option<(Option<u64>, &[u8])>
     Some((number, rest))
 }
 
-// Reads a number, or `-` for none.
+// Reads a number, or `-` as `Some(None)`. Returns `None` for any other text.
 fn number_or_none(text: &[u8]) -> Option<Option<u64>>
     ensures { result ≡ number_or_none_in text.now }
 {
@@ -118,7 +122,7 @@ fn number_or_none(text: &[u8]) -> Option<Option<u64>>
     Some(Some(number))
 }
 
-// Reads a number of 64 bits from a text of digits alone.
+// Reads a text of decimal digits as a number of 64 bits.
 #[tactic(auto, using(crate::proofs::RequestLemmas::numbers))]
 fn number(text: &[u8]) -> Option<u64>
     ensures { result ≡ number_in text.now }
@@ -132,7 +136,8 @@ fn number(text: &[u8]) -> Option<u64>
     }
 }
 
-// Reads the number of 64 bits that digits write.
+// Reads a text that is known to have digits alone. Returns `None` if it is empty or the number does
+// not fit in 64 bits.
 #[tactic(auto, using(crate::proofs::RequestLemmas::numbers))]
 fn digits_number(digits: &str) -> Option<u64>
     requires { list_all is_ascii_digit digits.now ≡ true }
@@ -144,15 +149,15 @@ fn digits_number(digits: &str) -> Option<u64>
     }
 }
 
-// Tests whether a text has digits alone.
+// Returns whether each byte of a text is a decimal digit.
 fn is_all_digits(text: &[u8]) -> bool
     ensures { result ≡ list_all is_ascii_digit text.now }
 {
     text.iter().all(|byte| byte.is_ascii_digit())
 }
 
-// Cuts a text at its first space. Returns the bytes before the space and those after it, or `None` if there is no
-// space.
+// Cuts a text at its first space. Returns the bytes before the space and those after it, or `None`
+// if there is no space.
 #[tactic(auto, using(crate::proofs::RequestLemmas::cuts))]
 fn cut_word(text: &[u8]) -> Option<(&[u8], &[u8])>
     ensures { cut_read result ≡ cut_of text.now }

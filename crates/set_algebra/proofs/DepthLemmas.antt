@@ -1,12 +1,19 @@
 -- The plan of a constraint is as deep as its tree.
 use Rattle.std.proofs.Common.{◌≡◌, max, suc, refl, ap, arith}
-use Rattle.constraint_tree.specs.Depth.{depth_of, trees_depth, refinement_depth, refinements_depth, set_depth, sets_depth, attribute_depth, test_depth as tested_depth}
-use Rattle.constraint_tree.specs.Tree.{Tree, concept_tree, any_tree, walk_tree, member_tree, and_tree, or_tree, minus_tree, dotted_tree, refined_tree, Trees, no_trees, tree_then, RefinementTree, one_refinement, group_refinement, and_refinement, or_refinement, RefinementTrees, no_refinements, refinement_then, AttributeSetTree, one_set, and_set, or_set, AttributeSetTrees, no_sets, set_then, AttributeTree, attribute_tree, TestTree, within_test, outside_test, number_test}
+use Rattle.constraint_tree.specs.Depth.{depth_of, trees_depth, refinement_depth, refinements_depth, set_depth}
+use Rattle.constraint_tree.specs.Depth.{sets_depth, attribute_depth, test_depth as tested_depth}
+use Rattle.constraint_tree.specs.Tree.{Tree, concept_tree, any_tree, walk_tree, member_tree, and_tree, or_tree}
+use Rattle.constraint_tree.specs.Tree.{minus_tree, dotted_tree, refined_tree, Trees, no_trees, tree_then}
+use Rattle.constraint_tree.specs.Tree.{RefinementTree, one_refinement, group_refinement, and_refinement, or_refinement}
+use Rattle.constraint_tree.specs.Tree.{RefinementTrees, no_refinements, refinement_then, AttributeSetTree, one_set}
+use Rattle.constraint_tree.specs.Tree.{and_set, or_set, AttributeSetTrees, no_sets, set_then, AttributeTree}
+use Rattle.constraint_tree.specs.Tree.{attribute_tree, TestTree, within_test, outside_test, number_test}
 use Rattle.set_algebra.specs.Depth.{plan_depth, plans_depth, group_depth, groups_depth, test_depth}
-use Rattle.set_algebra.specs.Lowering.{lowered, lowered_trees, lowered_refinement, lowered_refinements, lowered_attribute, lowered_set, lowered_sets, lowered_in_group, lowered_test}
+use Rattle.set_algebra.specs.Lowering.{lowered, lowered_trees, lowered_refinement, lowered_refinements}
+use Rattle.set_algebra.specs.Lowering.{lowered_attribute, lowered_set, lowered_sets, lowered_in_group, lowered_test}
 
 mutual
-  -- the plan of a constraint is as deep as its tree
+  -- the plan of a constraint is as deep as the constraint's tree
   pub lowered_depth : (tree : Tree) → plan_depth (lowered tree) ≡ depth_of tree
   lowered_depth (concept_tree number) = refl
   lowered_depth any_tree = refl

@@ -1,13 +1,21 @@
--- Tests, as definitions that compute, of whether two plans are equal data.
+-- Tests, as definitions that compute, whether two plans are equal. Plans as data have no choices,
+-- so choices are not compared.
 use Rattle.std.specs.Prelude.{ℕ, ◌==◌, ◌&&◌, Bool, true, false, Option, Some, None}
 use Rattle.std.specs.Ordering.{int_eq}
 use Rattle.std.proofs.Math.Bool.{beq}
 use Rattle.constraint_tree.specs.declared.operator.Operator.{Operator}
 use Rattle.constraint_tree.specs.declared.operator.Compare.{Compare}
 use Rattle.constraint_tree.specs.declared.operator.Cardinality.{Cardinality}
-use Rattle.constraint_tree.specs.declared.operator.Compare.TheVariants.{Equal, NotEqual, Less, LessOrEqual, Greater, GreaterOrEqual}
-use Rattle.constraint_tree.specs.declared.operator.Operator.TheVariants.{Descendants, DescendantsOrSelf, Children, ChildrenOrSelf, Ancestors, AncestorsOrSelf, Parents, ParentsOrSelf, Top, Bottom}
-use Rattle.set_algebra.specs.Plan.{Plan, empty_plan, all_plan, one_plan, walk_plan, members_plan, and_plan, or_plan, minus_plan, values_plan, pairs_plan, units_plan, Plans, no_plans, plan_then, PlanOfUnits, nothing_unit, every_unit, and_units, or_units, minus_units, pairs_units, PlansOfUnits, no_unit_plans, unit_plan_then, TestPlan, within_plan, outside_plan, number_plan}
+use Rattle.constraint_tree.specs.declared.operator.Compare.TheVariants.{Equal, NotEqual, Less, LessOrEqual, Greater}
+use Rattle.constraint_tree.specs.declared.operator.Compare.TheVariants.{GreaterOrEqual}
+use Rattle.constraint_tree.specs.declared.operator.Operator.TheVariants.{Descendants, DescendantsOrSelf, Children}
+use Rattle.constraint_tree.specs.declared.operator.Operator.TheVariants.{ChildrenOrSelf, Ancestors, AncestorsOrSelf}
+use Rattle.constraint_tree.specs.declared.operator.Operator.TheVariants.{Parents, ParentsOrSelf, Top, Bottom}
+use Rattle.set_algebra.specs.Plan.{Plan, empty_plan, all_plan, one_plan, walk_plan, members_plan, and_plan, or_plan}
+use Rattle.set_algebra.specs.Plan.{minus_plan, values_plan, pairs_plan, groups_plan, Plans, no_plans, plan_then}
+use Rattle.set_algebra.specs.Plan.{PlanOfGroups, nothing_group, every_group, and_group_plan, or_group_plan}
+use Rattle.set_algebra.specs.Plan.{minus_group_plan, pairs_group_plan, PlansOfGroups, no_group_plans, group_plan_then}
+use Rattle.set_algebra.specs.Plan.{TestPlan, within_plan, outside_plan, number_plan}
 
 -- whether two hierarchy operators are equal
 abbrev pub same_operator : Operator → Operator → Bool
@@ -44,7 +52,7 @@ abbrev pub same_cardinality : Cardinality → Cardinality → Bool
 same_cardinality one other = (one.min == other.min) && same_most one.max other.max
 
 abbrev mutual
-  -- whether two plans of concepts have one variant and equal parts
+  -- whether two plans of concepts are the same variant with equal parts
   pub same_plan : Plan → Plan → Bool
   same_plan empty_plan empty_plan = true
   same_plan all_plan all_plan = true
@@ -59,36 +67,39 @@ abbrev mutual
   same_plan (values_plan start names) (values_plan other others) =
       same_plan start other && same_plans names others
   same_plan (pairs_plan back count types test) (pairs_plan other_back other_count others other) =
-      (beq back other_back && same_cardinality count other_count) && (same_plan types others && same_test test other)
-  same_plan (units_plan count units) (units_plan other_count others) =
+      (beq back other_back && same_cardinality count other_count)
+      && (same_plan types others && same_test test other)
+  same_plan (groups_plan count units) (groups_plan other_count others) =
       same_cardinality count other_count && same_group units others
   same_plan one other = false
 
-  -- whether two lists of plans of concepts have one length and equal plans at each index
+  -- whether two lists of plans of concepts have the same length and equal plans at each index
   pub same_plans : Plans → Plans → Bool
   same_plans no_plans no_plans = true
-  same_plans (plan_then first rest) (plan_then other others) = same_plan first other && same_plans rest others
+  same_plans (plan_then first rest) (plan_then other others) =
+      same_plan first other && same_plans rest others
   same_plans some others = false
 
-  -- whether two plans of groups have one variant and equal parts
-  pub same_group : PlanOfUnits → PlanOfUnits → Bool
-  same_group nothing_unit nothing_unit = true
-  same_group every_unit every_unit = true
-  same_group (and_units parts) (and_units others) = same_groups parts others
-  same_group (or_units parts) (or_units others) = same_groups parts others
-  same_group (minus_units first second) (minus_units other_first other_second) =
+  -- whether two plans of groups are the same variant with equal parts
+  pub same_group : PlanOfGroups → PlanOfGroups → Bool
+  same_group nothing_group nothing_group = true
+  same_group every_group every_group = true
+  same_group (and_group_plan parts) (and_group_plan others) = same_groups parts others
+  same_group (or_group_plan parts) (or_group_plan others) = same_groups parts others
+  same_group (minus_group_plan first second) (minus_group_plan other_first other_second) =
       same_group first other_first && same_group second other_second
-  same_group (pairs_units count types test) (pairs_units other_count others other) =
+  same_group (pairs_group_plan count types test) (pairs_group_plan other_count others other) =
       same_cardinality count other_count && (same_plan types others && same_test test other)
   same_group one other = false
 
-  -- whether two lists of plans of groups have one length and equal plans at each index
-  pub same_groups : PlansOfUnits → PlansOfUnits → Bool
-  same_groups no_unit_plans no_unit_plans = true
-  same_groups (unit_plan_then first rest) (unit_plan_then other others) = same_group first other && same_groups rest others
+  -- whether two lists of plans of groups have the same length and equal plans at each index
+  pub same_groups : PlansOfGroups → PlansOfGroups → Bool
+  same_groups no_group_plans no_group_plans = true
+  same_groups (group_plan_then first rest) (group_plan_then other others) =
+      same_group first other && same_groups rest others
   same_groups some others = false
 
-  -- whether two tests of values have one variant and equal parts
+  -- whether two tests of values are the same variant with equal parts
   pub same_test : TestPlan → TestPlan → Bool
   same_test (within_plan operand) (within_plan other) = same_plan operand other
   same_test (outside_plan operand) (outside_plan other) = same_plan operand other

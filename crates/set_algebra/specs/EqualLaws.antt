@@ -1,4 +1,4 @@
--- `same_plan`, `same_group` and `same_test` hold exactly of equal data.
+-- The tests `same_plan`, `same_group` and `same_test` are true exactly for equal data.
 use Rattle.std.proofs.Common.{ℕ, ◌≡◌, ◌==◌, ◌&&◌, ◌∙◌, Bool, true, Option, Some, None, refl, ap, subst}
 use Rattle.std.specs.Bool.{Decides}
 use Rattle.std.specs.Cmp.{booleans_Decides}
@@ -8,10 +8,18 @@ use Rattle.std.proofs.lemmas.Bool.Decides.{Decides-eqb, Decides-int_eq}
 use Rattle.constraint_tree.specs.declared.operator.Operator.{Operator}
 use Rattle.constraint_tree.specs.declared.operator.Compare.{Compare}
 use Rattle.constraint_tree.specs.declared.operator.Cardinality.{Cardinality}
-use Rattle.constraint_tree.specs.declared.operator.Compare.TheVariants.{Equal, NotEqual, Less, LessOrEqual, Greater, GreaterOrEqual}
-use Rattle.constraint_tree.specs.declared.operator.Operator.TheVariants.{Descendants, DescendantsOrSelf, Children, ChildrenOrSelf, Ancestors, AncestorsOrSelf, Parents, ParentsOrSelf, Top, Bottom}
-use Rattle.set_algebra.specs.Equal.{same_operator, same_most, same_comparison, same_cardinality, same_plan, same_plans, same_group, same_groups, same_test}
-use Rattle.set_algebra.specs.Plan.{Plan, empty_plan, all_plan, one_plan, walk_plan, members_plan, and_plan, or_plan, minus_plan, values_plan, pairs_plan, units_plan, Plans, no_plans, plan_then, PlanOfUnits, nothing_unit, every_unit, and_units, or_units, minus_units, pairs_units, PlansOfUnits, no_unit_plans, unit_plan_then, TestPlan, within_plan, outside_plan, number_plan}
+use Rattle.constraint_tree.specs.declared.operator.Compare.TheVariants.{Equal, NotEqual, Less, LessOrEqual, Greater}
+use Rattle.constraint_tree.specs.declared.operator.Compare.TheVariants.{GreaterOrEqual}
+use Rattle.constraint_tree.specs.declared.operator.Operator.TheVariants.{Descendants, DescendantsOrSelf, Children}
+use Rattle.constraint_tree.specs.declared.operator.Operator.TheVariants.{ChildrenOrSelf, Ancestors, AncestorsOrSelf}
+use Rattle.constraint_tree.specs.declared.operator.Operator.TheVariants.{Parents, ParentsOrSelf, Top, Bottom}
+use Rattle.set_algebra.specs.Equal.{same_operator, same_most, same_comparison, same_cardinality, same_plan, same_plans}
+use Rattle.set_algebra.specs.Equal.{same_group, same_groups, same_test}
+use Rattle.set_algebra.specs.Plan.{Plan, empty_plan, all_plan, one_plan, walk_plan, members_plan, and_plan, or_plan}
+use Rattle.set_algebra.specs.Plan.{minus_plan, values_plan, pairs_plan, groups_plan, Plans, no_plans, plan_then}
+use Rattle.set_algebra.specs.Plan.{PlanOfGroups, nothing_group, every_group, and_group_plan, or_group_plan}
+use Rattle.set_algebra.specs.Plan.{minus_group_plan, pairs_group_plan, PlansOfGroups, no_group_plans, group_plan_then}
+use Rattle.set_algebra.specs.Plan.{TestPlan, within_plan, outside_plan, number_plan}
 
 operator_is : (one other : Operator) → same_operator one other ≡ true → one ≡ other
 operator_is Descendants Descendants same = refl
@@ -85,7 +93,8 @@ mutual
       let parts = and_parts (same_operator operator other_operator) _ same in
       ap (λ (w : Operator). walk_plan w operand) (operator_is operator other_operator parts.0)
       ∙ ap (walk_plan other_operator) (plan_is operand other parts.1)
-  plan_is (members_plan operand) (members_plan other) same = ap members_plan (plan_is operand other same)
+  plan_is (members_plan operand) (members_plan other) same =
+      ap members_plan (plan_is operand other same)
   plan_is (and_plan parts) (and_plan others) same = ap and_plan (plans_are parts others same)
   plan_is (or_plan parts) (or_plan others) same = ap or_plan (plans_are parts others same)
   plan_is (minus_plan first second) (minus_plan other_first other_second) same =
@@ -101,13 +110,15 @@ mutual
       let ways = and_parts (beq back other_back) _ parts.0 in
       let tests = and_parts (same_plan types others) _ parts.1 in
       ap (λ (b : Bool). pairs_plan b count types test) ((booleans_Decides back other_back).0 ways.0)
-      ∙ ap (λ (n : Cardinality). pairs_plan other_back n types test) (cardinality_is count other_count ways.1)
-      ∙ ap (λ (plan : Plan). pairs_plan other_back other_count plan test) (plan_is types others tests.0)
+      ∙ ap (λ (n : Cardinality). pairs_plan other_back n types test)
+      (cardinality_is count other_count ways.1)
+      ∙ ap (λ (plan : Plan). pairs_plan other_back other_count plan test)
+      (plan_is types others tests.0)
       ∙ ap (pairs_plan other_back other_count others) (test_is test other tests.1)
-  plan_is (units_plan count units) (units_plan other_count others) same =
+  plan_is (groups_plan count units) (groups_plan other_count others) same =
       let parts = and_parts (same_cardinality count other_count) _ same in
-      ap (λ (n : Cardinality). units_plan n units) (cardinality_is count other_count parts.0)
-      ∙ ap (units_plan other_count) (group_is units others parts.1)
+      ap (λ (n : Cardinality). groups_plan n units) (cardinality_is count other_count parts.0)
+      ∙ ap (groups_plan other_count) (group_is units others parts.1)
   plan_is one other same = absurd (false≢true same)
 
   plans_are : (some others : Plans) → same_plans some others ≡ true → some ≡ others
@@ -118,34 +129,40 @@ mutual
       ∙ ap (plan_then other) (plans_are rest others parts.1)
   plans_are some others same = absurd (false≢true same)
 
-  group_is : (one other : PlanOfUnits) → same_group one other ≡ true → one ≡ other
-  group_is nothing_unit nothing_unit same = refl
-  group_is every_unit every_unit same = refl
-  group_is (and_units parts) (and_units others) same = ap and_units (groups_are parts others same)
-  group_is (or_units parts) (or_units others) same = ap or_units (groups_are parts others same)
-  group_is (minus_units first second) (minus_units other_first other_second) same =
+  group_is : (one other : PlanOfGroups) → same_group one other ≡ true → one ≡ other
+  group_is nothing_group nothing_group same = refl
+  group_is every_group every_group same = refl
+  group_is (and_group_plan parts) (and_group_plan others) same =
+      ap and_group_plan (groups_are parts others same)
+  group_is (or_group_plan parts) (or_group_plan others) same =
+      ap or_group_plan (groups_are parts others same)
+  group_is (minus_group_plan first second) (minus_group_plan other_first other_second) same =
       let parts = and_parts (same_group first other_first) _ same in
-      ap (λ (plan : PlanOfUnits). minus_units plan second) (group_is first other_first parts.0)
-      ∙ ap (minus_units other_first) (group_is second other_second parts.1)
-  group_is (pairs_units count types test) (pairs_units other_count others other) same =
+      ap (λ (plan : PlanOfGroups). minus_group_plan plan second)
+      (group_is first other_first parts.0)
+      ∙ ap (minus_group_plan other_first) (group_is second other_second parts.1)
+  group_is (pairs_group_plan count types test) (pairs_group_plan other_count others other) same =
       let parts = and_parts (same_cardinality count other_count) _ same in
       let tests = and_parts (same_plan types others) _ parts.1 in
-      ap (λ (n : Cardinality). pairs_units n types test) (cardinality_is count other_count parts.0)
-      ∙ ap (λ (plan : Plan). pairs_units other_count plan test) (plan_is types others tests.0)
-      ∙ ap (pairs_units other_count others) (test_is test other tests.1)
+      ap (λ (n : Cardinality). pairs_group_plan n types test)
+      (cardinality_is count other_count parts.0)
+      ∙ ap (λ (plan : Plan). pairs_group_plan other_count plan test) (plan_is types others tests.0)
+      ∙ ap (pairs_group_plan other_count others) (test_is test other tests.1)
   group_is one other same = absurd (false≢true same)
 
-  groups_are : (some others : PlansOfUnits) → same_groups some others ≡ true → some ≡ others
-  groups_are no_unit_plans no_unit_plans same = refl
-  groups_are (unit_plan_then first rest) (unit_plan_then other others) same =
+  groups_are : (some others : PlansOfGroups) → same_groups some others ≡ true → some ≡ others
+  groups_are no_group_plans no_group_plans same = refl
+  groups_are (group_plan_then first rest) (group_plan_then other others) same =
       let parts = and_parts (same_group first other) _ same in
-      ap (λ (plan : PlanOfUnits). unit_plan_then plan rest) (group_is first other parts.0)
-      ∙ ap (unit_plan_then other) (groups_are rest others parts.1)
+      ap (λ (plan : PlanOfGroups). group_plan_then plan rest) (group_is first other parts.0)
+      ∙ ap (group_plan_then other) (groups_are rest others parts.1)
   groups_are some others same = absurd (false≢true same)
 
   test_is : (one other : TestPlan) → same_test one other ≡ true → one ≡ other
-  test_is (within_plan operand) (within_plan other) same = ap within_plan (plan_is operand other same)
-  test_is (outside_plan operand) (outside_plan other) same = ap outside_plan (plan_is operand other same)
+  test_is (within_plan operand) (within_plan other) same =
+      ap within_plan (plan_is operand other same)
+  test_is (outside_plan operand) (outside_plan other) same =
+      ap outside_plan (plan_is operand other same)
   test_is (number_plan compare number) (number_plan other_compare other) same =
       let parts = and_parts (same_comparison compare other_compare) _ same in
       ap (λ (c : Compare). number_plan c number) (comparison_is compare other_compare parts.0)
@@ -159,7 +176,8 @@ mutual
   plan_itself empty_plan = refl
   plan_itself all_plan = refl
   plan_itself (one_plan number) = (Decides-eqb number number).1 refl
-  plan_itself (walk_plan operator operand) = and_from _ _ (operator_itself operator) (plan_itself operand)
+  plan_itself (walk_plan operator operand) =
+      and_from _ _ (operator_itself operator) (plan_itself operand)
   plan_itself (members_plan operand) = plan_itself operand
   plan_itself (and_plan parts) = plans_themselves parts
   plan_itself (or_plan parts) = plans_themselves parts
@@ -169,38 +187,54 @@ mutual
       and_from _ _
       (and_from _ _ ((booleans_Decides back back).1 refl) (cardinality_itself count))
       (and_from _ _ (plan_itself types) (test_itself test))
-  plan_itself (units_plan count units) = and_from _ _ (cardinality_itself count) (group_itself units)
+  plan_itself (groups_plan count units) =
+      and_from _ _ (cardinality_itself count) (group_itself units)
 
   plans_themselves : (plans : Plans) → same_plans plans plans ≡ true
   plans_themselves no_plans = refl
   plans_themselves (plan_then first rest) = and_from _ _ (plan_itself first) (plans_themselves rest)
 
-  group_itself : (plan : PlanOfUnits) → same_group plan plan ≡ true
-  group_itself nothing_unit = refl
-  group_itself every_unit = refl
-  group_itself (and_units parts) = groups_themselves parts
-  group_itself (or_units parts) = groups_themselves parts
-  group_itself (minus_units first second) = and_from _ _ (group_itself first) (group_itself second)
-  group_itself (pairs_units count types test) =
+  group_itself : (plan : PlanOfGroups) → same_group plan plan ≡ true
+  group_itself nothing_group = refl
+  group_itself every_group = refl
+  group_itself (and_group_plan parts) = groups_themselves parts
+  group_itself (or_group_plan parts) = groups_themselves parts
+  group_itself (minus_group_plan first second) =
+      and_from _ _ (group_itself first) (group_itself second)
+  group_itself (pairs_group_plan count types test) =
       and_from _ _ (cardinality_itself count) (and_from _ _ (plan_itself types) (test_itself test))
 
-  groups_themselves : (plans : PlansOfUnits) → same_groups plans plans ≡ true
-  groups_themselves no_unit_plans = refl
-  groups_themselves (unit_plan_then first rest) = and_from _ _ (group_itself first) (groups_themselves rest)
+  groups_themselves : (plans : PlansOfGroups) → same_groups plans plans ≡ true
+  groups_themselves no_group_plans = refl
+  groups_themselves (group_plan_then first rest) =
+      and_from _ _ (group_itself first) (groups_themselves rest)
 
   test_itself : (test : TestPlan) → same_test test test ≡ true
   test_itself (within_plan operand) = plan_itself operand
   test_itself (outside_plan operand) = plan_itself operand
-  test_itself (number_plan compare number) = and_from _ _ (comparison_itself compare) ((Decides-int_eq number number).1 refl)
+  test_itself (number_plan compare number) =
+      and_from _ _ (comparison_itself compare) ((Decides-int_eq number number).1 refl)
 
--- `same_plan` holds of two plans of concepts exactly if they are equal
+-- `same_plan` is true for two plans of concepts exactly if they are equal
 pub decides_plan : (one other : Plan) → Decides (same_plan one other) (one ≡ other)
-decides_plan one other = (plan_is one other, λ is. subst (λ (plan : Plan). same_plan one plan ≡ true) is (plan_itself one))
+decides_plan one other = (
+  plan_is one other,
+  λ is. subst (λ (plan : Plan). same_plan one plan ≡ true) is
+      (plan_itself one),
+)
 
--- `same_group` holds of two plans of groups exactly if they are equal
-pub decides_group : (one other : PlanOfUnits) → Decides (same_group one other) (one ≡ other)
-decides_group one other = (group_is one other, λ is. subst (λ (plan : PlanOfUnits). same_group one plan ≡ true) is (group_itself one))
+-- `same_group` is true for two plans of groups exactly if they are equal
+pub decides_group : (one other : PlanOfGroups) → Decides (same_group one other) (one ≡ other)
+decides_group one other = (
+  group_is one other,
+  λ is. subst (λ (plan : PlanOfGroups). same_group one plan ≡ true) is
+      (group_itself one),
+)
 
--- `same_test` holds of two tests of values exactly if they are equal
+-- `same_test` is true for two tests of values exactly if they are equal
 pub decides_test : (one other : TestPlan) → Decides (same_test one other) (one ≡ other)
-decides_test one other = (test_is one other, λ is. subst (λ (test : TestPlan). same_test one test ≡ true) is (test_itself one))
+decides_test one other = (
+  test_is one other,
+  λ is. subst (λ (test : TestPlan). same_test one test ≡ true) is
+      (test_itself one),
+)

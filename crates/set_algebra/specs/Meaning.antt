@@ -1,8 +1,10 @@
--- The meaning of a plan over a release. A plan of concepts means a set of concepts in force, and a plan of groups
--- a set of groups of concepts (Expression Constraint Language, "Simple Expression Constraints", "Refinements"
--- and "Cardinality"; Release File Specification, "Relationship file", relationshipGroup). A group is the
--- list of its distinct pairs. The definitions are tests that compute.
-use Rattle.std.specs.Prelude.{ℕ, Bool, true, false, not, ◌==◌, ◌&&◌, ◌||◌, if◌then◌else◌, IsTrue, List, Contains, filter, count_by}
+-- The meaning of a plan over a release. A plan of concepts means a set of concepts in force, and a
+-- plan of groups a set of groups of concepts (Expression Constraint Language, "Simple Expression
+-- Constraints", "Refinements" and "Cardinality"; Release File Specification, "Relationship file",
+-- relationshipGroup). A group is the list of its distinct pairs. The definitions are tests that
+-- compute.
+use Rattle.std.specs.Prelude.{ℕ, Bool, true, false, not, ◌==◌, ◌&&◌, ◌||◌, if◌then◌else◌, IsTrue, List, Contains}
+use Rattle.std.specs.Prelude.{filter, count_by}
 use Rattle.rf2_rows.specs.Release.{Release, Value}
 use Rattle.rf2_rows.specs.Pairs.{Pair, out_pairs, in_pairs}
 use Rattle.rf2_rows.specs.Groups.{groups_of}
@@ -10,13 +12,19 @@ use Rattle.constraint_tree.specs.declared.operator.Cardinality.{Cardinality}
 use Rattle.constraint_tree.specs.Passing.{is_within, is_outside, is_number_that, lies_in}
 use Rattle.constraint_tree.specs.Walks.{has_concept, walks}
 use Rattle.constraint_tree.specs.Denotation.{is_component, is_value}
-use Rattle.set_algebra.specs.Plan.{Plan, empty_plan, all_plan, one_plan, walk_plan, members_plan, and_plan, or_plan, minus_plan, values_plan, pairs_plan, units_plan, Plans, no_plans, plan_then, PlanOfUnits, nothing_unit, every_unit, and_units, or_units, minus_units, pairs_units, PlansOfUnits, no_unit_plans, unit_plan_then, TestPlan, within_plan, outside_plan, number_plan}
+use Rattle.set_algebra.specs.Plan.{Plan, empty_plan, all_plan, one_plan, walk_plan, members_plan, and_plan, or_plan}
+use Rattle.set_algebra.specs.Plan.{minus_plan, values_plan, pairs_plan, groups_plan, Plans, no_plans, plan_then}
+use Rattle.set_algebra.specs.Plan.{PlanOfGroups, nothing_group, every_group, and_group_plan, or_group_plan}
+use Rattle.set_algebra.specs.Plan.{minus_group_plan, pairs_group_plan, PlansOfGroups, no_group_plans, group_plan_then}
+use Rattle.set_algebra.specs.Plan.{TestPlan, within_plan, outside_plan, number_plan}
 
--- the distinct pairs of a concept; with `back`, those of type and source of the rows whose value it is
+-- the distinct pairs of a concept: type and value of its own rows, or, with `back`, type and source
+-- of the rows whose value it is
 abbrev pub pairs_of : Release → Bool → ℕ → List Pair
 pairs_of release back concept = if back then in_pairs release concept else out_pairs release concept
 
--- whether the number of pairs with a type in `types` and a value that passes lies in `count`
+-- whether the number of matching pairs lies in `count`. A pair matches if its type is in `types`
+-- and `passes` holds for its value
 abbrev pub has_pairs : Cardinality → (ℕ → Bool) → (Value → Bool) → List Pair → Bool
 has_pairs count types passes pairs =
     lies_in count (count_by (λ pair. types pair.type_id && passes pair.value) pairs)
@@ -33,59 +41,65 @@ abbrev mutual
   means release (one_plan number) concept = has_concept release concept && (concept == number)
   means release (walk_plan operator operand) concept =
       has_concept release concept && walks release operator (means release operand) concept
-  means release (members_plan operand) concept = is_component release (means release operand) concept
-  means release (and_plan parts) concept = has_concept release concept && all_mean release parts concept
+  means release (members_plan operand) concept =
+      is_component release (means release operand) concept
+  means release (and_plan parts) concept =
+      has_concept release concept && all_mean release parts concept
   means release (or_plan parts) concept = some_means release parts concept
   means release (minus_plan first second) concept =
       means release first concept && not (means release second concept)
-  means release (values_plan start names) concept = leads release (means release start) names concept
+  means release (values_plan start names) concept =
+      leads release (means release start) names concept
   means release (pairs_plan back count types test) concept =
       has_concept release concept
-      && has_pairs count (means release types) (value_passes release test) (pairs_of release back concept)
-  means release (units_plan count units) concept =
-      has_concept release concept && has_groups release count (unit_means release units) concept
+      && has_pairs count (means release types) (value_passes release test)
+      (pairs_of release back concept)
+  means release (groups_plan count units) concept =
+      has_concept release concept && has_groups release count (group_means release units) concept
 
-  -- whether a concept is in the set of each plan of a list; it is if the list is empty
+  -- whether a concept is in the set that each plan of a list means; true for the empty list
   pub all_mean : Release → Plans → ℕ → Bool
   all_mean release no_plans concept = true
   all_mean release (plan_then first rest) concept =
       means release first concept && all_mean release rest concept
 
-  -- whether a concept is in the set of at least one plan of a list; it is not if the list is empty
+  -- whether a concept is in the set that at least one plan of a list means; false for the empty
+  -- list
   pub some_means : Release → Plans → ℕ → Bool
   some_means release no_plans concept = false
   some_means release (plan_then first rest) concept =
       means release first concept || some_means release rest concept
 
-  -- whether a concept is reached from `set` along attributes: the type of the first is in the first plan, that of the
-  -- second in the second, up to the last
+  -- whether a concept is in the set that a list of types leads to from `set`: each step takes the
+  -- values of the members' attributes whose type is in the set of the next plan
   pub leads : Release → (ℕ → Bool) → Plans → ℕ → Bool
   leads release set no_plans concept = set concept
   leads release set (plan_then types others) concept =
       leads release (is_value release set (means release types)) others concept
 
   -- whether a group, given by its distinct pairs, is in the set that a plan of groups means
-  pub unit_means : Release → PlanOfUnits → List Pair → Bool
-  unit_means release nothing_unit pairs = false
-  unit_means release every_unit pairs = true
-  unit_means release (and_units parts) pairs = all_units_mean release parts pairs
-  unit_means release (or_units parts) pairs = some_unit_means release parts pairs
-  unit_means release (minus_units first second) pairs =
-      unit_means release first pairs && not (unit_means release second pairs)
-  unit_means release (pairs_units count types test) pairs =
+  pub group_means : Release → PlanOfGroups → List Pair → Bool
+  group_means release nothing_group pairs = false
+  group_means release every_group pairs = true
+  group_means release (and_group_plan parts) pairs = all_groups_mean release parts pairs
+  group_means release (or_group_plan parts) pairs = some_group_means release parts pairs
+  group_means release (minus_group_plan first second) pairs =
+      group_means release first pairs && not (group_means release second pairs)
+  group_means release (pairs_group_plan count types test) pairs =
       has_pairs count (means release types) (value_passes release test) pairs
 
-  -- whether a group is in the set of each plan of groups of a list; it is if the list is empty
-  pub all_units_mean : Release → PlansOfUnits → List Pair → Bool
-  all_units_mean release no_unit_plans pairs = true
-  all_units_mean release (unit_plan_then first rest) pairs =
-      unit_means release first pairs && all_units_mean release rest pairs
+  -- whether a group is in the set that each plan of groups of a list means; true for the empty list
+  pub all_groups_mean : Release → PlansOfGroups → List Pair → Bool
+  all_groups_mean release no_group_plans pairs = true
+  all_groups_mean release (group_plan_then first rest) pairs =
+      group_means release first pairs && all_groups_mean release rest pairs
 
-  -- whether a group is in the set of at least one plan of groups of a list; it is not if the list is empty
-  pub some_unit_means : Release → PlansOfUnits → List Pair → Bool
-  some_unit_means release no_unit_plans pairs = false
-  some_unit_means release (unit_plan_then first rest) pairs =
-      unit_means release first pairs || some_unit_means release rest pairs
+  -- whether a group is in the set that at least one plan of groups of a list means; false for the
+  -- empty list
+  pub some_group_means : Release → PlansOfGroups → List Pair → Bool
+  some_group_means release no_group_plans pairs = false
+  some_group_means release (group_plan_then first rest) pairs =
+      group_means release first pairs || some_group_means release rest pairs
 
   -- whether the value of a pair passes a test of values
   pub value_passes : Release → TestPlan → Value → Bool

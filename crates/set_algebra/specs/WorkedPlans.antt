@@ -1,15 +1,28 @@
--- The plans of the worked queries, and the concepts that they mean in the sample release. These facts follow by
--- computing. Each list holds the concepts that the query denotes there. The comment above a query is its text, with
--- numbers in place of names.
+-- The plans of the worked queries, and the concepts that they mean in the sample release, which are
+-- those that the queries denote there. These facts follow by computing. The comment above a query
+-- is its text, with identifiers in place of names.
 use Rattle.std.specs.Prelude.{ℕ, ◌≡◌, false, List, [], ◌∷◌}
-use Rattle.constraint_tree.specs.declared.operator.Compare.TheVariants.{Equal, Less, LessOrEqual, Greater, GreaterOrEqual}
-use Rattle.constraint_tree.specs.declared.operator.Operator.TheVariants.{Descendants, DescendantsOrSelf, Children, ChildrenOrSelf, AncestorsOrSelf, ParentsOrSelf, Top, Bottom}
-use Rattle.constraint_tree.specs.Tree.{Tree, concept_tree, any_tree, walk_tree, member_tree, minus_tree, one_set, within_test, outside_test, number_test}
-use Rattle.constraint_tree.specs.Sample.{sample, sample_concepts, alpha, beta, gamma, delta, type_t, type_u, value_x, value_y, reference_set, root}
-use Rattle.constraint_tree.specs.WorkedQueries.{self_or_descendants_of, all_of, values_along, below_alpha, alpha_or_below, at_least, between, counted, has, any_concept, with_attribute, with_braces, finds_u, two, two_and_a_half, two_point_six, three, braces_query, no_braces_query, two_of_u_query, two_groups_query, none_of_u, none_in_braces_query, reverse_query, not_three_query, either_of, top_query, ancestors_query, parents_query, walk_of_and_query}
+use Rattle.constraint_tree.specs.declared.operator.Compare.TheVariants.{Equal, Less, LessOrEqual, Greater}
+use Rattle.constraint_tree.specs.declared.operator.Compare.TheVariants.{GreaterOrEqual}
+use Rattle.constraint_tree.specs.declared.operator.Operator.TheVariants.{Descendants, DescendantsOrSelf, Children}
+use Rattle.constraint_tree.specs.declared.operator.Operator.TheVariants.{ChildrenOrSelf, AncestorsOrSelf, ParentsOrSelf}
+use Rattle.constraint_tree.specs.declared.operator.Operator.TheVariants.{Top, Bottom}
+use Rattle.constraint_tree.specs.Tree.{Tree, concept_tree, any_tree, walk_tree, member_tree, minus_tree, one_set}
+use Rattle.constraint_tree.specs.Tree.{within_test, outside_test, number_test}
+use Rattle.constraint_tree.specs.Sample.{sample, sample_concepts, alpha, beta, gamma, delta, type_t, type_u, value_x}
+use Rattle.constraint_tree.specs.Sample.{value_y, reference_set, root}
+use Rattle.constraint_tree.specs.WorkedQueries.{self_or_descendants_of, all_of, values_along, below_alpha}
+use Rattle.constraint_tree.specs.WorkedQueries.{alpha_or_below, at_least, between, counted, has, any_concept}
+use Rattle.constraint_tree.specs.WorkedQueries.{with_attribute, with_braces, finds_u, two, two_and_a_half}
+use Rattle.constraint_tree.specs.WorkedQueries.{two_point_six, three, braces_query, no_braces_query, two_of_u_query}
+use Rattle.constraint_tree.specs.WorkedQueries.{two_groups_query, none_of_u, none_in_braces_query, reverse_query}
+use Rattle.constraint_tree.specs.WorkedQueries.{not_three_query, either_of, top_query, ancestors_query, parents_query}
+use Rattle.constraint_tree.specs.WorkedQueries.{walk_of_and_query}
 use Rattle.set_algebra.specs.Lowering.{lowered, both_plan}
 use Rattle.set_algebra.specs.Meaning.{meaning}
-use Rattle.set_algebra.specs.Plan.{Plan, all_plan, one_plan, walk_plan, and_plan, pairs_plan, units_plan, plans_from, PlanOfUnits, and_units, pairs_units, units_from, within_plan, number_plan}
+use Rattle.set_algebra.specs.Plan.{Plan, all_plan, one_plan, walk_plan, and_plan, pairs_plan, groups_plan, plans_from}
+use Rattle.set_algebra.specs.Plan.{PlanOfGroups, and_group_plan, pairs_group_plan, groups_from, within_plan}
+use Rattle.set_algebra.specs.Plan.{number_plan}
 
 -- Four plans.
 
@@ -25,7 +38,8 @@ below_alpha_plan = walk_plan Descendants (one_plan alpha)
 abbrev pub HasPlanOfAttribute : Type 0
 HasPlanOfAttribute =
     HasPlan (with_attribute below_alpha (has type_t (within_test (concept_tree value_x))))
-    (both_plan below_alpha_plan (pairs_plan false (at_least 1) (one_plan type_t) (within_plan (one_plan value_x))))
+    (both_plan below_alpha_plan (pairs_plan false (at_least 1) (one_plan type_t)
+    (within_plan (one_plan value_x))))
 
 -- *:105000>#2
 abbrev pub HasPlanOfNumber : Type 0
@@ -34,18 +48,20 @@ HasPlanOfNumber =
     (both_plan all_plan (pairs_plan false (at_least 1) (one_plan type_u) (number_plan Greater two)))
 
 -- the groups that satisfy 104001=<<106004
-abbrev pub x_group : PlanOfUnits
-x_group = pairs_units (at_least 1) (one_plan type_t) (within_plan (walk_plan DescendantsOrSelf (one_plan value_x)))
+abbrev pub x_group : PlanOfGroups
+x_group = pairs_group_plan (at_least 1) (one_plan type_t)
+    (within_plan (walk_plan DescendantsOrSelf (one_plan value_x)))
 
 -- the groups that satisfy 105000=*
-abbrev pub u_group : PlanOfUnits
-u_group = pairs_units (at_least 1) (one_plan type_u) (within_plan all_plan)
+abbrev pub u_group : PlanOfGroups
+u_group = pairs_group_plan (at_least 1) (one_plan type_u) (within_plan all_plan)
 
 -- <100005:{104001=<<106004,105000=*}
 abbrev pub HasPlanOfBraces : Type 0
 HasPlanOfBraces =
     HasPlan braces_query
-    (both_plan below_alpha_plan (units_plan (at_least 1) (and_units (units_from (x_group ∷ u_group ∷ [])))))
+    (both_plan below_alpha_plan (groups_plan (at_least 1)
+    (and_group_plan (groups_from (x_group ∷ u_group ∷ [])))))
 
 -- 100005,100005
 abbrev pub HasPlanOfTwice : Type 0
@@ -70,7 +86,8 @@ MeansDescendants = PlanMeans below_alpha (beta ∷ gamma ∷ delta ∷ [])
 -- <100005:{104001=<<106004,105000=*}
 -- <100005:104001=<<106004,105000=*
 abbrev pub MeansBraces : Type 0
-MeansBraces = PlanMeans braces_query (beta ∷ []) × PlanMeans no_braces_query (beta ∷ gamma ∷ delta ∷ [])
+MeansBraces = PlanMeans braces_query (beta ∷ [])
+    × PlanMeans no_braces_query (beta ∷ gamma ∷ delta ∷ [])
 
 -- <100005:[2..*]105000=*
 abbrev pub MeansDistinctPairs : Type 0
@@ -110,7 +127,8 @@ MeansDotted =
 -- <100005:105000=#3
 abbrev pub MeansNotEqual : Type 0
 MeansNotEqual =
-    PlanMeans (with_attribute below_alpha (has type_t (outside_test (concept_tree value_x)))) (delta ∷ [])
+    PlanMeans (with_attribute below_alpha (has type_t (outside_test (concept_tree value_x))))
+    (delta ∷ [])
     × PlanMeans not_three_query (gamma ∷ [])
     × PlanMeans (with_attribute below_alpha (has type_u (number_test Equal three))) (delta ∷ [])
 
@@ -133,7 +151,8 @@ MeansRowsInForce =
 abbrev pub MeansNumbers : Type 0
 MeansNumbers =
     PlanMeans (with_attribute any_tree (has type_u (number_test Greater two))) (gamma ∷ delta ∷ [])
-    × PlanMeans (with_attribute any_tree (has type_u (number_test Equal two_and_a_half))) (gamma ∷ [])
+    × PlanMeans (with_attribute any_tree (has type_u (number_test Equal two_and_a_half)))
+    (gamma ∷ [])
     × PlanMeans (with_attribute any_tree (has type_u (number_test Less two_point_six))) (gamma ∷ [])
 
 -- each comparison on a bound that it meets, and on one that it does not meet
@@ -143,10 +162,13 @@ MeansNumbers =
 -- *:105000>=#2.6
 abbrev pub MeansBounds : Type 0
 MeansBounds =
-    PlanMeans (with_attribute any_tree (has type_u (number_test LessOrEqual two_and_a_half))) (gamma ∷ [])
+    PlanMeans (with_attribute any_tree (has type_u (number_test LessOrEqual two_and_a_half)))
+    (gamma ∷ [])
     × PlanMeans (with_attribute any_tree (has type_u (number_test Less two_and_a_half))) []
-    × PlanMeans (with_attribute any_tree (has type_u (number_test GreaterOrEqual two_and_a_half))) (gamma ∷ delta ∷ [])
-    × PlanMeans (with_attribute any_tree (has type_u (number_test GreaterOrEqual two_point_six))) (delta ∷ [])
+    × PlanMeans (with_attribute any_tree (has type_u (number_test GreaterOrEqual two_and_a_half)))
+    (gamma ∷ delta ∷ [])
+    × PlanMeans (with_attribute any_tree (has type_u (number_test GreaterOrEqual two_point_six)))
+    (delta ∷ [])
 
 -- `MINUS` gives the concepts of the first operand that are not in the second
 -- <<100005 MINUS 101009
@@ -162,8 +184,10 @@ MeansDifferences =
 -- <100005:105000=#3 OR 105000=#2
 abbrev pub MeansEither : Type 0
 MeansEither =
-    PlanMeans (either_of (has type_u (number_test Equal three)) (has type_t (within_test (concept_tree value_x)))) (beta ∷ gamma ∷ delta ∷ [])
-    × PlanMeans (either_of (has type_u (number_test Equal three)) (has type_u (number_test Equal two))) (delta ∷ [])
+    PlanMeans (either_of (has type_u (number_test Equal three))
+    (has type_t (within_test (concept_tree value_x)))) (beta ∷ gamma ∷ delta ∷ [])
+    × PlanMeans (either_of (has type_u (number_test Equal three))
+    (has type_u (number_test Equal two))) (delta ∷ [])
 
 -- !!>(<100005)
 -- !!>(100005 OR 103007)
@@ -181,9 +205,11 @@ MeansWalks =
     × PlanMeans (walk_tree Bottom alpha_or_below) (delta ∷ [])
     × PlanMeans ancestors_query (alpha ∷ beta ∷ gamma ∷ root ∷ [])
     × PlanMeans parents_query (beta ∷ gamma ∷ [])
-    × PlanMeans (walk_tree Children (concept_tree root)) (alpha ∷ type_t ∷ type_u ∷ value_x ∷ reference_set ∷ [])
+    × PlanMeans (walk_tree Children (concept_tree root))
+    (alpha ∷ type_t ∷ type_u ∷ value_x ∷ reference_set ∷ [])
     × PlanMeans (walk_tree ChildrenOrSelf (concept_tree alpha)) (alpha ∷ beta ∷ gamma ∷ [])
-    × PlanMeans (walk_tree AncestorsOrSelf (concept_tree delta)) (alpha ∷ beta ∷ gamma ∷ delta ∷ root ∷ [])
+    × PlanMeans (walk_tree AncestorsOrSelf (concept_tree delta))
+    (alpha ∷ beta ∷ gamma ∷ delta ∷ root ∷ [])
     × PlanMeans (walk_tree ParentsOrSelf (concept_tree value_y)) (value_x ∷ value_y ∷ [])
 
 -- <<(101009 AND 102002)
@@ -192,7 +218,8 @@ MeansWalks =
 abbrev pub MeansOperands : Type 0
 MeansOperands =
     PlanMeans walk_of_and_query []
-    × PlanMeans (all_of (self_or_descendants_of beta ∷ self_or_descendants_of gamma ∷ [])) (delta ∷ [])
+    × PlanMeans (all_of (self_or_descendants_of beta ∷ self_or_descendants_of gamma ∷ []))
+    (delta ∷ [])
     × PlanMeans (all_of (below_alpha ∷ concept_tree beta ∷ [])) (beta ∷ [])
 
 -- neither number is a concept in force, and no count is both at least three and at most one
@@ -205,4 +232,5 @@ MeansEmptyAnswers =
     PlanMeans (concept_tree 109006) []
     × PlanMeans (concept_tree 999999) []
     × PlanMeans (with_attribute below_alpha (counted (between 3 1) type_u any_concept)) []
-    × PlanMeans (with_attribute below_alpha (counted (at_least 0) type_u any_concept)) (beta ∷ gamma ∷ delta ∷ [])
+    × PlanMeans (with_attribute below_alpha (counted (at_least 0) type_u any_concept))
+    (beta ∷ gamma ∷ delta ∷ [])

@@ -1,12 +1,12 @@
-//! Copies of plans and of their parts.
+//! Copies plans and their parts.
 ghost use Rattle.std.specs.Prelude.{◌≡◌, IfOk};
-ghost use Rattle.set_algebra.specs.Plan.{plan_of, plans_of, unit_plan_of, unit_plans_of, test_plan_of};
+ghost use Rattle.set_algebra.specs.Plan.{plan_of, plans_of, group_plan_of, group_plans_of, test_plan_of};
 
 use crate::plan::{ConceptPlan, UnitPlan, ValueTest};
 use std::alloc::{AllocError, Global};
 
 impl ConceptPlan {
-    /// Copies the plan into memory of its own. The error is want of memory.
+    /// Returns a deep copy of the plan, or `AllocError` if memory runs out.
     #[cycle(copy)]
     #[tactic(auto, using(crate::proofs::PlanLemmas::plans_of_items))]
     pub fn copy(&self, alloc: Global) -> Result<ConceptPlan, AllocError>
@@ -45,26 +45,26 @@ impl ConceptPlan {
             }),
             ConceptPlan::Units { count, units } => Ok(ConceptPlan::Units {
                 count: *count,
-                units: boxed_unit(alloc, units)?,
+                units: boxed_group(alloc, units)?,
             }),
         }
     }
 }
 
 impl UnitPlan {
-    /// Copies the plan of groups into memory of its own. The error is want of memory.
+    /// Returns a deep copy of the plan of groups, or `AllocError` if memory runs out.
     #[cycle(copy)]
     #[tactic(auto, using(crate::proofs::PlanLemmas::plans_of_items))]
     pub fn copy(&self, alloc: Global) -> Result<UnitPlan, AllocError>
-        ensures { IfOk result (λ copy. unit_plan_of copy ≡ unit_plan_of self.now) }
+        ensures { IfOk result (λ copy. group_plan_of copy ≡ group_plan_of self.now) }
     {
         Ok(match self {
             UnitPlan::Nothing => UnitPlan::Nothing,
             UnitPlan::Every => UnitPlan::Every,
-            UnitPlan::And(parts) => UnitPlan::And(each_unit(alloc, parts)?),
-            UnitPlan::Or(parts) => UnitPlan::Or(each_unit(alloc, parts)?),
+            UnitPlan::And(parts) => UnitPlan::And(each_group(alloc, parts)?),
+            UnitPlan::Or(parts) => UnitPlan::Or(each_group(alloc, parts)?),
             UnitPlan::Minus(first, second) => {
-                UnitPlan::Minus(boxed_unit(alloc, first)?, boxed_unit(alloc, second)?)
+                UnitPlan::Minus(boxed_group(alloc, first)?, boxed_group(alloc, second)?)
             }
             UnitPlan::Pairs {
                 count,
@@ -82,7 +82,7 @@ impl UnitPlan {
 }
 
 impl ValueTest {
-    /// Copies the test into memory of its own. The error is want of memory.
+    /// Returns a deep copy of the test, or `AllocError` if memory runs out.
     #[cycle(copy)]
     pub fn copy(&self, alloc: Global) -> Result<ValueTest, AllocError>
         ensures { IfOk result (λ copy. test_plan_of copy ≡ test_plan_of self.now) }
@@ -95,7 +95,7 @@ impl ValueTest {
     }
 }
 
-/// Copies the plan into a box. The error is want of memory.
+/// Returns a box with a copy of `plan`, or `AllocError` if memory runs out.
 #[cycle(copy)]
 pub fn boxed(alloc: Global, plan: &ConceptPlan) -> Result<Box<ConceptPlan>, AllocError>
     ensures { IfOk result (λ copy. plan_of copy.value ≡ plan_of plan.now) }
@@ -104,16 +104,16 @@ pub fn boxed(alloc: Global, plan: &ConceptPlan) -> Result<Box<ConceptPlan>, Allo
     Ok(Box::new(alloc, copy)?)
 }
 
-/// Copies the plan of groups into a box. The error is want of memory.
+/// Returns a box with a copy of the plan of groups `plan`, or `AllocError` if memory runs out.
 #[cycle(copy)]
-pub fn boxed_unit(alloc: Global, plan: &UnitPlan) -> Result<Box<UnitPlan>, AllocError>
-    ensures { IfOk result (λ copy. unit_plan_of copy.value ≡ unit_plan_of plan.now) }
+pub fn boxed_group(alloc: Global, plan: &UnitPlan) -> Result<Box<UnitPlan>, AllocError>
+    ensures { IfOk result (λ copy. group_plan_of copy.value ≡ group_plan_of plan.now) }
 {
     let copy = plan.copy(alloc)?;
     Ok(Box::new(alloc, copy)?)
 }
 
-/// Copies each plan, and keeps their order. The error is want of memory.
+/// Returns copies of `plans` in the same order, or `AllocError` if memory runs out.
 #[cycle(copy)]
 pub fn each(alloc: Global, plans: &[ConceptPlan]) -> Result<Vec<ConceptPlan>, AllocError>
     ensures { IfOk result (λ copies. plans_of copies.items ≡ plans_of plans.now) }
@@ -126,10 +126,11 @@ pub fn each(alloc: Global, plans: &[ConceptPlan]) -> Result<Vec<ConceptPlan>, Al
     Ok(copies)
 }
 
-/// Copies each plan of groups, and keeps their order. The error is want of memory.
+/// Returns copies of the plans of groups `plans` in the same order, or `AllocError` if memory runs
+/// out.
 #[cycle(copy)]
-pub fn each_unit(alloc: Global, plans: &[UnitPlan]) -> Result<Vec<UnitPlan>, AllocError>
-    ensures { IfOk result (λ copies. unit_plans_of copies.items ≡ unit_plans_of plans.now) }
+pub fn each_group(alloc: Global, plans: &[UnitPlan]) -> Result<Vec<UnitPlan>, AllocError>
+    ensures { IfOk result (λ copies. group_plans_of copies.items ≡ group_plans_of plans.now) }
 {
     let mut copies = Vec::new(alloc);
     for plan in plans {

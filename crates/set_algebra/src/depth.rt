@@ -1,13 +1,14 @@
 //! The depth of a plan.
 ghost use Rattle.std.specs.Prelude.{◌≡◌, ◌-◌, ◌^◌, min};
 ghost use Rattle.set_algebra.specs.Depth.{plan_depth, plans_depth, group_depth, groups_depth, test_depth};
-ghost use Rattle.set_algebra.specs.Plan.{plan_of, plans_of, unit_plan_of, unit_plans_of, test_plan_of};
+ghost use Rattle.set_algebra.specs.Plan.{plan_of, plans_of, group_plan_of, group_plans_of, test_plan_of};
 
 use crate::plan::{ConceptPlan, UnitPlan, ValueTest};
 
 impl ConceptPlan {
-    /// The number of nodes on the longest path from the root. Each plan of concepts or of groups is a node, and
-    /// a test is not: `All` has depth 1. A larger depth than `u64::MAX` counts as `u64::MAX`. It takes no memory.
+    /// Returns the number of nodes on the longest path from the root. Each plan of concepts or of
+    /// groups is a node, but a test is not: `All` has depth 1. A depth above `u64::MAX` is returned
+    /// as `u64::MAX`. The function allocates nothing.
     #[cycle(depth)]
     #[tactic(auto, using(crate::proofs::PlanLemmas::plans_of_items))]
     pub fn depth(&self) -> u64
@@ -34,16 +35,17 @@ impl ConceptPlan {
 }
 
 impl UnitPlan {
-    /// The number of nodes on the longest path from the root. Each plan of concepts or of groups is a node, and
-    /// a test is not: `Every` has depth 1. A larger depth than `u64::MAX` counts as `u64::MAX`. It takes no memory.
+    /// Returns the number of nodes on the longest path from the root. Each plan of concepts or of
+    /// groups is a node, but a test is not: `Every` has depth 1. A depth above `u64::MAX` is
+    /// returned as `u64::MAX`. The function allocates nothing.
     #[cycle(depth)]
     #[tactic(auto, using(crate::proofs::PlanLemmas::plans_of_items))]
     pub fn depth(&self) -> u64
-        ensures { result ≡ min (group_depth (unit_plan_of self.now)) (2 ^ 64 - 1) }
+        ensures { result ≡ min (group_depth (group_plan_of self.now)) (2 ^ 64 - 1) }
     {
         match self {
             UnitPlan::Nothing | UnitPlan::Every => 1,
-            UnitPlan::And(parts) | UnitPlan::Or(parts) => deepest_unit(parts).saturating_add(1),
+            UnitPlan::And(parts) | UnitPlan::Or(parts) => deepest_group(parts).saturating_add(1),
             UnitPlan::Minus(first, second) => first.depth().max(second.depth()).saturating_add(1),
             UnitPlan::Pairs { types, test, .. } => {
                 types.depth().max(test.depth()).saturating_add(1)
@@ -53,7 +55,7 @@ impl UnitPlan {
 }
 
 impl ValueTest {
-    // The depth of the test's plan, or 0 for a test by number: a test is not a node.
+    // Returns the depth of the test's plan, or 0 for a comparison with a number. A test is no node.
     #[cycle(depth)]
     fn depth(&self) -> u64
         ensures { result ≡ min (test_depth (test_plan_of self.now)) (2 ^ 64 - 1) }
@@ -65,7 +67,7 @@ impl ValueTest {
     }
 }
 
-// The depth of the deepest part, or 0 if there are no parts.
+// Returns the depth of the deepest plan in `parts`, or 0 if `parts` is empty.
 #[cycle(depth)]
 fn deepest(parts: &[ConceptPlan]) -> u64
     ensures { result ≡ min (plans_depth (plans_of parts.now)) (2 ^ 64 - 1) }
@@ -77,9 +79,10 @@ fn deepest(parts: &[ConceptPlan]) -> u64
     deepest
 }
 
+// Returns the depth of the deepest plan of groups in `parts`, or 0 if `parts` is empty.
 #[cycle(depth)]
-fn deepest_unit(parts: &[UnitPlan]) -> u64
-    ensures { result ≡ min (groups_depth (unit_plans_of parts.now)) (2 ^ 64 - 1) }
+fn deepest_group(parts: &[UnitPlan]) -> u64
+    ensures { result ≡ min (groups_depth (group_plans_of parts.now)) (2 ^ 64 - 1) }
 {
     let mut deepest = 0u64;
     for part in parts {

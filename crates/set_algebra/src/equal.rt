@@ -1,9 +1,10 @@
-//! Equality of plans: two plans are equal exactly if their data are.
+//! The operator `==` on plans. Two plans are equal if they have the same nodes in the same order.
+//! The choices of leaves are not compared, because they do not change the meaning of a plan.
 ghost use Rattle.std.specs.Prelude.{◌≡◌, ◌↔◌, IsTrue};
 ghost use Rattle.std.specs.Ordering.{on};
 ghost use Rattle.std.specs.Cmp.{on_equiv, partial_equiv_from_equiv, decided};
 ghost use Rattle.set_algebra.specs.Equal.{same_plan, same_group, same_test};
-ghost use Rattle.set_algebra.specs.Plan.{plan_of, plans_of, unit_plan_of, unit_plans_of, test_plan_of, walk_plan, minus_plan, values_plan, units_plan, minus_units, pairs_units, number_plan};
+ghost use Rattle.set_algebra.specs.Plan.{plan_of, plans_of, group_plan_of, group_plans_of, test_plan_of, walk_plan, minus_plan, values_plan, groups_plan, minus_group_plan, pairs_group_plan, number_plan};
 ghost use Rattle.set_algebra.specs.EqualLaws.{decides_plan, decides_group, decides_test};
 
 use crate::plan::{ConceptPlan, UnitPlan, ValueTest};
@@ -24,22 +25,24 @@ impl PartialEq for ConceptPlan {
 }
 
 impl PartialEq for UnitPlan {
-    ghost eq = { on unit_plan_of same_group };
+    ghost eq = { on group_plan_of same_group };
 
-    ghost laws = { partial_equiv_from_equiv (on_equiv unit_plan_of (decided same_group decides_group)) };
+    ghost laws = { partial_equiv_from_equiv (on_equiv group_plan_of
+        (decided same_group decides_group)) };
 
     fn eq(&self, other: &UnitPlan) -> bool
-        ensures test { result ≡ same_group (unit_plan_of self.now) (unit_plan_of other.now) }
-        ensures data { IsTrue result ↔ (unit_plan_of self.now ≡ unit_plan_of other.now) }
+        ensures test { result ≡ same_group (group_plan_of self.now) (group_plan_of other.now) }
+        ensures data { IsTrue result ↔ (group_plan_of self.now ≡ group_plan_of other.now) }
     {
-        same_unit(self, other)
+        same_group_plan(self, other)
     }
 }
 
 impl PartialEq for ValueTest {
     ghost eq = { on test_plan_of same_test };
 
-    ghost laws = { partial_equiv_from_equiv (on_equiv test_plan_of (decided same_test decides_test)) };
+    ghost laws = { partial_equiv_from_equiv (on_equiv test_plan_of
+        (decided same_test decides_test)) };
 
     fn eq(&self, other: &ValueTest) -> bool
         ensures test { result ≡ same_test (test_plan_of self.now) (test_plan_of other.now) }
@@ -49,6 +52,7 @@ impl PartialEq for ValueTest {
     }
 }
 
+// Whether the plans of concepts `one` and `other` are equal.
 #[cycle(equal)]
 #[tactic(auto, using(crate::proofs::PlanLemmas::plans_of_items))]
 fn same(one: &ConceptPlan, other: &ConceptPlan) -> bool
@@ -91,13 +95,13 @@ fn same(one: &ConceptPlan, other: &ConceptPlan) -> bool
                 count: other_count,
                 units: others,
             },
-        ) => same_units(count, units, other_count, others),
+        ) => same_groups(count, units, other_count, others),
         _ => false,
     }
 }
 
-// Compares two walks. Each arm of `same` that compares several parts is a function of its own, so that `same` only
-// chooses.
+// Whether two `Walk` nodes are equal. Each arm of `same` that compares several parts is a function
+// of its own, so that `same` only selects the arm.
 #[cycle(equal)]
 fn same_walk(
     operator: &Operator,
@@ -105,11 +109,13 @@ fn same_walk(
     other_operator: &Operator,
     other: &ConceptPlan,
 ) -> bool
-    ensures { IsTrue result ↔ (walk_plan operator.now (plan_of operand.now) ≡ walk_plan other_operator.now (plan_of other.now)) }
+    ensures { IsTrue result ↔ (walk_plan operator.now (plan_of operand.now)
+        ≡ walk_plan other_operator.now (plan_of other.now)) }
 {
     *operator == *other_operator && same(operand, other)
 }
 
+// Whether two `Minus` nodes of concepts are equal.
 #[cycle(equal)]
 fn same_minus(
     first: &ConceptPlan,
@@ -117,11 +123,13 @@ fn same_minus(
     other_first: &ConceptPlan,
     other_second: &ConceptPlan,
 ) -> bool
-    ensures { IsTrue result ↔ (minus_plan (plan_of first.now) (plan_of second.now) ≡ minus_plan (plan_of other_first.now) (plan_of other_second.now)) }
+    ensures { IsTrue result ↔ (minus_plan (plan_of first.now) (plan_of second.now)
+        ≡ minus_plan (plan_of other_first.now) (plan_of other_second.now)) }
 {
     same(first, other_first) && same(second, other_second)
 }
 
+// Whether two `Values` nodes are equal.
 #[cycle(equal)]
 fn same_values(
     start: &ConceptPlan,
@@ -129,13 +137,15 @@ fn same_values(
     other: &ConceptPlan,
     others: &[ConceptPlan],
 ) -> bool
-    ensures { IsTrue result ↔ (values_plan (plan_of start.now) (plans_of names.now) ≡ values_plan (plan_of other.now) (plans_of others.now)) }
+    ensures { IsTrue result ↔ (values_plan (plan_of start.now) (plans_of names.now)
+        ≡ values_plan (plan_of other.now) (plans_of others.now)) }
 {
     same(start, other) && same_each(names, others)
 }
 
-// Compares the parts that `Pairs` of concepts and of groups have in common. The contract names them by the plan of
-// groups, which has no other parts. `same` compares the direction of `Pairs` of concepts first.
+// Whether two `Pairs` have the same count, types and test. Both `Pairs` of concepts and `Pairs` of
+// groups have these parts, and the latter have no others, so the contract names the plan of groups.
+// `same` has compared the direction of `Pairs` of concepts.
 #[cycle(equal)]
 fn same_pairs(
     count: &Cardinality,
@@ -145,34 +155,39 @@ fn same_pairs(
     others: &ConceptPlan,
     other: &ValueTest,
 ) -> bool
-    ensures { IsTrue result ↔ (pairs_units count.now (plan_of types.now) (test_plan_of test.now) ≡ pairs_units other_count.now (plan_of others.now) (test_plan_of other.now)) }
+    ensures { IsTrue result ↔ (pairs_group_plan count.now (plan_of types.now)
+        (test_plan_of test.now) ≡ pairs_group_plan other_count.now (plan_of others.now)
+        (test_plan_of other.now)) }
 {
     *count == *other_count && same(types, others) && same_value_test(test, other)
 }
 
+// Whether two `Units` nodes are equal.
 #[cycle(equal)]
-fn same_units(
+fn same_groups(
     count: &Cardinality,
     units: &UnitPlan,
     other_count: &Cardinality,
     others: &UnitPlan,
 ) -> bool
-    ensures { IsTrue result ↔ (units_plan count.now (unit_plan_of units.now) ≡ units_plan other_count.now (unit_plan_of others.now)) }
+    ensures { IsTrue result ↔ (groups_plan count.now (group_plan_of units.now)
+        ≡ groups_plan other_count.now (group_plan_of others.now)) }
 {
-    *count == *other_count && same_unit(units, others)
+    *count == *other_count && same_group_plan(units, others)
 }
 
+// Whether the plans of groups `one` and `other` are equal.
 #[cycle(equal)]
 #[tactic(auto, using(crate::proofs::PlanLemmas::plans_of_items))]
-fn same_unit(one: &UnitPlan, other: &UnitPlan) -> bool
-    ensures { IsTrue result ↔ (unit_plan_of one.now ≡ unit_plan_of other.now) }
+fn same_group_plan(one: &UnitPlan, other: &UnitPlan) -> bool
+    ensures { IsTrue result ↔ (group_plan_of one.now ≡ group_plan_of other.now) }
 {
     match (one, other) {
         (UnitPlan::Nothing, UnitPlan::Nothing) | (UnitPlan::Every, UnitPlan::Every) => true,
-        (UnitPlan::And(parts), UnitPlan::And(others)) => same_each_unit(parts, others),
-        (UnitPlan::Or(parts), UnitPlan::Or(others)) => same_each_unit(parts, others),
+        (UnitPlan::And(parts), UnitPlan::And(others)) => same_each_group(parts, others),
+        (UnitPlan::Or(parts), UnitPlan::Or(others)) => same_each_group(parts, others),
         (UnitPlan::Minus(first, second), UnitPlan::Minus(other_first, other_second)) => {
-            same_unit_minus(first, second, other_first, other_second)
+            same_group_minus(first, second, other_first, other_second)
         }
         (
             UnitPlan::Pairs {
@@ -192,18 +207,21 @@ fn same_unit(one: &UnitPlan, other: &UnitPlan) -> bool
     }
 }
 
+// Whether two `Minus` nodes of groups are equal.
 #[cycle(equal)]
-fn same_unit_minus(
+fn same_group_minus(
     first: &UnitPlan,
     second: &UnitPlan,
     other_first: &UnitPlan,
     other_second: &UnitPlan,
 ) -> bool
-    ensures { IsTrue result ↔ (minus_units (unit_plan_of first.now) (unit_plan_of second.now) ≡ minus_units (unit_plan_of other_first.now) (unit_plan_of other_second.now)) }
+    ensures { IsTrue result ↔ (minus_group_plan (group_plan_of first.now) (group_plan_of second.now)
+        ≡ minus_group_plan (group_plan_of other_first.now) (group_plan_of other_second.now)) }
 {
-    same_unit(first, other_first) && same_unit(second, other_second)
+    same_group_plan(first, other_first) && same_group_plan(second, other_second)
 }
 
+// Whether the tests `one` and `other` are equal.
 #[cycle(equal)]
 fn same_value_test(one: &ValueTest, other: &ValueTest) -> bool
     ensures { IsTrue result ↔ (test_plan_of one.now ≡ test_plan_of other.now) }
@@ -218,17 +236,20 @@ fn same_value_test(one: &ValueTest, other: &ValueTest) -> bool
     }
 }
 
+// Whether two comparisons with a number are equal.
 fn same_number(
     compare: &Compare,
     number: &Decimal,
     other_compare: &Compare,
     other: &Decimal,
 ) -> bool
-    ensures { IsTrue result ↔ (number_plan compare.now number.now.0 ≡ number_plan other_compare.now other.now.0) }
+    ensures { IsTrue result ↔ (number_plan compare.now number.now.0
+        ≡ number_plan other_compare.now other.now.0) }
 {
     *compare == *other_compare && *number == *other
 }
 
+// Whether the lists of plans `parts` and `others` are equal.
 #[cycle(equal)]
 fn same_each(parts: &[ConceptPlan], others: &[ConceptPlan]) -> bool
     ensures { IsTrue result ↔ (plans_of parts.now ≡ plans_of others.now) }
@@ -244,15 +265,16 @@ fn same_each(parts: &[ConceptPlan], others: &[ConceptPlan]) -> bool
     true
 }
 
+// Whether the lists of plans of groups `parts` and `others` are equal.
 #[cycle(equal)]
-fn same_each_unit(parts: &[UnitPlan], others: &[UnitPlan]) -> bool
-    ensures { IsTrue result ↔ (unit_plans_of parts.now ≡ unit_plans_of others.now) }
+fn same_each_group(parts: &[UnitPlan], others: &[UnitPlan]) -> bool
+    ensures { IsTrue result ↔ (group_plans_of parts.now ≡ group_plans_of others.now) }
 {
     if parts.len() != others.len() {
         return false;
     }
     for (i, part) in parts.iter().enumerate() {
-        if !same_unit(part, &others[i]) {
+        if !same_group_plan(part, &others[i]) {
             return false;
         }
     }

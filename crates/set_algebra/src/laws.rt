@@ -1,4 +1,5 @@
-//! Laws about the definitions of this crate: functions that do nothing, each with laws as its contract.
+//! Laws about the definitions of this crate: functions that do nothing, whose contracts are the
+//! laws.
 ghost use Rattle.std.specs.Prelude.{◌≡◌, ◌≤◌, ℕ, List};
 ghost use Rattle.constraint_tree.specs.Depth.{depth_of, most_deep};
 ghost use Rattle.constraint_tree.specs.Refusal.{IsConstraint};
@@ -12,35 +13,38 @@ ghost use Rattle.set_algebra.specs.WrongPlans.{MisplansSplitBraces, MisplansSpre
 
 use constraint_tree::constraints_are_not_deep;
 
-/// Each concept that a plan means over a release is in force there, for every release and every plan.
+/// For every release and every plan, each concept in the set that the plan means is in force.
 pub fn plans_mean_concepts_in_force()
     ensures { MeansConceptsInForce }
 {}
 
-/// The plan of a constraint is as deep as its tree. So the plan of a text is at most 326 deep.
+/// The plan that `lower` makes of a constraint is as deep as the constraint's tree. So the plan of
+/// a text is at most 326 deep.
 pub fn plans_are_as_deep_as_trees()
     ensures same { (tree : Tree) → plan_depth (lowered tree) ≡ depth_of tree }
-    ensures most { (text : List ℕ) (tree : Tree) → IsConstraint text tree → plan_depth (lowered tree) ≤ most_deep }
+    ensures most { (text : List ℕ) (tree : Tree) → IsConstraint text tree
+        → plan_depth (lowered tree) ≤ most_deep }
 {
     constraints_are_not_deep();
 }
 
-/// A plan keeps its meaning over a release if the plan at one of its places is replaced by one that means the same
-/// over that release. This holds for plans of concepts and of groups and at every place, through braces and
-/// cardinalities.
+/// If a node of a plan is replaced by one that means the same over a release, the plan keeps its
+/// meaning over that release. This holds for plans of concepts and of groups and at every place,
+/// through braces and cardinalities.
 pub fn places_keep_the_meaning()
     ensures { KeepsMeaningAtPlaces }
 {}
 
-/// A node put at a place stands there, the other children of each node on the path stay as they were, and
-/// putting at a place the node that stands there changes nothing.
+/// Replacing the node at a place changes that node alone: the new node stands there, and the other
+/// children of each node on the path stay as they were. To put the node that stands there in its
+/// own place changes nothing.
 pub fn places_are_found_and_put()
     ensures child { ReplacesOneChild }
     ensures found { FindsWhatIsPut }
     ensures back { PutsBack }
 {}
 
-/// Four worked queries have the plans that `specs/WorkedPlans.antt` shows.
+/// The plans of four worked queries are those that `specs/WorkedPlans.antt` shows.
 pub fn worked_queries_have_plans()
     ensures attribute { HasPlanOfAttribute }
     ensures number { HasPlanOfNumber }
@@ -48,7 +52,8 @@ pub fn worked_queries_have_plans()
     ensures twice { HasPlanOfTwice }
 {}
 
-/// The plans of the worked queries mean on a small release the concepts that the queries denote there.
+/// Over the sample release, the plan of each worked query means the concepts that the query
+/// denotes.
 pub fn worked_plans_hold()
     ensures everything { MeansEverything }
     ensures descendants { MeansDescendants }
@@ -69,7 +74,8 @@ pub fn worked_plans_hold()
     ensures empty_answers { MeansEmptyAnswers }
 {}
 
-/// Three plans that look right mean other concepts on a small release than the plans of their queries.
+/// Three plans that look right are wrong: over the sample release they mean other concepts than the
+/// plans of their queries.
 pub fn wrong_plans_differ()
     ensures split_braces { MisplansSplitBraces }
     ensures spread_count { MisplansSpreadCount }

@@ -1,5 +1,5 @@
-//! Plans, the form in which a query is executed, and their meaning over a release. Two types describe a node:
-//! which rows answer it (`Choice`), and how many items it reads (`NodeLimits`).
+//! Plans, the form in which a query is executed, and the sets that they mean over a release. For
+//! each node, `Choice` says which rows answer it, and `NodeLimits` how many items it reads.
 #![tactic(auto)]
 
 mod choice;

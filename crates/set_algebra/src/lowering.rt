@@ -1,30 +1,32 @@
-//! Makes the plan of a constraint.
+//! Makes plans of constraints.
 ghost use Rattle.std.specs.Prelude.{ℕ, ◌≡◌, IfOk};
 ghost use Rattle.rf2_rows.specs.Release.{Release};
 ghost use Rattle.constraint_tree.specs.Denotation.{denotes};
 ghost use Rattle.constraint_tree.specs.Tree.{tree_of, trees_of, refinement_tree_of, refinement_trees_of, set_tree_of, set_trees_of, attribute_tree_of, test_tree_of};
 ghost use Rattle.set_algebra.specs.Lowering.{lowered, lowered_trees, lowered_refinement, lowered_refinements, lowered_attribute, lowered_set, lowered_sets, lowered_in_group, lowered_test};
 ghost use Rattle.set_algebra.specs.Meaning.{means};
-ghost use Rattle.set_algebra.specs.Plan.{plan_of, plans_of, unit_plan_of, unit_plans_of, test_plan_of};
+ghost use Rattle.set_algebra.specs.Plan.{plan_of, plans_of, group_plan_of, group_plans_of, test_plan_of};
 
 use crate::choice::Choice;
 use crate::plan::{ConceptPlan, UnitPlan, ValueTest};
 use constraint_tree::{Attribute, AttributeSet, Constraint, Refinement, Test};
 use std::alloc::{AllocError, Global};
 
-/// Makes the plan of a constraint (Expression Constraint Language, "Simple Expression Constraints" to
-/// "Refinements"). Over every release the plan means exactly the concepts that the constraint denotes. It follows
-/// the tree: `A : r` is `And` of A and r, an attribute is `Pairs`, braces are `Units`, lists stay lists, and
-/// a dotted constraint is `Values`. The error is want of memory.
+/// Returns the plan of a constraint (Expression Constraint Language, "Simple Expression
+/// Constraints" to "Refinements"). Over every release the plan means exactly the concepts that the
+/// constraint denotes. It follows the tree: `A : r` becomes `And` of A and r, an attribute `Pairs`,
+/// braces `Units`, and a dotted constraint `Values`; lists stay lists. Returns `AllocError` if
+/// memory runs out.
 pub fn lower(alloc: Global, constraint: &Constraint) -> Result<ConceptPlan, AllocError>
     ensures plan { IfOk result (λ plan. plan_of plan ≡ lowered (tree_of constraint.now)) }
-    ensures meaning { IfOk result (λ plan. (release : Release) (concept : ℕ) → means release (plan_of plan) concept ≡ denotes release (tree_of constraint.now) concept) }
+    ensures meaning { IfOk result (λ plan. (release : Release) (concept : ℕ)
+        → means release (plan_of plan) concept ≡ denotes release (tree_of constraint.now) concept) }
 {
     let plan = concepts(alloc, constraint)?;
     Ok(plan)
 }
 
-// Makes the plan of a constraint.
+// Returns the plan of `constraint`, without the statement about its meaning.
 #[cycle(lower)]
 #[tactic(auto, using(constraint_tree::proofs::TreeLemmas::trees_of_items, crate::proofs::PlanLemmas::plans_of_items))]
 fn concepts(alloc: Global, constraint: &Constraint) -> Result<ConceptPlan, AllocError>
@@ -55,6 +57,7 @@ fn concepts(alloc: Global, constraint: &Constraint) -> Result<ConceptPlan, Alloc
     }
 }
 
+// Returns the plan of `constraint` in a box.
 #[cycle(lower)]
 fn boxed(alloc: Global, constraint: &Constraint) -> Result<Box<ConceptPlan>, AllocError>
     ensures { IfOk result (λ plan. plan_of plan.value ≡ lowered (tree_of constraint.now)) }
@@ -63,6 +66,7 @@ fn boxed(alloc: Global, constraint: &Constraint) -> Result<Box<ConceptPlan>, All
     Ok(Box::new(alloc, plan)?)
 }
 
+// Returns the plans of the constraints `parts`, in the same order.
 #[cycle(lower)]
 fn each(alloc: Global, parts: &[Constraint]) -> Result<Vec<ConceptPlan>, AllocError>
     ensures { IfOk result (λ plans. plans_of plans.items ≡ lowered_trees (trees_of parts.now)) }
@@ -75,11 +79,12 @@ fn each(alloc: Global, parts: &[Constraint]) -> Result<Vec<ConceptPlan>, AllocEr
     Ok(plans)
 }
 
-// Makes the plan of the concepts that satisfy a refinement.
+// Returns the plan of the concepts that satisfy `refinement`.
 #[cycle(lower)]
 #[tactic(auto, using(constraint_tree::proofs::TreeLemmas::trees_of_items, crate::proofs::PlanLemmas::plans_of_items))]
 fn satisfying(alloc: Global, refinement: &Refinement) -> Result<ConceptPlan, AllocError>
-    ensures { IfOk result (λ plan. plan_of plan ≡ lowered_refinement (refinement_tree_of refinement.now)) }
+    ensures { IfOk result (λ plan. plan_of plan
+        ≡ lowered_refinement (refinement_tree_of refinement.now)) }
 {
     match refinement {
         Refinement::One(attribute) => Ok(ConceptPlan::Pairs {
@@ -98,9 +103,12 @@ fn satisfying(alloc: Global, refinement: &Refinement) -> Result<ConceptPlan, All
     }
 }
 
+// Returns the plans of the concepts that satisfy each of the refinements `parts`, in the same
+// order.
 #[cycle(lower)]
 fn each_satisfying(alloc: Global, parts: &[Refinement]) -> Result<Vec<ConceptPlan>, AllocError>
-    ensures { IfOk result (λ plans. plans_of plans.items ≡ lowered_refinements (refinement_trees_of parts.now)) }
+    ensures { IfOk result (λ plans. plans_of plans.items
+        ≡ lowered_refinements (refinement_trees_of parts.now)) }
 {
     let mut plans = Vec::new(alloc);
     for part in parts {
@@ -110,11 +118,11 @@ fn each_satisfying(alloc: Global, parts: &[Refinement]) -> Result<Vec<ConceptPla
     Ok(plans)
 }
 
-// Makes the plan of the groups that satisfy an attribute set.
+// Returns the plan of the groups that satisfy the attribute set `set`.
 #[cycle(lower)]
 #[tactic(auto, using(constraint_tree::proofs::TreeLemmas::trees_of_items, crate::proofs::PlanLemmas::plans_of_items))]
 fn groups(alloc: Global, set: &AttributeSet) -> Result<UnitPlan, AllocError>
-    ensures { IfOk result (λ plan. unit_plan_of plan ≡ lowered_set (set_tree_of set.now)) }
+    ensures { IfOk result (λ plan. group_plan_of plan ≡ lowered_set (set_tree_of set.now)) }
 {
     match set {
         AttributeSet::One(attribute) => Ok(UnitPlan::Pairs {
@@ -128,9 +136,12 @@ fn groups(alloc: Global, set: &AttributeSet) -> Result<UnitPlan, AllocError>
     }
 }
 
+// Returns the plans of the groups that satisfy each of the attribute sets `parts`, in the same
+// order.
 #[cycle(lower)]
 fn each_groups(alloc: Global, parts: &[AttributeSet]) -> Result<Vec<UnitPlan>, AllocError>
-    ensures { IfOk result (λ plans. unit_plans_of plans.items ≡ lowered_sets (set_trees_of parts.now)) }
+    ensures { IfOk result (λ plans. group_plans_of plans.items
+        ≡ lowered_sets (set_trees_of parts.now)) }
 {
     let mut plans = Vec::new(alloc);
     for part in parts {
@@ -140,6 +151,7 @@ fn each_groups(alloc: Global, parts: &[AttributeSet]) -> Result<Vec<UnitPlan>, A
     Ok(plans)
 }
 
+// Returns the test of a plan that passes the same values as `test`.
 #[cycle(lower)]
 fn value_test(alloc: Global, test: &Test) -> Result<ValueTest, AllocError>
     ensures { IfOk result (λ plan. test_plan_of plan ≡ lowered_test (test_tree_of test.now)) }

@@ -1,10 +1,10 @@
-//! How many items a node of a plan reads.
+//! The limits of how many items a node of a plan reads.
 
-/// How many items a node visits, besides those that its sub-plans visit.
+/// How many items a node visits. The items that the plans below it visit are not counted.
 #[derive(Clone, Copy, Debug)]
 pub struct NodeLimits {
-    /// How many items the node visits at least.
+    /// The fewest items that the node visits.
     pub floor: u64,
-    /// How many items the node visits at most; `u64::MAX` if the number is larger.
+    /// The most items that the node visits; `u64::MAX` if the number is larger.
     pub bound: u64,
 }

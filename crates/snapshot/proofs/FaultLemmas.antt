@@ -1,4 +1,4 @@
--- The faults of a release that is made of rows without a fault.
+-- The faults that are left once all rows were read without a fault.
 use Rattle.std.proofs.Common.{ℕ, Bool, ◌≡◌, ◌≢◌, List, Option, None, Some, Result, Ok, Err, arith, false, refl}
 use Rattle.release_files.specs.Source.{History}
 use Rattle.row_lists.specs.ReleaseLists.{ReleaseLists}
@@ -8,7 +8,7 @@ use Rattle.held_release.specs.Contents.{Contents, IsFaultOf, least_cyclic, unles
 use Rattle.held_release.specs.Finished.{contents_from, finished, release_from}
 use Rattle.release_rows.specs.DeviceFaults.{FailsAtRead, RaisesOnlyAtDevice, file_of, is_device}
 
--- the fault is not one of the device or of a file, nor that there is no Concept file
+-- the fault is no failure of the device, names no file, and is not `NoConceptFile`
 pub record IsOfNoFile (fault : LoadFault) : Type 0 where
   -- the fault is not one of the device
   pub own : is_device fault ≡ false
@@ -28,13 +28,13 @@ cycle-own (Cycle concept) contents cyclic said =
 cycle-own fault contents None said = absurd (grind arith)
 cycle-own fault contents (Some concept) said = absurd (grind arith)
 
--- each fault of finishing a release is one of no file
+-- a fault of `finished`, which makes a release of the lists that were read, names no file (`IsOfNoFile`)
 pub finished-own : (language : List ℕ) (files count : ℕ) (listed : ReleaseLists) (fault : LoadFault)
     → IsFaultOf fault (finished language files count listed) → IsOfNoFile fault
 finished-own language files count listed fault said =
     cycle-own fault (contents_from language files count listed) (least_cyclic (release_from listed)) said
 
--- if the count of failures stays the same, `RaisesOnlyAtDevice` holds
+-- `RaisesOnlyAtDevice` holds of any result if the count of failures stays the same
 pub raised_by_none : {T : Type 0} (old new : History) (result : Result T LoadFault)
     → new.failures ≡ old.failures → RaisesOnlyAtDevice result old new
 raised_by_none old new (Ok done) same = same

@@ -1,7 +1,8 @@
--- The number of rows in none of a release's lists is the number of all rows less those in its lists.
+-- The rows in none of a release's lists are as many as all rows less those in its lists.
 use Rattle.std.proofs.lemmas.Bool.Decides.{nat_tests}
 use Rattle.std.proofs.lemmas.Grind.{common_steps}
-use Rattle.std.proofs.Common.{ℕ, suc, ◌≡◌, ◌+◌, ◌&&◌, ◌==◌, List, [], ◌∷◌, ◌++◌, length, map, refl, arith, Bool, false, not, nat_eq, filter, count_by}
+use Rattle.std.proofs.Common.{ℕ, suc, ◌≡◌, ◌+◌, ◌&&◌, ◌==◌, List, [], ◌∷◌, ◌++◌, length, map, refl, arith, Bool, false}
+use Rattle.std.proofs.Common.{not, nat_eq, filter, count_by}
 use Rattle.std.specs.List.{AllByRecursion, IsDistinct}
 use Rattle.std.proofs.lemmas.List.{length-map}
 use Rattle.std.proofs.lemmas.List.Sums.{sum_by-append}
@@ -14,7 +15,9 @@ use Rattle.row_lists.specs.Marked.{marked}
 use Rattle.release_rows.specs.Chosen.{choices}
 use Rattle.release_rows.specs.Files.{RowAt}
 use Rattle.number_lists.specs.Members.{has}
-use Rattle.row_lists.specs.InForce.{attributes_in_force, concept_rows, concrete_rows, description_rows, is_concrete_in_force, is_in_force, listed_count, member_rows, relationship_rows, release_of}
+use Rattle.row_lists.specs.InForce.{attributes_in_force, concept_rows, concrete_rows, description_rows}
+use Rattle.row_lists.specs.InForce.{is_concrete_in_force, is_in_force, listed_count, member_rows, relationship_rows}
+use Rattle.row_lists.specs.InForce.{release_of}
 use Rattle.number_lists.specs.RisingOrder.{put, rising}
 use Rattle.row_lists.specs.Metadata.{is_a}
 use Rattle.snapshot.specs.Passed.{CountsPassedRows, failing, passed_texts}
@@ -23,7 +26,8 @@ use Rattle.snapshot.proofs.LoadLemmas.{concepts-listed}
 use Rattle.number_lists.proofs.RisingOrderLemmas.{has-rising}
 
 -- the rows that pass a test and those that fail it are together all rows
-split : {Row : Type 0} (test : Row → Bool) (rows : List Row) → length (filter test rows) + failing test rows ≡ length rows
+split : {Row : Type 0} (test : Row → Bool) (rows : List Row)
+    → length (filter test rows) + failing test rows ≡ length rows
 split test [] = refl
 split test (row ∷ rows) = grind (arith, common_steps, nat_tests, (split test rows))
 
@@ -41,11 +45,13 @@ not_among x (y ∷ ys) apart = grind (arith, nat_tests, apart.0, (not_among x ys
 length-rising : (xs : List ℕ) → IsDistinct nat_eq xs → length (rising xs) ≡ length xs
 unfolding IsDistinct
 length-rising [] apart = refl
-length-rising (x ∷ xs) apart = grind (arith, common_steps, nat_tests, has-rising, length-put, not_among, (length-rising xs apart.1))
+length-rising (x ∷ xs) apart =
+    grind (arith, common_steps, nat_tests, has-rising, length-put, not_among, (length-rising xs apart.1))
 
 -- how many relationship rows are is-a rows
 abbrev isa_count : List ℕ → List RelationshipRow → ℕ
-isa_count concepts rows = length (filter (λ (row : RelationshipRow). is_in_force concepts row && (row.type_id == is_a)) rows)
+isa_count concepts rows =
+    length (filter (λ (row : RelationshipRow). is_in_force concepts row && (row.type_id == is_a)) rows)
 
 abbrev is_listed : List ℕ → ConcreteText → Bool
 is_listed concepts row = is_concrete_in_force concepts row && not (row.type_id == is_a)
@@ -54,7 +60,8 @@ is_listed concepts row = is_concrete_in_force concepts row && not (row.type_id =
 -- load passes over
 abbrev IsCounted : List ℕ → List Attribute → List RelationshipRow → List ConcreteText → Type 0
 IsCounted concepts attributes relationships concretes =
-    length attributes + isa_count concepts relationships + failing (is_in_force concepts) relationships + failing (is_listed concepts) concretes
+    length attributes + isa_count concepts relationships + failing (is_in_force concepts) relationships
+    + failing (is_listed concepts) concretes
     ≡ length relationships + length concretes
 
 counts_relationships : (concepts : List ℕ) (rows : List RowText)
@@ -62,7 +69,8 @@ counts_relationships : (concepts : List ℕ) (rows : List RowText)
 counts_relationships concepts [] = omega arith
 counts_relationships concepts (of_concept row ∷ rows) = counts_relationships concepts rows
 counts_relationships concepts (of_description row ∷ rows) = counts_relationships concepts rows
-counts_relationships concepts (of_relationship row ∷ rows) = grind (arith, nat_tests, counts_relationships concepts rows)
+counts_relationships concepts (of_relationship row ∷ rows) =
+    grind (arith, nat_tests, counts_relationships concepts rows)
 counts_relationships concepts (of_concrete row ∷ rows) = grind (arith, nat_tests, counts_relationships concepts rows)
 counts_relationships concepts (of_member row ∷ rows) = counts_relationships concepts rows
 
@@ -81,15 +89,29 @@ all_kinds (of_member row ∷ rows) = omega (arith, all_kinds rows)
 choices_split : (rows earlier later : List RowAt)
     → length (marked (choices rows earlier later) later) + count_by not (choices rows earlier later) ≡ length later
 choices_split rows earlier [] = refl
-choices_split rows earlier (row ∷ later) = grind (arith, common_steps, nat_tests, sum_by-append, (choices_split rows (earlier ++ row ∷ []) later))
+choices_split rows earlier (row ∷ later) =
+    grind (arith, common_steps, nat_tests, sum_by-append, (choices_split rows (earlier ++ row ∷ []) later))
 
 -- if no two active concepts have one identifier, each row is listed or passed over
 listed_or_passed : (rows : List RowText)
-    → IsDistinct nat_eq (map (λ (row : ConceptRow). row.id) (filter (λ (row : ConceptRow). row.active) (concept_rows rows)))
+    → IsDistinct nat_eq (map (λ (row : ConceptRow). row.id)
+    (filter (λ (row : ConceptRow). row.active) (concept_rows rows)))
     → listed_count (release_of rows) + passed_texts rows ≡ length rows
-listed_or_passed rows apart = grind (arith, common_steps, nat_tests, all_kinds, counts_relationships, length-map, length-rising, split)
+listed_or_passed rows apart =
+    grind (arith, common_steps, nat_tests, all_kinds, counts_relationships, length-map, length-rising, split)
 
--- the count of rows that a load passes over is the number of rows in none of the lists
+-- if places have no fault, the number of rows that the contents report as passed over is the number of rows in none of
+-- the lists
 pub counts_passed_rows : CountsPassedRows
 counts_passed_rows limits language files places clean =
-    grind (arith, common_steps, nat_tests, active-distinct, choices_split, concepts-listed, length-map, listed_or_passed, nat_eq)
+    grind (
+      arith,
+      common_steps,
+      nat_tests,
+      active-distinct,
+      choices_split,
+      concepts-listed,
+      length-map,
+      listed_or_passed,
+      nat_eq,
+    )

@@ -1,5 +1,5 @@
-//! Loads a release: reads its files, chooses for each component the row that counts, and holds what these rows
-//! make.
+//! Loads a release: reads its Snapshot files, chooses the row of each component with the latest
+//! effective time, and keeps in memory what is in force.
 #![tactic(auto)]
 
 mod laws;

@@ -1,4 +1,4 @@
-//! Loads a release: reads its files, and holds what the rows that count make.
+//! Loads a release: reads its Snapshot files, and makes a `Snapshot` of the chosen rows.
 ghost use Rattle.std.specs.Prelude.{◌≡◌, ◌≢◌, ◌↔◌, ◌+◌, ◌<◌, ◌≤◌, ◌⊎◌, ℕ, Err, Some, Ok, false, IfOk, IfErr, IfSome, is_some, map, max, length, string_bytes, count_by};
 ghost use Rattle.std.specs.List.{list_any};
 ghost use Rattle.std.specs.Cmp.Lexicographic.{slice_cmp};
@@ -22,35 +22,41 @@ use rf2_rows::{FileKind, file_kind};
 use row_lists::LoadFault;
 use std::alloc::{AllocError, Global};
 
-/// Loads a release from its files.
+/// The functions that load a release, implemented for `Snapshot`.
 pub trait LoadSnapshot {
-    /// Loads the Snapshot files of a list, and passes over the other files. Answers the first fault, in this
-    /// order: `NoConceptFile`, by the names alone; then, file by file and line by line, `TooMany` by bytes,
-    /// `Header` on line 1 or in a file without lines, `Row`, `Conflict`, `TooMany` by rows; last `Cycle`.
-    /// Answers `Memory` if a growth is refused, but never if no file has the name of a Concept file. `lang` is
-    /// the language code whose names come first.
+    /// Loads a release from the Snapshot files among `files`, which are in memory. Ignores the
+    /// other files. Prefers names in the language with the code `lang`.
     ///
-    /// Use it for files that you trust: it hashes their contents over a fixed seed, and whoever knows the seed
-    /// can make files that take very long to load and to index. A source of files tells its own seed
-    /// (`load_from`).
+    /// Fails with the first fault, in this order: `NoConceptFile`, if no file has the name of a
+    /// Concept file; then, file by file and line by line, `TooMany` by bytes, `Header` on line 1 or
+    /// in a file without lines, `Row`, `Conflict`, `TooMany` by rows; last `Cycle`. Fails with
+    /// `Memory` if memory is refused, but never if `NoConceptFile` applies.
+    ///
+    /// Only for files that the caller trusts: the seed of the hashes is fixed, and whoever knows
+    /// the seed can make files that take very long to load and to index. With `load_from` the
+    /// source gives the seed.
     fn load(
         alloc: Global,
         files: &[NamedBytes<'_>],
         lang: &str,
         limits: Limits,
     ) -> Result<Snapshot, LoadFault>
-        ensures ok { IfOk result (λ snapshot. load_of limits lang.now (map file_text files.now) ≡ Ok snapshot) }
-        ensures err { IfErr result (λ fault. IsFaultOf fault (load_of limits lang.now (map file_text files.now))) }
-        ensures unnamed { (result ≡ Err LoadFault.NoConceptFile) ↔ (list_any (λ file. is_concept_file (file_text file)) files.now ≡ false) }
+        ensures ok { IfOk result (λ snapshot. load_of limits lang.now (map file_text files.now)
+            ≡ Ok snapshot) }
+        ensures err { IfErr result (λ fault. IsFaultOf fault
+            (load_of limits lang.now (map file_text files.now))) }
+        ensures unnamed { (result ≡ Err LoadFault.NoConceptFile) ↔
+            (list_any (λ file. is_concept_file (file_text file)) files.now ≡ false) }
         ensures named { IfErr result (FileIs (λ file. file < length files.now)) };
 
-    /// Loads the files that a source lists, in the byte order of their names, as `load` does. It reads each
-    /// file in pieces, and no further than one byte past the limit. Leaves the names in that order in `names`;
-    /// a fault names a file by its index there. Leaves no names if the source does not list them.
+    /// Loads a release from the files that `source` lists, in the byte order of their names, with
+    /// the results and faults of `load`. Reads each file in pieces, and no further than one byte
+    /// past the limit of bytes. Puts the names, in this order, into `names`; a fault names a file
+    /// by its index there. If the source cannot list its files, `names` is empty.
     ///
-    /// Answers `Device` if the source fails, and then keeps nothing. If a source lists a name twice, the load
-    /// has the first file of that name twice. This is `list_names` and then `load_named`, for a caller who does
-    /// not need to know which of the two failed.
+    /// Fails with `Device` if the source fails, and then keeps nothing. If the source lists a name
+    /// twice, the first file with this name is loaded twice. The call is `list_names` followed by
+    /// `load_named`, for callers who need not know which of the two failed.
     fn load_from<S: FileSource>(
         alloc: Global,
         source: &mut S,
@@ -58,23 +64,37 @@ pub trait LoadSnapshot {
         lang: &str,
         limits: Limits,
     ) -> Result<Snapshot, LoadFault>
-        ensures ok { IfSome (S.files source.old) (λ known. IfOk result (λ snapshot. load_of limits lang.now (listed known (map string_bytes names.new.items)) ≡ Ok snapshot)) }
-        ensures err { IfSome (S.files source.old) (λ known. IfErr result (λ fault. is_device fault ≡ false → IsFaultOf fault (load_of limits lang.now (listed known (map string_bytes names.new.items))))) }
-        ensures names { IfSome (S.files source.old) (λ known. AreInOrder known (map string_bytes names.new.items) ⊎ IsUnlisted result (map string_bytes names.new.items) (S.history source.new)) }
-        ensures device { FailsAtFiles string_bytes names.new.items result (S.history source.old) (S.history source.new) }
+        ensures ok { IfSome (S.files source.old)
+            (λ known. IfOk result (λ snapshot. load_of limits lang.now
+            (listed known (map string_bytes names.new.items)) ≡ Ok snapshot)) }
+        ensures err { IfSome (S.files source.old)
+            (λ known. IfErr result (λ fault. is_device fault ≡ false
+            → IsFaultOf fault (load_of limits lang.now
+            (listed known (map string_bytes names.new.items))))) }
+        ensures names { IfSome (S.files source.old)
+            (λ known. AreInOrder known (map string_bytes names.new.items)
+            ⊎ IsUnlisted result (map string_bytes names.new.items) (S.history source.new)) }
+        ensures device { FailsAtFiles string_bytes names.new.items result (S.history source.old)
+            (S.history source.new) }
         ensures failures { (S.history source.old).failures ≤ (S.history source.new).failures }
-        ensures calm { RaisesOnlyAtDevice result (S.history source.old) (S.history source.new) }
-        ensures bounded { (S.history source.new).most ≤ max (S.history source.old).most ((limits_in_force limits).bytes + 1) }
-        ensures kind { IfErr result (λ fault. FailsAtRead (has_kind_at (map string_bytes names.new.items)) fault) }
+        ensures failure_is_device { RaisesOnlyAtDevice result (S.history source.old)
+            (S.history source.new) }
+        ensures bounded { (S.history source.new).most
+            ≤ max (S.history source.old).most ((limits_in_force limits).bytes + 1) }
+        ensures kind { IfErr result (λ fault. FailsAtRead
+            (has_kind_at (map string_bytes names.new.items)) fault) }
         ensures files { S.files source.new ≡ S.files source.old }
         ensures rising { IsSorted (slice_cmp nat_cmp) (map string_bytes names.new.items) }
         ensures unnamed { name_concepts string_bytes names.new.items ≡ false
-            → (result ≡ Err LoadFault.NoConceptFile) ⊎ IsUnlisted result (map string_bytes names.new.items) (S.history source.new) }
-        ensures found { result ≡ Err LoadFault.NoConceptFile → name_concepts string_bytes names.new.items ≡ false }
+            → (result ≡ Err LoadFault.NoConceptFile)
+            ⊎ IsUnlisted result (map string_bytes names.new.items) (S.history source.new) }
+        ensures found { result ≡ Err LoadFault.NoConceptFile
+            → name_concepts string_bytes names.new.items ≡ false }
         ensures named { IfErr result (FileIs (λ file. file < length names.new.items)) };
 
-    /// Loads the files called `names`, in this order, as `load` does. A source reads each of them in pieces. A
-    /// fault names a file by its index in `names`; `Device` always does.
+    /// Loads a release from the files `names` of `source`, in this order, with the results and
+    /// faults of `load`. Reads each file in pieces. A fault names a file by its index in `names`;
+    /// `Device` always names one.
     fn load_named<S: FileSource>(
         alloc: Global,
         source: &mut S,
@@ -82,15 +102,25 @@ pub trait LoadSnapshot {
         lang: &str,
         limits: Limits,
     ) -> Result<Snapshot, LoadFault>
-        ensures ok { IfSome (S.files source.old) (λ known. IfOk result (λ snapshot. load_of limits lang.now (listed known (map string_bytes names.now)) ≡ Ok snapshot)) }
-        ensures err { IfSome (S.files source.old) (λ known. IfErr result (λ fault. is_device fault ≡ false → IsFaultOf fault (load_of limits lang.now (listed known (map string_bytes names.now))))) }
-        ensures device { FailsOnlyAt (map string_bytes names.now) result (S.history source.old) (S.history source.new) }
+        ensures ok { IfSome (S.files source.old)
+            (λ known. IfOk result (λ snapshot. load_of limits lang.now
+            (listed known (map string_bytes names.now)) ≡ Ok snapshot)) }
+        ensures err { IfSome (S.files source.old)
+            (λ known. IfErr result (λ fault. is_device fault ≡ false
+            → IsFaultOf fault (load_of limits lang.now
+            (listed known (map string_bytes names.now))))) }
+        ensures device { FailsOnlyAt (map string_bytes names.now) result (S.history source.old)
+            (S.history source.new) }
         ensures failures { (S.history source.old).failures ≤ (S.history source.new).failures }
-        ensures calm { RaisesOnlyAtDevice result (S.history source.old) (S.history source.new) }
-        ensures bounded { ReadsWithin ((limits_in_force limits).bytes + 1) (S.history source.old) (S.history source.new) }
-        ensures kind { IfErr result (λ fault. FailsAtRead (has_kind_at (map string_bytes names.now)) fault) }
+        ensures failure_is_device { RaisesOnlyAtDevice result (S.history source.old)
+            (S.history source.new) }
+        ensures bounded { ReadsWithin ((limits_in_force limits).bytes + 1) (S.history source.old)
+            (S.history source.new) }
+        ensures kind { IfErr result (λ fault. FailsAtRead (has_kind_at (map string_bytes names.now))
+            fault) }
         ensures files { S.files source.new ≡ S.files source.old }
-        ensures unnamed { (result ≡ Err LoadFault.NoConceptFile) ↔ (name_concepts string_bytes names.now ≡ false) }
+        ensures unnamed { (result ≡ Err LoadFault.NoConceptFile) ↔
+            (name_concepts string_bytes names.now ≡ false) }
         ensures named { IfErr result (FileIs (λ file. file < length names.now)) };
 }
 
@@ -149,7 +179,8 @@ impl LoadSnapshot for Snapshot {
     }
 }
 
-// Loads files place by place. `kinds` of them have a kind.
+// Loads a release from `files`, of which `kinds` have a kind by their names. There must be at least
+// one file. `limits` are the limits in force.
 fn load_places<P: PlaceSource>(
     alloc: Global,
     files: &mut P,
@@ -159,13 +190,20 @@ fn load_places<P: PlaceSource>(
 ) -> Result<Snapshot, LoadFault>
     requires total { row_total limits ≤ 68000000 }
     requires some { 0 < length (P.asked files.old).names }
-    ensures ok { IfSome (P.places files.old) (λ known. IfOk result (λ snapshot. loaded_from limits lang.now kinds known ≡ Ok snapshot)) }
-    ensures err { IfSome (P.places files.old) (λ known. IfErr result (λ fault. is_device fault ≡ false → IsFaultOf fault (loaded_from limits lang.now kinds known))) }
-    ensures device { FailsOnlyAt (P.asked files.old).names result (P.history files.old) (P.history files.new) }
+    ensures ok { IfSome (P.places files.old)
+        (λ known. IfOk result (λ snapshot. loaded_from limits lang.now kinds known ≡ Ok snapshot)) }
+    ensures err { IfSome (P.places files.old)
+        (λ known. IfErr result (λ fault. is_device fault ≡ false
+        → IsFaultOf fault (loaded_from limits lang.now kinds known))) }
+    ensures device { FailsOnlyAt (P.asked files.old).names result (P.history files.old)
+        (P.history files.new) }
     ensures failures { (P.history files.old).failures ≤ (P.history files.new).failures }
-    ensures calm { RaisesOnlyAtDevice result (P.history files.old) (P.history files.new) }
-    ensures bounded { ReadsWithin (P.asked files.old).most (P.history files.old) (P.history files.new) }
-    ensures kind { IfErr result (λ fault. FailsAtRead (has_kind_at (P.asked files.old).names) fault) }
+    ensures failure_is_device { RaisesOnlyAtDevice result (P.history files.old)
+        (P.history files.new) }
+    ensures bounded { ReadsWithin (P.asked files.old).most (P.history files.old)
+        (P.history files.new) }
+    ensures kind { IfErr result (λ fault. FailsAtRead (has_kind_at (P.asked files.old).names)
+        fault) }
     ensures named { IfErr result (FileIs (λ file. file < length (P.asked files.old).names)) }
     ensures found { IfErr result (λ fault. fault ≢ LoadFault.NoConceptFile) }
     ensures asked { P.asked files.new ≡ P.asked files.old }
@@ -184,42 +222,42 @@ fn load_places<P: PlaceSource>(
     }
 }
 
-// Whether one of the files has the name of a Concept file.
+// Whether one of `files` is a Concept file by its name.
 fn has_concept_file(files: &[NamedBytes<'_>]) -> bool
     ensures { result ≡ list_any (λ file. is_concept_file (file_text file)) files.now }
 {
     files.iter().any(|file| is_concept_name(file.name))
 }
 
-// The number of files that have a kind.
+// Returns how many of `files` are files of some kind by their names.
 fn kind_count(files: &[NamedBytes<'_>]) -> u64
     ensures { result ≡ count_by (λ file. has_kind_of (file_text file)) files.now }
 {
     files.iter().filter(|file| has_kind(file.name)).count() as u64
 }
 
-// Whether one of the names is that of a Concept file.
+// Whether one of `names` is the name of a Concept file.
 fn name_concept_file(names: &[String]) -> bool
     ensures { result ≡ name_concepts string_bytes names.now }
 {
     names.iter().any(|name| is_concept_name(name.as_str()))
 }
 
-// The number of names that are those of files of some kind.
+// Returns how many of `names` are names of files of some kind.
 fn named_kind_count(names: &[String]) -> u64
     ensures { result ≡ count_by (λ name. is_some (file_kind_of (string_bytes name))) names.now }
 {
     names.iter().filter(|name| has_kind(name.as_str())).count() as u64
 }
 
-// Whether `name` is that of a Concept file.
+// Whether `name` is the name of a Concept file.
 fn is_concept_name(name: &str) -> bool
     ensures { result ≡ is_concept_kind (file_kind_of name.now) }
 {
     matches!(file_kind(name), Some(FileKind::Concept))
 }
 
-// Whether `name` is that of a file of some kind.
+// Whether `name` is the name of a file of some kind.
 fn has_kind(name: &str) -> bool
     ensures { result ≡ is_some (file_kind_of name.now) }
 {

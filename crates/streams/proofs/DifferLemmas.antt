@@ -4,7 +4,7 @@ use Rattle.std.proofs.lemmas.List.Elements.{All-append, All-head, All-map, All-t
 use Rattle.std.proofs.lemmas.List.Kept.{AllPairs-cons}
 use Rattle.std.specs.List.{All, AllPairs}
 
--- a claim that holds of everything holds of all items of a list
+-- if `P` holds of every item, it holds of all items of a list
 pub each : {X : Type 0} (P : X → Type 0) (items : List X) → ((item : X) → P item) → All P items
 each P items holds k default within = holds (get_or items k default)
 
@@ -29,8 +29,8 @@ differ_first first rest differ k default within = differ 0 (suc k) default (omeg
 pub differ_rest : {X : Type 0} (first : X) (rest : List X) → Differ (first ∷ rest) → Differ rest
 differ_rest first rest differ i j default before within = differ (suc i) (suc j) default (omega arith) (omega arith)
 
--- if the items of each of two lists differ, and each item of the first differs from all of the second, the items of
--- both together differ
+-- if the items of `one` differ, those of `other` differ, and no item is in both lists, the items of `one ++ other`
+-- differ
 pub differ_append : {X : Type 0} (one other : List X) → Differ one → Differ other
     → All (λ item. All (λ later. item ≢ later) other) one → Differ (one ++ other)
 differ_append [] other first second apart = second
@@ -41,7 +41,8 @@ differ_append (item ∷ items) other first second apart =
     (differ_append items other (differ_rest item items first) second
     (All-tail (λ item. All (λ later. item ≢ later) other) item items apart))
 
--- a function that takes different items to different results takes items that differ to results that differ
+-- if different items have different values of the function `take`, the values for the items of a list differ if the
+-- items do
 pub differ_map : {X Y : Type 0} (take : X → Y) → ((one other : X) → take one ≡ take other → one ≡ other)
     → (items : List X) → Differ items → Differ (map take items)
 differ_map take own [] differ = differ_none

@@ -1,4 +1,4 @@
--- What stands in a folder adds to what was found: the paths of some names as files, those of others as folders.
+-- What a folder adds to what was found: the paths of some names as files, those of others as folders.
 use Rattle.std.proofs.Common.{◌≡◌, ◌∙◌, ℕ, ◌++◌, List, [], ◌∷◌, Bool, true, false, None, Some, Result, Ok, Err}
 use Rattle.std.proofs.Common.{ap, cond, map, refl, subst, sym}
 use Rattle.std.proofs.lemmas.List.{append-nil, append_assoc, map-append}
@@ -8,25 +8,25 @@ use Rattle.std.specs.Prelude.{is_some}
 use Rattle.std.specs.declared.io.ErrorKind.{ErrorKind}
 use Rattle.rf2_rows.specs.Files.{file_kind_of}
 use Rattle.streams.specs.Folders.{path_below}
-use Rattle.streams.specs.Walk.{FolderTree, Found, found_at, found_in, leads_nowhere, with_file, with_folder}
+use Rattle.streams.specs.Traversal.{FolderTree, Found, found_at, found_in, leads_nowhere, with_file, with_folder}
 use Rattle.streams.specs.declared.system.Standing.{Standing}
 use Rattle.streams.specs.declared.system.Standing.TheVariants.{File, Folder, Other}
 
--- a walk lists what stands at `path` as a file
+-- whether the traversal lists `path` as a file, if the path leads to the given thing
 abbrev pub is_file : Result Standing ErrorKind → List ℕ → Bool
 is_file (Ok File) path = true
 is_file (Ok (Folder number)) path = false
 is_file (Ok Other) path = false
 is_file (Err kind) path = is_some (file_kind_of path)
 
--- a folder stands at the path
+-- whether the path leads to a folder
 abbrev pub is_folder : Result Standing ErrorKind → Bool
 is_folder (Ok File) = false
 is_folder (Ok (Folder number)) = true
 is_folder (Ok Other) = false
 is_folder (Err kind) = false
 
--- the path of a folder with a `/` at its end, as it stands before the names in it
+-- the path of a folder with `/` at its end, as it is in front of the names in the folder
 abbrev pub with_slash : List ℕ → List ℕ
 with_slash path = path ++ 47 ∷ []
 
@@ -37,7 +37,7 @@ pub record Adds (old new : Found) (files folders : List (List ℕ)) : Type 0 whe
   -- the folders are those before and then `folders`, each with a `/` at its end
   pub folders_are : new.folders ≡ old.folders ++ map with_slash folders
 
--- no change adds nothing
+-- if nothing changes, no file and no folder was added
 pub adds_none : (found : Found) → Adds found found [] []
 adds_none found = record { files_are = sym (append-nil found.files); folders_are = sym (append-nil found.folders) }
 
@@ -94,7 +94,7 @@ listed_first true below name names = refl
 listed_first false below name names = refl
 
 module _ (tree : FolderTree) (folder : List ℕ) where
-  -- a walk lists the name in the folder `below` as a file
+  -- whether the traversal lists the name in the folder `below` as a file
   abbrev pub lists_file : List ℕ → List ℕ → Bool
   lists_file below name = is_file (tree.at (path_below folder (below ++ name))) (below ++ name)
 

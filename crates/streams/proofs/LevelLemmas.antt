@@ -1,5 +1,5 @@
--- The paths of the files that a walk finds differ. The paths of one level have equally many `/`, one more than those
--- of the level above; and what stands before the last `/` tells the folder.
+-- The paths of the files that a traversal finds differ. The paths of one level have equally many `/`, one more than
+-- those of the level above; and the text before the last `/` tells the folder.
 use Rattle.std.proofs.Common.{◌≡◌, ◌≢◌, ◌∙◌, ℕ, ◌+◌, ◌<◌, ◌++◌, List, [], ◌∷◌}
 use Rattle.std.proofs.Common.{Bool, ap, arith, map, refl, subst, sym}
 use Rattle.std.proofs.lemmas.Cmp.{nat_list_eq_equiv}
@@ -15,13 +15,13 @@ use Rattle.std.specs.List.{All, Contains, filter}
 use Rattle.std.specs.Prelude.{bytes_eq}
 use Rattle.streams.specs.Folders.{path_below}
 use Rattle.streams.specs.NamesOnce.{ListsNamesOnce}
-use Rattle.streams.specs.Walk.{AreFilesBelow, AreNamesIn, Descends, Enters, EntersAll, FolderTree, Found}
-use Rattle.streams.specs.Walk.{again, deeper, ended, first, no_more, one_more}
+use Rattle.streams.specs.Traversal.{AreFilesBelow, AreNamesIn, Descends, Enters, EntersAll, FolderTree, Found}
+use Rattle.streams.specs.Traversal.{again, deeper, ended, first, no_more, one_more}
 use Rattle.streams.proofs.DifferLemmas.{Differ, differ_append, differ_first, differ_map, differ_none, differ_one}
 use Rattle.streams.proofs.DifferLemmas.{differ_rest}
 use Rattle.streams.proofs.FoundLemmas.{Adds, adds_more, adds_none, in_adds, lists_file, lists_folder, path_of}
 use Rattle.streams.proofs.FoundLemmas.{with_slash}
-use Rattle.streams.proofs.SlashLemmas.{last_append, last_behind, no_slashes, same_below, slashes, slashes_append}
+use Rattle.streams.proofs.SlashLemmas.{last_append, last_after, no_slashes, same_below, slashes, slashes_append}
 
 -- the name has no `/`
 abbrev IsPlain : List ℕ → Type 0
@@ -58,7 +58,7 @@ record AddsNew (Stands : List ℕ → Type 0) (old new : Found) : Type 0 where
 -- the path of a folder at `depth`: it has `depth` `/`, and is empty or ends with one
 record IsBelow (depth : ℕ) (below : List ℕ) : Type 0 where
   deep : slashes below ≡ depth
-  ends : last_behind 47 below ≡ 47
+  ends : last_after 47 below ≡ 47
 
 -- the folders of a level differ, and each has its path at `depth`
 record IsLevel (depth : ℕ) (level : List (List ℕ)) : Type 0 where

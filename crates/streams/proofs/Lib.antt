@@ -4,4 +4,4 @@ pub mod LevelLemmas
 pub mod NamesOnceLemmas
 pub mod SlashLemmas
 pub mod WaitingLemmas
-pub mod WalkLemmas
+pub mod TraversalLemmas

@@ -10,7 +10,7 @@ use Rattle.std.specs.Fmt.{decimal}
 use Rattle.std.specs.List.{All, IsDistinct}
 use Rattle.std.specs.Prelude.{bytes_eq}
 use Rattle.streams.specs.NamesOnce.{ListsNamesOnce}
-use Rattle.streams.specs.Walk.{AreFilesOf, AreFilesOfAll, FolderTree, numbered_name}
+use Rattle.streams.specs.Traversal.{AreFilesOf, AreFilesOfAll, FolderTree, numbered_name}
 use Rattle.streams.proofs.DifferLemmas.{Differ, differ_append, differ_map, differ_none, each}
 use Rattle.streams.proofs.LevelLemmas.{below_differ}
 use Rattle.streams.proofs.SlashLemmas.{same_number}
@@ -19,7 +19,7 @@ use Rattle.streams.proofs.SlashLemmas.{same_number}
 same_path : (number : ℕ) (one other : List ℕ)
     → numbered_name number one ≡ numbered_name number other → one ≡ other
 same_path number one other same =
-    let behind = append_cancel_left (decimal number) (47 ∷ one) (47 ∷ other) same in cc
+    let following = append_cancel_left (decimal number) (47 ∷ one) (47 ∷ other) same in cc
 
 -- the number in the name is `least` or greater, and below 2^64
 record HasNumberFrom (least : ℕ) (name : List ℕ) : Type 0 where
@@ -57,21 +57,21 @@ numbered_none number = record { differ = differ_none; numbers = All-nil (HasNumb
 -- the names of the files of a folder differ from one another and from those of the folders after it
 numbered_more : (number : ℕ) (own others : List (List ℕ)) → number < 2 ^ 64 → Differ own
     → AreNumberedFrom (number + 1) others → AreNumberedFrom number (map (numbered_name number) own ++ others)
-numbered_more number own others small differ behind = record {
+numbered_more number own others small differ following = record {
   differ =
       differ_append (map (numbered_name number) own) others
-      (differ_map (numbered_name number) (same_path number) own differ) behind.differ
+      (differ_map (numbered_name number) (same_path number) own differ) following.differ
       (All-map (λ name. All (λ later. name ≢ later) others) (numbered_name number) own
       (each (λ path. All (λ later. numbered_name number path ≢ later) others) own
       (λ path. All-weaker (HasNumberFrom (number + 1)) (λ later. numbered_name number path ≢ later)
-      (λ later from. numbers_apart number path later small from) others behind.numbers)));
+      (λ later from. numbers_apart number path later small from) others following.numbers)));
   numbers =
       All-append (HasNumberFrom number) (map (numbered_name number) own) others
       (All-map (HasNumberFrom number) (numbered_name number) own
       (each (λ path. HasNumberFrom number (numbered_name number path)) own
       (λ path. record { number = number; path = path; more = omega arith; small = small; is = refl })))
       (All-weaker (HasNumberFrom (number + 1)) (HasNumberFrom number)
-      (from_less number) others behind.numbers);
+      (from_less number) others following.numbers);
 }
 
 module _ (tree : FolderTree) (once : ListsNamesOnce tree) where
@@ -81,8 +81,8 @@ module _ (tree : FolderTree) (once : ListsNamesOnce tree) where
   numbered_differ number [] names small none = subst (AreNumberedFrom number) (sym none) (numbered_none number)
   numbered_differ number (folder ∷ folders) names small (own, others, below, all, is) =
       let differ = below_differ tree once (string_bytes folder) own below in
-      let behind = numbered_differ (number + 1) folders others (omega arith) all in
-      subst (AreNumberedFrom number) (sym is) (numbered_more number own others (omega arith) differ behind)
+      let following = numbered_differ (number + 1) folders others (omega arith) all in
+      subst (AreNumberedFrom number) (sym is) (numbered_more number own others (omega arith) differ following)
 
   names_differ : (folders : List (String Global)) (names : List (List ℕ)) → length folders < 2 ^ 64
       → AreFilesOf tree folders names → Differ names

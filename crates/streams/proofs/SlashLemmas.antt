@@ -17,9 +17,9 @@ slashes [] = 0
 slashes (byte ∷ text) = slash_of byte + slashes text
 
 -- the last byte of `text`, or `before` if it is empty
-abbrev pub last_behind : ℕ → List ℕ → ℕ
-last_behind before [] = before
-last_behind before (byte ∷ text) = last_behind byte text
+abbrev pub last_after : ℕ → List ℕ → ℕ
+last_after before [] = before
+last_after before (byte ∷ text) = last_after byte text
 
 no_slash_of : (byte : ℕ) → byte ≢ 47 → slash_of byte ≡ 0
 no_slash_of byte other = rw (ne_eqb byte 47 other) refl
@@ -39,27 +39,28 @@ pub slashes_append : (one other : List ℕ) → slashes (one ++ other) ≡ slash
 slashes_append [] other = omega arith
 slashes_append (byte ∷ one) other = let rest = slashes_append one other in omega arith
 
--- the last byte of a text with one byte added is that byte
-pub last_append : (before : ℕ) (text : List ℕ) (byte : ℕ) → last_behind before (text ++ byte ∷ []) ≡ byte
+-- the last byte of `text ++ byte ∷ []` is `byte`
+pub last_append : (before : ℕ) (text : List ℕ) (byte : ℕ) → last_after before (text ++ byte ∷ []) ≡ byte
 last_append before [] byte = refl
 last_append before (first ∷ text) byte = last_append first text byte
 
 -- a text that ends with `/` has at least one
-has_slash : (byte : ℕ) (text : List ℕ) → last_behind byte text ≡ 47 → 0 < slashes (byte ∷ text)
+has_slash : (byte : ℕ) (text : List ℕ) → last_after byte text ≡ 47 → 0 < slashes (byte ∷ text)
 has_slash byte [] ends = let one : slash_of byte ≡ 1 = a_slash_of byte ends in omega arith
 has_slash byte (next ∷ text) ends = let rest = has_slash next text ends in omega arith
 
 -- a text that ends with `/` is not the front of a text without `/`
-not_front : (byte : ℕ) (text behind name : List ℕ) → last_behind byte text ≡ 47 → slashes name ≡ 0
-    → name ≡ (byte ∷ text) ++ behind → ⊥
-not_front byte text behind name ends none is =
+not_front : (byte : ℕ) (text following name : List ℕ) → last_after byte text ≡ 47 → slashes name ≡ 0
+    → name ≡ (byte ∷ text) ++ following → ⊥
+not_front byte text following name ends none is =
     let some = has_slash byte text ends in
-    let sum = slashes_append (byte ∷ text) behind in
+    let sum = slashes_append (byte ∷ text) following in
     let same = ap slashes is in absurd (omega arith)
 
--- two texts that are empty or end with `/` are equal if each, followed by a name without `/`, makes the same text
+-- if `one` and `other` are empty or end with `/`, `first` and `second` have no `/`, and `one ++ first` equals `other ++
+-- second`, then `one` equals `other`
 pub same_below : (before : ℕ) (one other first second : List ℕ)
-    → last_behind before one ≡ 47 → last_behind before other ≡ 47
+    → last_after before one ≡ 47 → last_after before other ≡ 47
     → slashes first ≡ 0 → slashes second ≡ 0
     → one ++ first ≡ other ++ second → one ≡ other
 same_below before [] [] first second ends_one ends_other none_one none_other same = refl
@@ -70,11 +71,12 @@ same_below before (byte ∷ one) [] first second ends_one ends_other none_one no
 same_below before (byte ∷ one) (also ∷ other) first second ends_one ends_other none_one none_other same =
     let head : byte ≡ also = cc in
     let tail : one ++ first ≡ other ++ second = cc in
-    let ends : last_behind byte other ≡ 47 =
-    subst (λ (start : ℕ). last_behind start other ≡ 47) (sym head) ends_other in
+    let ends : last_after byte other ≡ 47 =
+    subst (λ (start : ℕ). last_after start other ≡ 47) (sym head) ends_other in
     let rest = same_below byte one other first second ends_one ends none_one none_other tail in cc
 
--- two texts without `/` are equal if each, followed by `/` and some text, makes the same text
+-- if `one` and `other` have no `/`, and `one`, `/` and `first` make the same text as `other`, `/` and `second`, then
+-- `one` equals `other`
 pub same_before : (one other first second : List ℕ) → slashes one ≡ 0 → slashes other ≡ 0
     → one ++ 47 ∷ first ≡ other ++ 47 ∷ second → one ≡ other
 same_before [] [] first second none_one none_other same = refl
@@ -101,7 +103,8 @@ number_no_slash number small =
     let sum = slashes_append text ((48 + number % 10) ∷ []) in omega arith)
     number small
 
--- two numbers below 2^64 are equal if each, followed by `/` and some text, makes the same text
+-- if the digits of `one`, `/` and `first` make the same text as those of `other`, `/` and `second`, and both numbers
+-- are below 2^64, then `one` equals `other`
 pub same_number : (one other : ℕ) (first second : List ℕ) → one < 2 ^ 64 → other < 2 ^ 64
     → decimal one ++ 47 ∷ first ≡ decimal other ++ 47 ∷ second → one ≡ other
 same_number one other first second small_one small_other same =

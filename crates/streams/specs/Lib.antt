@@ -2,4 +2,4 @@ pub mod Folders
 pub mod inside
 pub mod NamesOnce
 pub mod Waiting
-pub mod Walk
+pub mod Traversal

@@ -1,2 +1,2 @@
 -- Definitions that private functions alone need: no contract of a public call names one.
-pub mod WalkInside
+pub mod TraversalInside

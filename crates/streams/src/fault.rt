@@ -1,17 +1,17 @@
-//! The faults of a stream and of an answer, and how often a stream is tried.
+//! The faults of streams and of answers, and how often an interrupted call is tried.
 
 /// A reader or a writer has failed.
 #[derive(Clone, Copy, Debug, PartialEq, Eq)]
 pub struct IoFault;
 
-/// Why an answer did not go out.
+/// Why an answer was not written in full.
 #[derive(Clone, Copy, Debug, PartialEq, Eq)]
 pub enum AnswerFault {
-    /// Memory was refused, and nothing of the answer went out.
+    /// Memory was refused. Nothing of the answer was written.
     Memory,
-    /// The output failed, and a front of the answer may have gone out.
+    /// The output failed. The first bytes of the answer may have been written.
     Write,
 }
 
-/// The number of tries of a read or a write if each try is interrupted.
+/// How often a read or a write is tried in all, if each try is interrupted.
 pub const TRIES: u32 = 1_000;

@@ -1,32 +1,34 @@
-//! Reads the files of the folders of a release.
+//! A `FileSource` over the folders of a release.
 ghost use Rattle.std.specs.Prelude.{◌≡◌, ◌≢◌, ◌≤◌, ◌++◌, ℕ, List, IfErr, IfOk, IfSome, IsSomeAnd, MatchOption, MatchResult, None, Ok, OnErr, OnOk, Some, length, map, string_bytes};
 ghost use Rattle.std.specs.Io.KnownBytes.{IsAtEnd, Keeps, ReadConsumes};
 ghost use Rattle.std.specs.IoError.{error_kind};
 ghost use Rattle.release_files.specs.Source.{CountsFailures, FailsAtName, FailsAtOpened, FileText, IsListing, IsOpening, Opens};
 ghost use Rattle.streams.specs.Folders.{AnswersFault, IsNumbered, IsOpenedBy, IsPlace, failed_so_often, path_below, rest_of};
-ghost use Rattle.streams.specs.Walk.{AreFilesBelow, AreFilesOf, AreFilesOfAll, FolderTree, numbered_name};
+ghost use Rattle.streams.specs.Traversal.{AreFilesBelow, AreFilesOf, AreFilesOfAll, FolderTree, numbered_name};
 
 use crate::fault::TRIES;
 use crate::system::FolderSystem;
-use crate::walk::list_files;
-use first_met::Seed;
+use crate::traversal::list_files;
+use key_interner::Seed;
 use release_files::{FileSource, SourceFault};
 use std::alloc::{AllocError, Global};
 use std::fs::Files;
 use std::io;
 use std::io::{ErrorKind, Read};
 
-/// The plain files of folders and their subfolders as a source. The name of a file is its path below its
-/// folder, with `/` between the parts. If there are two folders or more, it begins with the number of the
-/// folder, from 1, as in `2/a/b.txt`. The source claims nothing about the contents of the files; it loses no
-/// byte of the open file and gives none twice. The files are those of the host, or of any other system `R`.
+/// A `FileSource` over the plain files of folders and their subfolders. The name of a file is its
+/// path below its folder, with `/` between the parts. If there are two folders or more, the name
+/// begins with the number of the folder, from 1, as in `2/a/b.txt`. The source does not tell the
+/// contents of the files; it skips no byte of the open file and gives none twice. The files are
+/// those of the host, or of any other system `R`.
 ///
-/// `list` gives the names folder by folder. It follows links, but below each of the folders it enters each
-/// folder once, whatever links lead to it. It goes level by level, and in each folder in the byte order of the
-/// names. It lists a link that leads nowhere if its name is that of a kind of Snapshot file, so that opening it
-/// fails, and passes over it otherwise. `open` opens only plain files, and closes a file once its end is read.
+/// `list` gives the names folder by folder. It follows links, but below each of the folders it
+/// enters each folder once, whatever links lead to it. It goes level by level, and in each folder
+/// in the byte order of the names. A link to nothing is listed only if its name is that of a
+/// Snapshot file, so that opening it fails. `open` opens only plain files, and a file is closed
+/// once its end is read.
 ///
-/// The source draws its seed from the system when it is made. If that fails, each `list` fails.
+/// The source draws its seed from the system when it is created. If that fails, each `list` fails.
 #[derive(Drop)]
 pub struct FolderSource<'a, R: Files = HostRuntime> {
     rt: &'a R,
@@ -38,7 +40,8 @@ pub struct FolderSource<'a, R: Files = HostRuntime> {
 }
 
 impl<'a, R: FolderSystem> FolderSource<'a, R> {
-    /// Creates a source of the files of `folders`, with none open.
+    /// Creates a source of the files of `folders`, of which none is open. Draws the seed of its
+    /// hashes from `rt`.
     pub fn new(rt: &'a R, folders: &'a [String]) -> FolderSource<'a, R>
         ensures { (⟦<FolderSource<'a, R> as FileSource>⟧.history result).failures ≡ 0 }
     {
@@ -51,14 +54,20 @@ impl<'a, R: FolderSystem> FolderSource<'a, R> {
         }
     }
 
-    // Answers what the system gave. A failure closes the file, and is counted unless it is want of memory.
+    // Turns `given`, the result of a system call, into the result of a call of the source. A
+    // failure closes the open file, and is counted unless memory was refused.
     fn counted<T>(&mut self, given: io::Result<T>) -> Result<T, SourceFault>
         ensures value { IfOk result (λ value. given ≡ Ok value) }
         ensures answered { IfOk given (λ value. result ≡ Ok value) }
-        ensures counted { IfErr given (λ error. AnswersFault (error_kind error) result (failed_so_often self.old.failures) (failed_so_often self.new.failures)) }
-        ensures failures { CountsFailures result (failed_so_often self.old.failures) (failed_so_often self.new.failures) }
-        ensures opened { FailsAtOpened result (failed_so_often self.old.failures) (failed_so_often self.new.failures) }
-        ensures named { (name : List ℕ) → FailsAtName name result (failed_so_often self.old.failures) (failed_so_often self.new.failures) }
+        ensures counted { IfErr given (λ error. AnswersFault (error_kind error) result
+            (failed_so_often self.old.failures) (failed_so_often self.new.failures)) }
+        ensures failures { CountsFailures result (failed_so_often self.old.failures)
+            (failed_so_often self.new.failures) }
+        ensures opened { FailsAtOpened result (failed_so_often self.old.failures)
+            (failed_so_often self.new.failures) }
+        ensures named { (name : List ℕ)
+            → FailsAtName name result (failed_so_often self.old.failures)
+            (failed_so_often self.new.failures) }
         ensures open { OnOk result (self.new.file ≡ self.old.file) }
         ensures closed { OnErr result (self.new.file ≡ None) }
     {
@@ -91,26 +100,39 @@ impl<'a, R: FolderSystem> FileSource for FolderSource<'a, R> {
         self.seed.unwrap_or(Seed::FIXED)
     }
 
-    /// If the system tells its tree, the names are those of the files of the folders, and no failure was passed
-    /// over.
+    /// Lists the names of the files. If the system tells its tree, these are exactly the names of
+    /// the files of the folders, and no failure was ignored.
     fn list(&mut self) -> Result<Vec<String>, SourceFault>
-        ensures listed { (tree : FolderTree) → R.tree self.old.rt.now ≡ Some tree → IfOk result (λ names. AreFilesOf tree self.old.folders.now (map string_bytes names.items)) }
-        ensures names { IfOk result (λ names. IfSome None (λ (known : List FileText). map string_bytes names.items ≡ map (λ file. file.name) known)) }
-        ensures rest { MatchResult result (λ _. Keeps (rest_of R.File.Read.remaining self.old.file) (rest_of R.File.Read.remaining self.new.file)) (λ _. IsAtEnd (rest_of R.File.Read.remaining self.new.file)) }
-        ensures failures { CountsFailures result (failed_so_often self.old.failures) (failed_so_often self.new.failures) }
-        ensures history { IsListing result (failed_so_often self.old.failures) (failed_so_often self.new.failures) }
+        ensures listed { (tree : FolderTree) → R.tree self.old.rt.now ≡ Some tree
+            → IfOk result (λ names. AreFilesOf tree self.old.folders.now
+            (map string_bytes names.items)) }
+        ensures names { IfOk result (λ names. IfSome None
+            (λ (known : List FileText). map string_bytes names.items
+            ≡ map (λ file. file.name) known)) }
+        ensures rest { MatchResult result
+            (λ _. Keeps (rest_of R.File.Read.remaining self.old.file)
+            (rest_of R.File.Read.remaining self.new.file))
+            (λ _. IsAtEnd (rest_of R.File.Read.remaining self.new.file)) }
+        ensures failures { CountsFailures result (failed_so_often self.old.failures)
+            (failed_so_often self.new.failures) }
+        ensures history { IsListing result (failed_so_often self.old.failures)
+            (failed_so_often self.new.failures) }
     {
         let names = list_seeded(self.rt, self.folders, self.seed);
         self.counted(names)
     }
 
-    /// Opens the file by the path of its folder, `/` and the name below it.
+    /// Opens the file at the path that consists of its folder, `/` and its path below the folder.
     fn open(&mut self, name: &str) -> Result<(), SourceFault>
-        ensures path { OnOk result (IsSomeAnd self.new.file (λ file. IsOpenedBy R.opens self.old.folders.now name.now file)) }
-        ensures opened { OnOk result (Opens None name.now (rest_of R.File.Read.remaining self.new.file)) }
+        ensures path { OnOk result (IsSomeAnd self.new.file
+            (λ file. IsOpenedBy R.opens self.old.folders.now name.now file)) }
+        ensures opened { OnOk result (Opens None name.now
+            (rest_of R.File.Read.remaining self.new.file)) }
         ensures closed { OnErr result (IsAtEnd (rest_of R.File.Read.remaining self.new.file)) }
-        ensures failures { FailsAtName name.now result (failed_so_often self.old.failures) (failed_so_often self.new.failures) }
-        ensures history { IsOpening name.now (failed_so_often self.old.failures) (failed_so_often self.new.failures) }
+        ensures failures { FailsAtName name.now result (failed_so_often self.old.failures)
+            (failed_so_often self.new.failures) }
+        ensures history { IsOpening name.now (failed_so_often self.old.failures)
+            (failed_so_often self.new.failures) }
     {
         self.file = None;
         let file = open_file(self.rt, self.folders, name);
@@ -130,13 +152,15 @@ impl<'a, R: FolderSystem> FileSource for FolderSource<'a, R> {
     }
 }
 
-// The names of the files of `folders`. Fails if there is no seed for their contents.
+// Returns the names of the files of `folders`. Fails if no seed could be drawn (`seed` is `None`),
+// since then what the files contain could not be hashed safely.
 fn list_seeded<R: FolderSystem>(
     rt: &R,
     folders: &[String],
     seed: Option<Seed>,
 ) -> io::Result<Vec<String>>
-    ensures { (tree : FolderTree) → R.tree rt.now ≡ Some tree → IfOk result (λ names. AreFilesOf tree folders.now (map string_bytes names.items)) }
+    ensures { (tree : FolderTree) → R.tree rt.now ≡ Some tree
+        → IfOk result (λ names. AreFilesOf tree folders.now (map string_bytes names.items)) }
 {
     match seed {
         Some(seed) => list_folders(rt, folders, seed),
@@ -144,9 +168,11 @@ fn list_seeded<R: FolderSystem>(
     }
 }
 
-// The names of the files of `folders`, folder by folder.
+// Returns the names of the files of `folders`, folder by folder. With one folder a name is a path;
+// with several it begins with the number of the folder.
 fn list_folders<R: FolderSystem>(rt: &R, folders: &[String], seed: Seed) -> io::Result<Vec<String>>
-    ensures { (tree : FolderTree) → R.tree rt.now ≡ Some tree → IfOk result (λ names. AreFilesOf tree folders.now (map string_bytes names.items)) }
+    ensures { (tree : FolderTree) → R.tree rt.now ≡ Some tree
+        → IfOk result (λ names. AreFilesOf tree folders.now (map string_bytes names.items)) }
 {
     if let [folder] = folders {
         return list_files(rt, folder.as_str(), seed);
@@ -154,9 +180,10 @@ fn list_folders<R: FolderSystem>(rt: &R, folders: &[String], seed: Seed) -> io::
     list_several(rt, folders, seed)
 }
 
-// The names of the files of several folders, each after the number of its folder.
+// Returns the names of the files of several folders, each with the number of its folder in front.
 fn list_several<R: FolderSystem>(rt: &R, folders: &[String], seed: Seed) -> io::Result<Vec<String>>
-    ensures { (tree : FolderTree) → R.tree rt.now ≡ Some tree → IfOk result (λ names. AreFilesOfAll tree 1 folders.now (map string_bytes names.items)) }
+    ensures { (tree : FolderTree) → R.tree rt.now ≡ Some tree
+        → IfOk result (λ names. AreFilesOfAll tree 1 folders.now (map string_bytes names.items)) }
 {
     let mut names = Vec::new(rt.alloc());
     for (index, folder) in folders.iter().enumerate() {
@@ -168,7 +195,8 @@ fn list_several<R: FolderSystem>(rt: &R, folders: &[String], seed: Seed) -> io::
     Ok(names)
 }
 
-// Adds the names of the files of a folder, each after the number of the folder.
+// Appends to `names` the names of the files of `folder`, each with the number of the folder in
+// front.
 fn list_numbered<R: FolderSystem>(
     rt: &R,
     number: usize,
@@ -176,22 +204,25 @@ fn list_numbered<R: FolderSystem>(
     seed: Seed,
     names: &mut Vec<String>,
 ) -> io::Result<()>
-    ensures { (tree : FolderTree) → R.tree rt.now ≡ Some tree → OnOk result ((own : List (List ℕ)) × AreFilesBelow tree folder.now own
-        × (map string_bytes names.new.items ≡ map string_bytes names.old.items ++ map (numbered_name number) own)) }
+    ensures { (tree : FolderTree) → R.tree rt.now ≡ Some tree
+        → OnOk result ((own : List (List ℕ)) × AreFilesBelow tree folder.now own
+        × (map string_bytes names.new.items ≡ map string_bytes names.old.items
+        ++ map (numbered_name number) own)) }
 {
     let own = list_files(rt, folder, seed)?;
     add_numbered(rt.alloc(), number, own.as_slice(), names)?;
     Ok(())
 }
 
-// Adds the names of `own`, each after `number`.
+// Appends to `names` the names of `own`, each with `number` and `/` in front.
 fn add_numbered(
     alloc: Global,
     number: usize,
     own: &[String],
     names: &mut Vec<String>,
 ) -> Result<(), AllocError>
-    ensures { OnOk result (map string_bytes names.new.items ≡ map string_bytes names.old.items ++ map (numbered_name number) (map string_bytes own.now)) }
+    ensures { OnOk result (map string_bytes names.new.items ≡ map string_bytes names.old.items
+        ++ map (numbered_name number) (map string_bytes own.now)) }
 {
     for name in own {
         names.push(numbered_name(alloc, number, name.as_str())?)?;
@@ -199,13 +230,15 @@ fn add_numbered(
     Ok(())
 }
 
-// A name after a number and `/`.
+// Returns `number`, `/` and `name`, joined.
 fn numbered_name(alloc: Global, number: usize, name: &str) -> Result<String, AllocError>
     ensures { IfOk result (λ text. string_bytes text ≡ numbered_name number name.now) }
 {
     format!(in alloc; "{number}/{name}")
 }
 
+// Opens the file called `name` of one of `folders`. Fails if the name has no number of a folder
+// although there are several.
 fn open_file<R: FolderSystem>(rt: &R, folders: &[String], name: &str) -> io::Result<R::File>
     ensures { IfOk result (λ file. IsOpenedBy R.opens folders.now name.now file) }
 {
@@ -215,9 +248,11 @@ fn open_file<R: FolderSystem>(rt: &R, folders: &[String], name: &str) -> io::Res
     }
 }
 
-// The folder of the file called `name`, and the path below it.
+// Returns the folder of the file called `name`, and the path of the file below it; `None` if there
+// are several folders and the name does not begin with the number of one.
 fn folder_and_path<'a>(folders: &'a [String], name: &'a str) -> Option<(&'a str, &'a str)>
-    ensures { MatchOption result (length folders.now ≢ 1) (λ place. IsPlace folders.now name.now place.0.now place.1.now) }
+    ensures { MatchOption result (length folders.now ≢ 1)
+        (λ place. IsPlace folders.now name.now place.0.now place.1.now) }
 {
     if let [folder] = folders {
         return Some((folder.as_str(), name));
@@ -225,7 +260,8 @@ fn folder_and_path<'a>(folders: &'a [String], name: &'a str) -> Option<(&'a str,
     numbered(folders, name)
 }
 
-// The folder whose number begins the name of a file, and the path below it.
+// Returns the folder whose number is at the front of `name`, and the path after that number and
+// `/`.
 fn numbered<'a>(folders: &'a [String], name: &'a str) -> Option<(&'a str, &'a str)>
     ensures { IfSome result (λ place. IsNumbered folders.now name.now place.0.now place.1.now) }
 {
@@ -234,7 +270,8 @@ fn numbered<'a>(folders: &'a [String], name: &'a str) -> Option<(&'a str, &'a st
     Some((folders.get(index)?.as_str(), below))
 }
 
-// Reads the next bytes. Tries an interrupted read again, up to 1,000 times in all.
+// Reads the next bytes of `file` into `buffer`, and returns how many. Tries an interrupted read
+// again, up to 1,000 times in all.
 fn read_some<F: Read>(file: &mut F, buffer: &mut [u8]) -> io::Result<usize>
     ensures within { IfOk result (λ count. count ≤ length buffer.new) }
     ensures bytes { ReadConsumes (F.remaining file.old) (F.remaining file.new) result buffer.new }
@@ -252,8 +289,8 @@ fn read_some<F: Read>(file: &mut F, buffer: &mut [u8]) -> io::Result<usize>
     Err(io::Error::from(ErrorKind::Interrupted))
 }
 
-/// The path of `below` within `folder`. The path of the folder itself is its word as it stands, so an empty
-/// word stays empty.
+/// Returns the path of `below` within `folder`: the two joined by `/`. If `below` is empty, this is
+/// `folder` as it is, even if that is empty.
 pub fn joined(alloc: Global, folder: &str, below: &str) -> Result<String, AllocError>
     ensures { IfOk result (λ path. string_bytes path ≡ path_below folder.now below.now) }
 {

@@ -7,7 +7,8 @@ use std::io::{ErrorKind, Read};
 
 /// An input from which the program reads queries.
 pub trait QueryInput {
-    /// The bytes that reads give from here on, up to the end; `None` if the input claims nothing about them.
+    /// The bytes still to be read, up to the end of the input; `None` if the input does not tell
+    /// them.
     ghost remaining: { Self → Option (List ℕ) };
 
     /// The number of reads, at most `u64::MAX`.
@@ -16,15 +17,15 @@ pub trait QueryInput {
     /// Whether a read has failed.
     ghost has_failed: { Self → Bool };
 
-    /// Puts the next bytes at the front of `buffer`. Returns how many: 0 only at the end of the input, or if
-    /// `buffer` is empty. A read that fails takes no byte.
+    /// Reads the next bytes into the front of `buffer`. Returns how many: 0 only at the end of the
+    /// input, or if `buffer` is empty. A read that fails consumes no byte.
     fn read(&mut self, buffer: &mut [u8]) -> Result<usize, IoFault>
         ensures within { IfOk result (λ count. count ≤ length buffer.new) }
         ensures bytes { ReadConsumes (remaining self.old) (remaining self.new) result buffer.new }
         ensures counted { read_count self.new ≡ min (read_count self.old + 1) (2 ^ 64 - 1) }
         ensures failure { has_failed self.new ≡ (has_failed self.old || is_err result) };
 
-    /// The number of reads. It stops at `u64::MAX`.
+    /// Returns the number of calls of `read`, at most `u64::MAX`.
     fn reads(&self) -> u64
         ensures { result ≡ read_count self.now };
 
@@ -33,7 +34,7 @@ pub trait QueryInput {
         ensures { result ≡ has_failed self.now };
 }
 
-/// A stream of the standard library as an input.
+/// A `QueryInput` that reads from a stream of the standard library.
 #[derive(Debug, Drop)]
 pub struct StreamInput<R> {
     stream: R,
@@ -42,7 +43,7 @@ pub struct StreamInput<R> {
 }
 
 impl<R: Read> StreamInput<R> {
-    /// An input that was not read yet.
+    /// Creates an input that reads from `stream`. Its count of reads is 0.
     pub fn new(stream: R) -> StreamInput<R>
         ensures stream { result.stream ≡ stream }
         ensures reads { result.reads ≡ 0 }
@@ -63,7 +64,8 @@ impl<R: Read> QueryInput for StreamInput<R> {
 
     ghost has_failed = { λ input. input.failed };
 
-    /// Tries an interrupted read again, up to 1,000 times in all.
+    /// Reads from the stream. Tries an interrupted read again, up to 1,000 times in all; all tries
+    /// count as one read.
     fn read(&mut self, buffer: &mut [u8]) -> Result<usize, IoFault> {
         self.reads = self.reads.saturating_add(1);
         for _ in 0..TRIES {

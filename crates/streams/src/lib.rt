@@ -1,4 +1,5 @@
-//! The inputs and outputs of the program: streams of queries and of answers, and the folders of a release.
+//! The input and output of the program: streams of queries and answers, and the files of the
+//! folders of a release.
 #![tactic(auto)]
 
 mod fault;
@@ -6,14 +7,14 @@ mod folder;
 mod input;
 mod laws;
 mod output;
-mod piece;
+mod output_buffer;
 mod system;
-mod walk;
+mod traversal;
 
 pub use crate::fault::{AnswerFault, IoFault};
 pub use crate::folder::FolderSource;
 pub use crate::input::{QueryInput, StreamInput};
 pub use crate::laws::no_name_is_listed_twice;
 pub use crate::output::{AnswerOutput, StreamOutput, write_all};
-pub use crate::piece::Piece;
+pub use crate::output_buffer::OutputBuffer;
 pub use crate::system::{FolderSystem, Standing, names_at, open_plain_at, standing_at};

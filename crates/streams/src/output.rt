@@ -7,14 +7,14 @@ use std::io::{ErrorKind, Write};
 
 /// An output to which the program writes answers.
 pub trait AnswerOutput {
-    /// The bytes that were written; `None` if the output claims nothing about them.
+    /// The bytes that were written; `None` if the output does not tell them.
     ghost written: { Self → Option (List ℕ) };
 
     /// Whether a write has failed.
     ghost has_failed: { Self → Bool };
 
-    /// Writes a front of `bytes`. Returns how many bytes it has: at least one, unless `bytes` is empty. A write
-    /// that fails writes nothing.
+    /// Writes the first bytes of `bytes`, perhaps not all. Returns how many: at least one, unless
+    /// `bytes` is empty. A write that fails writes nothing.
     fn write(&mut self, bytes: &[u8]) -> Result<usize, IoFault>
         ensures within { IfOk result (λ count. count ≤ length bytes.now) }
         ensures some { IfOk result (λ count. 0 < length bytes.now → 0 < count) }
@@ -26,8 +26,8 @@ pub trait AnswerOutput {
         ensures { result ≡ has_failed self.now };
 }
 
-/// A stream of the standard library as an output. No call here flushes a stream that keeps bytes back, such as
-/// a `BufWriter`.
+/// An `AnswerOutput` that writes to a stream of the standard library. It never flushes the stream,
+/// so a stream that buffers, such as a `BufWriter`, must be flushed by the caller.
 #[derive(Debug, Drop)]
 pub struct StreamOutput<W> {
     stream: W,
@@ -35,7 +35,7 @@ pub struct StreamOutput<W> {
 }
 
 impl<W: Write> StreamOutput<W> {
-    /// An output to which nothing was written yet.
+    /// Creates an output that writes to `stream`. No write has failed yet.
     pub fn new(stream: W) -> StreamOutput<W>
         ensures stream { result.stream ≡ stream }
         ensures failed { result.failed ≡ false }
@@ -52,8 +52,8 @@ impl<W: Write> AnswerOutput for StreamOutput<W> {
 
     ghost has_failed = { λ output. output.failed };
 
-    /// Tries an interrupted write again, up to 1,000 times in all. A stream has failed if it takes no byte
-    /// although there are some.
+    /// Writes to the stream. Tries an interrupted write again, up to 1,000 times in all. If the
+    /// stream accepts no byte although there are some, the write fails.
     fn write(&mut self, bytes: &[u8]) -> Result<usize, IoFault> {
         for _ in 0..TRIES {
             match self.stream.write(bytes) {
@@ -79,11 +79,13 @@ impl<W: Write> AnswerOutput for StreamOutput<W> {
     }
 }
 
-/// Writes all of `bytes`, in as many writes as it takes. If the output fails, a front of them was written.
+/// Writes all of `bytes` to `output`, in as many calls of `write` as that needs. If the output
+/// fails, only the first bytes were written, and not all.
 pub fn write_all<W: AnswerOutput>(bytes: &[u8], output: &mut W) -> Result<(), IoFault>
     requires { W.has_failed output.old ≡ false }
     ensures ok { OnOk result (Appends (W.written output.old) (W.written output.new) bytes.now) }
-    ensures err { OnErr result ((place : ℕ) × (place < length bytes.now) × Appends (W.written output.old) (W.written output.new) (take place bytes.now)) }
+    ensures err { OnErr result ((place : ℕ) × (place < length bytes.now)
+        × Appends (W.written output.old) (W.written output.new) (take place bytes.now)) }
     ensures failure { W.has_failed output.new ≡ is_err result }
 {
     let mut at = 0;

@@ -1,6 +1,6 @@
-//! The system from which folders and files are read.
+//! The interface to the system that has the folders and files.
 ghost use Rattle.std.specs.Prelude.{◌≡◌, ℕ, IfOk, List, None, Option, Some, map, string_bytes, ⊤};
-ghost use Rattle.streams.specs.Walk.{FolderTree, Tells};
+ghost use Rattle.streams.specs.Traversal.{FolderTree, Tells};
 
 use std::alloc::AllocGlobal;
 use std::fs::{File, Files};
@@ -9,40 +9,44 @@ use std::os::unix::fs::MetadataExt;
 use std::random::RandomSource;
 use std::{fs, io};
 
-/// The kind of thing that stands at a path, after links are followed.
+/// What a path leads to, after links are followed.
 #[derive(Clone, Copy, Debug, PartialEq, Eq)]
 pub enum Standing {
     /// A plain file.
     File,
-    /// A folder, with a number that no other folder has.
+    /// A folder, with a number that identifies it.
     Folder(u128),
     /// Something else.
     Other,
 }
 
-/// A system of folders and files, with memory and random bytes: the runtime of `main`, or any other.
+/// A system of folders and files, with memory and random bytes: the runtime of `main`, or any
+/// other.
 ///
-/// No clause of the standard library tells what a system gives. A system can tell it here: what stands at each
-/// path and which names each folder has (`tree`), and by which path a file was opened (`opens`). The runtime of
-/// `main` tells no tree, and does not tell by which path a file was opened.
+/// The standard library states nothing about what a system's files are. An implementation can state
+/// it here: what each path leads to and which names each folder has (`tree`), and by which path a
+/// file was opened (`opens`). The runtime of `main` states neither.
 pub trait FolderSystem: Files + RandomSource + AllocGlobal + Clone + Drop {
-    /// The file was opened by the path.
+    /// The file was opened at this path.
     ghost opens: { List ℕ → Self.File → Type 0 };
 
-    /// The folders and files; `None` if the system claims nothing about them.
+    /// The tree of folders and files; `None` if the system does not tell it.
     ghost tree: { Self → Option FolderTree };
 
-    /// Opens a plain file by its path. It opens nothing else, because opening a pipe may wait forever.
+    /// Opens the plain file at `path`. Fails if there is anything else, because opening a pipe may
+    /// wait forever.
     fn open_plain(&self, path: &str) -> io::Result<Self::File>
         ensures { IfOk result (λ file. opens path.now file) };
 
-    /// Tells what stands at a path. Follows links.
+    /// Returns what `path` leads to. Follows links.
     fn standing(&self, path: &str) -> io::Result<Standing>
-        ensures { (known : FolderTree) → tree self.now ≡ Some known → Tells (λ found. found) (known.at path.now) result };
+        ensures { (known : FolderTree) → tree self.now ≡ Some known
+            → Tells (λ found. found) (known.at path.now) result };
 
-    /// The names in a folder, in any order.
+    /// Returns the names in the folder at `path`, in any order.
     fn names_in(&self, path: &str) -> io::Result<Vec<String>>
-        ensures { (known : FolderTree) → tree self.now ≡ Some known → Tells (λ found. map string_bytes found.items) (known.names path.now) result };
+        ensures { (known : FolderTree) → tree self.now ≡ Some known
+            → Tells (λ found. map string_bytes found.items) (known.names path.now) result };
 }
 
 impl FolderSystem for HostRuntime {
@@ -63,7 +67,8 @@ impl FolderSystem for HostRuntime {
     }
 }
 
-/// Opens a plain file of a system of the standard library by its path, and nothing else.
+/// Opens the plain file at `path` of `system`, a system of the standard library. Fails if there is
+/// anything else.
 pub fn open_plain_at<R: Files>(system: &R, path: &str) -> io::Result<R::File> {
     if fs::metadata(system, path)?.is_file() {
         return File::open(system, path);
@@ -71,8 +76,8 @@ pub fn open_plain_at<R: Files>(system: &R, path: &str) -> io::Result<R::File> {
     Err(io::Error::from(ErrorKind::InvalidInput))
 }
 
-/// Tells what stands at a path of a system of the standard library. The number of a folder is made of its
-/// device and its number there.
+/// Returns what `path` leads to in `system`, a system of the standard library. The number of a
+/// folder is made of its device number and its inode number.
 pub fn standing_at<R: Files>(system: &R, path: &str) -> io::Result<Standing> {
     let attributes = fs::metadata(system, path)?;
     if attributes.is_dir() {
@@ -85,7 +90,7 @@ pub fn standing_at<R: Files>(system: &R, path: &str) -> io::Result<Standing> {
     Ok(Standing::Other)
 }
 
-/// The names in a folder of a system of the standard library.
+/// Returns the names in the folder at `path` of `system`, a system of the standard library.
 pub fn names_at<R: Files + AllocGlobal + Clone + Drop>(
     system: &R,
     path: &str,
@@ -95,7 +100,8 @@ pub fn names_at<R: Files + AllocGlobal + Clone + Drop>(
     Ok(names)
 }
 
-// Adds the names in a folder, in the order in which the system gives them.
+// Appends to `names` the names in the folder at `path`, in the order in which the system gives
+// them.
 fn push_names<R: Files + AllocGlobal + Clone + Drop>(
     system: &R,
     path: &str,

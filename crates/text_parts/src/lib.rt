@@ -1,4 +1,4 @@
-//! Texts that a byte cuts into parts.
+//! Cuts texts into parts at a separator byte.
 #![tactic(auto)]
 
 mod split;

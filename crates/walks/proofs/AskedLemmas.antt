@@ -1,6 +1,7 @@
 -- To know where an operator leads from a set, among concepts that are tested by their own lists, it is enough to know
 -- which members of the set are in these lists.
-use Rattle.std.proofs.Common.{ℕ, Bool, ◌≡◌, ◌<◌, ◌∙◌, ◌==◌, inl, inr, true, false, not, ◌&&◌, ◌||◌, List, length, [], ◌∷◌, get_or, refl, sym, ap, subst, arith}
+use Rattle.std.proofs.Common.{ℕ, Bool, ◌≡◌, ◌<◌, ◌∙◌, ◌==◌, inl, inr, true, false, not, ◌&&◌, ◌||◌, List, length, []}
+use Rattle.std.proofs.Common.{◌∷◌, get_or, refl, sym, ap, subst, arith}
 use Rattle.std.specs.Prelude.{All, filter}
 use Rattle.std.specs.List.{flat_map, list_any, range_with_len}
 use Rattle.std.proofs.lemmas.Bool.{eq-eqb, eqb-true, false≢true, or_cases, or_left, or_right}
@@ -11,7 +12,9 @@ use Rattle.std.proofs.lemmas.List.Elements.{All-append, All-cons, All-nil, All-t
 use Rattle.std.proofs.lemmas.List.Folds.{list_any-append}
 use Rattle.std.proofs.Math.Bool.{and-false}
 use Rattle.constraint_tree.specs.declared.operator.Operator.{Operator}
-use Rattle.constraint_tree.specs.declared.operator.Operator.TheVariants.{Descendants, DescendantsOrSelf, Children, ChildrenOrSelf, Ancestors, AncestorsOrSelf, Parents, ParentsOrSelf, Top, Bottom}
+use Rattle.constraint_tree.specs.declared.operator.Operator.TheVariants.{Descendants, DescendantsOrSelf, Children}
+use Rattle.constraint_tree.specs.declared.operator.Operator.TheVariants.{ChildrenOrSelf, Ancestors, AncestorsOrSelf}
+use Rattle.constraint_tree.specs.declared.operator.Operator.TheVariants.{Parents, ParentsOrSelf, Top, Bottom}
 use Rattle.number_lists.specs.Rising.{IsRisingBelow, listed_numbers, numbers_where}
 use Rattle.idset.specs.Sets.{all_items}
 use Rattle.number_lists.specs.Members.{has}
@@ -22,18 +25,19 @@ use Rattle.number_lists.specs.KeyedLists.{list_of}
 use Rattle.ancestor_index.specs.HierarchyLists.{Hierarchy}
 use Rattle.number_lists.proofs.MemberLemmas.{contains_had, had_contained}
 use Rattle.walks.specs.Asked.{AreEnough, asked_lists}
-use Rattle.walks.specs.inside.Joined.{back_of}
-use Rattle.walks.specs.Led.{IsOver, apart, joined, led_to}
+use Rattle.walks.specs.inside.Joined.{opposite_of}
+use Rattle.walks.specs.Related.{IsOver, apart, joined, related_to}
 use Rattle.walks.specs.Families.{lists_of}
 use Rattle.walks.specs.declared.family.Family.{Family}
 use Rattle.walks.specs.declared.family.Family.TheVariants as family
 use Rattle.walks.specs.declared.family.Reach.TheVariants.{Listed, ListedOrSelf, Apart}
-use Rattle.walks.proofs.LedLemmas.{asked_apart, asked_back, asked_or_self, led_rises}
+use Rattle.walks.proofs.RelatedLemmas.{asked_apart, asked_opposite, asked_or_self, related_rises}
 use Rattle.number_lists.proofs.ListLemmas.{any_agree}
 use Rattle.walks.proofs.JoinedLemmas.{over_list, stands}
 
 -- what is in the list of one of `concepts` is in all their lists, one after the other
-in_joined : (each : ℕ → List ℕ) (concepts : List ℕ) (concept n : ℕ) → has concepts concept ≡ true → has (each concept) n ≡ true
+in_joined : (each : ℕ → List ℕ) (concepts : List ℕ) (concept n : ℕ) → has concepts concept ≡ true
+    → has (each concept) n ≡ true
     → has (flat_map each concepts) n ≡ true
 in_joined each [] concept n there within = absurd (false≢true there)
 in_joined each (first ∷ rest) concept n there within =
@@ -42,11 +46,13 @@ in_joined each (first ∷ rest) concept n there within =
       | inl here ↦
           or_left (has (each first) n) (has (flat_map each rest) n)
           (ap (λ (k : ℕ). has (each k) n) (eqb-true first concept here) ∙ within)
-      | inr later ↦ or_right (has (each first) n) (has (flat_map each rest) n) (in_joined each rest concept n later within)
+      | inr later ↦ or_right (has (each first) n) (has (flat_map each rest) n)
+          (in_joined each rest concept n later within)
     ]
 
 -- if the numbers in each list are below `count`, so are the numbers in all lists, one after the other
-below_joined : (count : ℕ) (each : ℕ → List ℕ) (concepts : List ℕ) → All (λ concept. All (λ n. n < count) (each concept)) concepts
+below_joined : (count : ℕ) (each : ℕ → List ℕ) (concepts : List ℕ)
+    → All (λ concept. All (λ n. n < count) (each concept)) concepts
     → All (λ n. n < count) (flat_map each concepts)
 below_joined count each [] below = All-nil (λ n. n < count)
 below_joined count each (concept ∷ rest) below =
@@ -54,31 +60,35 @@ below_joined count each (concept ∷ rest) below =
     (below_joined count each rest (All-tail (λ c. All (λ n. n < count) (each c)) concept rest below))
 
 module _ (count : ℕ) (hierarchy : Hierarchy) (over : IsOver count hierarchy) where
-  -- concepts, each followed by its list, are numbers of concepts
+  -- the concepts, each followed by its list, are all below the number of concepts
   pub with_lists_below : (f : Family) (concepts : List ℕ) → All (λ concept. concept < count) concepts
       → All (λ n. n < count) (flat_map (λ concept. concept ∷ list_of (lists_of hierarchy f) concept) concepts)
   with_lists_below f concepts below =
-      below_joined count (λ concept. concept ∷ list_of (lists_of hierarchy f) concept) concepts (λ k d within. each (get_or concepts k d) (below k d within))
+      below_joined count (λ concept. concept ∷ list_of (lists_of hierarchy f) concept) concepts
+      (λ k d within. each (get_or concepts k d) (below k d within))
     where
       each : (concept : ℕ) → concept < count → All (λ n. n < count) (concept ∷ list_of (lists_of hierarchy f) concept)
       each concept inside =
           All-cons (λ n. n < count) concept (list_of (lists_of hierarchy f) concept) inside
           (all_below count (list_of (lists_of hierarchy f) concept)
-          (subst (IsRisingBelow count) (sym (over_list count hierarchy over f concept inside)) (numbers_where-rising count (stands over.release f concept))))
+          (subst (IsRisingBelow count) (sym (over_list count hierarchy over f concept inside))
+          (numbers_where-rising count (stands over.release f concept))))
 
-  -- the concepts and their lists together are enough to test the concepts
+  -- the concepts and the items of their lists are together enough to test the concepts
   pub with_lists_enough : (f : Family) (concepts : List ℕ) → All (λ concept. concept < count) concepts
       → AreEnough (lists_of hierarchy f) (has concepts)
       (has (listed_numbers count (flat_map (λ concept. concept ∷ list_of (lists_of hierarchy f) concept) concepts)))
   with_lists_enough f concepts below concept there = (
-    known concept (in_joined each concepts concept concept there (or_left (concept == concept) _ (eq-eqb concept concept refl))),
+    known concept (in_joined each concepts concept concept there
+        (or_left (concept == concept) _ (eq-eqb concept concept refl))),
     λ n listed. known n (in_joined each concepts concept n there (or_right (concept == n) _ listed)),
   )
     where
       each : ℕ → List ℕ
       each c = c ∷ list_of (lists_of hierarchy f) c
 
-      known : (n : ℕ) → has (flat_map each concepts) n ≡ true → has (listed_numbers count (flat_map each concepts)) n ≡ true
+      known : (n : ℕ) → has (flat_map each concepts) n ≡ true → has (listed_numbers count (flat_map each concepts)) n
+          ≡ true
       known n told =
           let found = contains_had (flat_map each concepts) n told in
           has-numbers_where count (has (flat_map each concepts)) n
@@ -86,17 +96,22 @@ module _ (count : ℕ) (hierarchy : Hierarchy) (over : IsOver count hierarchy) w
           ∙ told
 
   -- the numbers that an operator leads to rise below `count`
-  operator_rises : (operator : Operator) (items : List ℕ) → IsRisingBelow count items → IsRisingBelow count (led_to hierarchy count operator items)
-  operator_rises Descendants items rises = led_rises count hierarchy over items rises hierarchy.descendants Listed
-  operator_rises DescendantsOrSelf items rises = led_rises count hierarchy over items rises hierarchy.descendants ListedOrSelf
-  operator_rises Children items rises = led_rises count hierarchy over items rises hierarchy.children Listed
-  operator_rises ChildrenOrSelf items rises = led_rises count hierarchy over items rises hierarchy.children ListedOrSelf
-  operator_rises Ancestors items rises = led_rises count hierarchy over items rises hierarchy.ancestors Listed
-  operator_rises AncestorsOrSelf items rises = led_rises count hierarchy over items rises hierarchy.ancestors ListedOrSelf
-  operator_rises Parents items rises = led_rises count hierarchy over items rises hierarchy.parents Listed
-  operator_rises ParentsOrSelf items rises = led_rises count hierarchy over items rises hierarchy.parents ListedOrSelf
-  operator_rises Top items rises = led_rises count hierarchy over items rises hierarchy.ancestors Apart
-  operator_rises Bottom items rises = led_rises count hierarchy over items rises hierarchy.descendants Apart
+  operator_rises : (operator : Operator) (items : List ℕ) → IsRisingBelow count items
+      → IsRisingBelow count (related_to hierarchy count operator items)
+  operator_rises Descendants items rises = related_rises count hierarchy over items rises hierarchy.descendants Listed
+  operator_rises DescendantsOrSelf items rises =
+      related_rises count hierarchy over items rises hierarchy.descendants ListedOrSelf
+  operator_rises Children items rises = related_rises count hierarchy over items rises hierarchy.children Listed
+  operator_rises ChildrenOrSelf items rises =
+      related_rises count hierarchy over items rises hierarchy.children ListedOrSelf
+  operator_rises Ancestors items rises = related_rises count hierarchy over items rises hierarchy.ancestors Listed
+  operator_rises AncestorsOrSelf items rises =
+      related_rises count hierarchy over items rises hierarchy.ancestors ListedOrSelf
+  operator_rises Parents items rises = related_rises count hierarchy over items rises hierarchy.parents Listed
+  operator_rises ParentsOrSelf items rises =
+      related_rises count hierarchy over items rises hierarchy.parents ListedOrSelf
+  operator_rises Top items rises = related_rises count hierarchy over items rises hierarchy.ancestors Apart
+  operator_rises Bottom items rises = related_rises count hierarchy over items rises hierarchy.descendants Apart
 
   -- a rising list of `count` numbers below `count` has all of them
   each_there : (items : List ℕ) → IsRisingBelow count items → length items ≡ count → (n : ℕ) → n < count
@@ -122,7 +137,7 @@ module _ (count : ℕ) (hierarchy : Hierarchy) (over : IsOver count hierarchy) w
       told true none = refl
       told false none = sym none
 
-  -- the union of all numbers below `count` and other numbers is all numbers below `count`
+  -- if `items` has all numbers below `count`, its union with any numbers below `count` has all numbers below `count`
   pub all_with_own : (items others : List ℕ) → IsRisingBelow count items → length items ≡ count
       → all_items count items others ≡ range_with_len 0 count
   all_with_own items others rises full =
@@ -130,28 +145,30 @@ module _ (count : ℕ) (hierarchy : Hierarchy) (over : IsOver count hierarchy) w
       (λ n inside. (λ i. each_there items rises full n inside i || has others n))
       ∙ numbers_where-all count
 
-  -- if a set has all numbers below `count`, all that an operator leads to from it is in the set
-  pub led_from_all : (operator : Operator) (items : List ℕ) → IsRisingBelow count items → length items ≡ count
-      → filter (has items) (led_to hierarchy count operator items) ≡ led_to hierarchy count operator items
-  led_from_all operator items rises full =
-      ap (filter (has items)) (rising_is_numbers_where count led (operator_rises operator items rises))
-      ∙ filter-numbers_where count (has led) (has items)
-      ∙ numbers_where-agree count _ _ (λ n inside. with_all (has led n) (has items n)
+  -- if `items` has all numbers below `count`, it contains everything that an operator leads to
+  pub related_from_all : (operator : Operator) (items : List ℕ) → IsRisingBelow count items → length items ≡ count
+      → filter (has items) (related_to hierarchy count operator items) ≡ related_to hierarchy count operator items
+  related_from_all operator items rises full =
+      ap (filter (has items)) (rising_is_numbers_where count related (operator_rises operator items rises))
+      ∙ filter-numbers_where count (has related) (has items)
+      ∙ numbers_where-agree count _ _ (λ n inside. with_all (has related n) (has items n)
       (each_there items rises full n inside))
-      ∙ sym (rising_is_numbers_where count led (operator_rises operator items rises))
+      ∙ sym (rising_is_numbers_where count related (operator_rises operator items rises))
     where
-      led : List ℕ
-      led = led_to hierarchy count operator items
+      related : List ℕ
+      related = related_to hierarchy count operator items
 
       with_all : (b other : Bool) → other ≡ true → (b && other) ≡ b
       with_all true other there = there
       with_all false other there = refl
 
   -- two sets, `part` and `set`, that agree on the numbers in `enough`
-  module _ (set part : List ℕ) (set_rises : IsRisingBelow count set) (part_rises : IsRisingBelow count part) (enough : ℕ → Bool)
+  module _ (set part : List ℕ) (set_rises : IsRisingBelow count set) (part_rises : IsRisingBelow count part) (enough : ℕ
+      → Bool)
       (same : (n : ℕ) → enough n ≡ true → has part n ≡ has set n) where
     -- a list of numbers in `enough` has one of `part` exactly if it has one of `set`
-    same_any : (list : List ℕ) → ((n : ℕ) → has list n ≡ true → enough n ≡ true) → list_any (has part) list ≡ list_any (has set) list
+    same_any : (list : List ℕ) → ((n : ℕ) → has list n ≡ true → enough n ≡ true)
+        → list_any (has part) list ≡ list_any (has set) list
     same_any list all =
         any_agree list (has part) (has set) 0
         (λ k within. same (get_or list k 0) (all (get_or list k 0)
@@ -160,16 +177,18 @@ module _ (count : ℕ) (hierarchy : Hierarchy) (over : IsOver count hierarchy) w
     module _ (f : Family) (concept : ℕ) (inside : concept < count) where
       -- if the list that leads back from `concept` is in `enough`, the joined lists of `part` and of `set` agree on
       -- `concept`
-      listed : ((n : ℕ) → has (list_of (lists_of hierarchy (back_of f)) concept) n ≡ true → enough n ≡ true)
-          → has (joined count (lists_of hierarchy f) part) concept ≡ has (joined count (lists_of hierarchy f) set) concept
+      listed : ((n : ℕ) → has (list_of (lists_of hierarchy (opposite_of f)) concept) n ≡ true → enough n ≡ true)
+          → has (joined count (lists_of hierarchy f) part) concept
+          ≡ has (joined count (lists_of hierarchy f) set) concept
       listed all =
-          sym (asked_back count hierarchy over part part_rises f concept inside)
-          ∙ same_any (list_of (lists_of hierarchy (back_of f)) concept) all
-          ∙ asked_back count hierarchy over set set_rises f concept inside
+          sym (asked_opposite count hierarchy over part part_rises f concept inside)
+          ∙ same_any (list_of (lists_of hierarchy (opposite_of f)) concept) all
+          ∙ asked_opposite count hierarchy over set set_rises f concept inside
 
       -- if `concept` and the list that leads back from it are in `enough`, `part` and `set` with their joined lists
       -- agree on `concept`
-      or_self : enough concept ≡ true → ((n : ℕ) → has (list_of (lists_of hierarchy (back_of f)) concept) n ≡ true → enough n ≡ true)
+      or_self : enough concept ≡ true
+          → ((n : ℕ) → has (list_of (lists_of hierarchy (opposite_of f)) concept) n ≡ true → enough n ≡ true)
           → has (all_items count part (joined count (lists_of hierarchy f) part)) concept
           ≡ has (all_items count set (joined count (lists_of hierarchy f) set)) concept
       or_self own all =
@@ -187,41 +206,42 @@ module _ (count : ℕ) (hierarchy : Hierarchy) (over : IsOver count hierarchy) w
 
     -- an operator leads to `concept` from `part` exactly if it does from `set`, if `concept` and the list by which it
     -- is tested are in `enough`
-    same_led : (operator : Operator) (concept : ℕ) → concept < count → enough concept ≡ true
+    same_related : (operator : Operator) (concept : ℕ) → concept < count → enough concept ≡ true
         → ((n : ℕ) → has (list_of (asked_lists hierarchy operator) concept) n ≡ true → enough n ≡ true)
-        → has (led_to hierarchy count operator part) concept ≡ has (led_to hierarchy count operator set) concept
-    same_led Descendants concept inside own all = listed family.Descendants concept inside all
-    same_led DescendantsOrSelf concept inside own all = or_self family.Descendants concept inside own all
-    same_led Children concept inside own all = listed family.Children concept inside all
-    same_led ChildrenOrSelf concept inside own all = or_self family.Children concept inside own all
-    same_led Ancestors concept inside own all = listed family.Ancestors concept inside all
-    same_led AncestorsOrSelf concept inside own all = or_self family.Ancestors concept inside own all
-    same_led Parents concept inside own all = listed family.Parents concept inside all
-    same_led ParentsOrSelf concept inside own all = or_self family.Parents concept inside own all
-    same_led Top concept inside own all = kept family.Ancestors concept inside own all
-    same_led Bottom concept inside own all = kept family.Descendants concept inside own all
+        → has (related_to hierarchy count operator part) concept ≡ has (related_to hierarchy count operator set) concept
+    same_related Descendants concept inside own all = listed family.Descendants concept inside all
+    same_related DescendantsOrSelf concept inside own all = or_self family.Descendants concept inside own all
+    same_related Children concept inside own all = listed family.Children concept inside all
+    same_related ChildrenOrSelf concept inside own all = or_self family.Children concept inside own all
+    same_related Ancestors concept inside own all = listed family.Ancestors concept inside all
+    same_related AncestorsOrSelf concept inside own all = or_self family.Ancestors concept inside own all
+    same_related Parents concept inside own all = listed family.Parents concept inside all
+    same_related ParentsOrSelf concept inside own all = or_self family.Parents concept inside own all
+    same_related Top concept inside own all = kept family.Ancestors concept inside own all
+    same_related Bottom concept inside own all = kept family.Descendants concept inside own all
 
-    -- an operator leads from `part` to the candidates that it leads to from `set`, if `enough` is enough to test the
-    -- candidates
-    pub led_from_part : (operator : Operator) (may : ℕ → Bool) → AreEnough (asked_lists hierarchy operator) may enough
-        → filter may (led_to hierarchy count operator part) ≡ filter may (led_to hierarchy count operator set)
-    led_from_part operator may are_enough =
+    -- if `part` and `set` agree on `enough`, which is enough to test the candidates, then an operator leads from `part`
+    -- to the same candidates as from `set`
+    pub related_from_part : (operator : Operator) (may : ℕ → Bool)
+        → AreEnough (asked_lists hierarchy operator) may enough
+        → filter may (related_to hierarchy count operator part) ≡ filter may (related_to hierarchy count operator set)
+    related_from_part operator may are_enough =
         kept_of part part_rises ∙ numbers_where-agree count _ _ each ∙ sym (kept_of set set_rises)
       where
-        led : List ℕ → List ℕ
-        led items = led_to hierarchy count operator items
+        related : List ℕ → List ℕ
+        related items = related_to hierarchy count operator items
 
         kept_of : (items : List ℕ) → IsRisingBelow count items
-            → filter may (led items) ≡ numbers_where count (λ n. has (led items) n && may n)
+            → filter may (related items) ≡ numbers_where count (λ n. has (related items) n && may n)
         kept_of items rises =
-            ap (filter may) (rising_is_numbers_where count (led items) (operator_rises operator items rises))
-            ∙ filter-numbers_where count (has (led items)) may
+            ap (filter may) (rising_is_numbers_where count (related items) (operator_rises operator items rises))
+            ∙ filter-numbers_where count (has (related items)) may
 
-        asked : (n : ℕ) → n < count → (b : Bool) → may n ≡ b → (has (led part) n && b) ≡ (has (led set) n && b)
+        asked : (n : ℕ) → n < count → (b : Bool) → may n ≡ b → (has (related part) n && b) ≡ (has (related set) n && b)
         asked n inside true told =
             let here = are_enough n told in
-            ap (λ (there : Bool). there && true) (same_led operator n inside here.0 here.1)
-        asked n inside false told = and-false (has (led part) n) ∙ sym (and-false (has (led set) n))
+            ap (λ (there : Bool). there && true) (same_related operator n inside here.0 here.1)
+        asked n inside false told = and-false (has (related part) n) ∙ sym (and-false (has (related set) n))
 
-        each : (n : ℕ) → n < count → (has (led part) n && may n) ≡ (has (led set) n && may n)
+        each : (n : ℕ) → n < count → (has (related part) n && may n) ≡ (has (related set) n && may n)
         each n inside = asked n inside (may n) refl

@@ -1,6 +1,6 @@
 pub mod AskedLemmas
 pub mod JoinedLemmas
-pub mod LedLemmas
+pub mod RelatedLemmas
 pub mod MemberLemmas
 pub mod ReadLemmas
 pub mod ReachedLemmas

@@ -1,5 +1,6 @@
 -- The components of reference sets, by the numbers of concepts and by the member rows.
-use Rattle.std.proofs.Common.{ℕ, ◌≡◌, ◌<◌, ◌∙◌, ◌∷◌, [], ◌==◌, ◌&&◌, ◌||◌, Bool, true, false, List, length, get_or, refl, sym, ap, subst, arith}
+use Rattle.std.proofs.Common.{ℕ, ◌≡◌, ◌<◌, ◌∙◌, ◌∷◌, [], ◌==◌, ◌&&◌, ◌||◌, Bool, true, false, List, length, get_or}
+use Rattle.std.proofs.Common.{refl, sym, ap, subst, arith}
 use Rattle.std.specs.Prelude.{All, Contains, filter}
 use Rattle.std.specs.List.{flat_map, list_any}
 use Rattle.std.proofs.lemmas.Bool.{eq-eqb, eqb-true}
@@ -12,7 +13,8 @@ use Rattle.number_lists.proofs.ListLemmas.{passing_item, some_item_passes, both_
 use Rattle.constraint_tree.proofs.WalkLemmas.{tells_in_force}
 use Rattle.number_lists.specs.Rising.{IsRisingBelow, listed_numbers, numbers_where}
 use Rattle.number_lists.specs.Members.{has}
-use Rattle.number_lists.proofs.WhereLemmas.{filter-numbers_where, has-numbers_where, numbers_where-agree, there_where, where_there}
+use Rattle.number_lists.proofs.WhereLemmas.{filter-numbers_where, has-numbers_where, numbers_where-agree, there_where}
+use Rattle.number_lists.proofs.WhereLemmas.{where_there}
 use Rattle.number_lists.proofs.RisingLemmas.{rising_is_numbers_where, all_below}
 use Rattle.number_lists.specs.KeyedLists.{list_of}
 use Rattle.ancestor_index.specs.HierarchyLists.{is_child}
@@ -26,7 +28,8 @@ use Rattle.std.proofs.lemmas.List.Folds.{list_any-append}
 use Rattle.candidates.proofs.Normal.{in_force_kept, numbers_in-agree}
 
 -- the items of a set are below its bound
-pub numbers_below : {count bound : ℕ} {items numbers : List ℕ} → IsRisingBelow bound items → bound ≡ count → numbers ≡ items
+pub numbers_below : {count bound : ℕ} {items numbers : List ℕ} → IsRisingBelow bound items → bound ≡ count
+    → numbers ≡ items
     → All (λ number. number < count) numbers
 numbers_below {count} {bound} {items} rises bound_is numbers_are =
     subst (λ (some : List ℕ). All (λ number. number < count) some) (sym numbers_are)
@@ -36,16 +39,17 @@ numbers_below {count} {bound} {items} rises bound_is numbers_are =
 -- an item passes one of two tests exactly if an item passes the first or an item passes the second
 any_or : {X : Type 0} (f g : X → Bool) (xs : List X) → list_any (λ x. f x || g x) xs ≡ (list_any f xs || list_any g xs)
 any_or f g [] = refl
-any_or f g (x ∷ xs) = ap (λ (b : Bool). (f x || g x) || b) (any_or f g xs) ∙ shuffled (f x) (g x) (list_any f xs) (list_any g xs)
+any_or f g (x ∷ xs) = ap (λ (b : Bool). (f x || g x) || b) (any_or f g xs)
+    ∙ shuffled (f x) (g x) (list_any f xs) (list_any g xs)
   where
-    behind : (b c d : Bool) → (b || (c || d)) ≡ (c || (b || d))
-    behind true true d = refl
-    behind true false d = refl
-    behind false c d = refl
+    following : (b c d : Bool) → (b || (c || d)) ≡ (c || (b || d))
+    following true true d = refl
+    following true false d = refl
+    following false c d = refl
 
     shuffled : (a b c d : Bool) → ((a || b) || (c || d)) ≡ ((a || c) || (b || d))
     shuffled true b c d = refl
-    shuffled false b c d = behind b c d
+    shuffled false b c d = following b c d
 
 -- no item passes a test that is always false
 any_none : {X : Type 0} (xs : List X) → list_any (λ x. false) xs ≡ false
@@ -54,16 +58,19 @@ any_none (x ∷ xs) = any_none xs
 
 -- one of `refsets` has a row to x exactly if one of the rows leads from one of `refsets` to x
 any_exchanged : (id : ℕ → ℕ) (refsets : List ℕ) (rows : List (ℕ × ℕ)) (x : ℕ)
-    → list_any (λ refset. is_child rows (id refset) x) refsets ≡ list_any (λ row. list_any (λ refset. id refset == row.0) refsets && (row.1 == x)) rows
+    → list_any (λ refset. is_child rows (id refset) x) refsets
+    ≡ list_any (λ row. list_any (λ refset. id refset == row.0) refsets && (row.1 == x)) rows
 any_exchanged id [] rows x = sym (any_none rows)
 any_exchanged id (refset ∷ refsets) rows x =
     ap (λ (b : Bool). is_child rows (id refset) x || b) (any_exchanged id refsets rows x)
-    ∙ sym (any_or (λ row. (row.0 == id refset) && (row.1 == x)) (λ row. list_any (λ other. id other == row.0) refsets && (row.1 == x)) rows)
+    ∙ sym (any_or (λ row. (row.0 == id refset) && (row.1 == x)) (λ row. list_any (λ other. id other == row.0) refsets
+    && (row.1 == x)) rows)
     ∙ any_agree rows _ _ (0, 0) (λ k there. both (get_or rows k (0, 0)).0 (id refset)
     (list_any (λ other. id other == (get_or rows k (0, 0)).0) refsets) ((get_or rows k (0, 0)).1 == x))
   where
     swapped : (a b : ℕ) → (a == b) ≡ (b == a)
-    swapped a b = both_ways (a == b) (b == a) (λ told. eq-eqb b a (sym (eqb-true a b told))) (λ told. eq-eqb a b (sym (eqb-true b a told)))
+    swapped a b = both_ways (a == b) (b == a) (λ told. eq-eqb b a (sym (eqb-true a b told)))
+        (λ told. eq-eqb a b (sym (eqb-true b a told)))
 
     shared : (a b c : Bool) → ((a && c) || (b && c)) ≡ ((a || b) && c)
     shared true true true = refl
@@ -72,7 +79,8 @@ any_exchanged id (refset ∷ refsets) rows x =
     shared true false false = refl
     shared false b c = refl
 
-    both : (from to : ℕ) (some here : Bool) → (((from == to) && here) || (some && here)) ≡ (((to == from) || some) && here)
+    both : (from to : ℕ) (some here : Bool)
+        → (((from == to) && here) || (some && here)) ≡ (((to == from) || some) && here)
     both from to some here = shared (from == to) some here ∙ ap (λ (b : Bool). (b || some) && here) (swapped from to)
 
 -- the lists of `concepts`, one after the other, have n exactly if the list of one of `concepts` has it
@@ -85,7 +93,8 @@ item_joined lists (concept ∷ concepts) n =
 
 -- whether a member row leads from a reference set to a component, by their numbers
 abbrev is_member : Release → ℕ → ℕ → Bool
-is_member release refset component = is_child release.members (get_or release.concepts refset 0) (get_or release.concepts component 0)
+is_member release refset component =
+    is_child release.members (get_or release.concepts refset 0) (get_or release.concepts component 0)
 
 -- the list of a reference set has n exactly if concept n is its component
 member_told : (release : Release) (refset n : ℕ) → refset < length release.concepts → n < length release.concepts
@@ -98,14 +107,16 @@ member_told release refset n below inside =
 component_told : (release : Release) (items : List ℕ) → All (λ item. item < length release.concepts) items
     → (n : ℕ) → n < length release.concepts
     → is_in_one_of (members_of release) items n
-    ≡ list_any (λ row. list_any (λ refset. get_or release.concepts refset 0 == row.0) items && (row.1 == get_or release.concepts n 0)) release.members
+    ≡ list_any (λ row. list_any (λ refset. get_or release.concepts refset 0 == row.0) items
+    && (row.1 == get_or release.concepts n 0)) release.members
 component_told release items below n inside =
     any_agree items _ _ 0 (λ k there. member_told release (get_or items k 0) n (below k 0 there) inside)
     ∙ any_exchanged (λ refset. get_or release.concepts refset 0) items release.members (get_or release.concepts n 0)
 
 -- the numbers in the lists of reference sets are the numbers of their components
 pub members_listed : (release : Release) (items : List ℕ) → All (λ item. item < length release.concepts) items
-    → listed_numbers (length release.concepts) (flat_map (list_of (members_of release)) items) ≡ components_of release items
+    → listed_numbers (length release.concepts) (flat_map (list_of (members_of release)) items)
+    ≡ components_of release items
 members_listed release items below =
     numbers_where-agree (length release.concepts) _ _
     (λ n inside. item_joined (members_of release) items n ∙ component_told release items below n inside)
@@ -118,8 +129,10 @@ pub members_asked : (release : Release) (items : List ℕ) → All (λ item. ite
 members_asked release items below wanted rises =
     ap (filter asked) (rising_is_numbers_where count wanted rises)
     ∙ filter-numbers_where count (has wanted) asked
-    ∙ numbers_where-agree count _ _ (λ n inside. ap (λ (there : Bool). has wanted n && there) (component_told release items below n inside))
-    ∙ sym (restricted_to count (has wanted) _ (components_of release items) (filter (has wanted) (components_of release items)) refl refl)
+    ∙ numbers_where-agree count _ _
+    (λ n inside. ap (λ (there : Bool). has wanted n && there) (component_told release items below n inside))
+    ∙ sym (restricted_to count (has wanted) _ (components_of release items)
+    (filter (has wanted) (components_of release items)) refl refl)
   where
     count : ℕ
     count = length release.concepts
@@ -132,18 +145,21 @@ pub members_below : (release : Release) (items : List ℕ) → All (λ item. ite
     → All (λ number. number < length release.concepts) (flat_map (list_of (members_of release)) items)
 members_below release [] below = All-nil (λ number. number < length release.concepts)
 members_below release (item ∷ items) below =
-    All-append (λ number. number < length release.concepts) (list_of (members_of release) item) (flat_map (list_of (members_of release)) items)
-    (subst (All (λ number. number < length release.concepts)) (sym (list_of-where (length release.concepts) (is_member release) item (below 0 0 (omega arith))))
+    All-append (λ number. number < length release.concepts) (list_of (members_of release) item)
+    (flat_map (list_of (members_of release)) items)
+    (subst (All (λ number. number < length release.concepts))
+    (sym (list_of-where (length release.concepts) (is_member release) item (below 0 0 (omega arith))))
     (λ k d within.
     let list : List ℕ = numbers_where (length release.concepts) (is_member release item) in
-    (there_where (length release.concepts) (is_member release item) (get_or list k d) (k, within, get_or_default list k (get_or list k d) d within)).0))
+    (there_where (length release.concepts) (is_member release item) (get_or list k d)
+    (k, within, get_or_default list k (get_or list k d) d within)).0))
     (members_below release items (All-tail (λ item. item < length release.concepts) item items below))
 
 -- the numbers of a set stand for a concept exactly if it is in the set
 pub one_of_set : (release : Release) (set : ℕ → Bool) (items : List ℕ) → items ≡ numbers_in release set
     → ((concept : ℕ) → set concept ≡ true → has_concept release concept ≡ true)
     → (id : ℕ) → is_one_of release.concepts items id ≡ set id
-one_of_set release set items is forced id = both_ways (is_one_of release.concepts items id) (set id) there back
+one_of_set release set items is forced id = both_ways (is_one_of release.concepts items id) (set id) there opposite
   where
     there : is_one_of release.concepts items id ≡ true → set id ≡ true
     there told =
@@ -152,8 +168,8 @@ one_of_set release set items is forced id = both_ways (is_one_of release.concept
         (subst (λ (xs : List ℕ). Contains xs found.0) is found.1) in
         ap set (sym (eqb-true (get_or release.concepts found.0 0) id found.2)) ∙ at.1
 
-    back : set id ≡ true → is_one_of release.concepts items id ≡ true
-    back holds =
+    opposite : set id ≡ true → is_one_of release.concepts items id ≡ true
+    opposite holds =
         let there = (tells_in_force release id).0 (forced id holds) in
         let k : ℕ = there.0 in
         let at : get_or release.concepts k 0 ≡ id = get_or_default release.concepts k 0 id there.1 ∙ there.2 in
@@ -168,7 +184,8 @@ pub components_in : (release : Release) (set : ℕ → Bool) (items : List ℕ) 
     → components_of release items ≡ numbers_in release (is_component release set)
 components_in release set items is forced =
     numbers_in-agree release
-    (λ concept. list_any (λ (row : ℕ × ℕ). list_any (λ refset. get_or release.concepts refset 0 == row.0) items && (row.1 == concept)) release.members)
+    (λ concept. list_any (λ (row : ℕ × ℕ). list_any (λ refset. get_or release.concepts refset 0 == row.0) items
+    && (row.1 == concept)) release.members)
     (λ concept. list_any (λ (row : ℕ × ℕ). set row.0 && (row.1 == concept)) release.members)
     (λ n within. any_agree release.members _ _ (0, 0)
     (λ k there i. one_of_set release set items is forced (get_or release.members k (0, 0)).0 i

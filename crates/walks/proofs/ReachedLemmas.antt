@@ -29,13 +29,14 @@ use Rattle.reading.specs.Orders.{IsOrderOf}
 use Rattle.reading.specs.declared.counter.Counter.{Counter}
 use Rattle.reading.proofs.CountLemmas.{counted_both, counted_out}
 use Rattle.walks.specs.inside.Counts.{pass_items}
-use Rattle.walks.specs.inside.Joined.{AreJoined, is_whole, near_of, turn_of}
-use Rattle.walks.specs.Led.{IsOf, IsOver}
+use Rattle.walks.specs.inside.Joined.{AreJoined, is_whole, direct_of, turn_of}
+use Rattle.walks.specs.Related.{IsOf, IsOver}
 use Rattle.walks.specs.Families.{lists_of}
 use Rattle.walks.specs.declared.family.Family.{Family}
 use Rattle.walks.specs.declared.family.Family.TheVariants as family
 use Rattle.number_lists.proofs.RisingLemmas.{all_below}
-use Rattle.walks.proofs.JoinedLemmas.{has_all, listed_stands, near_stands, over_length, over_rising, over_whole, stands}
+use Rattle.walks.proofs.JoinedLemmas.{has_all, listed_stands, direct_stands, over_length, over_rising, over_whole}
+use Rattle.walks.proofs.JoinedLemmas.{stands}
 use Rattle.walks.proofs.JoinedLemmas.{stands_listed}
 
 -- if all numbers in `found` are items, each of them is
@@ -49,18 +50,18 @@ all_have items (x ∷ xs) all n there =
       | inr later ↦ all_have items xs both.1 n later
     ]
 
--- what a pass that starts from `items` has found before turn `turn`
-pub record IsPassed (lists near : List (List ℕ)) (at : ℕ → ℕ) (turn : ℕ) (items found : List ℕ) : Type 0 where
-  -- each number that is found is in the list of an item
+-- what a pass that starts from `items` has found before step `turn`; `at` gives the concept that each step visits
+pub record IsPassed (lists direct : List (List ℕ)) (at : ℕ → ℕ) (turn : ℕ) (items found : List ℕ) : Type 0 where
+  -- each number that was found is in the list of an item
   pub sound : (n : ℕ) → has found n ≡ true → list_any (λ concept. has (list_of lists concept) n) items ≡ true
-  -- if the concept of an earlier turn is an item or was found, all in its near list is found
+  -- if the concept of an earlier step is an item or was found, everything in its direct list was found
   pub full : (j : ℕ) → j < turn → (has items (at j) || has found (at j)) ≡ true
-      → (n : ℕ) → has (list_of near (at j)) n ≡ true → has found n ≡ true
-  -- all in the near list of an item is found
-  pub own : (concept : ℕ) → has items concept ≡ true → (n : ℕ) → has (list_of near concept) n ≡ true
+      → (n : ℕ) → has (list_of direct (at j)) n ≡ true → has found n ≡ true
+  -- everything in the direct list of an item was found
+  pub own : (concept : ℕ) → has items concept ≡ true → (n : ℕ) → has (list_of direct concept) n ≡ true
       → has found n ≡ true
 
--- the concept of a turn has a place in the order
+-- each step of a pass visits a place that is below the number of steps
 pub turn_within : (turns : ℕ) (f : Family) (turn : ℕ) → turn < turns → turn_of f turns turn < turns
 turn_within turns family.Ancestors turn inside = omega arith
 turn_within turns family.Descendants turn inside = inside
@@ -116,7 +117,7 @@ module _ (release : Release) (order : List ℕ) (rising : IsStrictlyIncreasing r
   abbrev pub at : Family → ℕ → ℕ
   at f turn = get_or order (turn_of f turns turn) 0
 
-  -- the concept of a turn is the number of a concept
+  -- each step of a pass visits the number of a concept
   pub at_below : (f : Family) (turn : ℕ) → turn < turns → at f turn < count
   at_below f turn inside =
       (first.members (at f turn)).0 (Contains-get_or order (turn_of f turns turn) 0 (turn_within turns f turn inside))
@@ -131,10 +132,10 @@ module _ (release : Release) (order : List ℕ) (rising : IsStrictlyIncreasing r
       by_family family.Ancestors whole there =
           let place = there.0 in
           let inside : place < turns = there.1 in
-          let back : turns - ((turns - (place + 1)) + 1) ≡ place = omega (arith, inside) in (
+          let opposite : turns - ((turns - (place + 1)) + 1) ≡ place = omega (arith, inside) in (
             turns - (place + 1),
             omega (arith, inside),
-            ap (λ (n : ℕ). get_or order n 0) back
+            ap (λ (n : ℕ). get_or order n 0) opposite
                 ∙ get_or_default order place 0 concept there.1 ∙ there.2,
           )
       by_family family.Descendants whole there =
@@ -154,22 +155,23 @@ module _ (release : Release) (order : List ℕ) (rising : IsStrictlyIncreasing r
 
   -- a concept that is one is-a row away from the concept of turn k had no earlier turn j
   no_turn_before : (f : Family) → is_whole f ≡ true → (j k : ℕ) → j < k → k < turns
-      → stands release (near_of f) (at f k) (at f j) ≡ true → ⊥
-  no_turn_before family.Ancestors whole j k before inside near =
+      → stands release (direct_of f) (at f k) (at f j) ≡ true → ⊥
+  no_turn_before family.Ancestors whole j k before inside direct =
       let row = row_there rows (at family.Ancestors k) (at family.Ancestors j)
       (same_child release.concepts rows release.isa rising within are (at family.Ancestors k) (at family.Ancestors j)
-      (at_below family.Ancestors k inside) (at_below family.Ancestors j (omega (arith, before, inside))) ∙ near) in
+      (at_below family.Ancestors k inside) (at_below family.Ancestors j (omega (arith, before, inside))) ∙ direct) in
       not_ahead (turns - (k + 1)) (turns - (j + 1)) (omega (arith, before, inside)) (omega (arith, before, inside))
       (first.first (turns - (k + 1)) (at family.Ancestors j) (omega (arith, inside)) row)
-  no_turn_before family.Descendants whole j k before inside near =
+  no_turn_before family.Descendants whole j k before inside direct =
       let row = row_there rows (at family.Descendants j) (at family.Descendants k)
       (same_child release.concepts rows release.isa rising within are (at family.Descendants j)
       (at family.Descendants k)
-      (at_below family.Descendants j (omega (arith, before, inside))) (at_below family.Descendants k inside) ∙ near) in
+      (at_below family.Descendants j (omega (arith, before, inside))) (at_below family.Descendants k inside)
+      ∙ direct) in
       not_ahead j k (omega (arith, before)) inside
       (first.first j (at family.Descendants k) (omega (arith, before, inside)) row)
-  no_turn_before family.Parents whole j k before inside near = absurd (false≢true whole)
-  no_turn_before family.Children whole j k before inside near = absurd (false≢true whole)
+  no_turn_before family.Parents whole j k before inside direct = absurd (false≢true whole)
+  no_turn_before family.Children whole j k before inside direct = absurd (false≢true whole)
 
   module _ (bound : ℕ) (hierarchy : Hierarchy) (is_of : IsOf release bound hierarchy)
       (f : Family) (whole : is_whole f ≡ true) (items : List ℕ) (items_rise : IsRisingBelow bound items) where
@@ -182,83 +184,85 @@ module _ (release : Release) (order : List ℕ) (rising : IsStrictlyIncreasing r
     abbrev lists : List (List ℕ)
     lists = lists_of hierarchy f
 
-    abbrev near : List (List ℕ)
-    near = lists_of hierarchy (near_of f)
+    abbrev direct : List (List ℕ)
+    direct = lists_of hierarchy (direct_of f)
 
     -- what the pass in family `f` has found before a turn
     abbrev pub Passed : ℕ → List ℕ → Type 0
-    Passed turn found = IsPassed lists near (at f) turn items found
+    Passed turn found = IsPassed lists direct (at f) turn items found
 
     below : (turn : ℕ) → turn < turns → at f turn < bound
     below turn inside = omega (arith, at_below f turn inside, counted)
 
-    -- what the near list of `concept` has, its list has
-    near_listed : (concept n : ℕ) → concept < bound → has (list_of near concept) n ≡ true
+    -- what the direct list of `concept` has, its list has
+    direct_listed : (concept n : ℕ) → concept < bound → has (list_of direct concept) n ≡ true
         → has (list_of lists concept) n ≡ true
-    near_listed concept n inside told =
-        let stood = listed_stands bound hierarchy over (near_of f) concept n inside told in
-        stands_listed bound hierarchy over f concept n inside stood.0 (near_stands release f concept n stood.1)
+    direct_listed concept n inside told =
+        let stood = listed_stands bound hierarchy over (direct_of f) concept n inside told in
+        stands_listed bound hierarchy over f concept n inside stood.0 (direct_stands release f concept n stood.1)
 
-    -- the concept of a turn has a near list
-    pub near_there : (turn : ℕ) → turn < turns → at f turn < length near
-    near_there turn inside = omega (arith, below turn inside, over_length bound hierarchy over (near_of f))
+    -- the concept that a step visits has a direct list
+    pub direct_there : (turn : ℕ) → turn < turns → at f turn < length direct
+    direct_there turn inside = omega (arith, below turn inside, over_length bound hierarchy over (direct_of f))
 
-    -- the near list of the concept of a turn rises
-    pub near_rises : (turn : ℕ) → turn < turns → IsRisingBelow bound (list_of near (at f turn))
-    near_rises turn inside = over_rising bound hierarchy over (near_of f) (at f turn) (below turn inside)
+    -- the direct list of the concept that a step visits rises
+    pub direct_rises : (turn : ℕ) → turn < turns → IsRisingBelow bound (list_of direct (at f turn))
+    direct_rises turn inside = over_rising bound hierarchy over (direct_of f) (at f turn) (below turn inside)
 
-    -- if a concept is an item, or is found, what its near list has is in the list of an item
-    led_on : (found : List ℕ) → ((n : ℕ) → has found n ≡ true
+    -- if a concept is an item, or is found, what its direct list has is in the list of an item
+    related_on : (found : List ℕ) → ((n : ℕ) → has found n ≡ true
         → list_any (λ concept. has (list_of lists concept) n) items ≡ true)
         → (concept n : ℕ) → concept < bound → (has items concept || has found concept) ≡ true
-        → has (list_of near concept) n ≡ true
+        → has (list_of direct concept) n ≡ true
         → list_any (λ concept. has (list_of lists concept) n) items ≡ true
-    led_on found sound concept n inside told near_told = elim (or_cases (has items concept) (has found concept) told) [
-      | inl own ↦
-          some_item_passes (λ c. has (list_of lists c) n) items concept (contains_had items concept own)
-          (near_listed concept n inside near_told)
-      | inr was ↦
-          let from = passing_item (λ c. has (list_of lists c) concept) items (sound concept was) in
-          let from_below : from.0 < bound = subst (λ (m : ℕ). m < bound) (from.1.2)
-          (all_below bound items items_rise from.1.0 from.0 from.1.1) in
-          some_item_passes (λ c. has (list_of lists c) n) items from.0 from.1
-          (over_whole bound hierarchy over f whole from.0 concept n from_below inside from.2
-          (near_listed concept n inside near_told))
-    ]
+    related_on found sound concept n inside told direct_told =
+        elim (or_cases (has items concept) (has found concept) told) [
+          | inl own ↦
+              some_item_passes (λ c. has (list_of lists c) n) items concept (contains_had items concept own)
+              (direct_listed concept n inside direct_told)
+          | inr was ↦
+              let from = passing_item (λ c. has (list_of lists c) concept) items (sound concept was) in
+              let from_below : from.0 < bound = subst (λ (m : ℕ). m < bound) (from.1.2)
+              (all_below bound items items_rise from.1.0 from.0 from.1.1) in
+              some_item_passes (λ c. has (list_of lists c) n) items from.0 from.1
+              (over_whole bound hierarchy over f whole from.0 concept n from_below inside from.2
+              (direct_listed concept n inside direct_told))
+        ]
 
     first_true : (one other : Bool) → (one && other) ≡ true → one ≡ true
     first_true true other both = refl
     first_true false other both = both
 
-    -- the turn of a concept that is found and no item adds its near list to what is found
+    -- if the concept that step `turn` visits was found and is not an item, adding its direct list to what was found
+    -- keeps the invariant for the next step
     pub passed_on : (turn : ℕ) (found list next : List ℕ) → turn < turns → IsRisingBelow bound found
-        → list ≡ list_of near (at f turn)
+        → list ≡ list_of direct (at f turn)
         → next ≡ all_items bound found list → (has found (at f turn) && not (has items (at f turn))) ≡ true
         → Passed turn found → Passed (turn + 1) next
     passed_on turn found list next inside rises list_is next_is chosen passed = record {
-      sound = λ n told. elim (or_cases (has found n) (has (list_of near (at f turn)) n) (sym (grown n) ∙ told)) [
+      sound = λ n told. elim (or_cases (has found n) (has (list_of direct (at f turn)) n) (sym (grown n) ∙ told)) [
         | inl before ↦ passed.sound n before
-        | inr now ↦ led_on found passed.sound (at f turn) n (below turn inside)
+        | inr now ↦ related_on found passed.sound (at f turn) n (below turn inside)
             (or_right (has items (at f turn)) (has found (at f turn))
             (first_true (has found (at f turn)) (not (has items (at f turn))) chosen)) now
       ];
       full = λ j less told n away. elim (cases_eq j turn) [
         | inl same ↦
-            grown n ∙ or_right (has found n) (has (list_of near (at f turn)) n)
-            (subst (λ (m : ℕ). has (list_of near (at f m)) n ≡ true) same away)
+            grown n ∙ or_right (has found n) (has (list_of direct (at f turn)) n)
+            (subst (λ (m : ℕ). has (list_of direct (at f m)) n ≡ true) same away)
         | inr other ↦
             let before : j < turn = omega (arith, less, other) in
-            grown n ∙ or_left (has found n) (has (list_of near (at f turn)) n)
+            grown n ∙ or_left (has found n) (has (list_of direct (at f turn)) n)
             (passed.full j before (still j before told) n away)
       ];
       own = λ concept there n away.
-          grown n ∙ or_left (has found n) (has (list_of near (at f turn)) n) (passed.own concept there n away);
+          grown n ∙ or_left (has found n) (has (list_of direct (at f turn)) n) (passed.own concept there n away);
     }
       where
-        grown : (n : ℕ) → has next n ≡ (has found n || has (list_of near (at f turn)) n)
+        grown : (n : ℕ) → has next n ≡ (has found n || has (list_of direct (at f turn)) n)
         grown n =
             has_all bound found list next rises
-            (subst (λ (xs : List ℕ). IsRisingBelow bound xs) (sym list_is) (near_rises turn inside)) next_is n
+            (subst (λ (xs : List ℕ). IsRisingBelow bound xs) (sym list_is) (direct_rises turn inside)) next_is n
             ∙ ap (λ (xs : List ℕ). has found n || has xs n) list_is
 
         -- a concept that had an earlier turn is not found now
@@ -266,15 +270,16 @@ module _ (release : Release) (order : List ℕ) (rising : IsStrictlyIncreasing r
             → (has items (at f j) || has found (at f j)) ≡ true
         still j before told = elim (or_cases (has items (at f j)) (has next (at f j)) told) [
           | inl own ↦ or_left (has items (at f j)) (has found (at f j)) own
-          | inr was ↦ elim (or_cases (has found (at f j)) (has (list_of near (at f turn)) (at f j))
+          | inr was ↦ elim (or_cases (has found (at f j)) (has (list_of direct (at f turn)) (at f j))
               (sym (grown (at f j)) ∙ was)) [
                 | inl then ↦ or_right (has items (at f j)) (has found (at f j)) then
                 | inr now ↦ absurd (no_turn_before f whole j turn before inside
-                    (listed_stands bound hierarchy over (near_of f) (at f turn) (at f j) (below turn inside) now).1)
+                    (listed_stands bound hierarchy over (direct_of f) (at f turn) (at f j) (below turn inside) now).1)
               ]
         ]
 
-    -- the turn of a concept that is not found, or is an item, adds nothing to what is found
+    -- if the concept that step `turn` visits was not found, or is an item, the invariant holds for the next step
+    -- without a change
     pub passed_over : (turn : ℕ) (found : List ℕ) → (has found (at f turn) && not (has items (at f turn))) ≡ false
         → Passed turn found → Passed (turn + 1) found
     passed_over turn found not_chosen passed = record {
@@ -294,34 +299,35 @@ module _ (release : Release) (order : List ℕ) (rising : IsStrictlyIncreasing r
         an_item false true told not_chosen = sym not_chosen
         an_item false false told not_chosen = told
 
-    -- before the first turn, the joined near lists of the items are found
-    pub passed_first : (found : List ℕ) → AreJoined near items found → Passed 0 found
+    -- before the first step, the union of the direct lists of the items satisfies the invariant
+    pub passed_first : (found : List ℕ) → AreJoined direct items found → Passed 0 found
     passed_first found joined = record {
       sound = λ n told.
-          let from = passing_item (λ c. has (list_of near c) n) items (sym (joined n) ∙ told) in
+          let from = passing_item (λ c. has (list_of direct c) n) items (sym (joined n) ∙ told) in
           let from_below : from.0 < bound = subst (λ (m : ℕ). m < bound) from.1.2
           (all_below bound items items_rise from.1.0 from.0 from.1.1) in
-          some_item_passes (λ c. has (list_of lists c) n) items from.0 from.1 (near_listed from.0 n from_below from.2);
+          some_item_passes (λ c. has (list_of lists c) n) items from.0 from.1
+          (direct_listed from.0 n from_below from.2);
       full = λ j less. absurd (omega (arith, less));
       own = λ concept there n away.
-          joined n ∙ some_item_passes (λ c. has (list_of near c) n) items concept (contains_had items concept there)
+          joined n ∙ some_item_passes (λ c. has (list_of direct c) n) items concept (contains_had items concept there)
           away;
     }
 
-    -- after the last turn, the joined lists of the items are found
+    -- after the last step, what was found is the union of the items' lists
     pub passed_all : (turn : ℕ) (found : List ℕ) → turns ≤ turn → Passed turn found → AreJoined lists items found
     passed_all turn found end passed n =
-        both_ways (has found n) (list_any (λ concept. has (list_of lists concept) n) items) (passed.sound n) back
+        both_ways (has found n) (list_any (λ concept. has (list_of lists concept) n) items) (passed.sound n) opposite
       where
         -- what is one is-a row away from a concept that is an item or found is found
         one_on : (concept m : ℕ) → concept < count → m < count → (has items concept || has found concept) ≡ true
-            → stands release (near_of f) concept m ≡ true → has found m ≡ true
+            → stands release (direct_of f) concept m ≡ true → has found m ≡ true
         one_on concept m inside m_inside told away =
             let its = has_turn f whole concept inside in
             passed.full its.0 (omega (arith, its.1, end))
             (subst (λ (c : ℕ). (has items c || has found c) ≡ true) (sym its.2) told) m
-            (ap (λ (c : ℕ). has (list_of near c) m) its.2
-            ∙ stands_listed bound hierarchy over (near_of f) concept m (omega (arith, inside, counted))
+            (ap (λ (c : ℕ). has (list_of direct c) m) its.2
+            ∙ stands_listed bound hierarchy over (direct_of f) concept m (omega (arith, inside, counted))
             (omega (arith, m_inside, counted)) away)
 
         ends : {a b : ℕ} → Contains rows (a, b) → (a < count) × (b < count)
@@ -338,47 +344,48 @@ module _ (release : Release) (order : List ℕ) (rising : IsStrictlyIncreasing r
             → has found b ≡ true
         up above {a} {b} (one_row there) told =
             one_on a b (ends there).0 (ends there).1 told
-            (ap (λ (g : Family). stands release (near_of g) a b) above ∙ child a b there)
+            (ap (λ (g : Family). stands release (direct_of g) a b) above ∙ child a b there)
         up above {a} {b} (more_rows {parent = p} there chain) told =
             up above chain (or_right (has items p) (has found p)
             (one_on a p (ends there).0 (ends there).1 told
-            (ap (λ (g : Family). stands release (near_of g) a p) above ∙ child a p there)))
+            (ap (λ (g : Family). stands release (direct_of g) a p) above ∙ child a p there)))
 
         down : f ≡ family.Descendants → {a b : ℕ} → Reaches rows a b → (has items b || has found b) ≡ true
             → has found a ≡ true
         down beneath {a} {b} (one_row there) told =
             one_on b a (ends there).1 (ends there).0 told
-            (ap (λ (g : Family). stands release (near_of g) b a) beneath ∙ child a b there)
+            (ap (λ (g : Family). stands release (direct_of g) b a) beneath ∙ child a b there)
         down beneath {a} {b} (more_rows {parent = p} there chain) told =
             one_on p a (ends there).1 (ends there).0 (or_right (has items p) (has found p) (down beneath chain told))
-            (ap (λ (g : Family). stands release (near_of g) p a) beneath ∙ child a p there)
+            (ap (λ (g : Family). stands release (direct_of g) p a) beneath ∙ child a p there)
 
-        led : (g : Family) → f ≡ g → (concept : ℕ) → concept < count → n < count → has items concept ≡ true
+        related : (g : Family) → f ≡ g → (concept : ℕ) → concept < count → n < count → has items concept ≡ true
             → stands release g concept n ≡ true
             → has found n ≡ true
-        led family.Ancestors same concept inside n_inside own stood =
+        related family.Ancestors same concept inside n_inside own stood =
             up same (chain_from_test rows concept n
             (same_reach release.concepts rows release.isa rising within are concept n inside n_inside ∙ stood))
             (or_left (has items concept) (has found concept) own)
-        led family.Descendants same concept inside n_inside own stood =
+        related family.Descendants same concept inside n_inside own stood =
             down same (chain_from_test rows n concept
             (same_reach release.concepts rows release.isa rising within are n concept n_inside inside ∙ stood))
             (or_left (has items concept) (has found concept) own)
-        led family.Parents same concept inside n_inside own stood = absurd (false≢true (ap is_whole (sym same) ∙ whole))
-        led family.Children same concept inside n_inside own stood =
+        related family.Parents same concept inside n_inside own stood =
+            absurd (false≢true (ap is_whole (sym same) ∙ whole))
+        related family.Children same concept inside n_inside own stood =
             absurd (false≢true (ap is_whole (sym same) ∙ whole))
 
-        back : list_any (λ concept. has (list_of lists concept) n) items ≡ true → has found n ≡ true
-        back told =
+        opposite : list_any (λ concept. has (list_of lists concept) n) items ≡ true → has found n ≡ true
+        opposite told =
             let from = passing_item (λ c. has (list_of lists c) n) items told in
             let from_below : from.0 < bound = subst (λ (m : ℕ). m < bound) (from.1.2)
             (all_below bound items items_rise from.1.0 from.0 from.1.1) in
             let stood = listed_stands bound hierarchy over f from.0 n from_below from.2 in
-            led f refl from.0 (omega (arith, from_below, counted)) (omega (arith, stood.0, counted))
+            related f refl from.0 (omega (arith, from_below, counted)) (omega (arith, stood.0, counted))
             (had_contained items from.0 from.1) stood.1
 
-    -- if the joined near lists of the items have items alone, they are the joined lists of the items
-    pub all_among : (found : List ℕ) → AreJoined near items found → list_all (has items) found ≡ true
+    -- if the union of the direct lists of the items contains only items, it is also the union of their lists
+    pub all_among : (found : List ℕ) → AreJoined direct items found → list_all (has items) found ≡ true
         → AreJoined lists items found
     all_among found joined among = passed_all turns found (omega arith) (passed_by turns)
       where

@@ -22,7 +22,7 @@ use Rattle.ancestor_index.specs.HierarchyLists.{Hierarchy, lists_where}
 use Rattle.postings.specs.Indexed.{Indexed}
 use Rattle.walks.specs.Asked.{asked_lists}
 use Rattle.walks.specs.Families.{all_items_of, family_of, items_in, lists_of}
-use Rattle.walks.specs.Led.{IsOver}
+use Rattle.walks.specs.Related.{IsOver}
 use Rattle.walks.specs.Reads.{asked_items, items_at_most, walk_items}
 use Rattle.walks.specs.declared.family.Family.{Family}
 use Rattle.walks.specs.declared.family.Family.TheVariants as family
@@ -30,9 +30,9 @@ use Rattle.walks.proofs.JoinedLemmas.{over_length, over_lists, stands}
 use Rattle.reading.specs.Counted.{CountsWithin, HandsOut, full}
 use Rattle.reading.specs.declared.counter.Counter.{Counter}
 use Rattle.reading.proofs.CountLemmas.{counted_both, counted_out}
-use Rattle.candidates.specs.Extents.{AreListed, IsExtentOf}
-use Rattle.candidates.specs.declared.candidates.Extent.{Extent}
-use Rattle.candidates.specs.declared.candidates.ListExtent.{ListExtent}
+use Rattle.candidates.specs.Extents.{AreListed, IsStatsOf}
+use Rattle.candidates.specs.declared.candidates.CandidateStats.{CandidateStats}
+use Rattle.candidates.specs.declared.candidates.ListStats.{ListStats}
 use Rattle.walks.specs.inside.Counts.{told_of}
 use Rattle.walks.specs.inside.Joined.{is_long, with_length}
 use Rattle.candidates.proofs.SumLemmas.{no_sum, sum_of_some, two_sums}
@@ -47,7 +47,7 @@ all_one_by_one lists =
     (concat_is (map (list_of lists) all) ∙ flat_map-map (λ xs. xs) (list_of lists) all)
     ∙ length-flat_map (list_of lists) all
 
--- the lists of distinct keys have no more items than all lists
+-- the lists of rising `keys` have together at most as many items as all lists
 pub items_of_some : (lists : List (List ℕ)) (keys : List ℕ) → IsRisingBelow (length lists) keys
     → items_in lists keys ≤ length (concat lists)
 items_of_some lists keys rising =
@@ -91,7 +91,7 @@ turned_items count test =
     ∙ sym (length-all_where count test)
 
 -- ---- the families of a hierarchy
--- all lists of a family have as many items as `all_items_of` says
+-- all lists of a family have together `all_items_of` items
 pub family_items : (count : ℕ) (hierarchy : Hierarchy) → IsOver count hierarchy → (f : Family)
     → length (concat (lists_of hierarchy f)) ≡ all_items_of hierarchy f
 family_items count hierarchy over family.Ancestors = refl
@@ -105,7 +105,7 @@ family_items count hierarchy over family.Children =
     ∙ turned_items count (stands over.release family.Parents)
     ∙ ap (λ (xs : List (List ℕ)). length (concat xs)) (sym (over_lists count hierarchy over family.Parents))
 
--- the lists of rising `concepts` have no more items than all lists of the family
+-- the lists of rising `concepts` have together at most as many items as all lists of the family
 pub set_items : (count : ℕ) (hierarchy : Hierarchy) → IsOver count hierarchy → (f : Family) (concepts : List ℕ)
     → IsRisingBelow count concepts
     → items_in (lists_of hierarchy f) concepts ≤ all_items_of hierarchy f
@@ -117,7 +117,7 @@ set_items count hierarchy over f concepts rising =
       family_items count hierarchy over f,
     )
 
--- the lists of rising `concepts` have no more items than a walk from them may read
+-- the lists of rising `concepts` have together at most as many items as a walk from them may read
 pub items_of_set : (count : ℕ) (hierarchy : Hierarchy) → IsOver count hierarchy → (f : Family) (concepts : List ℕ)
     → IsRisingBelow count concepts
     → items_in (lists_of hierarchy f) concepts ≤ items_at_most hierarchy f concepts
@@ -128,7 +128,7 @@ items_of_set count hierarchy over f concepts rising = at (nat_lt 1 (length conce
     at true = set_items count hierarchy over f concepts rising
     at false = omega arith
 
--- what a walk from rising `concepts` may read is no more than the items of all lists of the family
+-- a walk from rising `concepts` may read at most as many items as all lists of the family have
 pub at_most_all : (count : ℕ) (hierarchy : Hierarchy) → IsOver count hierarchy → (f : Family) (concepts : List ℕ)
     → IsRisingBelow count concepts
     → items_at_most hierarchy f concepts ≤ all_items_of hierarchy f
@@ -139,8 +139,8 @@ at_most_all count hierarchy over f concepts rising = at (nat_lt 1 (length concep
     at true = omega arith
     at false = set_items count hierarchy over f concepts rising
 
--- the lists of `concepts` in a family have no more items than an extent of their lists says
-told_items : (hierarchy : Hierarchy) (concepts : List ℕ) (lists : ListExtent) → AreListed hierarchy concepts lists
+-- the lists of `concepts` in a family have no more items than the statistics of their lists say
+told_items : (hierarchy : Hierarchy) (concepts : List ℕ) (lists : ListStats) → AreListed hierarchy concepts lists
     → (f : Family)
     → full (items_in (lists_of hierarchy f) concepts) ≤ told_of f lists
 told_items hierarchy concepts lists listed family.Ancestors = listed.ancestors
@@ -148,21 +148,22 @@ told_items hierarchy concepts lists listed family.Descendants = listed.descendan
 told_items hierarchy concepts lists listed family.Parents = listed.parents
 told_items hierarchy concepts lists listed family.Children = listed.children
 
--- to test `concepts` takes no more items than their extent says of the concepts and of the lists of `f`, by which they
--- are tested
-pub asked_within : (indexed : Indexed) (operator : Operator) (f : Family) (concepts : List ℕ) (extent : Extent)
-    → IsExtentOf indexed concepts extent
+-- testing `concepts` reads at most as many items as their statistics allow: the concepts, and the lists of the family
+-- `f` by which they are tested
+pub asked_within : (indexed : Indexed) (operator : Operator) (f : Family) (concepts : List ℕ) (stats : CandidateStats)
+    → IsStatsOf indexed concepts stats
     → lists_of indexed.hierarchy f ≡ asked_lists indexed.hierarchy operator
-    → full (asked_items indexed.hierarchy operator concepts) ≤ full (extent.items + told_of f extent.lists)
-asked_within indexed operator f concepts extent is asked =
+    → full (asked_items indexed.hierarchy operator concepts) ≤ full (stats.items + told_of f stats.lists)
+asked_within indexed operator f concepts stats is asked =
     omega (
       arith,
       is.items,
-      told_items indexed.hierarchy concepts extent.lists is.lists f,
+      told_items indexed.hierarchy concepts stats.lists is.lists f,
       ap (λ (lists : List (List ℕ)). items_in lists concepts) asked,
     )
 
--- the lists by which rising `concepts` are tested have no more items than all lists that the operator follows
+-- the lists by which rising `concepts` are tested have together at most as many items as all lists of the operator's
+-- family
 pub asked_of_all : (count : ℕ) (hierarchy : Hierarchy) → IsOver count hierarchy
     → (operator : Operator) (concepts : List ℕ)
     → IsRisingBelow count concepts
@@ -187,7 +188,7 @@ asked_of_all count hierarchy over Top concepts rising = set_items count hierarch
 asked_of_all count hierarchy over Bottom concepts rising =
     set_items count hierarchy over family.Descendants concepts rising
 
--- to test several concepts takes no more items than to go through them and to walk from them
+-- testing several concepts reads at most as many items as reading them and walking from them
 pub asked_from_many : (count : ℕ) (hierarchy : Hierarchy) → IsOver count hierarchy
     → (operator : Operator) (concepts : List ℕ)
     → IsRisingBelow count concepts → 1 < length concepts
@@ -201,7 +202,7 @@ asked_from_many count hierarchy over operator concepts rising many =
           (lt-ltb 1 (length concepts) many),
     )
 
--- the long lists and the short lists of `concepts` have as many items as all lists of `concepts`
+-- the long lists and the short lists of `concepts` have together as many items as all lists of `concepts`
 pub long_and_others : (lists : List (List ℕ)) (concepts : List ℕ)
     → items_in lists (with_length lists true concepts) + items_in lists (with_length lists false concepts)
     ≡ items_in lists concepts
@@ -214,7 +215,8 @@ long_and_others lists concepts =
     either true = refl
     either false = refl
 
--- the long lists and the short lists of rising `concepts` have no more items than all lists of the family
+-- the long lists and the short lists of rising `concepts` have together at most as many items as all lists of the
+-- family
 pub parts_within : (count : ℕ) (hierarchy : Hierarchy) → IsOver count hierarchy → (f : Family) (concepts : List ℕ)
     → IsRisingBelow count concepts
     → items_in (lists_of hierarchy f) (with_length (lists_of hierarchy f) true concepts)
@@ -222,7 +224,7 @@ pub parts_within : (count : ℕ) (hierarchy : Hierarchy) → IsOver count hierar
 parts_within count hierarchy over f concepts rising =
     omega (arith, long_and_others (lists_of hierarchy f) concepts, set_items count hierarchy over f concepts rising)
 
--- the lists of the concepts that pass `test` have no more items than the lists of all `concepts`
+-- the lists of the concepts that pass `test` have together at most as many items as those of all `concepts`
 pub items_of_kept : (lists : List (List ℕ)) (test : ℕ → Bool) (concepts : List ℕ)
     → items_in lists (filter test concepts) ≤ items_in lists concepts
 items_of_kept lists test concepts = sum_of_some (λ concept. length (list_of lists concept)) test concepts
@@ -241,7 +243,7 @@ asked_counted hierarchy operator f {concepts} asked same out lists =
       ap (λ (some : List (List ℕ)). items_in some concepts) asked,
     ))
 
--- concepts, each followed by its list, are as many numbers as there are concepts and items in their lists
+-- concepts, each followed by its list, are as many numbers as the concepts and the items of their lists
 pub with_lists_length : (lists : List (List ℕ)) (concepts : List ℕ)
     → length (flat_map (λ concept. concept ∷ list_of lists concept) concepts) ≡ length concepts
     + items_in lists concepts

@@ -19,14 +19,15 @@ use Rattle.walks.specs.inside.Counts.{LeavesPass, Spends, pass_items}
 use Rattle.walks.specs.inside.Joined.{is_long, is_whole, with_length}
 use Rattle.walks.proofs.JoinedLemmas.{with_length_more}
 
--- nothing is taken from the limit if nothing is read
+-- a call that reads nothing takes nothing off the limit
 pub spends_none : (left : Option ℕ) (visits : Counter) → Spends left left visits visits
 spends_none None visits = tt
 spends_none (Some left) visits = omega arith
 
--- if the limit is lowered by `items`, and the next reading counts at most `items`, all visits so far are taken from the
--- limit
-pub spends_more : (first left next : Option ℕ) (items : ℕ) (early between late : Counter) → Spends first left early between
+-- if the limit is lowered by `items` and the next call counts at most `items`, then all visits from `early` on were
+-- taken off the limit
+pub spends_more : (first left next : Option ℕ) (items : ℕ) (early between late : Counter)
+    → Spends first left early between
     → MatchOption left (next ≡ None) (λ before. (items ≤ before) × (next ≡ Some (before - items)))
     → CountsWithin items between late → Spends first next early late
 spends_more None None next items early between late spent taken counts =
@@ -34,9 +35,10 @@ spends_more None None next items early between late spent taken counts =
 spends_more None (Some left) next items early between late spent taken counts = absurd spent
 spends_more (Some first) None next items early between late spent taken counts = absurd spent
 spends_more (Some first) (Some left) next items early between late spent taken counts =
-    subst (λ (after : Option ℕ). Spends (Some first) after early late) (sym taken.1) (omega (arith, spent, taken.0, counts.within))
+    subst (λ (after : Option ℕ). Spends (Some first) after early late) (sym taken.1)
+    (omega (arith, spent, taken.0, counts.within))
 
--- two readings in a row take from the limit the visits of both
+-- two successive calls take the visits of both off the limit
 pub spends_both : (first left next : Option ℕ) (early between late : Counter) → Spends first left early between
     → Spends left next between late → Spends first next early late
 spends_both None None None early between late one other = tt
@@ -46,34 +48,41 @@ spends_both (Some first) None next early between late one other = absurd one
 spends_both (Some first) (Some left) None early between late one other = absurd other
 spends_both (Some first) (Some left) (Some next) early between late one other = omega (arith, one, other)
 
--- a pass after a reading within the limit stays within the number of items that all lists have
-pub pass_within : (hierarchy : Hierarchy) (f : Family) (count : ℕ) (first left : Option ℕ) (early between late : Counter)
-    → IfSome first (LeavesPass hierarchy f count) → IsSome first → early.count ≤ between.count → Spends first left early between
+-- reading within the limit and then making a pass counts at most the total of all lists of the family
+pub pass_within : (hierarchy : Hierarchy) (f : Family) (count : ℕ) (first left : Option ℕ)
+    (early between late : Counter)
+    → IfSome first (LeavesPass hierarchy f count) → IsSome first → early.count ≤ between.count
+    → Spends first left early between
     → CountsWithin (pass_items hierarchy count) between late → CountsWithin (all_items_of hierarchy f) early late
-pass_within hierarchy f count None left early between late leaves limited grows spent passed = absurd (false≢true limited)
+pass_within hierarchy f count None left early between late leaves limited grows spent passed =
+    absurd (false≢true limited)
 pass_within hierarchy f count (Some first) None early between late leaves limited grows spent passed = absurd spent
 pass_within hierarchy f count (Some first) (Some left) early between late leaves limited grows spent passed = record {
   grows = omega (arith, grows, passed.grows);
   within = omega (arith, leaves.room, spent, passed.within);
 }
 
--- whole lists have as many items as there are pairs of a concept and an ancestor
-pub whole_items : (hierarchy : Hierarchy) (f : Family) → is_whole f ≡ true → all_items_of hierarchy f ≡ length (concat hierarchy.ancestors)
+-- the lists of ancestors, and those of descendants, have together as many items as there are pairs of a concept and an
+-- ancestor
+pub whole_items : (hierarchy : Hierarchy) (f : Family) → is_whole f ≡ true
+    → all_items_of hierarchy f ≡ length (concat hierarchy.ancestors)
 whole_items hierarchy family.Ancestors whole = refl
 whole_items hierarchy family.Descendants whole = refl
 whole_items hierarchy family.Parents whole = absurd (false≢true whole)
 whole_items hierarchy family.Children whole = absurd (false≢true whole)
 
--- a concept whose list is joined adds the items of its list to those of the first k concepts
+-- if the list of concept `k` has the chosen length, the chosen lists of the first `k + 1` concepts have the items of
+-- those of the first `k`, and those of its list
 pub items_more : (lists : List (List ℕ)) (long : Bool) (concepts : List ℕ) (k : ℕ) → k < length concepts
     → beq (is_long (list_of lists (get_or concepts k 0))) long ≡ true
     → items_in lists (with_length lists long (take (k + 1) concepts))
     ≡ items_in lists (with_length lists long (take k concepts)) + length (list_of lists (get_or concepts k 0))
 items_more lists long concepts k inside tested =
     ap (items_in lists) (with_length_more lists long concepts [] k inside tested)
-    ∙ sum_by_push (λ concept. length (list_of lists concept)) (with_length lists long (take k concepts)) (get_or concepts k 0)
+    ∙ sum_by_push (λ concept. length (list_of lists concept)) (with_length lists long (take k concepts))
+    (get_or concepts k 0)
 
--- the lists that are joined of the first k concepts have no more items than those that are joined of all
+-- the chosen lists of the first `k` concepts have together at most as many items as those of all concepts
 pub items_so_far : (lists : List (List ℕ)) (long : Bool) (concepts : List ℕ) (k : ℕ)
     → items_in lists (with_length lists long (take k concepts)) ≤ items_in lists (with_length lists long concepts)
 items_so_far lists long concepts k =

@@ -2,5 +2,5 @@ pub mod Asked
 pub mod Components
 pub mod Families
 pub mod inside
-pub mod Led
+pub mod Related
 pub mod Reads

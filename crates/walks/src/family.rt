@@ -1,35 +1,36 @@
-//! The four families of lists of a hierarchy.
+//! The four kinds of lists that a hierarchy has for each concept.
 ghost use Rattle.std.specs.Prelude.{◌≡◌, ◌↔◌, ◌<◌, IfSome, IsSome, MatchOption, length, true};
 ghost use Rattle.std.specs.List.{concat};
 ghost use Rattle.number_lists.specs.Members.{has};
 ghost use Rattle.idset.specs.Words.{MarkedBelow};
 ghost use Rattle.number_lists.specs.KeyedLists.{list_of};
-ghost use Rattle.walks.specs.inside.Joined.{back_of, is_whole as is_whole_of, near_of, turn_of};
+ghost use Rattle.walks.specs.inside.Joined.{opposite_of, is_whole as is_whole_of, direct_of, turn_of};
 ghost use Rattle.walks.specs.inside.Counts.{told_of};
 ghost use Rattle.walks.specs.inside.Steps.{HasWords, IsStepFor, asked_of};
 ghost use Rattle.walks.specs.Families.{lists_of};
 ghost use Rattle.reading.specs.Counted.{HandsOut};
 
-use candidates::ListExtent;
+use candidates::ListStats;
 use constraint_tree::Operator;
 use number_lists::KeyedLists;
 use reading::{Counter, Reader};
 
-/// A family of lists, one for each concept.
+/// A family of lists, with one list for each concept.
 #[derive(Clone, Copy)]
 pub enum Family {
-    /// The concepts that a concept reaches.
+    /// The ancestors of the concept.
     Ancestors,
-    /// The concepts that reach a concept.
+    /// The descendants of the concept.
     Descendants,
-    /// The concepts that an is-a row of a concept leads to.
+    /// The parents of the concept: those to which its is-a rows lead.
     Parents,
-    /// The concepts from which an is-a row leads to a concept.
+    /// The children of the concept: those whose is-a rows lead to it.
     Children,
 }
 
 impl Family {
-    /// Whether the list of a concept contains the lists of all concepts in it.
+    /// Returns whether the family is transitive: the list of a concept contains the lists of all
+    /// concepts in it. Ancestors and descendants are; comments here call their lists whole.
     pub fn is_whole(self) -> bool
         ensures { result ≡ is_whole_of self }
     {
@@ -39,10 +40,10 @@ impl Family {
         }
     }
 
-    /// Returns the family of the lists that go one is-a row. Each of its lists is contained in the list of this
-    /// family.
-    pub fn near(self) -> Family
-        ensures { result ≡ near_of self }
+    /// Returns the family that goes one is-a row in the same direction: parents or children. Its
+    /// lists are contained in those of this family.
+    pub fn direct(self) -> Family
+        ensures { result ≡ direct_of self }
     {
         match self {
             Family::Ancestors | Family::Parents => Family::Parents,
@@ -50,10 +51,12 @@ impl Family {
         }
     }
 
-    /// Returns the lists of all concepts in the family `near`. Each is-a link is a counted visit.
-    pub fn near_lists<'a>(self, reader: Reader<'a>, visits: &mut Counter) -> &'a KeyedLists
-        ensures lists { result.now ≡ lists_of reader.entry.indexes.now.hierarchy (near_of self) }
-        ensures counted { HandsOut (length (concat reader.entry.indexes.now.hierarchy.parents)) visits.old visits.new }
+    /// Returns the lists of parents or children of all concepts, whichever this family's direction
+    /// needs. Counts each is-a link.
+    pub fn direct_lists<'a>(self, reader: Reader<'a>, visits: &mut Counter) -> &'a KeyedLists
+        ensures lists { result.now ≡ lists_of reader.entry.indexes.now.hierarchy (direct_of self) }
+        ensures counted { HandsOut (length (concat reader.entry.indexes.now.hierarchy.parents))
+            visits.old visits.new }
     {
         match self {
             Family::Ancestors | Family::Parents => reader.all_parents(visits),
@@ -61,9 +64,10 @@ impl Family {
         }
     }
 
-    /// Returns the family of the transposed lists, which lead back.
-    pub fn back(self) -> Family
-        ensures { result ≡ back_of self }
+    /// Returns the family of the opposite direction: `a` is in the list of `b` exactly if `b` is in
+    /// the opposite list of `a`.
+    pub fn opposite(self) -> Family
+        ensures { result ≡ opposite_of self }
     {
         match self {
             Family::Ancestors => Family::Descendants,
@@ -73,8 +77,9 @@ impl Family {
         }
     }
 
-    /// Returns the place, in an order with parents before children, of the concept of `turn`. There are `turns`
-    /// turns. Each concept has its turn before the concepts in its near list.
+    /// Returns which place of an order with parents before children a pass visits at step `turn` of
+    /// `turns`. In an upward family, a concept is visited before its parents; in a downward family,
+    /// before its children.
     pub fn place_of_turn(self, turn: usize, turns: usize) -> usize
         requires { turn < turns }
         ensures { result ≡ turn_of self turns turn }
@@ -85,12 +90,14 @@ impl Family {
         }
     }
 
-    /// Returns the list of a concept. Its items are counted.
+    /// Returns the list of `concept`, and counts its items.
     pub fn list<'a>(self, reader: Reader<'a>, concept: u32, visits: &mut Counter) -> &'a [u32]
         requires { concept < length (lists_of reader.indexes.now.hierarchy self) }
-        ensures items { result.now ≡ list_of (lists_of reader.entry.indexes.now.hierarchy self) concept }
-        ensures counted { HandsOut (length (list_of (lists_of reader.entry.indexes.now.hierarchy self) concept))
-            visits.old visits.new }
+        ensures items { result.now ≡ list_of (lists_of reader.entry.indexes.now.hierarchy self)
+            concept }
+        ensures counted { HandsOut (length
+            (list_of (lists_of reader.entry.indexes.now.hierarchy self) concept)) visits.old
+            visits.new }
     {
         match self {
             Family::Ancestors => reader.ancestors(concept, visits),
@@ -100,11 +107,13 @@ impl Family {
         }
     }
 
-    /// Whether the list of a concept in a whole family has the concept itself. This test counts nothing.
+    /// Returns whether the list of `concept` contains `concept` itself. The family must be
+    /// ancestors or descendants. Counts nothing.
     pub fn has_itself(self, reader: Reader<'_>, concept: u32) -> bool
         requires below { concept < length (lists_of reader.indexes.now.hierarchy self) }
         requires whole { is_whole_of self ≡ true }
-        ensures { result ≡ has (list_of (lists_of reader.entry.indexes.now.hierarchy self) concept) concept }
+        ensures { result ≡ has (list_of (lists_of reader.entry.indexes.now.hierarchy self) concept)
+            concept }
     {
         match self {
             Family::Ancestors => reader.is_ancestor(concept, concept),
@@ -113,10 +122,11 @@ impl Family {
         }
     }
 
-    /// Returns how many items the list of a concept has. It reads none.
+    /// Returns the length of the list of `concept`. Counts nothing.
     pub fn length(self, reader: Reader<'_>, concept: u32) -> u64
         requires { concept < length (lists_of reader.indexes.now.hierarchy self) }
-        ensures { result ≡ length (list_of (lists_of reader.entry.indexes.now.hierarchy self) concept) }
+        ensures { result ≡ length (list_of (lists_of reader.entry.indexes.now.hierarchy self)
+            concept) }
     {
         match self {
             Family::Ancestors => reader.ancestor_count_of(concept),
@@ -126,7 +136,8 @@ impl Family {
         }
     }
 
-    /// Returns the list of a concept as words of bits, if the index has them. Its items are counted then.
+    /// Returns the list of `concept` as a bitmap, and counts its items. Returns `None` and counts
+    /// nothing if the index has no bitmap for it.
     pub fn words<'a>(
         self,
         reader: Reader<'a>,
@@ -134,12 +145,13 @@ impl Family {
         visits: &mut Counter,
     ) -> Option<&'a [u64]>
         requires { concept < length (lists_of reader.indexes.now.hierarchy self) }
-        ensures some { IfSome result (λ words. MarkedBelow (length (lists_of reader.entry.indexes.now.hierarchy self))
-            words.now (has (list_of (lists_of reader.entry.indexes.now.hierarchy self) concept))) }
+        ensures some { IfSome result (λ words. MarkedBelow
+            (length (lists_of reader.entry.indexes.now.hierarchy self)) words.now
+            (has (list_of (lists_of reader.entry.indexes.now.hierarchy self) concept))) }
         ensures wide { IsSome result ↔ HasWords reader.entry.indexes.now.hierarchy self concept }
         ensures counted { MatchOption result (visits.new ≡ visits.old)
-            (λ _. HandsOut (length (list_of (lists_of reader.entry.indexes.now.hierarchy self) concept))
-            visits.old visits.new) }
+            (λ _. HandsOut (length (list_of (lists_of reader.entry.indexes.now.hierarchy self)
+            concept)) visits.old visits.new) }
     {
         match self {
             Family::Descendants => reader.descendant_words(concept, visits),
@@ -147,8 +159,8 @@ impl Family {
         }
     }
 
-    /// Returns how many items the lists of this family have, as `lists` says.
-    pub fn items_of(self, lists: ListExtent) -> u64
+    /// Returns the limit that `lists` has for the lists of this family.
+    pub fn items_of(self, lists: ListStats) -> u64
         ensures { result ≡ told_of self lists }
     {
         match self {
@@ -160,28 +172,29 @@ impl Family {
     }
 }
 
-/// Which concepts a step leads to, by the lists of the concepts from which it starts.
+/// Which concepts a step finds from a set of concepts, by their lists.
 #[derive(Clone, Copy)]
 pub enum Reach {
-    /// The concepts in one of the lists.
+    /// The concepts in at least one of the lists.
     Listed,
-    /// The concepts in one of the lists, and the concepts themselves.
+    /// The concepts in at least one of the lists, and the concepts of the set.
     ListedOrSelf,
-    /// The concepts whose own list has none of them (`!!>`, `!!<`).
+    /// The concepts of the set whose own list contains no concept of the set (`!!>`, `!!<`).
     Apart,
 }
 
-/// A step: along which lists, and which concepts it leads to.
+/// What a hierarchy operator means: which lists it follows, and which concepts it finds by them.
 #[derive(Clone, Copy)]
 pub struct Step {
-    /// The family of the lists along which it goes.
+    /// The family of the lists.
     pub family: Family,
-    /// Which concepts it leads to.
+    /// Which concepts are found by these lists.
     pub reach: Reach,
 }
 
 impl Step {
-    /// Returns the step of an operator (Expression Constraint Language, "Simple Expression Constraints").
+    /// Returns the step of a hierarchy operator (Expression Constraint Language, "Simple Expression
+    /// Constraints").
     pub fn of(operator: Operator) -> Step
         ensures { IsStepFor operator result }
     {
@@ -200,17 +213,19 @@ impl Step {
         Step { family, reach }
     }
 
-    /// Returns the family of the lists by which this step tests whether it leads to a concept.
+    /// Returns the family whose lists tell whether this step finds a concept: the step finds it if
+    /// the concept's list in that family contains a concept of the set (for `Apart`: contains
+    /// none).
     pub fn asked(self) -> Family
         ensures { result ≡ asked_of self }
     {
         match self.reach {
-            Reach::Listed | Reach::ListedOrSelf => self.family.back(),
+            Reach::Listed | Reach::ListedOrSelf => self.family.opposite(),
             Reach::Apart => self.family,
         }
     }
 
-    /// Whether this step leads to the concepts themselves as well as to others.
+    /// Returns whether this step also finds the concepts of the set.
     pub fn is_or_self(self) -> bool
         ensures { result ≡ true → self.reach ≡ Reach.ListedOrSelf }
     {
@@ -220,7 +235,7 @@ impl Step {
         }
     }
 
-    /// Whether this step leads only to concepts from which it starts.
+    /// Returns whether this step finds only concepts of the set.
     pub fn is_apart(self) -> bool {
         matches!(self.reach, Reach::Apart)
     }

@@ -1,10 +1,10 @@
-//! Finds what the concepts of a set reach, by one pass over the is-a rows.
+//! Finds the ancestors or descendants of a set by one pass over the is-a rows.
 ghost use Rattle.std.specs.Prelude.{◌≡◌, ◌<◌, ◌&&◌, not, true, All, IfOk};
 ghost use Rattle.std.specs.List.{list_all};
 ghost use Rattle.number_lists.specs.Members.{has};
 ghost use Rattle.walks.specs.inside.Counts.{pass_items};
-ghost use Rattle.walks.specs.inside.Joined.{AreJoined, is_whole as is_whole_of, near_of, turn_of};
-ghost use Rattle.walks.specs.Led.{IsOf, IsOver};
+ghost use Rattle.walks.specs.inside.Joined.{AreJoined, is_whole as is_whole_of, direct_of, turn_of};
+ghost use Rattle.walks.specs.Related.{IsOf, IsOver};
 ghost use Rattle.walks.specs.Families.{lists_of};
 ghost use Rattle.reading.specs.Counted.{CountsWithin};
 
@@ -14,12 +14,15 @@ use number_lists::KeyedLists;
 use reading::{Answer, Counter, Reader};
 use std::alloc::{AllocError, Global};
 
-/// Finds the concepts in the list of a concept of `set`, in a whole family. `concepts` are the items of `set`.
+/// Finds all concepts in the lists of the concepts of `set`, in a family of ancestors or
+/// descendants. `concepts` has the items of `set`.
 ///
-/// The pass first finds what is one is-a row away from a concept of the set. Then each concept has its turn before
-/// those that are one row away: if it was found and is not in the set, they are found. Since all that lead to a
-/// concept have had their turn before it, what is one row away from it is read once. If all that was found first is
-/// in the set, the pass ends there. The order of the concepts and all is-a links are counted.
+/// The pass first finds what is one is-a row away from a concept of the set. If all of that is in
+/// the set, the pass ends: nothing else can be found. Otherwise it visits each concept before the
+/// concepts that are one is-a row further. If the visited concept was found and is not in the set,
+/// the concepts one row further are found. All rows that lead to a concept have been followed when
+/// it is visited, so each concept's rows are read once. The order of the concepts and all is-a
+/// links are counted.
 pub fn reached<S: ConceptSet>(
     reader: Reader<'_>,
     family: Family,
@@ -27,34 +30,37 @@ pub fn reached<S: ConceptSet>(
     concepts: &[u32],
     visits: &mut Counter,
 ) -> Result<WordSet, AllocError>
-    requires over { IsOf reader.snapshot.now.release (S.bound_of set.now) reader.indexes.now.hierarchy }
+    requires over { IsOf reader.snapshot.now.release (S.bound_of set.now)
+        reader.indexes.now.hierarchy }
     requires whole { is_whole_of family ≡ true }
     requires concepts { concepts.now ≡ S.items_of set.now }
-    ensures joined { IfOk result (λ found. AreJoined (lists_of reader.entry.indexes.now.hierarchy family)
-        (S.items_of set.now) (⟦<WordSet as ConceptSet>⟧.items_of found)) }
-    ensures bound { IfOk result (λ found. ⟦<WordSet as ConceptSet>⟧.bound_of found ≡ S.bound_of set.now) }
-    ensures counted { CountsWithin (pass_items reader.entry.indexes.now.hierarchy (S.bound_of set.now)) visits.old
-        visits.new }
+    ensures joined { IfOk result (λ found. AreJoined
+        (lists_of reader.entry.indexes.now.hierarchy family) (S.items_of set.now)
+        (⟦<WordSet as ConceptSet>⟧.items_of found)) }
+    ensures bound { IfOk result (λ found. ⟦<WordSet as ConceptSet>⟧.bound_of found
+        ≡ S.bound_of set.now) }
+    ensures counted { CountsWithin (pass_items reader.entry.indexes.now.hierarchy
+        (S.bound_of set.now)) visits.old visits.new }
 {
     // This call tells the prover that the concepts rise.
     reader.concept_count();
-    let near = family.near_lists(reader, visits);
+    let direct = family.direct_lists(reader, visits);
     let order = reader.parents_first(visits);
-    let mut found = near_of_all(reader, family, near, concepts, set.bound())?;
+    let mut found = direct_of_all(reader, family, direct, concepts, set.bound())?;
     let closed = contains_all(reader.alloc, set, &found)?;
     if closed {
         return Ok(found);
     }
     for turn in 0..order.len() {
         let concept = order[family.place_of_turn(turn, order.len())];
-        if is_in_first_alone(&found, set, concept) {
-            found.add_all(reader.alloc, near.of(concept))?;
+        if is_in_difference(&found, set, concept) {
+            found.add_all(reader.alloc, direct.of(concept))?;
         }
     }
     Ok(found)
 }
 
-// Whether all items of `found` are in `set`.
+// Returns whether all items of `found` are in `set`.
 fn contains_all<S: ConceptSet>(
     alloc: Global,
     set: &Answer<S>,
@@ -67,32 +73,34 @@ fn contains_all<S: ConceptSet>(
     Ok(items.iter().all(|item| set.has(*item)))
 }
 
-// Finds the concepts that are one is-a row away from one of `concepts`. It goes through these by their numbers, so
-// that lists follow one another in memory. The proof alone needs `_family`.
-fn near_of_all(
+// Finds the concepts that are one is-a row away from one of `concepts`. It takes these by rising
+// number, so that it reads memory in order. Only the proof needs `_family`.
+fn direct_of_all(
     reader: Reader<'_>,
     _family: Family,
-    near: &KeyedLists,
+    direct: &KeyedLists,
     concepts: &[u32],
     count: u32,
 ) -> Result<WordSet, AllocError>
     requires over { IsOver count reader.indexes.now.hierarchy }
-    requires near { near.now ≡ lists_of reader.indexes.now.hierarchy (near_of _family) }
+    requires direct { direct.now ≡ lists_of reader.indexes.now.hierarchy (direct_of _family) }
     requires below { All (λ concept. concept < count) concepts.now }
-    ensures joined { IfOk result (λ found. AreJoined (lists_of reader.entry.indexes.now.hierarchy (near_of _family))
-        concepts.now (⟦<WordSet as ConceptSet>⟧.items_of found)) }
+    ensures joined { IfOk result (λ found. AreJoined
+        (lists_of reader.entry.indexes.now.hierarchy (direct_of _family)) concepts.now
+        (⟦<WordSet as ConceptSet>⟧.items_of found)) }
     ensures bound { IfOk result (λ found. ⟦<WordSet as ConceptSet>⟧.bound_of found ≡ count) }
 {
     let mut found = WordSet::from_items(reader.alloc, &[], count)?;
     for concept in concepts {
-        found.add_all(reader.alloc, near.of(*concept))?;
+        found.add_all(reader.alloc, direct.of(*concept))?;
     }
     Ok(found)
 }
 
-// Whether a number is in the first set and not in the second.
-fn is_in_first_alone<S: ConceptSet, T: ConceptSet>(one: &S, other: &Answer<T>, number: u32) -> bool
-    ensures { result ≡ (has (S.items_of one.now) number && not (has (T.items_of other.now) number)) }
+// Returns whether `number` is in `one` and not in `other`.
+fn is_in_difference<S: ConceptSet, T: ConceptSet>(one: &S, other: &Answer<T>, number: u32) -> bool
+    ensures { result ≡ (has (S.items_of one.now) number
+        && not (has (T.items_of other.now) number)) }
 {
     one.has(number) && !other.has(number)
 }

@@ -17,10 +17,11 @@ use std::alloc::AllocError;
 // To look up a candidate in a list takes about as long as to copy this many components.
 const LOOK_UP: u64 = 32;
 
-/// Finds the candidates among the components of the reference sets in `from`: the concepts that a member row with one
-/// of these sets leads to (Expression Constraint Language, "Simple Expression Constraints", memberOf). If the
-/// candidates are few and the lists of components are long, the candidates are looked up in the lists. Visits are
-/// counted: the reference sets, and at most as many items as they have components.
+/// Finds the candidates among the components of the reference sets in `from`: the concepts that a
+/// member row with one of these sets leads to (Expression Constraint Language, "Simple Expression
+/// Constraints", memberOf). If the candidates are few and the lists of components are long, the
+/// candidates are looked up in the lists. Visits are counted: the reference sets, and at most as
+/// many items as they have components.
 pub fn members_within<S: ConceptSet>(
     reader: Reader<'_>,
     from: &Answer<S>,
@@ -28,18 +29,21 @@ pub fn members_within<S: ConceptSet>(
     visits: &mut Counter,
 ) -> Result<Answer<S>, AllocError>
     requires bound { S.bound_of from.now ≡ length reader.snapshot.now.release.concepts }
-    requires candidates { AreConcepts S.ConceptSet reader.snapshot.now.release reader.indexes.now candidates.now }
-    ensures counted { CountsWithin (length (S.items_of from.now) + items_in reader.entry.indexes.now.members
-        (S.items_of from.now)) visits.old visits.new }
-    ensures found { IfOk result (IsFound S.ConceptSet (length reader.entry.snapshot.now.release.concepts)
-        (filter (may_be S.items_of candidates.now) (components_of reader.entry.snapshot.now.release
-        (S.items_of from.now))) (length (S.items_of from.now)) visits.old visits.new) }
+    requires candidates { AreConcepts S.ConceptSet reader.snapshot.now.release reader.indexes.now
+        candidates.now }
+    ensures counted { CountsWithin (length (S.items_of from.now)
+        + items_in reader.entry.indexes.now.members (S.items_of from.now)) visits.old visits.new }
+    ensures found { IfOk result
+        (IsFound S.ConceptSet (length reader.entry.snapshot.now.release.concepts)
+        (filter (may_be S.items_of candidates.now)
+        (components_of reader.entry.snapshot.now.release (S.items_of from.now)))
+        (length (S.items_of from.now)) visits.old visits.new) }
 {
     let numbers = from.items(reader.alloc, visits)?;
     let refsets = numbers.as_slice();
     let components = component_count(reader, refsets);
-    if let Candidates::Within(wanted, extent) = candidates {
-        if look_ups(extent.items, refsets) < components {
+    if let Candidates::Within(wanted, stats) = candidates {
+        if look_ups(stats.items, refsets) < components {
             let found = members_among(reader, refsets, *wanted, visits)?;
             return Ok(found);
         }
@@ -49,8 +53,8 @@ pub fn members_within<S: ConceptSet>(
     Ok(found)
 }
 
-// Returns about how many components can be copied in the time that it takes to look up `candidates` candidates in the
-// lists of `refsets`.
+// Returns about how many components can be copied in the time that it takes to look up `candidates`
+// candidates in the lists of `refsets`.
 fn look_ups(candidates: u64, refsets: &[u32]) -> u64
     ensures { 0 < length refsets.now → candidates ≤ result }
 {
@@ -59,7 +63,8 @@ fn look_ups(candidates: u64, refsets: &[u32]) -> u64
         .saturating_mul(LOOK_UP)
 }
 
-// Finds the concepts in `wanted` that are components of one of `refsets`. Each is looked up in the lists of these.
+// Finds the concepts in `wanted` that are components of one of `refsets`. Each is looked up in the
+// lists of these.
 fn members_among<S: ConceptSet>(
     reader: Reader<'_>,
     refsets: &[u32],
@@ -71,7 +76,8 @@ fn members_among<S: ConceptSet>(
     ensures counted { HandsOut (length (S.items_of wanted.now)) visits.old visits.new }
     ensures items { IfOk result (λ found. S.items_of found ≡ filter (has (S.items_of wanted.now))
         (components_of reader.entry.snapshot.now.release refsets.now)) }
-    ensures bound { IfOk result (λ found. S.bound_of found ≡ length reader.entry.snapshot.now.release.concepts) }
+    ensures bound { IfOk result (λ found. S.bound_of found
+        ≡ length reader.entry.snapshot.now.release.concepts) }
 {
     let own = wanted.items(reader.alloc, visits)?;
     let kept = components_among(reader, refsets, own.as_slice())?;
@@ -85,8 +91,8 @@ fn components_among(
     concepts: &[u32],
 ) -> Result<Vec<u32>, AllocError>
     requires below { All (λ refset. refset < length reader.indexes.now.concepts) refsets.now }
-    ensures { IfOk result (λ kept. kept.items ≡ filter (is_in_one_of reader.entry.indexes.now.members refsets.now)
-        concepts.now) }
+    ensures { IfOk result (λ kept. kept.items
+        ≡ filter (is_in_one_of reader.entry.indexes.now.members refsets.now) concepts.now) }
 {
     let mut kept = Vec::new(reader.alloc);
     for concept in concepts {
@@ -116,10 +122,12 @@ fn members<S: ConceptSet>(
     visits: &mut Counter,
 ) -> Result<Answer<S>, AllocError>
     requires below { All (λ refset. refset < length reader.indexes.now.concepts) refsets.now }
-    ensures counted { CountsWithin (items_in reader.entry.indexes.now.members refsets.now) visits.old visits.new }
-    ensures items { IfOk result (λ found. S.items_of found ≡ components_of reader.entry.snapshot.now.release
-        refsets.now) }
-    ensures bound { IfOk result (λ found. S.bound_of found ≡ length reader.entry.snapshot.now.release.concepts) }
+    ensures counted { CountsWithin (items_in reader.entry.indexes.now.members refsets.now)
+        visits.old visits.new }
+    ensures items { IfOk result (λ found. S.items_of found
+        ≡ components_of reader.entry.snapshot.now.release refsets.now) }
+    ensures bound { IfOk result (λ found. S.bound_of found
+        ≡ length reader.entry.snapshot.now.release.concepts) }
 {
     let found = components(reader, refsets, visits)?;
     Answer::from_numbers(reader.alloc, found.as_slice(), reader.concept_count())
@@ -144,9 +152,10 @@ fn components(
     visits: &mut Counter,
 ) -> Result<Vec<u32>, AllocError>
     requires { All (λ refset. refset < length reader.indexes.now.concepts) refsets.now }
-    ensures items { IfOk result (λ found. found.items ≡ flat_map (list_of reader.entry.indexes.now.members)
-        refsets.now) }
-    ensures counted { CountsWithin (items_in reader.entry.indexes.now.members refsets.now) visits.old visits.new }
+    ensures items { IfOk result (λ found. found.items
+        ≡ flat_map (list_of reader.entry.indexes.now.members) refsets.now) }
+    ensures counted { CountsWithin (items_in reader.entry.indexes.now.members refsets.now)
+        visits.old visits.new }
 {
     let mut found = Vec::new(reader.alloc);
     for refset in refsets {

@@ -13,8 +13,9 @@ hierarchy_in inside = record {
   children = inside.children;
 }
 
--- the long lists of descendants are kept as words besides the lists
+-- the bitmaps of the long lists of descendants are kept besides the lists
 abbrev pub HasWide : Inside → Type 0
 HasWide inside =
     (length inside.descendants < 2 ^ 32)
-    × AreWide (length inside.descendants) inside.descendants inside.wide.ends.items inside.wide.words.items
+    × AreWide (length inside.descendants) inside.descendants inside.wide.ends.items
+    inside.wide.words.items

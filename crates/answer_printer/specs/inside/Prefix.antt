@@ -1,6 +1,6 @@
 -- Prefixes of bytes.
 use Rattle.std.specs.Prelude.{ℕ, ◌≡◌, List, length, take}
 
--- `bytes` begin with `front`
+-- `front` is a prefix of `bytes`
 abbrev pub IsPrefixOf : List ℕ → List ℕ → Type 0
 IsPrefixOf front bytes = take (length front) bytes ≡ front

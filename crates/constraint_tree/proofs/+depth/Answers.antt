@@ -1,7 +1,9 @@
 use Rattle.std.proofs.Common.{List, refl, ap, ◌∙◌, arith}
 use Rattle.constraint_tree.specs.declared.tree.Constraint.{Constraint}
-use Rattle.constraint_tree.specs.Tree.{tree_of, trees_of, refinement_tree_of, refinement_trees_of, set_tree_of, set_trees_of}
-use Rattle.constraint_tree.specs.Depth.{depth_of, trees_depth, refinement_depth, refinements_depth, set_depth, sets_depth}
+use Rattle.constraint_tree.specs.Tree.{tree_of, trees_of, refinement_tree_of, refinement_trees_of, set_tree_of}
+use Rattle.constraint_tree.specs.Tree.{set_trees_of}
+use Rattle.constraint_tree.specs.Depth.{depth_of, trees_depth, refinement_depth, refinements_depth, set_depth}
+use Rattle.constraint_tree.specs.Depth.{sets_depth}
 use Rattle.constraint_tree.proofs.TreeLemmas.{tree_of-Dotted}
 use Rattle.constraint_tree.proofs.DepthLemmas.{deepest_more}
 use Rattle.constraint_tree.proofs.+depth.Goals as goal
@@ -20,7 +22,8 @@ pub depth::deepest_refinement-loop-part-preserved :
     goal.depth::deepest_refinement-loop-part-preserved
 depth::deepest_refinement-loop-part-preserved t c =
     c.max-deepest.ensures
-    ∙ deepest_more (λ part. refinement_depth (refinement_tree_of part)) (λ parts. refinements_depth (refinement_trees_of parts)) refl (λ part parts. refl)
+    ∙ deepest_more (λ part. refinement_depth (refinement_tree_of part))
+    (λ parts. refinements_depth (refinement_trees_of parts)) refl (λ part parts. refl)
     c.args.parts.now c.loop-part.part-index c.part-item.result _ _ _
     c.loop-part-test.true c.part-item.is c.loop-part.invariant c.depth.ensures
 
@@ -28,7 +31,8 @@ depth::deepest_refinement-loop-part-preserved t c =
 pub depth::deepest_set-loop-part-preserved : goal.depth::deepest_set-loop-part-preserved
 depth::deepest_set-loop-part-preserved t c =
     c.max-deepest.ensures
-    ∙ deepest_more (λ part. set_depth (set_tree_of part)) (λ parts. sets_depth (set_trees_of parts)) refl (λ part parts. refl)
+    ∙ deepest_more (λ part. set_depth (set_tree_of part)) (λ parts. sets_depth (set_trees_of parts)) refl
+    (λ part parts. refl)
     c.args.parts.now c.loop-part.part-index c.part-item.result _ _ _
     c.loop-part-test.true c.part-item.is c.loop-part.invariant c.depth.ensures
 

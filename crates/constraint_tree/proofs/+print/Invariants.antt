@@ -13,7 +13,7 @@ abbrev pub invariant-print::write_operands-loop-part :
     goal.invariant-print::write_operands-loop-part
 invariant-print::write_operands-loop-part l =
     l.output.items ++ rest_text l.has_front l.between (trees_of (drop l.part-index l.parts))
-    ≡ l.fn.output.items ++ rest_text l.behind l.between (trees_of l.parts)
+    ≡ l.fn.output.items ++ rest_text l.following l.between (trees_of l.parts)
 
 abbrev pub invariant-print::write_parts-loop-part : goal.invariant-print::write_parts-loop-part
 invariant-print::write_parts-loop-part l =

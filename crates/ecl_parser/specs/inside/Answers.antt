@@ -1,4 +1,4 @@
--- Why the tokens of a text are no constraint.
+-- Why the tokens of a text are refused.
 use Rattle.std.specs.Prelude.{◌≡◌, true, false, List}
 use Rattle.ecl_lexer.specs.Tokens.{Spelled}
 use Rattle.ecl_lexer.specs.declared.fault.QueryFault.{QueryFault}
@@ -7,8 +7,8 @@ use Rattle.constraint_tree.specs.Grammar.{IsTreeOf}
 use Rattle.constraint_tree.specs.Refusal.{is_deep}
 use Rattle.constraint_tree.specs.Tree.{Tree}
 
--- the tokens are refused for this reason: more than `most_open` of their brackets are open at once; they are not too
--- deep, but have no tree; or memory ran out
+-- a fault is a right refusal of the tokens: `Depth` if more than `most_open` of their brackets are
+-- open at once, `Syntax` if they are not too deep and have no tree, and `Memory` always
 abbrev pub AreFaulty : List Spelled → QueryFault → Type 0
 AreFaulty tokens Depth = is_deep 0 tokens ≡ true
 AreFaulty tokens Syntax = (is_deep 0 tokens ≡ false) × ((tree : Tree) → ¬ IsTreeOf tokens tree)

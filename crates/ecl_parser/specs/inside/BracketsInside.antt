@@ -1,10 +1,10 @@
--- The value that the fields of `Brackets` stand for, and the invariant that they keep.
+-- The state that the fields of `Brackets` encode, and the invariant that they keep.
 use Rattle.std.specs.Prelude.{◌<◌, All, length, reverse}
 use Rattle.ecl_parser.specs.declared.brackets.Brackets.TheInside.{Inside}
 use Rattle.ecl_parser.specs.declared.brackets.OpenBracket.{OpenBracket}
 use Rattle.ecl_parser.specs.inside.Brackets.{Matching}
 
--- the brackets that the fields hold; the code keeps the innermost open bracket last
+-- the state that the fields encode; the code keeps the innermost open bracket last
 abbrev pub matching_in : Inside → Matching
 matching_in inside = record {
   unclosed = reverse inside.unclosed.items;
@@ -12,6 +12,7 @@ matching_in inside = record {
   are_matched = inside.are_matched;
 }
 
--- the place of each open bracket is a place of a token
+-- the index of each open bracket is below the number of tokens
 abbrev pub AreWithin : Inside → Type 0
-AreWithin inside = All (λ (opened : OpenBracket). opened.place < length inside.ends.items) inside.unclosed.items
+AreWithin inside = All (λ (opened : OpenBracket). opened.place < length inside.ends.items)
+    inside.unclosed.items

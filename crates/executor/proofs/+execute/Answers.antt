@@ -14,13 +14,13 @@ use Rattle.set_algebra.specs.Physical.{physical_of}
 use Rattle.set_algebra.specs.Physical.{physicals_of}
 use Rattle.executor.specs.inside.Logical.{logical_of}
 use Rattle.candidates.specs.Within.{AreBelow}
-use Rattle.plan_bounds.proofs.PartLemmas.{minus_are, minus_units_are, pairs_are, pairs_units_are, and_are}
-use Rattle.plan_bounds.proofs.PartLemmas.{and_units_are, or_are, or_units_are}
-use Rattle.plan_bounds.proofs.PartLemmas.{units_are, values_are}
+use Rattle.plan_bounds.proofs.PartLemmas.{minus_are, minus_group_plan_is, pairs_are, pairs_group_plan_is, and_are}
+use Rattle.plan_bounds.proofs.PartLemmas.{and_group_plan_is, or_are, or_group_plan_is}
+use Rattle.plan_bounds.proofs.PartLemmas.{group_plan_is, values_are}
 use Rattle.reading.proofs.CountLemmas.{counted_both, counted_in, counted_thrice}
-use Rattle.executor.proofs.NodeWork.{led_reads, members_are}
+use Rattle.executor.proofs.NodeWork.{driven_reads, members_are}
 use Rattle.executor.proofs.NodeWork.{plan_answers, plan_counts, test_counts, test_outside}
-use Rattle.executor.proofs.NodeWork.{test_within, units_answer, units_count, walk_is}
+use Rattle.executor.proofs.NodeWork.{test_within, groups_answer, groups_count, walk_is}
 use Rattle.executor.proofs.+execute.Answers.All as all
 use Rattle.executor.proofs.+execute.Answers.Dotted as dotted
 use Rattle.executor.proofs.+execute.Answers.Members as members
@@ -33,50 +33,52 @@ use Rattle.executor.proofs.+execute.Answers.Walks as walks
 use Rattle.executor.proofs.+execute.Goals as goal
 
 -- without a candidate, the empty set is what the plan means among the candidates, and its floor is counted
-pub plans::execute_tallied-returns-then-none_left-clause-found :
-    goal.plans::execute_tallied-returns-then-none_left-clause-found
-plans::execute_tallied-returns-then-none_left-clause-found = nodes.execute_tallied-returns-then-none_left-clause-found
+pub plans::execute_estimated-returns-then-none_left-clause-found :
+    goal.plans::execute_estimated-returns-then-none_left-clause-found
+plans::execute_estimated-returns-then-none_left-clause-found =
+    nodes.execute_estimated-returns-then-none_left-clause-found
 
 -- without a candidate, the floor that is counted is within the bound of the plan
-pub plans::execute_tallied-returns-then-none_left-clause-counted :
-    goal.plans::execute_tallied-returns-then-none_left-clause-counted
-plans::execute_tallied-returns-then-none_left-clause-counted =
-    nodes.execute_tallied-returns-then-none_left-clause-counted
+pub plans::execute_estimated-returns-then-none_left-clause-counted :
+    goal.plans::execute_estimated-returns-then-none_left-clause-counted
+plans::execute_estimated-returns-then-none_left-clause-counted =
+    nodes.execute_estimated-returns-then-none_left-clause-counted
 
 -- if memory is refused for the empty set, the floor that is counted is within the bound of the plan
-pub plans::execute_tallied-returns-in_err-found-clause-counted :
-    goal.plans::execute_tallied-returns-in_err-found-clause-counted
-plans::execute_tallied-returns-in_err-found-clause-counted = nodes.execute_tallied-returns-in_err-found-clause-counted
+pub plans::execute_estimated-returns-in_err-found-clause-counted :
+    goal.plans::execute_estimated-returns-in_err-found-clause-counted
+plans::execute_estimated-returns-in_err-found-clause-counted =
+    nodes.execute_estimated-returns-in_err-found-clause-counted
 
--- a set that is prepared for the tally keeps its items, so it answers the plan
-pub plans::execute_tallied-returns-clause-found : goal.plans::execute_tallied-returns-clause-found
-plans::execute_tallied-returns-clause-found = nodes.execute_tallied-returns-clause-found
+-- a set that is prepared for the estimate keeps its items, so it answers the plan
+pub plans::execute_estimated-returns-clause-found : goal.plans::execute_estimated-returns-clause-found
+plans::execute_estimated-returns-clause-found = nodes.execute_estimated-returns-clause-found
 
 -- the answer to a plan of concepts has at most as many concepts as the size of the plan
-pub plans::execute_tallied-returns-clause-size : goal.plans::execute_tallied-returns-clause-size
-plans::execute_tallied-returns-clause-size = nodes.execute_tallied-returns-clause-size
+pub plans::execute_estimated-returns-clause-size : goal.plans::execute_estimated-returns-clause-size
+plans::execute_estimated-returns-clause-size = nodes.execute_estimated-returns-clause-size
 
 -- without a candidate, the empty set is what the plan of groups means among the candidates, and its floor is counted
-pub unit_plans::execute_groups-returns-then-none_left-clause-found :
-    goal.unit_plans::execute_groups-returns-then-none_left-clause-found
-unit_plans::execute_groups-returns-then-none_left-clause-found =
+pub group_plans::execute_groups-returns-then-none_left-clause-found :
+    goal.group_plans::execute_groups-returns-then-none_left-clause-found
+group_plans::execute_groups-returns-then-none_left-clause-found =
     nodes.execute_groups-returns-then-none_left-clause-found
 
 -- without a candidate, the floor that is counted is within the bound of the plan of groups
-pub unit_plans::execute_groups-returns-then-none_left-clause-counted :
-    goal.unit_plans::execute_groups-returns-then-none_left-clause-counted
-unit_plans::execute_groups-returns-then-none_left-clause-counted =
+pub group_plans::execute_groups-returns-then-none_left-clause-counted :
+    goal.group_plans::execute_groups-returns-then-none_left-clause-counted
+group_plans::execute_groups-returns-then-none_left-clause-counted =
     nodes.execute_groups-returns-then-none_left-clause-counted
 
 -- if memory is refused for the empty set of groups, the floor that is counted is within the bound of the plan
-pub unit_plans::execute_groups-returns-in_err-found-clause-counted :
-    goal.unit_plans::execute_groups-returns-in_err-found-clause-counted
-unit_plans::execute_groups-returns-in_err-found-clause-counted =
+pub group_plans::execute_groups-returns-in_err-found-clause-counted :
+    goal.group_plans::execute_groups-returns-in_err-found-clause-counted
+group_plans::execute_groups-returns-in_err-found-clause-counted =
     nodes.execute_groups-returns-in_err-found-clause-counted
 
 -- the answer to a plan of groups has at most as many groups as the size of the plan
-pub unit_plans::execute_groups-returns-clause-size : goal.unit_plans::execute_groups-returns-clause-size
-unit_plans::execute_groups-returns-clause-size = nodes.execute_groups-returns-clause-size
+pub group_plans::execute_groups-returns-clause-size : goal.group_plans::execute_groups-returns-clause-size
+group_plans::execute_groups-returns-clause-size = nodes.execute_groups-returns-clause-size
 
 -- the few candidates that pass the test by their lists are those that the walk means
 pub walk_plans::walk_to_few-returns-clause-found : goal.walk_plans::walk_to_few-returns-clause-found
@@ -99,9 +101,9 @@ pub walk_plans::walk_to_few-returns-in_err-from-clause-counted :
 walk_plans::walk_to_few-returns-in_err-from-clause-counted = walks.walk_to_few-returns-in_err-from-clause-counted
 
 -- if memory is refused while the concepts that are enough are measured, the visits are within the bound of the walk
-pub walk_plans::walk_to_few-returns-in_err-extent-clause-counted :
-    goal.walk_plans::walk_to_few-returns-in_err-extent-clause-counted
-walk_plans::walk_to_few-returns-in_err-extent-clause-counted = walks.walk_to_few-returns-in_err-extent-clause-counted
+pub walk_plans::walk_to_few-returns-in_err-stats-clause-counted :
+    goal.walk_plans::walk_to_few-returns-in_err-stats-clause-counted
+walk_plans::walk_to_few-returns-in_err-stats-clause-counted = walks.walk_to_few-returns-in_err-stats-clause-counted
 
 -- if the candidates are few enough, the operand is not one concept and the lists have room, as `walk_to_few` requires
 pub walk_plans::walk_from-walk_to_few-requires : goal.walk_plans::walk_from-walk_to_few-requires
@@ -109,198 +111,208 @@ walk_plans::walk_from-walk_to_few-requires = walks.walk_from-walk_to_few-require
 
 -- if the groups of the candidates are few, executing the plan for these groups finds the candidates that the node
 -- means
-pub plans::units_within-returns-then-has_few_groups-clause-found :
-    goal.plans::units_within-returns-then-has_few_groups-clause-found
-plans::units_within-returns-then-has_few_groups-clause-found =
-    units.units_within-returns-then-has_few_groups-clause-found
+pub plans::execute_units-returns-then-has_few_groups-clause-found :
+    goal.plans::execute_units-returns-then-has_few_groups-clause-found
+plans::execute_units-returns-then-has_few_groups-clause-found =
+    units.execute_units-returns-then-has_few_groups-clause-found
 
 -- if the plan is executed for all groups, restricting the concepts found to the candidates gives what the node means
-pub plans::units_within-returns-clause-found : goal.plans::units_within-returns-clause-found
-plans::units_within-returns-clause-found = units.units_within-returns-clause-found
+pub plans::execute_units-returns-clause-found : goal.plans::execute_units-returns-clause-found
+plans::execute_units-returns-clause-found = units.execute_units-returns-clause-found
 
 -- if the groups of the candidates are few, the visits are within the bound of the node that counts groups
-pub plans::units_within-returns-then-has_few_groups-clause-counted :
-    goal.plans::units_within-returns-then-has_few_groups-clause-counted
-plans::units_within-returns-then-has_few_groups-clause-counted = units.units_within-returns-then-has_few_groups-clause-counted
+pub plans::execute_units-returns-then-has_few_groups-clause-counted :
+    goal.plans::execute_units-returns-then-has_few_groups-clause-counted
+plans::execute_units-returns-then-has_few_groups-clause-counted =
+    units.execute_units-returns-then-has_few_groups-clause-counted
 
 -- if memory is refused while the groups found are counted by concept, the visits are within the bound of the node
 -- that counts groups
-pub plans::units_within-returns-in_err-found-clause-counted :
-    goal.plans::units_within-returns-in_err-found-clause-counted
-plans::units_within-returns-in_err-found-clause-counted = units.units_within-returns-in_err-found-clause-counted
+pub plans::execute_units-returns-in_err-found-clause-counted :
+    goal.plans::execute_units-returns-in_err-found-clause-counted
+plans::execute_units-returns-in_err-found-clause-counted = units.execute_units-returns-in_err-found-clause-counted
 
 -- without parts, all candidates are what the conjunction means among them
-pub joined_plans::in_all-returns-then-is_empty-clause-found :
-    goal.joined_plans::in_all-returns-then-is_empty-clause-found
-joined_plans::in_all-returns-then-is_empty-clause-found = all.in_all-returns-then-is_empty-clause-found
+pub joined_plans::execute_and-returns-then-is_empty-clause-found :
+    goal.joined_plans::execute_and-returns-then-is_empty-clause-found
+joined_plans::execute_and-returns-then-is_empty-clause-found = all.execute_and-returns-then-is_empty-clause-found
 
 -- after the driving part has been executed, the invariant of the conjunction holds at the first place
-pub joined_plans::in_all-loop-place-init : goal.joined_plans::in_all-loop-place-init
-joined_plans::in_all-loop-place-init = all.in_all-loop-place-init
+pub joined_plans::execute_and-loop-place-init : goal.joined_plans::execute_and-loop-place-init
+joined_plans::execute_and-loop-place-init = all.execute_and-loop-place-init
 
 -- a turn that executes a part for what is left, or passes over the driving part, keeps the invariant of the
 -- conjunction
-pub joined_plans::in_all-loop-place-preserved : goal.joined_plans::in_all-loop-place-preserved
-joined_plans::in_all-loop-place-preserved = all.in_all-loop-place-preserved
+pub joined_plans::execute_and-loop-place-preserved : goal.joined_plans::execute_and-loop-place-preserved
+joined_plans::execute_and-loop-place-preserved = all.execute_and-loop-place-preserved
 
 -- at the end what is left is what all parts mean among the candidates, and their floors are counted
-pub joined_plans::in_all-returns-clause-found : goal.joined_plans::in_all-returns-clause-found
-joined_plans::in_all-returns-clause-found = all.in_all-returns-clause-found
+pub joined_plans::execute_and-returns-clause-found : goal.joined_plans::execute_and-returns-clause-found
+joined_plans::execute_and-returns-clause-found = all.execute_and-returns-clause-found
 
 -- at the end the visits are within the bound of the conjunction
-pub joined_plans::in_all-returns-clause-counted : goal.joined_plans::in_all-returns-clause-counted
-joined_plans::in_all-returns-clause-counted = all.in_all-returns-clause-counted
+pub joined_plans::execute_and-returns-clause-counted : goal.joined_plans::execute_and-returns-clause-counted
+joined_plans::execute_and-returns-clause-counted = all.execute_and-returns-clause-counted
 
 -- if memory is refused while the driving part is executed, the visits are within the bound of the conjunction
-pub joined_plans::in_all-returns-in_err-found-clause-counted :
-    goal.joined_plans::in_all-returns-in_err-found-clause-counted
-joined_plans::in_all-returns-in_err-found-clause-counted = all.in_all-returns-in_err-found-clause-counted
+pub joined_plans::execute_and-returns-in_err-found-clause-counted :
+    goal.joined_plans::execute_and-returns-in_err-found-clause-counted
+joined_plans::execute_and-returns-in_err-found-clause-counted = all.execute_and-returns-in_err-found-clause-counted
 
 -- if memory is refused while what the driving part has found is measured, the visits are within the bound of the
 -- conjunction
-pub joined_plans::in_all-returns-in_err-extent-clause-counted :
-    goal.joined_plans::in_all-returns-in_err-extent-clause-counted
-joined_plans::in_all-returns-in_err-extent-clause-counted = all.in_all-returns-in_err-extent-clause-counted
+pub joined_plans::execute_and-returns-in_err-stats-clause-counted :
+    goal.joined_plans::execute_and-returns-in_err-stats-clause-counted
+joined_plans::execute_and-returns-in_err-stats-clause-counted = all.execute_and-returns-in_err-stats-clause-counted
 
 -- if memory is refused while what a later part has found is measured, the visits are within the bound of the
 -- conjunction
-pub joined_plans::in_all-returns-in_err-extent-2-clause-counted :
-    goal.joined_plans::in_all-returns-in_err-extent-2-clause-counted
-joined_plans::in_all-returns-in_err-extent-2-clause-counted = all.in_all-returns-in_err-extent-2-clause-counted
+pub joined_plans::execute_and-returns-in_err-stats-2-clause-counted :
+    goal.joined_plans::execute_and-returns-in_err-stats-2-clause-counted
+joined_plans::execute_and-returns-in_err-stats-2-clause-counted = all.execute_and-returns-in_err-stats-2-clause-counted
 
 -- if memory is refused while a later part is executed, the visits are within the bound of the conjunction
-pub joined_plans::in_all-returns-in_err-next-clause-counted :
-    goal.joined_plans::in_all-returns-in_err-next-clause-counted
-joined_plans::in_all-returns-in_err-next-clause-counted = all.in_all-returns-in_err-next-clause-counted
+pub joined_plans::execute_and-returns-in_err-next-clause-counted :
+    goal.joined_plans::execute_and-returns-in_err-next-clause-counted
+joined_plans::execute_and-returns-in_err-next-clause-counted = all.execute_and-returns-in_err-next-clause-counted
 
 -- without parts, all candidate groups are what the conjunction means among them
-pub unit_plans::groups_in_all-returns-then-is_empty-clause-found :
-    goal.unit_plans::groups_in_all-returns-then-is_empty-clause-found
-unit_plans::groups_in_all-returns-then-is_empty-clause-found = all.groups_in_all-returns-then-is_empty-clause-found
+pub group_plans::execute_group_and-returns-then-is_empty-clause-found :
+    goal.group_plans::execute_group_and-returns-then-is_empty-clause-found
+group_plans::execute_group_and-returns-then-is_empty-clause-found =
+    all.execute_group_and-returns-then-is_empty-clause-found
 
 -- after the driving part of groups has been executed, the invariant of the conjunction holds at the first place
-pub unit_plans::groups_in_all-loop-place-init : goal.unit_plans::groups_in_all-loop-place-init
-unit_plans::groups_in_all-loop-place-init = all.groups_in_all-loop-place-init
+pub group_plans::execute_group_and-loop-place-init : goal.group_plans::execute_group_and-loop-place-init
+group_plans::execute_group_and-loop-place-init = all.execute_group_and-loop-place-init
 
 -- a turn that executes a part of groups for what is left, or passes over the driving part, keeps the invariant of the
 -- conjunction
-pub unit_plans::groups_in_all-loop-place-preserved : goal.unit_plans::groups_in_all-loop-place-preserved
-unit_plans::groups_in_all-loop-place-preserved = all.groups_in_all-loop-place-preserved
+pub group_plans::execute_group_and-loop-place-preserved : goal.group_plans::execute_group_and-loop-place-preserved
+group_plans::execute_group_and-loop-place-preserved = all.execute_group_and-loop-place-preserved
 
 -- at the end what is left is what all parts of groups mean among the candidates, and their floors are counted
-pub unit_plans::groups_in_all-returns-clause-found : goal.unit_plans::groups_in_all-returns-clause-found
-unit_plans::groups_in_all-returns-clause-found = all.groups_in_all-returns-clause-found
+pub group_plans::execute_group_and-returns-clause-found : goal.group_plans::execute_group_and-returns-clause-found
+group_plans::execute_group_and-returns-clause-found = all.execute_group_and-returns-clause-found
 
 -- at the end the visits are within the bound of the conjunction of groups
-pub unit_plans::groups_in_all-returns-clause-counted : goal.unit_plans::groups_in_all-returns-clause-counted
-unit_plans::groups_in_all-returns-clause-counted = all.groups_in_all-returns-clause-counted
+pub group_plans::execute_group_and-returns-clause-counted : goal.group_plans::execute_group_and-returns-clause-counted
+group_plans::execute_group_and-returns-clause-counted = all.execute_group_and-returns-clause-counted
 
 -- if memory is refused while the driving part of groups is executed, the visits are within the bound of the
 -- conjunction
-pub unit_plans::groups_in_all-returns-in_err-groups-clause-counted :
-    goal.unit_plans::groups_in_all-returns-in_err-groups-clause-counted
-unit_plans::groups_in_all-returns-in_err-groups-clause-counted = all.groups_in_all-returns-in_err-groups-clause-counted
+pub group_plans::execute_group_and-returns-in_err-groups-clause-counted :
+    goal.group_plans::execute_group_and-returns-in_err-groups-clause-counted
+group_plans::execute_group_and-returns-in_err-groups-clause-counted =
+    all.execute_group_and-returns-in_err-groups-clause-counted
 
 -- if memory is refused while the groups that the driving part has found are measured, the visits are within the bound
 -- of the conjunction
-pub unit_plans::groups_in_all-returns-in_err-extent-clause-counted :
-    goal.unit_plans::groups_in_all-returns-in_err-extent-clause-counted
-unit_plans::groups_in_all-returns-in_err-extent-clause-counted = all.groups_in_all-returns-in_err-extent-clause-counted
+pub group_plans::execute_group_and-returns-in_err-stats-clause-counted :
+    goal.group_plans::execute_group_and-returns-in_err-stats-clause-counted
+group_plans::execute_group_and-returns-in_err-stats-clause-counted =
+    all.execute_group_and-returns-in_err-stats-clause-counted
 
 -- if memory is refused while the groups that a later part has found are measured, the visits are within the bound of
 -- the conjunction
-pub unit_plans::groups_in_all-returns-in_err-extent-2-clause-counted :
-    goal.unit_plans::groups_in_all-returns-in_err-extent-2-clause-counted
-unit_plans::groups_in_all-returns-in_err-extent-2-clause-counted = all.groups_in_all-returns-in_err-extent-2-clause-counted
+pub group_plans::execute_group_and-returns-in_err-stats-2-clause-counted :
+    goal.group_plans::execute_group_and-returns-in_err-stats-2-clause-counted
+group_plans::execute_group_and-returns-in_err-stats-2-clause-counted =
+    all.execute_group_and-returns-in_err-stats-2-clause-counted
 
 -- if memory is refused while a later part of groups is executed, the visits are within the bound of the conjunction
-pub unit_plans::groups_in_all-returns-in_err-next-clause-counted :
-    goal.unit_plans::groups_in_all-returns-in_err-next-clause-counted
-unit_plans::groups_in_all-returns-in_err-next-clause-counted = all.groups_in_all-returns-in_err-next-clause-counted
+pub group_plans::execute_group_and-returns-in_err-next-clause-counted :
+    goal.group_plans::execute_group_and-returns-in_err-next-clause-counted
+group_plans::execute_group_and-returns-in_err-next-clause-counted =
+    all.execute_group_and-returns-in_err-next-clause-counted
 
 -- before the first part, the empty set meets the invariant of the disjunction
-pub joined_plans::in_some-loop-part-init : goal.joined_plans::in_some-loop-part-init
-joined_plans::in_some-loop-part-init = some.in_some-loop-part-init
+pub joined_plans::execute_or-loop-part-init : goal.joined_plans::execute_or-loop-part-init
+joined_plans::execute_or-loop-part-init = some.execute_or-loop-part-init
 
 -- a turn that joins what a part has found to what was found so far keeps the invariant of the disjunction
-pub joined_plans::in_some-loop-part-preserved : goal.joined_plans::in_some-loop-part-preserved
-joined_plans::in_some-loop-part-preserved = some.in_some-loop-part-preserved
+pub joined_plans::execute_or-loop-part-preserved : goal.joined_plans::execute_or-loop-part-preserved
+joined_plans::execute_or-loop-part-preserved = some.execute_or-loop-part-preserved
 
 -- if memory is refused while a part is executed, the visits are within the bound of the disjunction
-pub joined_plans::in_some-returns-in_err-next-clause-counted :
-    goal.joined_plans::in_some-returns-in_err-next-clause-counted
-joined_plans::in_some-returns-in_err-next-clause-counted = some.in_some-returns-in_err-next-clause-counted
+pub joined_plans::execute_or-returns-in_err-next-clause-counted :
+    goal.joined_plans::execute_or-returns-in_err-next-clause-counted
+joined_plans::execute_or-returns-in_err-next-clause-counted = some.execute_or-returns-in_err-next-clause-counted
 
 -- if memory is refused while what a part has found is joined to what was found so far, the visits are within the
 -- bound of the disjunction
-pub joined_plans::in_some-returns-in_err-found-2-clause-counted :
-    goal.joined_plans::in_some-returns-in_err-found-2-clause-counted
-joined_plans::in_some-returns-in_err-found-2-clause-counted = some.in_some-returns-in_err-found-2-clause-counted
+pub joined_plans::execute_or-returns-in_err-found-2-clause-counted :
+    goal.joined_plans::execute_or-returns-in_err-found-2-clause-counted
+joined_plans::execute_or-returns-in_err-found-2-clause-counted = some.execute_or-returns-in_err-found-2-clause-counted
 
 -- at the end the visits are within the bound of the disjunction
-pub joined_plans::in_some-returns-clause-counted : goal.joined_plans::in_some-returns-clause-counted
-joined_plans::in_some-returns-clause-counted = some.in_some-returns-clause-counted
+pub joined_plans::execute_or-returns-clause-counted : goal.joined_plans::execute_or-returns-clause-counted
+joined_plans::execute_or-returns-clause-counted = some.execute_or-returns-clause-counted
 
 -- at the end what was found is what at least one part means among the candidates, and the floors of all parts are
 -- counted
-pub joined_plans::in_some-returns-clause-found : goal.joined_plans::in_some-returns-clause-found
-joined_plans::in_some-returns-clause-found = some.in_some-returns-clause-found
+pub joined_plans::execute_or-returns-clause-found : goal.joined_plans::execute_or-returns-clause-found
+joined_plans::execute_or-returns-clause-found = some.execute_or-returns-clause-found
 
 -- before the first part of groups, the empty set meets the invariant of the disjunction
-pub unit_plans::groups_in_some-loop-part-init : goal.unit_plans::groups_in_some-loop-part-init
-unit_plans::groups_in_some-loop-part-init = some.groups_in_some-loop-part-init
+pub group_plans::execute_group_or-loop-part-init : goal.group_plans::execute_group_or-loop-part-init
+group_plans::execute_group_or-loop-part-init = some.execute_group_or-loop-part-init
 
 -- a turn that joins the groups that a part has found to those found so far keeps the invariant of the disjunction
-pub unit_plans::groups_in_some-loop-part-preserved : goal.unit_plans::groups_in_some-loop-part-preserved
-unit_plans::groups_in_some-loop-part-preserved = some.groups_in_some-loop-part-preserved
+pub group_plans::execute_group_or-loop-part-preserved : goal.group_plans::execute_group_or-loop-part-preserved
+group_plans::execute_group_or-loop-part-preserved = some.execute_group_or-loop-part-preserved
 
 -- if memory is refused while a part of groups is executed, the visits are within the bound of the disjunction
-pub unit_plans::groups_in_some-returns-in_err-next-clause-counted :
-    goal.unit_plans::groups_in_some-returns-in_err-next-clause-counted
-unit_plans::groups_in_some-returns-in_err-next-clause-counted = some.groups_in_some-returns-in_err-next-clause-counted
+pub group_plans::execute_group_or-returns-in_err-next-clause-counted :
+    goal.group_plans::execute_group_or-returns-in_err-next-clause-counted
+group_plans::execute_group_or-returns-in_err-next-clause-counted =
+    some.execute_group_or-returns-in_err-next-clause-counted
 
 -- if memory is refused while the groups that a part has found are joined to those found so far, the visits are within
 -- the bound of the disjunction
-pub unit_plans::groups_in_some-returns-in_err-groups-2-clause-counted :
-    goal.unit_plans::groups_in_some-returns-in_err-groups-2-clause-counted
-unit_plans::groups_in_some-returns-in_err-groups-2-clause-counted =
-    some.groups_in_some-returns-in_err-groups-2-clause-counted
+pub group_plans::execute_group_or-returns-in_err-groups-2-clause-counted :
+    goal.group_plans::execute_group_or-returns-in_err-groups-2-clause-counted
+group_plans::execute_group_or-returns-in_err-groups-2-clause-counted =
+    some.execute_group_or-returns-in_err-groups-2-clause-counted
 
 -- at the end the visits are within the bound of the disjunction of groups
-pub unit_plans::groups_in_some-returns-clause-counted : goal.unit_plans::groups_in_some-returns-clause-counted
-unit_plans::groups_in_some-returns-clause-counted = some.groups_in_some-returns-clause-counted
+pub group_plans::execute_group_or-returns-clause-counted : goal.group_plans::execute_group_or-returns-clause-counted
+group_plans::execute_group_or-returns-clause-counted = some.execute_group_or-returns-clause-counted
 
 -- at the end the groups found are what at least one part means among the candidates, and the floors of all parts are
 -- counted
-pub unit_plans::groups_in_some-returns-clause-found : goal.unit_plans::groups_in_some-returns-clause-found
-unit_plans::groups_in_some-returns-clause-found = some.groups_in_some-returns-clause-found
+pub group_plans::execute_group_or-returns-clause-found : goal.group_plans::execute_group_or-returns-clause-found
+group_plans::execute_group_or-returns-clause-found = some.execute_group_or-returns-clause-found
 
 -- before the first name, the set that the attributes start from meets the invariant
-pub dotted_plans::led_along-loop-name-init : goal.dotted_plans::led_along-loop-name-init
-dotted_plans::led_along-loop-name-init = dotted.led_along-loop-name-init
+pub dotted_plans::execute_attributes-loop-name-init : goal.dotted_plans::execute_attributes-loop-name-init
+dotted_plans::execute_attributes-loop-name-init = dotted.execute_attributes-loop-name-init
 
 -- a turn that goes along one attribute name keeps the invariant of the names
-pub dotted_plans::led_along-loop-name-preserved : goal.dotted_plans::led_along-loop-name-preserved
-dotted_plans::led_along-loop-name-preserved = dotted.led_along-loop-name-preserved
+pub dotted_plans::execute_attributes-loop-name-preserved : goal.dotted_plans::execute_attributes-loop-name-preserved
+dotted_plans::execute_attributes-loop-name-preserved = dotted.execute_attributes-loop-name-preserved
 
 -- if memory is refused while a name is executed, the visits are within the bound of the values along all names
-pub dotted_plans::led_along-returns-in_err-named-clause-counted :
-    goal.dotted_plans::led_along-returns-in_err-named-clause-counted
-dotted_plans::led_along-returns-in_err-named-clause-counted = dotted.led_along-returns-in_err-named-clause-counted
+pub dotted_plans::execute_attributes-returns-in_err-named-clause-counted :
+    goal.dotted_plans::execute_attributes-returns-in_err-named-clause-counted
+dotted_plans::execute_attributes-returns-in_err-named-clause-counted =
+    dotted.execute_attributes-returns-in_err-named-clause-counted
 
 -- if memory is refused while the values along a name are found, the visits are within the bound of the values along
 -- all names
-pub dotted_plans::led_along-returns-in_err-found-clause-counted :
-    goal.dotted_plans::led_along-returns-in_err-found-clause-counted
-dotted_plans::led_along-returns-in_err-found-clause-counted = dotted.led_along-returns-in_err-found-clause-counted
+pub dotted_plans::execute_attributes-returns-in_err-found-clause-counted :
+    goal.dotted_plans::execute_attributes-returns-in_err-found-clause-counted
+dotted_plans::execute_attributes-returns-in_err-found-clause-counted =
+    dotted.execute_attributes-returns-in_err-found-clause-counted
 
 -- at the end the visits are within the bound of the values along all names
-pub dotted_plans::led_along-returns-clause-counted : goal.dotted_plans::led_along-returns-clause-counted
-dotted_plans::led_along-returns-clause-counted = dotted.led_along-returns-clause-counted
+pub dotted_plans::execute_attributes-returns-clause-counted :
+    goal.dotted_plans::execute_attributes-returns-clause-counted
+dotted_plans::execute_attributes-returns-clause-counted = dotted.execute_attributes-returns-clause-counted
 
 -- at the end what was found is what all names lead to from the start, and the floors of the names are counted
-pub dotted_plans::led_along-returns-clause-found : goal.dotted_plans::led_along-returns-clause-found
-dotted_plans::led_along-returns-clause-found = dotted.led_along-returns-clause-found
+pub dotted_plans::execute_attributes-returns-clause-found : goal.dotted_plans::execute_attributes-returns-clause-found
+dotted_plans::execute_attributes-returns-clause-found = dotted.execute_attributes-returns-clause-found
 
 -- if the name before is equal, its set is what the name means, and the floor of the name is counted
 pub dotted_plans::named_by-returns-then-eq-clause-found : goal.dotted_plans::named_by-returns-then-eq-clause-found
@@ -311,32 +323,32 @@ pub dotted_plans::named_by-returns-then-eq-clause-counted : goal.dotted_plans::n
 dotted_plans::named_by-returns-then-eq-clause-counted = dotted.named_by-returns-then-eq-clause-counted
 
 -- what the names lead to from the start, restricted to the candidates, is what the plan of values means among them
-pub dotted_plans::led_from-returns-clause-found : goal.dotted_plans::led_from-returns-clause-found
-dotted_plans::led_from-returns-clause-found = dotted.led_from-returns-clause-found
+pub dotted_plans::execute_dotted-returns-clause-found : goal.dotted_plans::execute_dotted-returns-clause-found
+dotted_plans::execute_dotted-returns-clause-found = dotted.execute_dotted-returns-clause-found
 
 -- the visits of the start and of the names are within the bound of the plan of values
-pub dotted_plans::led_from-returns-clause-counted : goal.dotted_plans::led_from-returns-clause-counted
-dotted_plans::led_from-returns-clause-counted g t c =
-    led_reads c.args.reader.indexes.now (physical_of c.args.start.now) (physicals_of c.args.names.now)
-    c.execute_within.ensures.counted c.led_along.ensures.counted
+pub dotted_plans::execute_dotted-returns-clause-counted : goal.dotted_plans::execute_dotted-returns-clause-counted
+dotted_plans::execute_dotted-returns-clause-counted g t c =
+    driven_reads c.args.reader.indexes.now (physical_of c.args.start.now) (physicals_of c.args.names.now)
+    c.execute_within.ensures.counted c.execute_attributes.ensures.counted
     c.in_ok-from.ensures.size
 
 -- if memory is refused while the values along the names are found, the visits are within the bound of the plan of
 -- values
-pub dotted_plans::led_from-returns-in_err-led-clause-counted :
-    goal.dotted_plans::led_from-returns-in_err-led-clause-counted
-dotted_plans::led_from-returns-in_err-led-clause-counted g t c =
-    led_reads c.args.reader.indexes.now (physical_of c.args.start.now) (physicals_of c.args.names.now)
-    c.execute_within.ensures.counted c.led_along.ensures.counted
+pub dotted_plans::execute_dotted-returns-in_err-driven-clause-counted :
+    goal.dotted_plans::execute_dotted-returns-in_err-driven-clause-counted
+dotted_plans::execute_dotted-returns-in_err-driven-clause-counted g t c =
+    driven_reads c.args.reader.indexes.now (physical_of c.args.start.now) (physicals_of c.args.names.now)
+    c.execute_within.ensures.counted c.execute_attributes.ensures.counted
     c.in_ok-from.ensures.size
 
 -- if memory is refused while the values found are restricted to the candidates, the visits are within the bound of
 -- the plan of values
-pub dotted_plans::led_from-returns-in_err-found-clause-counted :
-    goal.dotted_plans::led_from-returns-in_err-found-clause-counted
-dotted_plans::led_from-returns-in_err-found-clause-counted g t c =
-    led_reads c.args.reader.indexes.now (physical_of c.args.start.now) (physicals_of c.args.names.now)
-    c.execute_within.ensures.counted c.led_along.ensures.counted
+pub dotted_plans::execute_dotted-returns-in_err-found-clause-counted :
+    goal.dotted_plans::execute_dotted-returns-in_err-found-clause-counted
+dotted_plans::execute_dotted-returns-in_err-found-clause-counted g t c =
+    driven_reads c.args.reader.indexes.now (physical_of c.args.start.now) (physicals_of c.args.names.now)
+    c.execute_within.ensures.counted c.execute_attributes.ensures.counted
     c.in_ok-from.ensures.size
 
 -- the set that the plan has found makes the test that is within it
@@ -349,14 +361,14 @@ pub plans::tested_of-returns-in_ok-set-in-Within-clause-counted :
     goal.plans::tested_of-returns-in_ok-set-in-Within-clause-counted
 plans::tested_of-returns-in_ok-set-in-Within-clause-counted g t c =
     test_counts c.args.reader.indexes.now (test_within c.in-Within.operand c.in-Within.is c.deref.ensures)
-    c.execute_tallied.ensures.counted
+    c.execute_estimated.ensures.counted
 
 -- if memory is refused while the plan of a test within it is executed, the visits are within the bound of that plan
 pub plans::tested_of-returns-in_err-set-in-Within-clause-counted :
     goal.plans::tested_of-returns-in_err-set-in-Within-clause-counted
 plans::tested_of-returns-in_err-set-in-Within-clause-counted g t c =
     test_counts c.args.reader.indexes.now (test_within c.in-Within.operand c.in-Within.is c.deref.ensures)
-    c.execute_tallied.ensures.counted
+    c.execute_estimated.ensures.counted
 
 -- the set that the plan has found makes the test that is outside it
 pub plans::tested_of-returns-in_ok-set-in-Outside-clause-tested :
@@ -368,14 +380,14 @@ pub plans::tested_of-returns-in_ok-set-in-Outside-clause-counted :
     goal.plans::tested_of-returns-in_ok-set-in-Outside-clause-counted
 plans::tested_of-returns-in_ok-set-in-Outside-clause-counted g t c =
     test_counts c.args.reader.indexes.now (test_outside c.in-Outside.operand c.in-Outside.is c.deref-in-Outside.ensures)
-    c.execute_tallied-in-Outside.ensures.counted
+    c.execute_estimated-in-Outside.ensures.counted
 
 -- if memory is refused while the plan of a test outside it is executed, the visits are within the bound of that plan
 pub plans::tested_of-returns-in_err-set-in-Outside-clause-counted :
     goal.plans::tested_of-returns-in_err-set-in-Outside-clause-counted
 plans::tested_of-returns-in_err-set-in-Outside-clause-counted g t c =
     test_counts c.args.reader.indexes.now (test_outside c.in-Outside.operand c.in-Outside.is c.deref-in-Outside.ensures)
-    c.execute_tallied-in-Outside.ensures.counted
+    c.execute_estimated-in-Outside.ensures.counted
 
 -- the components of the reference sets that the operand has found, restricted to the candidates, are what the node
 -- means among them
@@ -434,49 +446,49 @@ plans::execute_node-returns-in-Members-clause-found g t c =
     c.args.visits.now c.members_of.new.visits c.members_of.result
     (members_are c.in-Members.operand c.in-Members.is c.deref-in-Members.ensures) c.members_of.ensures.found
 
--- `in_all` counts at most the bound of an `And` node
+-- `execute_and` counts at most the bound of an `And` node
 pub plans::execute_node-returns-in-And-clause-counted : goal.plans::execute_node-returns-in-And-clause-counted
 plans::execute_node-returns-in-And-clause-counted g t c =
     plan_counts c.args.reader.indexes.now (and_are c.in-And.parts c.in-And.is c.deref-in-And.ensures.value)
-    c.in_all.ensures.counted
+    c.execute_and.ensures.counted
 
--- `in_all` finds what an `And` node means among the candidates
+-- `execute_and` finds what an `And` node means among the candidates
 pub plans::execute_node-returns-in-And-clause-found : goal.plans::execute_node-returns-in-And-clause-found
 plans::execute_node-returns-in-And-clause-found g t c =
     plan_answers g.S.ConceptSet c.args.reader.snapshot.now.release c.args.reader.indexes.now c.args.candidates.now
-    c.args.visits.now c.in_all.new.visits c.in_all.result
-    (and_are c.in-And.parts c.in-And.is c.deref-in-And.ensures.value) c.in_all.ensures.found
+    c.args.visits.now c.execute_and.new.visits c.execute_and.result
+    (and_are c.in-And.parts c.in-And.is c.deref-in-And.ensures.value) c.execute_and.ensures.found
 
--- `in_some` counts at most the bound of an `Or` node
+-- `execute_or` counts at most the bound of an `Or` node
 pub plans::execute_node-returns-in-Or-clause-counted : goal.plans::execute_node-returns-in-Or-clause-counted
 plans::execute_node-returns-in-Or-clause-counted g t c =
     plan_counts c.args.reader.indexes.now (or_are c.in-Or.parts c.in-Or.is c.deref-in-Or.ensures.value)
-    c.in_some.ensures.counted
+    c.execute_or.ensures.counted
 
--- `in_some` finds what an `Or` node means among the candidates
+-- `execute_or` finds what an `Or` node means among the candidates
 pub plans::execute_node-returns-in-Or-clause-found : goal.plans::execute_node-returns-in-Or-clause-found
 plans::execute_node-returns-in-Or-clause-found g t c =
     plan_answers g.S.ConceptSet c.args.reader.snapshot.now.release c.args.reader.indexes.now c.args.candidates.now
-    c.args.visits.now c.in_some.new.visits c.in_some.result
-    (or_are c.in-Or.parts c.in-Or.is c.deref-in-Or.ensures.value) c.in_some.ensures.found
+    c.args.visits.now c.execute_or.new.visits c.execute_or.result
+    (or_are c.in-Or.parts c.in-Or.is c.deref-in-Or.ensures.value) c.execute_or.ensures.found
 
--- `in_first_alone` counts at most the bound of a `Minus` node
+-- `execute_minus` counts at most the bound of a `Minus` node
 pub plans::execute_node-returns-in-Minus-clause-counted : goal.plans::execute_node-returns-in-Minus-clause-counted
 plans::execute_node-returns-in-Minus-clause-counted g t c =
     plan_counts c.args.reader.indexes.now (minus_are c.in-Minus.first c.in-Minus.second c.in-Minus.is
-    c.deref-in-Minus.ensures c.deref-in-Minus-2.ensures) c.in_first_alone.ensures.counted
+    c.deref-in-Minus.ensures c.deref-in-Minus-2.ensures) c.execute_minus.ensures.counted
 
--- `in_first_alone` finds what a `Minus` node means among the candidates
+-- `execute_minus` finds what a `Minus` node means among the candidates
 pub plans::execute_node-returns-in-Minus-clause-found : goal.plans::execute_node-returns-in-Minus-clause-found
 plans::execute_node-returns-in-Minus-clause-found = nodes.execute_node-returns-in-Minus-clause-found
 
--- `led_from` counts at most the bound of a `Values` node
+-- `execute_dotted` counts at most the bound of a `Values` node
 pub plans::execute_node-returns-in-Values-clause-counted : goal.plans::execute_node-returns-in-Values-clause-counted
 plans::execute_node-returns-in-Values-clause-counted g t c =
     plan_counts c.args.reader.indexes.now (values_are c.in-Values.start c.in-Values.names c.in-Values.is
-    c.deref-in-Values.ensures c.deref-in-Values-2.ensures.value) c.led_from.ensures.counted
+    c.deref-in-Values.ensures c.deref-in-Values-2.ensures.value) c.execute_dotted.ensures.counted
 
--- `led_from` finds what a `Values` node means among the candidates
+-- `execute_dotted` finds what a `Values` node means among the candidates
 pub plans::execute_node-returns-in-Values-clause-found : goal.plans::execute_node-returns-in-Values-clause-found
 plans::execute_node-returns-in-Values-clause-found = nodes.execute_node-returns-in-Values-clause-found
 
@@ -493,129 +505,130 @@ plans::execute_node-returns-in-Pairs-clause-found g t c =
     c.args.visits.now c.pairs_within.new.visits c.pairs_within.result
     (pairs_are c.in-Pairs.types c.in-Pairs.is c.deref-in-Pairs.ensures) c.pairs_within.ensures.found
 
--- `units_within` counts at most the bound of a `Units` node
+-- `execute_units` counts at most the bound of a `Units` node
 pub plans::execute_node-returns-in-Units-clause-counted : goal.plans::execute_node-returns-in-Units-clause-counted
 plans::execute_node-returns-in-Units-clause-counted g t c =
-    plan_counts c.args.reader.indexes.now (units_are c.in-Units.units c.in-Units.is c.deref-in-Units.ensures)
-    c.units_within.ensures.counted
+    plan_counts c.args.reader.indexes.now (group_plan_is c.in-Units.units c.in-Units.is c.deref-in-Units.ensures)
+    c.execute_units.ensures.counted
 
--- `units_within` finds what a `Units` node means among the candidates
+-- `execute_units` finds what a `Units` node means among the candidates
 pub plans::execute_node-returns-in-Units-clause-found : goal.plans::execute_node-returns-in-Units-clause-found
 plans::execute_node-returns-in-Units-clause-found g t c =
     plan_answers g.S.ConceptSet c.args.reader.snapshot.now.release c.args.reader.indexes.now c.args.candidates.now
-    c.args.visits.now c.units_within.new.visits c.units_within.result
-    (units_are c.in-Units.units c.in-Units.is c.deref-in-Units.ensures) c.units_within.ensures.found
+    c.args.visits.now c.execute_units.new.visits c.execute_units.result
+    (group_plan_is c.in-Units.units c.in-Units.is c.deref-in-Units.ensures) c.execute_units.ensures.found
 
 -- the empty set is what the plan of no group means among the candidates
-pub unit_plans::execute_group_node-returns-in-Nothing-clause-found :
-    goal.unit_plans::execute_group_node-returns-in-Nothing-clause-found
-unit_plans::execute_group_node-returns-in-Nothing-clause-found =
+pub group_plans::execute_group_node-returns-in-Nothing-clause-found :
+    goal.group_plans::execute_group_node-returns-in-Nothing-clause-found
+group_plans::execute_group_node-returns-in-Nothing-clause-found =
     nodes.execute_group_node-returns-in-Nothing-clause-found
 
 -- all candidate groups are what the plan of every group means among them
-pub unit_plans::execute_group_node-returns-in-Every-clause-found :
-    goal.unit_plans::execute_group_node-returns-in-Every-clause-found
-unit_plans::execute_group_node-returns-in-Every-clause-found = nodes.execute_group_node-returns-in-Every-clause-found
+pub group_plans::execute_group_node-returns-in-Every-clause-found :
+    goal.group_plans::execute_group_node-returns-in-Every-clause-found
+group_plans::execute_group_node-returns-in-Every-clause-found = nodes.execute_group_node-returns-in-Every-clause-found
 
--- `groups_in_all` counts at most the bound of an `And` node of groups
-pub unit_plans::execute_group_node-returns-in-And-clause-counted :
-    goal.unit_plans::execute_group_node-returns-in-And-clause-counted
-unit_plans::execute_group_node-returns-in-And-clause-counted g t c =
-    units_count c.args.reader.indexes.now (and_units_are c.in-And.parts c.in-And.is c.deref.ensures.value)
-    c.groups_in_all.ensures.counted
+-- `execute_group_and` counts at most the bound of an `And` node of groups
+pub group_plans::execute_group_node-returns-in-And-clause-counted :
+    goal.group_plans::execute_group_node-returns-in-And-clause-counted
+group_plans::execute_group_node-returns-in-And-clause-counted g t c =
+    groups_count c.args.reader.indexes.now (and_group_plan_is c.in-And.parts c.in-And.is c.deref.ensures.value)
+    c.execute_group_and.ensures.counted
 
--- `groups_in_all` finds what an `And` node of groups means among the candidates
-pub unit_plans::execute_group_node-returns-in-And-clause-found :
-    goal.unit_plans::execute_group_node-returns-in-And-clause-found
-unit_plans::execute_group_node-returns-in-And-clause-found g t c =
-    units_answer g.S.ConceptSet c.args.reader.snapshot.now.release c.args.reader.indexes.now c.args.candidates.now
-    c.args.visits.now c.groups_in_all.new.visits c.groups_in_all.result
-    (and_units_are c.in-And.parts c.in-And.is c.deref.ensures.value) c.groups_in_all.ensures.found
+-- `execute_group_and` finds what an `And` node of groups means among the candidates
+pub group_plans::execute_group_node-returns-in-And-clause-found :
+    goal.group_plans::execute_group_node-returns-in-And-clause-found
+group_plans::execute_group_node-returns-in-And-clause-found g t c =
+    groups_answer g.S.ConceptSet c.args.reader.snapshot.now.release c.args.reader.indexes.now c.args.candidates.now
+    c.args.visits.now c.execute_group_and.new.visits c.execute_group_and.result
+    (and_group_plan_is c.in-And.parts c.in-And.is c.deref.ensures.value) c.execute_group_and.ensures.found
 
--- `groups_in_some` counts at most the bound of an `Or` node of groups
-pub unit_plans::execute_group_node-returns-in-Or-clause-counted :
-    goal.unit_plans::execute_group_node-returns-in-Or-clause-counted
-unit_plans::execute_group_node-returns-in-Or-clause-counted g t c =
-    units_count c.args.reader.indexes.now (or_units_are c.in-Or.parts c.in-Or.is c.deref-in-Or.ensures.value)
-    c.groups_in_some.ensures.counted
+-- `execute_group_or` counts at most the bound of an `Or` node of groups
+pub group_plans::execute_group_node-returns-in-Or-clause-counted :
+    goal.group_plans::execute_group_node-returns-in-Or-clause-counted
+group_plans::execute_group_node-returns-in-Or-clause-counted g t c =
+    groups_count c.args.reader.indexes.now (or_group_plan_is c.in-Or.parts c.in-Or.is c.deref-in-Or.ensures.value)
+    c.execute_group_or.ensures.counted
 
--- `groups_in_some` finds what an `Or` node of groups means among the candidates
-pub unit_plans::execute_group_node-returns-in-Or-clause-found :
-    goal.unit_plans::execute_group_node-returns-in-Or-clause-found
-unit_plans::execute_group_node-returns-in-Or-clause-found g t c =
-    units_answer g.S.ConceptSet c.args.reader.snapshot.now.release c.args.reader.indexes.now c.args.candidates.now
-    c.args.visits.now c.groups_in_some.new.visits c.groups_in_some.result
-    (or_units_are c.in-Or.parts c.in-Or.is c.deref-in-Or.ensures.value) c.groups_in_some.ensures.found
+-- `execute_group_or` finds what an `Or` node of groups means among the candidates
+pub group_plans::execute_group_node-returns-in-Or-clause-found :
+    goal.group_plans::execute_group_node-returns-in-Or-clause-found
+group_plans::execute_group_node-returns-in-Or-clause-found g t c =
+    groups_answer g.S.ConceptSet c.args.reader.snapshot.now.release c.args.reader.indexes.now c.args.candidates.now
+    c.args.visits.now c.execute_group_or.new.visits c.execute_group_or.result
+    (or_group_plan_is c.in-Or.parts c.in-Or.is c.deref-in-Or.ensures.value) c.execute_group_or.ensures.found
 
--- `groups_in_first_alone` counts at most the bound of a `Minus` node of groups
-pub unit_plans::execute_group_node-returns-in-Minus-clause-counted :
-    goal.unit_plans::execute_group_node-returns-in-Minus-clause-counted
-unit_plans::execute_group_node-returns-in-Minus-clause-counted g t c =
-    units_count c.args.reader.indexes.now (minus_units_are c.in-Minus.first c.in-Minus.second c.in-Minus.is
-    c.deref-in-Minus.ensures c.deref-in-Minus-2.ensures) c.groups_in_first_alone.ensures.counted
+-- `execute_group_minus` counts at most the bound of a `Minus` node of groups
+pub group_plans::execute_group_node-returns-in-Minus-clause-counted :
+    goal.group_plans::execute_group_node-returns-in-Minus-clause-counted
+group_plans::execute_group_node-returns-in-Minus-clause-counted g t c =
+    groups_count c.args.reader.indexes.now (minus_group_plan_is c.in-Minus.first c.in-Minus.second c.in-Minus.is
+    c.deref-in-Minus.ensures c.deref-in-Minus-2.ensures) c.execute_group_minus.ensures.counted
 
--- `groups_in_first_alone` finds what a `Minus` node of groups means among the candidates
-pub unit_plans::execute_group_node-returns-in-Minus-clause-found :
-    goal.unit_plans::execute_group_node-returns-in-Minus-clause-found
-unit_plans::execute_group_node-returns-in-Minus-clause-found = nodes.execute_group_node-returns-in-Minus-clause-found
+-- `execute_group_minus` finds what a `Minus` node of groups means among the candidates
+pub group_plans::execute_group_node-returns-in-Minus-clause-found :
+    goal.group_plans::execute_group_node-returns-in-Minus-clause-found
+group_plans::execute_group_node-returns-in-Minus-clause-found = nodes.execute_group_node-returns-in-Minus-clause-found
 
 -- `groups_with_pairs` counts at most the bound of a leaf of groups
-pub unit_plans::execute_group_node-returns-in-Pairs-clause-counted :
-    goal.unit_plans::execute_group_node-returns-in-Pairs-clause-counted
-unit_plans::execute_group_node-returns-in-Pairs-clause-counted g t c =
-    units_count c.args.reader.indexes.now (pairs_units_are c.in-Pairs.types c.in-Pairs.is c.deref-in-Pairs.ensures)
+pub group_plans::execute_group_node-returns-in-Pairs-clause-counted :
+    goal.group_plans::execute_group_node-returns-in-Pairs-clause-counted
+group_plans::execute_group_node-returns-in-Pairs-clause-counted g t c =
+    groups_count c.args.reader.indexes.now (pairs_group_plan_is c.in-Pairs.types c.in-Pairs.is c.deref-in-Pairs.ensures)
     c.groups_with_pairs.ensures.counted
 
 -- `groups_with_pairs` finds what a leaf of groups means among the candidates
-pub unit_plans::execute_group_node-returns-in-Pairs-clause-found :
-    goal.unit_plans::execute_group_node-returns-in-Pairs-clause-found
-unit_plans::execute_group_node-returns-in-Pairs-clause-found g t c =
-    units_answer g.S.ConceptSet c.args.reader.snapshot.now.release c.args.reader.indexes.now c.args.candidates.now
+pub group_plans::execute_group_node-returns-in-Pairs-clause-found :
+    goal.group_plans::execute_group_node-returns-in-Pairs-clause-found
+group_plans::execute_group_node-returns-in-Pairs-clause-found g t c =
+    groups_answer g.S.ConceptSet c.args.reader.snapshot.now.release c.args.reader.indexes.now c.args.candidates.now
     c.args.visits.now c.groups_with_pairs.new.visits c.groups_with_pairs.result
-    (pairs_units_are c.in-Pairs.types c.in-Pairs.is c.deref-in-Pairs.ensures) c.groups_with_pairs.ensures.found
+    (pairs_group_plan_is c.in-Pairs.types c.in-Pairs.is c.deref-in-Pairs.ensures) c.groups_with_pairs.ensures.found
 
 -- what the first part has found and the second has not is what the difference means among the candidates
-pub plans::in_first_alone-returns-clause-found : goal.plans::in_first_alone-returns-clause-found
-plans::in_first_alone-returns-clause-found = minus.in_first_alone-returns-clause-found
+pub plans::execute_minus-returns-clause-found : goal.plans::execute_minus-returns-clause-found
+plans::execute_minus-returns-clause-found = minus.execute_minus-returns-clause-found
 
 -- the visits of both parts and of the difference itself are within the bound of the difference
-pub plans::in_first_alone-returns-clause-counted :
-    goal.plans::in_first_alone-returns-clause-counted
-plans::in_first_alone-returns-clause-counted = minus.in_first_alone-returns-clause-counted
+pub plans::execute_minus-returns-clause-counted :
+    goal.plans::execute_minus-returns-clause-counted
+plans::execute_minus-returns-clause-counted = minus.execute_minus-returns-clause-counted
 
 -- if memory is refused while what the second part has found is taken away, the visits are within the bound of the
 -- difference
-pub plans::in_first_alone-returns-in_err-found-clause-counted :
-    goal.plans::in_first_alone-returns-in_err-found-clause-counted
-plans::in_first_alone-returns-in_err-found-clause-counted = minus.in_first_alone-returns-in_err-found-clause-counted
+pub plans::execute_minus-returns-in_err-found-clause-counted :
+    goal.plans::execute_minus-returns-in_err-found-clause-counted
+plans::execute_minus-returns-in_err-found-clause-counted = minus.execute_minus-returns-in_err-found-clause-counted
 
 -- if memory is refused while the second part is executed, the visits are within the bound of the difference
-pub plans::in_first_alone-returns-in_err-right-clause-counted :
-    goal.plans::in_first_alone-returns-in_err-right-clause-counted
-plans::in_first_alone-returns-in_err-right-clause-counted g t c =
+pub plans::execute_minus-returns-in_err-right-clause-counted :
+    goal.plans::execute_minus-returns-in_err-right-clause-counted
+plans::execute_minus-returns-in_err-right-clause-counted g t c =
     counted_thrice c.execute_within.ensures.counted c.second_part.ensures.counted c.execute_within-2.ensures.counted
     (omega arith)
 
 -- the groups that the first part has found and the second has not are what the difference means among the candidates
-pub unit_plans::groups_in_first_alone-returns-clause-found : goal.unit_plans::groups_in_first_alone-returns-clause-found
-unit_plans::groups_in_first_alone-returns-clause-found = minus.groups_in_first_alone-returns-clause-found
+pub group_plans::execute_group_minus-returns-clause-found : goal.group_plans::execute_group_minus-returns-clause-found
+group_plans::execute_group_minus-returns-clause-found = minus.execute_group_minus-returns-clause-found
 
 -- the visits of both parts of groups and of the difference itself are within the bound of the difference
-pub unit_plans::groups_in_first_alone-returns-clause-counted :
-    goal.unit_plans::groups_in_first_alone-returns-clause-counted
-unit_plans::groups_in_first_alone-returns-clause-counted = minus.groups_in_first_alone-returns-clause-counted
+pub group_plans::execute_group_minus-returns-clause-counted :
+    goal.group_plans::execute_group_minus-returns-clause-counted
+group_plans::execute_group_minus-returns-clause-counted = minus.execute_group_minus-returns-clause-counted
 
 -- if memory is refused while the groups that the second part has found are taken away, the visits are within the
 -- bound of the difference
-pub unit_plans::groups_in_first_alone-returns-in_err-groups-clause-counted :
-    goal.unit_plans::groups_in_first_alone-returns-in_err-groups-clause-counted
-unit_plans::groups_in_first_alone-returns-in_err-groups-clause-counted = minus.groups_in_first_alone-returns-in_err-groups-clause-counted
+pub group_plans::execute_group_minus-returns-in_err-groups-clause-counted :
+    goal.group_plans::execute_group_minus-returns-in_err-groups-clause-counted
+group_plans::execute_group_minus-returns-in_err-groups-clause-counted =
+    minus.execute_group_minus-returns-in_err-groups-clause-counted
 
 -- if memory is refused while the second part of groups is executed, the visits are within the bound of the difference
-pub unit_plans::groups_in_first_alone-returns-in_err-right-clause-counted :
-    goal.unit_plans::groups_in_first_alone-returns-in_err-right-clause-counted
-unit_plans::groups_in_first_alone-returns-in_err-right-clause-counted g t c =
-    counted_thrice c.execute_groups.ensures.counted c.second_unit_part.ensures.counted
+pub group_plans::execute_group_minus-returns-in_err-right-clause-counted :
+    goal.group_plans::execute_group_minus-returns-in_err-right-clause-counted
+group_plans::execute_group_minus-returns-in_err-right-clause-counted g t c =
+    counted_thrice c.execute_groups.ensures.counted c.second_group_part.ensures.counted
     c.execute_groups-2.ensures.counted
     (omega arith)
 
@@ -645,38 +658,38 @@ pub plans::pairs_within-with_pairs_within-requires-clause-tested :
 plans::pairs_within-with_pairs_within-requires-clause-tested g t c = c.in_ok-tested.ensures.tested.bound
 
 -- the candidate groups with a number of pairs in the cardinality are what the leaf of groups means among them
-pub unit_plans::groups_with_pairs-returns-clause-found : goal.unit_plans::groups_with_pairs-returns-clause-found
-unit_plans::groups_with_pairs-returns-clause-found = pairs.groups_with_pairs-returns-clause-found
+pub group_plans::groups_with_pairs-returns-clause-found : goal.group_plans::groups_with_pairs-returns-clause-found
+group_plans::groups_with_pairs-returns-clause-found = pairs.groups_with_pairs-returns-clause-found
 
 -- the visits of the types, of the test and of the leaf itself are within the bound of the leaf of groups
-pub unit_plans::groups_with_pairs-returns-clause-counted : goal.unit_plans::groups_with_pairs-returns-clause-counted
-unit_plans::groups_with_pairs-returns-clause-counted = pairs.groups_with_pairs-returns-clause-counted
+pub group_plans::groups_with_pairs-returns-clause-counted : goal.group_plans::groups_with_pairs-returns-clause-counted
+group_plans::groups_with_pairs-returns-clause-counted = pairs.groups_with_pairs-returns-clause-counted
 
 -- if memory is refused while the groups with passing pairs are found, the visits are within the bound of the leaf of
 -- groups
-pub unit_plans::groups_with_pairs-returns-in_err-found-clause-counted :
-    goal.unit_plans::groups_with_pairs-returns-in_err-found-clause-counted
-unit_plans::groups_with_pairs-returns-in_err-found-clause-counted =
+pub group_plans::groups_with_pairs-returns-in_err-found-clause-counted :
+    goal.group_plans::groups_with_pairs-returns-in_err-found-clause-counted
+group_plans::groups_with_pairs-returns-in_err-found-clause-counted =
     pairs.groups_with_pairs-returns-in_err-found-clause-counted
 
 -- the set of types is bounded by the number of concepts, as `groups_with_pairs_within` requires
-pub unit_plans::groups_with_pairs-groups_with_pairs_within-requires-clause-bound :
-    goal.unit_plans::groups_with_pairs-groups_with_pairs_within-requires-clause-bound
-unit_plans::groups_with_pairs-groups_with_pairs_within-requires-clause-bound g t c =
+pub group_plans::groups_with_pairs-groups_with_pairs_within-requires-clause-bound :
+    goal.group_plans::groups_with_pairs-groups_with_pairs_within-requires-clause-bound
+group_plans::groups_with_pairs-groups_with_pairs_within-requires-clause-bound g t c =
     c.in_ok-typed.ensures.found.bound ∙ ap length (sym c.args.reader.index.concepts)
 
 -- the set of the test is bounded by the number of concepts, as `groups_with_pairs_within` requires
-pub unit_plans::groups_with_pairs-groups_with_pairs_within-requires-clause-tested :
-    goal.unit_plans::groups_with_pairs-groups_with_pairs_within-requires-clause-tested
-unit_plans::groups_with_pairs-groups_with_pairs_within-requires-clause-tested g t c =
+pub group_plans::groups_with_pairs-groups_with_pairs_within-requires-clause-tested :
+    goal.group_plans::groups_with_pairs-groups_with_pairs_within-requires-clause-tested
+group_plans::groups_with_pairs-groups_with_pairs_within-requires-clause-tested g t c =
     c.in_ok-tested.ensures.tested.bound
 
 -- the candidates lie below the bound of the values found, as `restricted` requires
-pub dotted_plans::led_from-restricted-requires : goal.dotted_plans::led_from-restricted-requires
-dotted_plans::led_from-restricted-requires g t c =
-    let led = c.in_ok-led.ensures.found (logical_of c.args.start.now) c.in_ok-from.ensures.found.items in
+pub dotted_plans::execute_dotted-restricted-requires : goal.dotted_plans::execute_dotted-restricted-requires
+dotted_plans::execute_dotted-restricted-requires g t c =
+    let driven = c.in_ok-driven.ensures.found (logical_of c.args.start.now) c.in_ok-from.ensures.found.items in
     record {
-      bound = subst (λ (count : ℕ). AreBelow g.S.ConceptSet.bound_of count c.args.candidates.now) (sym led.bound)
+      bound = subst (λ (count : ℕ). AreBelow g.S.ConceptSet.bound_of count c.args.candidates.now) (sym driven.bound)
           c.requires.candidates.below;
     }
 
@@ -685,15 +698,15 @@ pub plans::execute_node-returns-in-One-clause-adds : goal.plans::execute_node-re
 plans::execute_node-returns-in-One-clause-adds = nodes.execute_node-returns-in-One-clause-adds
 
 -- what the first part has found are candidates, as `second_part` requires
-pub plans::in_first_alone-second_part-requires-clause-among :
-    goal.plans::in_first_alone-second_part-requires-clause-among
-plans::in_first_alone-second_part-requires-clause-among = minus.in_first_alone-second_part-requires-clause-among
+pub plans::execute_minus-second_part-requires-clause-among :
+    goal.plans::execute_minus-second_part-requires-clause-among
+plans::execute_minus-second_part-requires-clause-among = minus.execute_minus-second_part-requires-clause-among
 
--- the groups that the first part has found are candidates, as `second_unit_part` requires
-pub unit_plans::groups_in_first_alone-second_unit_part-requires-clause-among :
-    goal.unit_plans::groups_in_first_alone-second_unit_part-requires-clause-among
-unit_plans::groups_in_first_alone-second_unit_part-requires-clause-among =
-    minus.groups_in_first_alone-second_unit_part-requires-clause-among
+-- the groups that the first part has found are candidates, as `second_group_part` requires
+pub group_plans::execute_group_minus-second_group_part-requires-clause-among :
+    goal.group_plans::execute_group_minus-second_group_part-requires-clause-among
+group_plans::execute_group_minus-second_group_part-requires-clause-among =
+    minus.execute_group_minus-second_group_part-requires-clause-among
 
 -- the bound of the leaf of concepts has room for what its choice reads, as `with_pairs_within` requires
 pub plans::pairs_within-with_pairs_within-requires-clause-room :
@@ -701,9 +714,9 @@ pub plans::pairs_within-with_pairs_within-requires-clause-room :
 plans::pairs_within-with_pairs_within-requires-clause-room = pairs.pairs_within-with_pairs_within-requires-clause-room
 
 -- the bound of the leaf of groups has room for what its choice reads, as `groups_with_pairs_within` requires
-pub unit_plans::groups_with_pairs-groups_with_pairs_within-requires-clause-room :
-    goal.unit_plans::groups_with_pairs-groups_with_pairs_within-requires-clause-room
-unit_plans::groups_with_pairs-groups_with_pairs_within-requires-clause-room =
+pub group_plans::groups_with_pairs-groups_with_pairs_within-requires-clause-room :
+    goal.group_plans::groups_with_pairs-groups_with_pairs_within-requires-clause-room
+group_plans::groups_with_pairs-groups_with_pairs_within-requires-clause-room =
     pairs.groups_with_pairs-groups_with_pairs_within-requires-clause-room
 
 -- what the walk leads to from its operand, restricted to the candidates, is what the walk means among them

@@ -3,100 +3,105 @@ use Rattle.std.specs.Prelude.{IfSome, slice_get}
 use Rattle.std.specs.List.{list_all, list_any}
 use Rattle.number_lists.specs.Rising.{numbers_where}
 use Rattle.postings.specs.Groups.{all_groups}
-use Rattle.set_algebra.specs.Meaning.{unit_means, leads, means}
+use Rattle.set_algebra.specs.Meaning.{group_means, leads, means}
 use Rattle.set_algebra.specs.declared.plan.ConceptPlan.{ConceptPlan}
 use Rattle.set_algebra.specs.declared.plan.UnitPlan.{UnitPlan}
 use Rattle.set_algebra.specs.Plan.{Plan}
-use Rattle.set_algebra.specs.Physical.{physical_units_list_of, physicals_of}
-use Rattle.executor.specs.inside.Logical.{logical_of, logical_units_of, logicals_of}
+use Rattle.set_algebra.specs.Physical.{physical_groups_list_of, physicals_of}
+use Rattle.executor.specs.inside.Logical.{logical_of, logical_groups_of, logicals_of}
 use Rattle.plan_bounds.specs.Bounds.{own_number, values_bound}
 use Rattle.plan_bounds.specs.Floors.{floor_number}
 use Rattle.plan_bounds.specs.Sizes.{group_sizes, sizes, total}
-use Rattle.plan_bounds.proofs.LoopLemmas.{concept_sum, unit_sum}
-use Rattle.candidates.specs.Extents.{IsExtentOf, IsGroupExtentOf}
+use Rattle.plan_bounds.proofs.LoopLemmas.{concept_sum, group_plan_sum}
+use Rattle.candidates.specs.Extents.{IsStatsOf, IsGroupStatsOf}
 use Rattle.candidates.specs.Groups.{some_group_in}
 use Rattle.candidates.specs.Numbers.{numbers_in}
-use Rattle.executor.specs.inside.Lead.{leads_off, leads_off_groups}
+use Rattle.executor.specs.inside.DrivingPart.{leads_off, leads_off_groups}
 use Rattle.executor.specs.inside.Named.{HasNamed}
-use Rattle.candidates.specs.Tallies.{Adds}
+use Rattle.candidates.specs.RowEstimates.{Adds}
 use Rattle.candidates.specs.Within.{may_be}
 use Rattle.executor.proofs.PartWork.{concepts_read, groups_read}
 use Rattle.executor.proofs.WorkLemmas.{AllSoFar, SomeSoFar}
 use Rattle.set_algebra.proofs.plan.ConceptPlan.TheLaws as concept_plan
-use Rattle.set_algebra.proofs.plan.UnitPlan.TheLaws as unit_plan
+use Rattle.set_algebra.proofs.plan.UnitPlan.TheLaws as group_plan
 use Rattle.set_algebra.proofs.plan.ValueTest.TheLaws as value_test
 use Rattle.set_algebra.specs.declared.plan.ConceptPlan.TheVariants.{the_data as concept_data}
-use Rattle.set_algebra.specs.declared.plan.UnitPlan.TheVariants.{the_data as unit_data}
+use Rattle.set_algebra.specs.declared.plan.UnitPlan.TheVariants.{the_data as group_data}
 use denote.Param.Weighed.{most}
 use Rattle.executor.proofs.+execute.Given as goal
 
 -- what was found is what the driving part and the parts of concepts before `place` mean among the candidates
-abbrev pub invariant-joined_plans::in_all-loop-place : goal.invariant-joined_plans::in_all-loop-place
-invariant-joined_plans::in_all-loop-place g l = record {
+abbrev pub invariant-joined_plans::execute_and-loop-place : goal.invariant-joined_plans::execute_and-loop-place
+invariant-joined_plans::execute_and-loop-place g l = record {
   items : g.S.ConceptSet.items_of l.found
       ≡ numbers_where (length l.reader.snapshot.now.release.concepts)
       (λ n. (may_be g.S.ConceptSet.items_of l.candidates n && leads_off l.reader.snapshot.now.release
-      (slice_get l.parts l.lead) (get_or l.reader.snapshot.now.release.concepts n 0))
+      (slice_get l.parts l.driving) (get_or l.reader.snapshot.now.release.concepts n 0))
       && list_all (λ part. means l.reader.snapshot.now.release (logical_of part)
       (get_or l.reader.snapshot.now.release.concepts n 0)) (take l.place l.parts));
   bound : g.S.ConceptSet.bound_of l.found ≡ length l.reader.snapshot.now.release.concepts;
-  work : AllSoFar (concept_sum (floor_number l.reader.indexes.now)) (concepts_read l.reader.indexes.now) l.parts l.lead
+  work : AllSoFar (concept_sum (floor_number l.reader.indexes.now)) (concepts_read l.reader.indexes.now) l.parts
+      l.driving
       l.place
       l.fn.visits.count l.visits.count;
-  extent : IsExtentOf l.reader.indexes.now (g.S.ConceptSet.items_of l.found) l.extent;
+  stats : IsStatsOf l.reader.indexes.now (g.S.ConceptSet.items_of l.found) l.stats;
 }
 
 -- what was found is what at least one of the parts of concepts before `part-index` means among the candidates
-abbrev pub invariant-joined_plans::in_some-loop-part : goal.invariant-joined_plans::in_some-loop-part
-invariant-joined_plans::in_some-loop-part g l = record {
+abbrev pub invariant-joined_plans::execute_or-loop-part : goal.invariant-joined_plans::execute_or-loop-part
+invariant-joined_plans::execute_or-loop-part g l = record {
   items : g.S.ConceptSet.items_of l.found
       ≡ numbers_where (length l.reader.snapshot.now.release.concepts)
       (λ n. may_be g.S.ConceptSet.items_of l.candidates n
       && list_any (λ part. means l.reader.snapshot.now.release (logical_of part)
       (get_or l.reader.snapshot.now.release.concepts n 0)) (take l.part-index l.parts));
   bound : g.S.ConceptSet.bound_of l.found ≡ length l.reader.snapshot.now.release.concepts;
-  adds : Adds (g.S.ConceptSet.items_of l.found) l.fn.tally l.tally;
+  adds : Adds (g.S.ConceptSet.items_of l.found) l.fn.estimate l.estimate;
   work : SomeSoFar (concept_sum (floor_number l.reader.indexes.now)) (concept_sum (own_number l.reader.indexes.now))
       (λ place. place * total (sizes l.reader.indexes.now (physicals_of l.parts))) l.parts l.part-index
       l.fn.visits.count l.visits.count;
 }
 
 -- the groups found are what the driving part and the parts of groups before `place` mean among the candidates
-abbrev pub invariant-unit_plans::groups_in_all-loop-place : goal.invariant-unit_plans::groups_in_all-loop-place
-invariant-unit_plans::groups_in_all-loop-place g l = record {
+abbrev pub invariant-group_plans::execute_group_and-loop-place :
+    goal.invariant-group_plans::execute_group_and-loop-place
+invariant-group_plans::execute_group_and-loop-place g l = record {
   items : g.S.ConceptSet.items_of l.groups
       ≡ numbers_where (length (all_groups l.reader.snapshot.now.release))
       (λ n. (may_be g.S.ConceptSet.items_of l.candidates n && some_group_in l.reader.snapshot.now.release
-      (leads_off_groups l.reader.snapshot.now.release (slice_get l.parts l.lead))
+      (leads_off_groups l.reader.snapshot.now.release (slice_get l.parts l.driving))
       (slice_get (all_groups l.reader.snapshot.now.release) n))
       && list_all (λ part. some_group_in l.reader.snapshot.now.release
-      (unit_means l.reader.snapshot.now.release (logical_units_of part))
+      (group_means l.reader.snapshot.now.release (logical_groups_of part))
       (slice_get (all_groups l.reader.snapshot.now.release) n)) (take l.place l.parts));
   bound : g.S.ConceptSet.bound_of l.groups ≡ length (all_groups l.reader.snapshot.now.release);
-  work : AllSoFar (unit_sum (floor_number l.reader.indexes.now)) (groups_read l.reader.indexes.now) l.parts l.lead
+  work : AllSoFar (group_plan_sum (floor_number l.reader.indexes.now)) (groups_read l.reader.indexes.now) l.parts
+      l.driving
       l.place
       l.fn.visits.count l.visits.count;
-  extent : IsGroupExtentOf l.reader.indexes.now (g.S.ConceptSet.items_of l.groups) l.extent;
+  stats : IsGroupStatsOf l.reader.indexes.now (g.S.ConceptSet.items_of l.groups) l.stats;
 }
 
 -- the groups found are what at least one of the parts of groups before `part-index` means among the candidates
-abbrev pub invariant-unit_plans::groups_in_some-loop-part : goal.invariant-unit_plans::groups_in_some-loop-part
-invariant-unit_plans::groups_in_some-loop-part g l = record {
+abbrev pub invariant-group_plans::execute_group_or-loop-part : goal.invariant-group_plans::execute_group_or-loop-part
+invariant-group_plans::execute_group_or-loop-part g l = record {
   items : g.S.ConceptSet.items_of l.groups
       ≡ numbers_where (length (all_groups l.reader.snapshot.now.release))
       (λ n. may_be g.S.ConceptSet.items_of l.candidates n
       && list_any (λ part. some_group_in l.reader.snapshot.now.release
-      (unit_means l.reader.snapshot.now.release (logical_units_of part))
+      (group_means l.reader.snapshot.now.release (logical_groups_of part))
       (slice_get (all_groups l.reader.snapshot.now.release) n)) (take l.part-index l.parts));
   bound : g.S.ConceptSet.bound_of l.groups ≡ length (all_groups l.reader.snapshot.now.release);
-  work : SomeSoFar (unit_sum (floor_number l.reader.indexes.now)) (unit_sum (own_number l.reader.indexes.now))
-      (λ place. place * total (group_sizes l.reader.indexes.now (physical_units_list_of l.parts))) l.parts l.part-index
+  work : SomeSoFar (group_plan_sum (floor_number l.reader.indexes.now))
+      (group_plan_sum (own_number l.reader.indexes.now))
+      (λ place. place * total (group_sizes l.reader.indexes.now (physical_groups_list_of l.parts))) l.parts l.part-index
       l.fn.visits.count l.visits.count;
 }
 
 -- what was found is what the first `name-index` names lead to from the start
-abbrev pub invariant-dotted_plans::led_along-loop-name : goal.invariant-dotted_plans::led_along-loop-name
-invariant-dotted_plans::led_along-loop-name g l = record {
+abbrev pub invariant-dotted_plans::execute_attributes-loop-name :
+    goal.invariant-dotted_plans::execute_attributes-loop-name
+invariant-dotted_plans::execute_attributes-loop-name g l = record {
   items : (plan : Plan) → g.S.ConceptSet.items_of l.initial.found
       ≡ numbers_in l.reader.snapshot.now.release (means l.reader.snapshot.now.release plan)
       → g.S.ConceptSet.items_of l.found
@@ -122,14 +127,14 @@ abbrev deepest : List ConceptPlan → ℕ
 deepest parts = most {X = concept_data} (λ x. concept_plan.the_size x) parts
 
 -- the depth of the deepest of several plans of groups
-abbrev deepest_units : List UnitPlan → ℕ
-deepest_units parts = most {X = unit_data} (λ x. unit_plan.the_size x) parts
+abbrev deepest_groups : List UnitPlan → ℕ
+deepest_groups parts = most {X = group_data} (λ x. group_plan.the_size x) parts
 
 abbrev pub decreases-plans::execute_node : goal.decreases-plans::execute_node
 decreases-plans::execute_node g l = 6 * (concept_plan.the_size l.plan.now) + 0
 
-abbrev pub decreases-plans::execute_tallied : goal.decreases-plans::execute_tallied
-decreases-plans::execute_tallied g l = 6 * (concept_plan.the_size l.plan.now) + 1
+abbrev pub decreases-plans::execute_estimated : goal.decreases-plans::execute_estimated
+decreases-plans::execute_estimated g l = 6 * (concept_plan.the_size l.plan.now) + 1
 
 abbrev pub decreases-plans::execute_within : goal.decreases-plans::execute_within
 decreases-plans::execute_within g l = 6 * (concept_plan.the_size l.plan.now) + 2
@@ -137,24 +142,25 @@ decreases-plans::execute_within g l = 6 * (concept_plan.the_size l.plan.now) + 2
 abbrev pub decreases-plans::members_of : goal.decreases-plans::members_of
 decreases-plans::members_of g l = 6 * (concept_plan.the_size l.operand.now) + 3
 
-abbrev pub decreases-plans::in_first_alone : goal.decreases-plans::in_first_alone
-decreases-plans::in_first_alone g l = 6 * (max (concept_plan.the_size l.first.now) (concept_plan.the_size l.second.now))
+abbrev pub decreases-plans::execute_minus : goal.decreases-plans::execute_minus
+decreases-plans::execute_minus g l = 6 * (max (concept_plan.the_size l.first.now) (concept_plan.the_size l.second.now))
     + 3
 
 abbrev pub decreases-plans::pairs_within : goal.decreases-plans::pairs_within
-decreases-plans::pairs_within g l = 6 * (max (concept_plan.the_size l.leaf.types.now) (value_test.the_size l.leaf.test.now)) + 3
+decreases-plans::pairs_within g l =
+    6 * (max (concept_plan.the_size l.leaf.types.now) (value_test.the_size l.leaf.test.now)) + 3
 
-abbrev pub decreases-plans::units_within : goal.decreases-plans::units_within
-decreases-plans::units_within g l = 6 * (unit_plan.the_size l.units.now) + 2
+abbrev pub decreases-plans::execute_units : goal.decreases-plans::execute_units
+decreases-plans::execute_units g l = 6 * (group_plan.the_size l.units.now) + 2
 
 abbrev pub decreases-plans::tested_of : goal.decreases-plans::tested_of
 decreases-plans::tested_of g l = 6 * (value_test.the_size l.test.now) + 0
 
-abbrev pub decreases-joined_plans::in_all : goal.decreases-joined_plans::in_all
-decreases-joined_plans::in_all g l = 6 * (deepest l.parts.now) + 4
+abbrev pub decreases-joined_plans::execute_and : goal.decreases-joined_plans::execute_and
+decreases-joined_plans::execute_and g l = 6 * (deepest l.parts.now) + 4
 
-abbrev pub decreases-joined_plans::in_some : goal.decreases-joined_plans::in_some
-decreases-joined_plans::in_some g l = 6 * (deepest l.parts.now) + 2
+abbrev pub decreases-joined_plans::execute_or : goal.decreases-joined_plans::execute_or
+decreases-joined_plans::execute_or g l = 6 * (deepest l.parts.now) + 2
 
 abbrev pub decreases-walk_plans::walk_from : goal.decreases-walk_plans::walk_from
 decreases-walk_plans::walk_from g l = 6 * (concept_plan.the_size l.walk.operand.now) + 4
@@ -162,31 +168,31 @@ decreases-walk_plans::walk_from g l = 6 * (concept_plan.the_size l.walk.operand.
 abbrev pub decreases-walk_plans::walk_to_few : goal.decreases-walk_plans::walk_to_few
 decreases-walk_plans::walk_to_few g l = 6 * (concept_plan.the_size l.walk.operand.now) + 3
 
-abbrev pub decreases-dotted_plans::led_from : goal.decreases-dotted_plans::led_from
-decreases-dotted_plans::led_from g l = 6 * (max (concept_plan.the_size l.start.now) (deepest l.names.now)) + 5
+abbrev pub decreases-dotted_plans::execute_dotted : goal.decreases-dotted_plans::execute_dotted
+decreases-dotted_plans::execute_dotted g l = 6 * (max (concept_plan.the_size l.start.now) (deepest l.names.now)) + 5
 
-abbrev pub decreases-dotted_plans::led_along : goal.decreases-dotted_plans::led_along
-decreases-dotted_plans::led_along g l = 6 * (deepest l.names.now) + 4
+abbrev pub decreases-dotted_plans::execute_attributes : goal.decreases-dotted_plans::execute_attributes
+decreases-dotted_plans::execute_attributes g l = 6 * (deepest l.names.now) + 4
 
 abbrev pub decreases-dotted_plans::named_by : goal.decreases-dotted_plans::named_by
 decreases-dotted_plans::named_by g l = 6 * (concept_plan.the_size l.name.now) + 3
 
-abbrev pub decreases-unit_plans::execute_group_node : goal.decreases-unit_plans::execute_group_node
-decreases-unit_plans::execute_group_node g l = 6 * (unit_plan.the_size l.plan.now) + 0
+abbrev pub decreases-group_plans::execute_group_node : goal.decreases-group_plans::execute_group_node
+decreases-group_plans::execute_group_node g l = 6 * (group_plan.the_size l.plan.now) + 0
 
-abbrev pub decreases-unit_plans::execute_groups : goal.decreases-unit_plans::execute_groups
-decreases-unit_plans::execute_groups g l = 6 * (unit_plan.the_size l.plan.now) + 1
+abbrev pub decreases-group_plans::execute_groups : goal.decreases-group_plans::execute_groups
+decreases-group_plans::execute_groups g l = 6 * (group_plan.the_size l.plan.now) + 1
 
-abbrev pub decreases-unit_plans::groups_in_first_alone : goal.decreases-unit_plans::groups_in_first_alone
-decreases-unit_plans::groups_in_first_alone g l = 6
-    * (max (unit_plan.the_size l.first.now) (unit_plan.the_size l.second.now)) + 2
+abbrev pub decreases-group_plans::execute_group_minus : goal.decreases-group_plans::execute_group_minus
+decreases-group_plans::execute_group_minus g l = 6
+    * (max (group_plan.the_size l.first.now) (group_plan.the_size l.second.now)) + 2
 
-abbrev pub decreases-unit_plans::groups_with_pairs : goal.decreases-unit_plans::groups_with_pairs
-decreases-unit_plans::groups_with_pairs g l = 6
+abbrev pub decreases-group_plans::groups_with_pairs : goal.decreases-group_plans::groups_with_pairs
+decreases-group_plans::groups_with_pairs g l = 6
     * (max (concept_plan.the_size l.leaf.types.now) (value_test.the_size l.leaf.test.now)) + 3
 
-abbrev pub decreases-unit_plans::groups_in_all : goal.decreases-unit_plans::groups_in_all
-decreases-unit_plans::groups_in_all g l = 6 * (deepest_units l.parts.now) + 3
+abbrev pub decreases-group_plans::execute_group_and : goal.decreases-group_plans::execute_group_and
+decreases-group_plans::execute_group_and g l = 6 * (deepest_groups l.parts.now) + 3
 
-abbrev pub decreases-unit_plans::groups_in_some : goal.decreases-unit_plans::groups_in_some
-decreases-unit_plans::groups_in_some g l = 6 * (deepest_units l.parts.now) + 2
+abbrev pub decreases-group_plans::execute_group_or : goal.decreases-group_plans::execute_group_or
+decreases-group_plans::execute_group_or g l = 6 * (deepest_groups l.parts.now) + 2

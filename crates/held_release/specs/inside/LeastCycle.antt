@@ -4,11 +4,12 @@ use Rattle.hierarchy.specs.Hierarchy.{Reaches}
 use Rattle.row_lists.specs.declared.fault.LoadFault.{LoadFault}
 use Rattle.row_lists.specs.declared.fault.LoadFault.TheVariants.{Cycle, Memory}
 
--- a fault that names the identifier of the least concept that reaches itself by rows of numbers, or is the want of
--- memory
+-- the fault is `Cycle` with the identifier of the least concept that is its own descendant by
+-- `rows`, which are pairs of numbers; or it is want of memory
 abbrev pub IsLeastCycle : LoadFault → List ℕ → List (ℕ × ℕ) → Type 0
 IsLeastCycle (Cycle id) concepts rows =
-    (concept : ℕ) × (concept < length concepts) × (slice_index concepts concept ≡ id) × Reaches rows concept concept
+    (concept : ℕ) × (concept < length concepts) × (slice_index concepts concept ≡ id)
+    × Reaches rows concept concept
     × ((lesser : ℕ) → lesser < concept → ¬ Reaches rows lesser lesser)
 IsLeastCycle Memory concepts rows = Unit {0}
 IsLeastCycle other concepts rows = ⊥

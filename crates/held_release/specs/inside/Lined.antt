@@ -1,4 +1,4 @@
--- Lines by the numbers of their concepts, and the name rows of the concepts.
+-- The output lines of concepts by number, and the name rows of the concepts.
 use Rattle.std.specs.Prelude.{ℕ, List}
 use Rattle.rf2_rows.specs.Release.{Name}
 

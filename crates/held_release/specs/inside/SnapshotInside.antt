@@ -1,4 +1,4 @@
--- What the fields of a snapshot stand for, and what they keep.
+-- The contents that the fields of a `Snapshot` hold, and the invariant of these fields.
 use Rattle.std.specs.Prelude.{◌≡◌, ◌<◌, ◌^◌, true, All, map, length, string_bytes}
 use Rattle.std.specs.List.Sorted.{IsStrictlyIncreasing}
 use Rattle.rf2_rows.specs.Release.{Attribute}
@@ -12,7 +12,7 @@ use Rattle.hierarchy.specs.ParentsFirst.{IsParentsFirst}
 use Rattle.held_release.specs.inside.Sorted.{IsSortedBySource, in_file_order}
 use Rattle.held_release.specs.declared.held_release.Snapshot.TheInside.{Inside}
 
--- the contents that the fields of a snapshot stand for
+-- the contents that the fields hold
 abbrev pub contents_in : Inside → Contents
 contents_in inside = record {
   release = record {
@@ -28,19 +28,22 @@ contents_in inside = record {
   passed = inside.passed;
 }
 
--- the concepts rise; the numbers in rows are those of concepts; the lines are those of the concepts; parents come
--- first in the order of the concepts; the attribute rows are sorted by source, few enough to number; their values
--- that are concepts are in force; there are few is-a rows and member rows; and the inactive concepts rise
+-- the invariant: the concepts rise; the numbers in rows are those of concepts; the lines are those
+-- of the concepts; in `order` parents come before their children; the attribute rows are sorted by
+-- source, and their values that are concepts are in force; there are fewer than 2^31 rows of each
+-- kind; and the inactive concepts rise
 abbrev pub IsNumbered : Inside → Type 0
 IsNumbered inside =
     IsStrictlyIncreasing inside.concepts
     × IsWithin (length inside.concepts) inside.isa.items
     × IsWithin (length inside.concepts) inside.members.items
-    × (inside.lines.lines ≡ map (concept_line (name_among (string_bytes inside.language) inside.lines.names)) inside.concepts)
+    × (inside.lines.lines ≡ map (concept_line
+    (name_among (string_bytes inside.language) inside.lines.names)) inside.concepts)
     × IsParentsFirst (length inside.concepts) inside.isa.items inside.order.items
     × IsSortedBySource inside.concepts inside.attributes
     × (length inside.attributes.rows < 2 ^ 31)
-    × All (λ (row : Attribute). is_value_among inside.concepts row.value ≡ true) (in_file_order inside.concepts inside.attributes)
+    × All (λ (row : Attribute). is_value_among inside.concepts row.value ≡ true)
+    (in_file_order inside.concepts inside.attributes)
     × (length inside.isa.items < 2 ^ 31)
     × (length inside.members.items < 2 ^ 31)
     × IsStrictlyIncreasing inside.inactive.items

@@ -1,5 +1,5 @@
--- The state of the search for cycles: which concepts a concept was found to reach, and ranks that no row lowers. Both
--- belong to this search alone; `Reaches` defines cycles.
+-- The state of the search for cycles: marks on the concepts that a concept, the start, was found to
+-- reach, and ranks that no row lowers. These are the search's own; `Reaches` defines cycles.
 use Rattle.std.specs.Prelude.{ℕ, ◌≡◌, ◌≤◌, Bool, true, false, not, List, All, slice_index_or, count_by, ◌⊎◌}
 use Rattle.hierarchy.specs.Hierarchy.{Reaches}
 
@@ -11,11 +11,11 @@ IsMarked marks concept = slice_index_or marks concept false ≡ true
 abbrev pub unmarked_count : List Bool → ℕ
 unmarked_count marks = count_by not marks
 
--- each marked concept is one that the start reaches
+-- only concepts that the start reaches are marked
 abbrev pub MarksReached : List (ℕ × ℕ) → ℕ → List Bool → Type 0
 MarksReached rows start marks = (concept : ℕ) → IsMarked marks concept → Reaches rows start concept
 
--- if the child of a row is the start or marked, the parent of the row is marked
+-- a row is followed: if its child is the start or marked, its parent is marked
 abbrev pub IsFollowed : ℕ → List Bool → ℕ × ℕ → Type 0
 IsFollowed start marks row = (row.0 ≡ start) ⊎ IsMarked marks row.0 → IsMarked marks row.1
 

@@ -1,25 +1,29 @@
--- A physical plan whose leaves take requested choices, each the first of the list that reaches it if the leaf offers
--- that choice; and what of the list is left after the plan.
+-- A physical plan after its leaves took requested choices from a list. Each leaf uses up the first
+-- choice of the list, and takes it if it offers it; the next leaf gets the others.
 use Rattle.std.specs.Prelude.{List, drop}
 use Rattle.set_algebra.specs.declared.choice.Choice.{Choice}
-use Rattle.set_algebra.specs.Physical.{Physical, physical_empty, physical_all, physical_one, physical_walk, physical_members, physical_and}
-use Rattle.set_algebra.specs.Physical.{physical_or, physical_minus, physical_values, physical_pairs, physical_units}
-use Rattle.set_algebra.specs.Physical.{Physicals, no_physicals, physical_then, PhysicalUnits, physical_nothing, physical_every}
-use Rattle.set_algebra.specs.Physical.{physical_units_and, physical_units_or, physical_units_minus, physical_units_pairs}
-use Rattle.set_algebra.specs.Physical.{PhysicalUnitsList, no_physical_units, physical_units_then}
+use Rattle.set_algebra.specs.Physical.{Physical, physical_empty, physical_all, physical_one, physical_walk}
+use Rattle.set_algebra.specs.Physical.{physical_members, physical_and}
+use Rattle.set_algebra.specs.Physical.{physical_or, physical_minus, physical_values, physical_pairs, physical_groups}
+use Rattle.set_algebra.specs.Physical.{Physicals, no_physicals, physical_then, PhysicalGroups, physical_nothing}
+use Rattle.set_algebra.specs.Physical.{physical_every}
+use Rattle.set_algebra.specs.Physical.{physical_groups_and, physical_groups_or, physical_groups_minus}
+use Rattle.set_algebra.specs.Physical.{physical_groups_pairs}
+use Rattle.set_algebra.specs.Physical.{PhysicalGroupsList, no_physical_groups, physical_groups_then}
 use Rattle.set_algebra.specs.Physical.{PhysicalTest, physical_within, physical_outside, physical_number}
 use Rattle.plan_bounds.specs.Counts.{is_within}
 use Rattle.planner.specs.Asked.{asked_or, first_of}
 
--- a plan with its choices, and the rest of the list
+-- a plan after its leaves took their choices, and the choices that no leaf took
 pub record PlanAndRest (Sort : Type 0) : Type 0 where
-  -- the plan with its choices
+  -- the plan after its leaves took their choices
   pub plan : Sort
-  -- the choices of the list that are left
+  -- the choices that no leaf took
   pub rest : List Choice
 
 abbrev mutual
-  -- a plan of concepts whose leaves take the choices of a list, and the rest of the list
+  -- the plan of concepts after its leaves took choices from `asked`, and the choices that no leaf
+  -- took
   pub with_asked : List Choice → Physical → PlanAndRest Physical
   with_asked asked physical_empty = record { plan = physical_empty; rest = asked }
   with_asked asked physical_all = record { plan = physical_all; rest = asked }
@@ -48,14 +52,16 @@ abbrev mutual
       let inner = with_asked (drop 1 asked) types in
       let last = test_with_asked inner.rest test in
       record {
-        plan = physical_pairs back count inner.plan last.plan (asked_or (is_within test) (first_of asked) choice);
+        plan = physical_pairs back count inner.plan last.plan
+            (asked_or (is_within test) (first_of asked) choice);
         rest = last.rest;
       }
-  with_asked asked (physical_units count units) =
+  with_asked asked (physical_groups count units) =
       let own = group_with_asked asked units in
-      record { plan = physical_units count own.plan; rest = own.rest }
+      record { plan = physical_groups count own.plan; rest = own.rest }
 
-  -- several plans of concepts whose leaves take the choices of a list, and the rest of the list
+  -- the plans of concepts of a list after their leaves took choices from `asked`, and the choices
+  -- that no leaf took
   pub all_with_asked : List Choice → Physicals → PlanAndRest Physicals
   all_with_asked asked no_physicals = record { plan = no_physicals; rest = asked }
   all_with_asked asked (physical_then first rest) =
@@ -63,37 +69,41 @@ abbrev mutual
       let more = all_with_asked one.rest rest in
       record { plan = physical_then one.plan more.plan; rest = more.rest }
 
-  -- a plan of groups whose leaves take the choices of a list, and the rest of the list
-  pub group_with_asked : List Choice → PhysicalUnits → PlanAndRest PhysicalUnits
+  -- the plan of groups after its leaves took choices from `asked`, and the choices that no leaf
+  -- took
+  pub group_with_asked : List Choice → PhysicalGroups → PlanAndRest PhysicalGroups
   group_with_asked asked physical_nothing = record { plan = physical_nothing; rest = asked }
   group_with_asked asked physical_every = record { plan = physical_every; rest = asked }
-  group_with_asked asked (physical_units_and parts) =
+  group_with_asked asked (physical_groups_and parts) =
       let own = groups_with_asked asked parts in
-      record { plan = physical_units_and own.plan; rest = own.rest }
-  group_with_asked asked (physical_units_or parts) =
+      record { plan = physical_groups_and own.plan; rest = own.rest }
+  group_with_asked asked (physical_groups_or parts) =
       let own = groups_with_asked asked parts in
-      record { plan = physical_units_or own.plan; rest = own.rest }
-  group_with_asked asked (physical_units_minus first second) =
+      record { plan = physical_groups_or own.plan; rest = own.rest }
+  group_with_asked asked (physical_groups_minus first second) =
       let left = group_with_asked asked first in
       let right = group_with_asked left.rest second in
-      record { plan = physical_units_minus left.plan right.plan; rest = right.rest }
-  group_with_asked asked (physical_units_pairs count types test choice) =
+      record { plan = physical_groups_minus left.plan right.plan; rest = right.rest }
+  group_with_asked asked (physical_groups_pairs count types test choice) =
       let inner = with_asked (drop 1 asked) types in
       let last = test_with_asked inner.rest test in
       record {
-        plan = physical_units_pairs count inner.plan last.plan (asked_or (is_within test) (first_of asked) choice);
+        plan = physical_groups_pairs count inner.plan last.plan
+            (asked_or (is_within test) (first_of asked) choice);
         rest = last.rest;
       }
 
-  -- several plans of groups whose leaves take the choices of a list, and the rest of the list
-  pub groups_with_asked : List Choice → PhysicalUnitsList → PlanAndRest PhysicalUnitsList
-  groups_with_asked asked no_physical_units = record { plan = no_physical_units; rest = asked }
-  groups_with_asked asked (physical_units_then first rest) =
+  -- the plans of groups of a list after their leaves took choices from `asked`, and the choices
+  -- that no leaf took
+  pub groups_with_asked : List Choice → PhysicalGroupsList → PlanAndRest PhysicalGroupsList
+  groups_with_asked asked no_physical_groups = record { plan = no_physical_groups; rest = asked }
+  groups_with_asked asked (physical_groups_then first rest) =
       let one = group_with_asked asked first in
       let more = groups_with_asked one.rest rest in
-      record { plan = physical_units_then one.plan more.plan; rest = more.rest }
+      record { plan = physical_groups_then one.plan more.plan; rest = more.rest }
 
-  -- a test whose plan's leaves take the choices of a list, and the rest of the list
+  -- the test after the leaves of its plan took choices from `asked`, and the choices that no leaf
+  -- took
   pub test_with_asked : List Choice → PhysicalTest → PlanAndRest PhysicalTest
   test_with_asked asked (physical_within operand) =
       let own = with_asked asked operand in
@@ -101,4 +111,5 @@ abbrev mutual
   test_with_asked asked (physical_outside operand) =
       let own = with_asked asked operand in
       record { plan = physical_outside own.plan; rest = own.rest }
-  test_with_asked asked (physical_number compare number) = record { plan = physical_number compare number; rest = asked }
+  test_with_asked asked (physical_number compare number) =
+      record { plan = physical_number compare number; rest = asked }

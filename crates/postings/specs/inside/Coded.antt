@@ -1,4 +1,5 @@
--- Attribute rows by numbers: of the source, of the place of the type among all types, of the group, and of the value.
+-- Attribute rows as numbers (coded rows): the number of the source, the place of the type in the
+-- table of types, the relationship group number, and the number of the value.
 use Rattle.std.specs.Prelude.{ℕ, ◌+◌, ◌==◌, ◌≡◌, ◌≤◌, ◌<◌, ◌^◌, ◌&&◌, ◌++◌, Bool, not}
 use Rattle.std.specs.Prelude.{if◌then◌else◌, List, [], ◌∷◌}
 use Rattle.std.specs.Prelude.{All, filter, length, map, slice_index, vec_len}
@@ -16,7 +17,7 @@ use Rattle.postings.specs.declared.rows.CodedRows.{CodedRows}
 use Rattle.held_release.specs.declared.attribute_types.Types.{Types}
 use Rattle.postings.specs.declared.values.Values.{Values}
 
--- the attribute row that a row of numbers stands for, by the tables `concepts`, `types` and `values`
+-- the attribute row that a coded row encodes, by the tables `concepts`, `types` and `values`
 abbrev pub row_coded : List ℕ → List ℕ → List Value → CodedRow → Attribute
 row_coded concepts types values row = record {
   source = slice_index concepts row.source;
@@ -27,44 +28,46 @@ row_coded concepts types values row = record {
 
 -- the numbers of `row` are within their tables
 pub record IsCoded (concepts types : List ℕ) (values : List Value) (row : CodedRow) : Type 0 where
-  -- the number of the source is that of a concept
+  -- the number of the source is below the number of concepts
   pub source : row.source < length concepts
-  -- the place of the type is one in the table of types
+  -- the place of the type is below the number of types
   pub type_place : row.type_place < length types
-  -- the number of the value is one in the table of values
+  -- the number of the value is below the number of values
   pub value : row.value < length values
 
--- the attribute rows that rows of numbers stand for, by their tables
+-- the attribute rows that coded rows encode, by their tables
 abbrev pub rows_coded : List ℕ → Types → Values → List CodedRow → List Attribute
-rows_coded concepts types values rows = map (row_coded concepts types.numbers (values_in concepts values)) rows
+rows_coded concepts types values rows =
+    map (row_coded concepts types.numbers (values_in concepts values)) rows
 
--- `coded` and its tables stand for the attribute rows `rows` of `concepts`
-pub record AreCoded (concepts : List ℕ) (rows : List Attribute) (type_table : Types) (value_table : Values) (coded : List CodedRow) :
+-- `coded`, with its tables of types and values, encodes the attribute rows `rows` of `concepts`
+pub record AreCoded (concepts : List ℕ) (rows : List Attribute) (type_table : Types)
+    (value_table : Values) (coded : List CodedRow) :
     Type 0 where
-  -- the rows of numbers stand for the attribute rows
+  -- the coded rows encode the attribute rows
   pub stand_for : rows_coded concepts type_table value_table coded ≡ rows
   -- the numbers of each row are within their tables
   pub within : All (IsCoded concepts type_table.numbers (values_in concepts value_table)) coded
-  -- the table of types has the types of the rows, each once
+  -- the table of types has the distinct types of the rows
   pub types : type_table.numbers ≡ types_of rows
   -- the list of type identifiers is the table of types
   pub ids : type_table.ids.items ≡ type_table.numbers
-  -- the tables of decimals and texts are those of the values of the rows
+  -- the tables of decimals and texts have those among the values of the rows
   pub tables : AreTablesOf rows value_table.decimals.items value_table.texts
-  -- there are less than 2^31 rows
+  -- there are fewer than 2^31 rows
   pub few : length rows < 2 ^ 31
-  -- 32 bits hold the number of each value
+  -- the number of each value fits in 32 bits
   pub few_values : length (values_in concepts value_table) < 2 ^ 32
 
--- `coded`, rows of numbers with their tables, stands for the attribute rows `rows` of `concepts`
+-- `coded` encodes the attribute rows `rows` of `concepts`
 abbrev pub AreCodedRows : List ℕ → List Attribute → CodedRows → Type 0
 AreCodedRows concepts rows coded = AreCoded concepts rows coded.types coded.values coded.rows.items
 
--- the rows whose source has the number `source`
+-- the rows of `rows` whose source has the number `source`
 abbrev pub of_source : List CodedRow → ℕ → List CodedRow
 of_source rows source = filter (λ (row : CodedRow). row.source == source) rows
 
--- `rows` stand source by source, and the number of each source is below `count`
+-- `rows` are ordered by source, and the number of each source is below `count`
 abbrev pub IsBySource : ℕ → List CodedRow → Type 0
 IsBySource count rows = rows ≡ flat_map (of_source rows) (range_with_len 0 count)
 
@@ -84,61 +87,75 @@ has_same_pair one other = code_eq (pair_code one) (pair_code other)
 abbrev pub has_same_in_group : CodedRow → CodedRow → Bool
 has_same_in_group one other = (one.group == other.group) && has_same_pair one other
 
--- the marks of `rows`, which come after `before`: the number that `number` gives a row, and whether no row before it
--- is the same by the test `same`
-abbrev pub marks_after : (CodedRow → CodedRow → Bool) → (CodedRow → ℕ) → List CodedRow → List CodedRow → List Flagged
+-- the marks of `rows` if the rows `before` come before them: the number that `number` gives a row,
+-- and whether no earlier row equals it by `same`
+abbrev pub marks_after : (CodedRow → CodedRow → Bool) → (CodedRow → ℕ) → List CodedRow
+    → List CodedRow → List Flagged
 marks_after same number before [] = []
 marks_after same number before (row ∷ rows) =
-    record { number = number row; is_first = not (list_any (same row) before) } ∷ marks_after same number (before ++ row ∷ []) rows
+    record { number = number row; is_first = not (list_any (same row) before) }
+    ∷ marks_after same number (before ++ row ∷ []) rows
 
 -- the group numbers of the rows of one source, without 0, rising and each once
 abbrev pub numbers_of_groups : List CodedRow → List ℕ
-numbers_of_groups rows = rising (filter (λ group. not (group == 0)) (map (λ (row : CodedRow). row.group) rows))
+numbers_of_groups rows =
+    rising (filter (λ group. not (group == 0)) (map (λ (row : CodedRow). row.group) rows))
 
--- the pairs of the rows of one source that have no group number, each once, in the order of their first rows
+-- the distinct pairs of the rows of one source with the group number 0, in the order of the first
+-- row of each
 abbrev pub ungrouped_pairs : List CodedRow → List (ℕ × ℕ)
-ungrouped_pairs rows = distinct code_eq (map pair_code (filter (λ (row : CodedRow). row.group == 0) rows))
+ungrouped_pairs rows = distinct code_eq
+    (map pair_code (filter (λ (row : CodedRow). row.group == 0) rows))
 
--- the groups of the rows of one source: first those with a number, and then those of a pair
+-- the groups of the rows of one source: first those with a group number, then one for each distinct
+-- pair without a number
 abbrev pub group_codes : List CodedRow → List (ℕ × (ℕ × ℕ))
 group_codes rows = map (λ group. (group, (0, 0))) (numbers_of_groups rows)
     ++ map (λ (pair : ℕ × ℕ). (0, pair)) (ungrouped_pairs rows)
 
--- the place of a row's group among the groups of its source
+-- the place of the group of `row` among the groups of its source, whose rows are `rows`
 abbrev pub place_in_source : List CodedRow → CodedRow → ℕ
 place_in_source rows row =
-    if row.group == 0 then length (numbers_of_groups rows) + position_or_len (code_eq (pair_code row)) (ungrouped_pairs rows)
+    if row.group == 0 then length (numbers_of_groups rows)
+    + position_or_len (code_eq (pair_code row)) (ungrouped_pairs rows)
     else position_or_len (λ group. row.group == group) (numbers_of_groups rows)
 
 -- how many groups the sources before `source` have
 abbrev pub groups_ahead : List CodedRow → ℕ → ℕ
-groups_ahead rows source = length (flat_map (λ other. group_codes (of_source rows other)) (range_with_len 0 source))
+groups_ahead rows source =
+    length (flat_map (λ other. group_codes (of_source rows other)) (range_with_len 0 source))
 
--- the marks of the rows of one source with the source; the flag says whether a row is the first with its pair in the
--- source
+-- the marks of the rows of one source: the source, and whether a row is the first with its pair in
+-- it
 abbrev pub source_marks : List CodedRow → List Flagged
 source_marks rows = marks_after has_same_pair (λ (row : CodedRow). row.source) [] rows
 
--- the marks of the rows of one source with their groups, whose numbers begin at `ahead`; the flag says whether a row
--- is the first with its pair in its group
+-- the marks of the rows of one source: the group, numbered from `ahead`, and whether a row is the
+-- first with its pair in its group
 abbrev pub group_marks : ℕ → List CodedRow → List Flagged
-group_marks ahead rows = marks_after has_same_in_group (λ (row : CodedRow). ahead + place_in_source rows row) [] rows
+group_marks ahead rows =
+    marks_after has_same_in_group (λ (row : CodedRow). ahead + place_in_source rows row) [] rows
 
--- the marks with their sources of the rows of the first `count` sources
+-- the marks with the source for the rows of the first `count` sources
 abbrev pub all_source_marks : List CodedRow → ℕ → List Flagged
-all_source_marks rows count = flat_map (λ source. source_marks (of_source rows source)) (range_with_len 0 count)
+all_source_marks rows count =
+    flat_map (λ source. source_marks (of_source rows source)) (range_with_len 0 count)
 
--- the marks with their groups of the rows of the first `count` sources
+-- the marks with the group for the rows of the first `count` sources
 abbrev pub all_group_marks : List CodedRow → ℕ → List Flagged
-all_group_marks rows count = flat_map (λ source. group_marks (groups_ahead rows source) (of_source rows source)) (range_with_len 0 count)
+all_group_marks rows count =
+    flat_map (λ source. group_marks (groups_ahead rows source) (of_source rows source))
+    (range_with_len 0 count)
 
--- `marks` are those of the rows of `count` sources, and say how many groups the sources before each have
+-- `marks` has the marks of `rows`, whose sources are `count` concepts, and for each source the
+-- number of groups before it
 pub record AreRowMarks (count : ℕ) (rows : List CodedRow) (marks : RowMarks) : Type 0 where
-  -- the marks with the sources are those of all rows
+  -- the marks with the source are those of all rows
   pub sources : marks.sources.items ≡ all_source_marks rows count
-  -- the marks with the groups are those of all rows
+  -- the marks with the group are those of all rows
   pub groups : marks.groups.items ≡ all_group_marks rows count
   -- there is a start for each source, and one at the end
   pub starts_len : vec_len marks.starts ≡ count + 1
   -- the start of a source is the number of groups of the sources before it
-  pub starts : (source : ℕ) → source ≤ count → slice_index marks.starts.items source ≡ groups_ahead rows source
+  pub starts : (source : ℕ) → source ≤ count
+      → slice_index marks.starts.items source ≡ groups_ahead rows source

@@ -1,4 +1,4 @@
--- What the fields of the indexes say, and what they keep.
+-- What the fields of `Indexes` mean, and their invariant.
 use Rattle.std.specs.Prelude.{◌≡◌, ◌<◌, ◌^◌, length, map}
 use Rattle.std.specs.List.Sorted.{IsStrictlyIncreasing}
 use Rattle.held_release.specs.Numbering.{concept_number}
@@ -8,26 +8,25 @@ use Rattle.postings.specs.inside.KeptRows.{rows_kept}
 use Rattle.postings.specs.inside.RowIndexes.{AreRowIndexes}
 use Rattle.postings.specs.declared.index.Indexes.TheInside.{Inside}
 
--- what the fields of the indexes stand for
+-- what the indexes with these fields hold
 abbrev pub indexed_in : Inside → Indexed
 indexed_in inside = record {
   concepts = inside.concepts.items;
   hierarchy = inside.hierarchy;
-  rows = rows_coded inside.concepts.items inside.rows.types inside.rows.values (rows_kept inside.rows);
+  rows = rows_coded inside.concepts.items inside.rows.types inside.rows.values
+      (rows_kept inside.rows);
   members = inside.members;
   decimals = inside.rows.values.decimals.items;
   texts = inside.rows.values.texts;
 }
 
--- what the fields keep: the concepts rise and are less than 2^31; the lists are those of the rows that the fields
--- stand for; each concept has its lists; the reference sets are the concepts with members; and each type has the
--- number of its concept
+-- the invariant of the fields of `Indexes`
 pub record AreIndexed (inside : Inside) : Type 0 where
-  -- the identifiers of the concepts rise
+  -- the identifiers of the concepts rise strictly
   pub rising : IsStrictlyIncreasing inside.concepts.items
-  -- there are less than 2^31 concepts
+  -- there are fewer than 2^31 concepts
   pub few : length inside.concepts.items < 2 ^ 31
-  -- the lists of rows are those of the rows that the fields stand for
+  -- the lists of rows are those of the rows that the fields encode
   pub rows : AreRowIndexes inside.concepts.items (indexed_in inside).rows inside.rows
   -- each concept has its lists in the hierarchy
   pub hierarchy : HasListsFor (length inside.concepts.items) inside.hierarchy
@@ -35,5 +34,6 @@ pub record AreIndexed (inside : Inside) : Type 0 where
   pub members : length inside.members ≡ length inside.concepts.items
   -- the reference sets are the concepts that have members
   pub reference_sets : inside.reference_sets.items ≡ with_members inside.members
-  -- each type has the number of the concept that it is, if it is one in force
-  pub types : inside.type_concepts.items ≡ map (concept_number inside.concepts.items) inside.rows.types.ids.items
+  -- for each type, its entry has the number of the concept in force that it is, or none
+  pub types : inside.type_concepts.items ≡ map (concept_number inside.concepts.items)
+      inside.rows.types.ids.items

@@ -1,4 +1,4 @@
--- The contents that the fields of an engine hold, and the invariant of the fields.
+-- The contents that the fields of an engine stand for, and the invariant of the fields.
 use Rattle.std.specs.List.Sorted.{IsStrictlyIncreasing}
 use Rattle.held_release.specs.Contents.{Contents}
 use Rattle.postings.specs.Indexed.{IsIndexOf}
@@ -11,4 +11,5 @@ contents_in inside = inside.snapshot
 -- the concepts of the release rise, and the indexes are those of the release
 abbrev pub IsReady : Inside → Type 0
 IsReady inside =
-    IsStrictlyIncreasing inside.snapshot.release.concepts × IsIndexOf inside.indexes inside.snapshot.release
+    IsStrictlyIncreasing inside.snapshot.release.concepts
+    × IsIndexOf inside.indexes inside.snapshot.release

@@ -3,7 +3,7 @@ use Rattle.std.specs.Prelude.{ℕ, ◌≡◌, ◌<◌, ◌==◌, true, List, Opt
 use Rattle.std.specs.Simd.Lanes.{mask_l}
 use Rattle.release_files.specs.Lines.{line_feed}
 
--- no line feed is among the first `place` bytes
+-- none of the first `place` bytes is a line feed
 abbrev pub NoFeedBefore : List ℕ → ℕ → Type 0
 NoFeedBefore bytes place = (k : ℕ) → k < place → ¬ ((slice_index bytes k == line_feed) ≡ true)
 
@@ -11,7 +11,8 @@ NoFeedBefore bytes place = (k : ℕ) → k < place → ¬ ((slice_index bytes k 
 abbrev pub IsFirstFeed : List ℕ → Option ℕ → Type 0
 IsFirstFeed bytes found =
     MatchOption found (NoFeedBefore bytes (length bytes))
-    (λ at. (at < length bytes) × NoFeedBefore bytes at × ((slice_index bytes at == line_feed) ≡ true))
+    (λ at. (at < length bytes) × NoFeedBefore bytes at
+    × ((slice_index bytes at == line_feed) ≡ true))
 
 -- one bit for each byte, which is set for a line feed; the first byte has the lowest bit
 abbrev pub feed_bits : List ℕ → ℕ

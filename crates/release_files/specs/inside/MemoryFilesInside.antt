@@ -4,7 +4,7 @@ use Rattle.release_files.specs.MemorySource.{MemorySource}
 use Rattle.release_files.specs.Source.{file_text}
 use Rattle.release_files.specs.declared.memory_files.MemoryFiles.TheInside.{Inside}
 
--- the source that the fields of files in memory stand for
+-- the source that the fields of a `MemoryFiles` describe
 abbrev pub source_in : Inside → MemorySource
 source_in inside = record {
   files = map file_text inside.files.now;
@@ -22,6 +22,6 @@ source_in inside = record {
   };
 }
 
--- a read may give at least one byte
+-- one read may give at least one byte
 abbrev pub HasPieces : Inside → Type 0
 HasPieces inside = 1 ≤ inside.piece

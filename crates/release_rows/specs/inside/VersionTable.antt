@@ -1,6 +1,7 @@
--- The data that the second pass keeps of the rows that it has taken. It compares the rows of components that have
--- several.
-use Rattle.std.specs.Prelude.{◌≡◌, ◌<◌, ℕ, ◌+◌, ◌*◌, ◌/◌, ◌^◌, ◌==◌, ◌&&◌, Bool, false, not, nat_lt, IsTrue, IfSome, List, [], ◌∷◌, ◌++◌, All, Contains, length, map, slice_index, Option, unwrap_or}
+-- The table of the rows that the second pass has met, with the versions of components that have
+-- several rows.
+use Rattle.std.specs.Prelude.{◌≡◌, ◌<◌, ℕ, ◌+◌, ◌*◌, ◌/◌, ◌^◌, ◌==◌, ◌&&◌, Bool, false, not, nat_lt, IsTrue, IfSome}
+use Rattle.std.specs.Prelude.{List, [], ◌∷◌, ◌++◌, All, Contains, length, map, slice_index, Option, unwrap_or}
 use Rattle.std.specs.List.{list_any}
 use Rattle.rf2_rows.specs.Versions.{same_row}
 use Rattle.rf2_rows.specs.declared.kind.FileKind.{FileKind}
@@ -18,24 +19,24 @@ pub record Version : Type 0 where
   -- the line of its first row
   pub text : List ℕ
 
--- the data that the second pass keeps of the rows that it has taken
+-- the table of the rows that the second pass has met
 pub record VersionTable : Type 0 where
   -- the keys of components that have several rows
   pub repeated : List ℕ
-  -- the codes of the versions, in the order in which they were first met
+  -- the codes of the versions, in the order of their first rows
   pub codes : List ℕ
-  -- the versions, in the order in which they were first met
+  -- the versions, in the order of their first rows
   pub versions : List Version
   -- for each row, whether it is the first of its version
   pub chosen : List Bool
 
--- the code of an effective time: that of a later time is greater, and that of no time is above all times of eight
--- digits
+-- the code of an effective time: that of a later time is greater, and that of no time is above all
+-- times of eight digits
 abbrev pub time_code : Option ℕ → ℕ
 time_code time = unwrap_or time 100000000
 
--- `code` is the code of the row's version: the index of its key among the repeated ones, times 2^32, plus the code of
--- its time
+-- `code` is the code of the row's version: the index of its key among the repeated ones, times
+-- 2^32, plus the code of its time
 pub record IsCodeOf (repeated : List ℕ) (row : KeyedRow) (code : ℕ) : Type 0 where
   -- the index of the row's key
   pub place : ℕ
@@ -48,26 +49,27 @@ pub record IsCodeOf (repeated : List ℕ) (row : KeyedRow) (code : ℕ) : Type 0
   -- the code is made of the index and the time
   pub is : code ≡ place * 2 ^ 32 + time_code row.time
 
--- `version` is that of one of `rows`, and of no row before that one
-pub record IsVersionAmong (repeated : List ℕ) (rows : List KeyedRow) (version : Version) : Type 0 where
-  -- the rows before the version's first row
-  pub before : List KeyedRow
-  -- the version's first row
-  pub row : KeyedRow
-  -- the rows after the version's first row
-  pub behind : List KeyedRow
-  -- the rows are those before the first row, that row, and those after it
-  pub stands : rows ≡ before ++ row ∷ behind
-  -- the version's index is that of its first row
-  pub place : version.place ≡ length before
-  -- the version's code is that of its first row
-  pub code : IsCodeOf repeated row version.code
-  -- the version's kind is that of its first row
-  pub kind : version.kind ≡ row.kind
-  -- the version's line is that of its first row
-  pub text : version.text ≡ row.text
-  -- no earlier row has the key and the time of the first row
-  pub first : is_repeated before row ≡ false
+-- `version` is the version of one of `rows`, and of no row before that one
+pub record IsVersionAmong (repeated : List ℕ) (rows : List KeyedRow) (version : Version) : Type 0
+  where
+    -- the rows before the version's first row
+    pub before : List KeyedRow
+    -- the version's first row
+    pub row : KeyedRow
+    -- the rows after the version's first row
+    pub following : List KeyedRow
+    -- the rows are those before the first row, that row, and those after it
+    pub stands : rows ≡ before ++ row ∷ following
+    -- the version's index is that of its first row
+    pub place : version.place ≡ length before
+    -- the version's code is that of its first row
+    pub code : IsCodeOf repeated row version.code
+    -- the version's kind is that of its first row
+    pub kind : version.kind ≡ row.kind
+    -- the version's line is that of its first row
+    pub text : version.text ≡ row.text
+    -- no earlier row has the key and the time of the first row
+    pub first : is_repeated before row ≡ false
 
 -- a row is of a version, and equals its first row in all columns
 pub record AgreesWith (repeated : List ℕ) (row : KeyedRow) (version : Version) : Type 0 where
@@ -79,16 +81,19 @@ pub record AgreesWith (repeated : List ℕ) (row : KeyedRow) (version : Version)
 -- if the key of `row` is repeated, `row` agrees with one of `versions`
 abbrev pub IsOfVersion : List ℕ → List Version → KeyedRow → Type 0
 IsOfVersion repeated versions row =
-    IsTrue (has repeated row.key) → (version : Version) × Contains versions version × AgreesWith repeated row version
+    IsTrue (has repeated row.key) → (version : Version) × Contains versions version
+    × AgreesWith repeated row version
 
--- for each row of the last list, whether it is the first of its version, if the rows `earlier` come before that list;
--- a row whose key is not repeated always is
+-- for each row of the last list, whether it is the first of its version; the rows `earlier` come
+-- before that list. A row whose key is not repeated always is.
 abbrev pub firsts : List ℕ → List KeyedRow → List KeyedRow → List Bool
 firsts repeated earlier [] = []
 firsts repeated earlier (row ∷ later) =
-    not (has repeated row.key && is_repeated earlier row) ∷ firsts repeated (earlier ++ row ∷ []) later
+    not (has repeated row.key && is_repeated earlier row) ∷ firsts repeated (earlier ++ row ∷ [])
+    later
 
--- the second pass has taken `rows` in turn and holds `taken`; no two rows of one component and one time differ
+-- `taken` is the table after the rows `rows`; no two of these of one component and one effective
+-- time differ
 pub record HasTaken (taken : VersionTable) (rows : List KeyedRow) : Type 0 where
   -- the codes are those of the versions
   pub codes : taken.codes ≡ map (λ (version : Version). version.code) taken.versions
@@ -99,15 +104,21 @@ pub record HasTaken (taken : VersionTable) (rows : List KeyedRow) : Type 0 where
   -- the marks say which rows are the first of their versions
   pub chosen : taken.chosen ≡ firsts taken.repeated [] rows
 
--- one of `versions` has the component of `code` and a later time
+-- whether one of `versions` is of the component of `code` and has a later effective time
 abbrev pub is_outdated : List Version → ℕ → Bool
-is_outdated versions code = list_any (λ (version : Version). (version.code / 2 ^ 32 == code / 2 ^ 32) && nat_lt code version.code) versions
+is_outdated versions code =
+    list_any (λ (version : Version). (version.code / 2 ^ 32 == code / 2 ^ 32)
+    && nat_lt code version.code) versions
 
--- the row at index `place` is the first of a version that is not the latest of its component
+-- whether the row at index `place` is the first of a version that is not the latest of its
+-- component
 abbrev pub is_older : List Version → ℕ → Bool
-is_older versions place = list_any (λ (version : Version). is_outdated versions version.code && (version.place == place)) versions
+is_older versions place =
+    list_any (λ (version : Version). is_outdated versions version.code && (version.place == place))
+    versions
 
--- the marks with those cleared whose index `leaves` names; the first mark has the index `place`
+-- the marks, but cleared where `leaves` is true of the index; the first mark has the index `place`
 abbrev pub without : (ℕ → Bool) → ℕ → List Bool → List Bool
 without leaves place [] = []
-without leaves place (mark ∷ marks) = (mark && not (leaves place)) ∷ without leaves (place + 1) marks
+without leaves place (mark ∷ marks) =
+    (mark && not (leaves place)) ∷ without leaves (place + 1) marks

@@ -1,11 +1,13 @@
--- The concept that is kept with the text of its identifier.
+-- The invariant of a concept that is kept with the text of its identifier.
 use Rattle.std.specs.Prelude.{◌≡◌, None, IfSome}
 use Rattle.rf2_rows.specs.Columns.{cause_of, id_format}
 use Rattle.numerals.specs.Numbers.{number_of}
 use Rattle.rf2_rows.specs.declared.recent.ReadConcept.TheInside.{Inside}
 use Rattle.sctid.specs.declared.Part.TheVariants.{Concept}
 
--- a kept concept is the one whose identifier is the kept text
+-- if a concept is kept, the kept text is accepted as the identifier of a concept, namely of this
+-- one
 abbrev pub IsOfText : Inside → Type 0
 IsOfText read =
-    IfSome read.concept (λ concept. (cause_of (id_format Concept) read.text.items ≡ None) × (concept ≡ number_of read.text.items))
+    IfSome read.concept (λ concept. (cause_of (id_format Concept) read.text.items ≡ None)
+    × (concept ≡ number_of read.text.items))

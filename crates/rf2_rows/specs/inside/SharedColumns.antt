@@ -1,5 +1,5 @@
--- Columns that are read together: those that rows of several kinds have in common, and the last ones of a description.
--- For each such part, its first fault and its values.
+-- Columns that are read together: those that rows of several kinds have in common, and the last
+-- ones of a description. For each such run of columns, its first fault and its values.
 use Rattle.std.specs.Prelude.{ℕ, List, [], slice_index_or, Option}
 use Rattle.std.specs.Option.{option_or}
 use Rattle.sctid.specs.declared.Part.TheVariants.{Concept}

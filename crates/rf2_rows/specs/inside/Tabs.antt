@@ -8,14 +8,14 @@ use Rattle.text_parts.specs.Parts.{parts_at}
 abbrev pub tab_bits : List ℕ → ℕ
 tab_bits bytes = mask_l (map (λ byte. byte == tab) bytes)
 
--- the tabs of a line between two places, as bits
+-- the tabs of a line from place `from` on and before `to`, as bits, that of `from` the lowest
 abbrev pub tabs_in : List ℕ → ℕ → ℕ → ℕ
 tabs_in line from to = tab_bits (take (to - from) (drop from line))
 
--- the parts of a line from a place on
+-- the fields of a line from the place `start` on: the parts between its tabs
 abbrev pub parts_from : List ℕ → ℕ → List (List ℕ)
 parts_from line start = parts_at tab (drop start line)
 
--- no byte of a line between two places is a tab
+-- no byte of a line from place `from` on and before `to` is a tab
 abbrev pub NoTab : List ℕ → ℕ → ℕ → Type 0
 NoTab line from to = (k : ℕ) → from ≤ k → k < to → (slice_index_or line k 0 == tab) ≡ false

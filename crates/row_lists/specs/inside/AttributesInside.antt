@@ -1,4 +1,4 @@
--- How contracts see the attributes that the program holds, and the invariant of their fields.
+-- The attributes that the fields of an `Attributes` hold, and the invariant of these fields.
 use Rattle.std.specs.Prelude.{◌<◌, ⊤, List, map, All, length, slice_index_or}
 use Rattle.rf2_rows.specs.Release.{Attribute, Value, concept_value}
 use Rattle.row_lists.specs.ConcreteValues.{Concrete, concrete_value, no_text}
@@ -7,12 +7,12 @@ use Rattle.row_lists.specs.declared.attributes.KeptValue.{KeptValue}
 use Rattle.row_lists.specs.declared.attributes.KeptValue.TheVariants.{Concept, Concrete as ConcreteAt}
 use Rattle.row_lists.specs.declared.attributes.Attributes.TheInside.{Inside}
 
--- the value that a kept value stands for: a concept, or the value at an index of `values`
+-- the value that a stored value means: a concept, or the value at an index of `values`
 abbrev pub value_in : List Concrete → KeptValue → Value
 value_in values (Concept concept) = concept_value concept
 value_in values (ConcreteAt place) = concrete_value (slice_index_or values place no_text)
 
--- the attribute that a kept row stands for
+-- the attribute that a stored row means
 abbrev pub attribute_in : List Concrete → KeptRow → Attribute
 attribute_in values row = record {
   source = row.source;
@@ -25,15 +25,16 @@ attribute_in values row = record {
 abbrev pub attributes_in : Inside → List Attribute
 attributes_in inside = map (attribute_in inside.concrete) inside.rows.items
 
--- a kept value that is not a concept has its index within `values`
+-- a stored value that is not a concept has an index within `values`
 abbrev pub IsWithinValues : List Concrete → KeptValue → Type 0
 IsWithinValues values (Concept concept) = ⊤
 IsWithinValues values (ConcreteAt place) = place < length values
 
--- the value of a kept row, if it is not a concept, has its index within `values`
+-- the value of a stored row, if it is not a concept, has an index within `values`
 abbrev pub IsPlacedIn : List Concrete → KeptRow → Type 0
 IsPlacedIn values row = IsWithinValues values row.value
 
--- the value of each row, if it is not a concept, has its index within the concrete values
+-- the value of each stored row, if it is not a concept, has an index within the list of concrete
+-- values
 abbrev pub AreAttributesPlaced : Inside → Type 0
 AreAttributesPlaced inside = All (IsPlacedIn inside.concrete) inside.rows.items

@@ -10,5 +10,6 @@ use Rattle.sample_release.proofs.sample_files.Goals as goal
 
 -- the built-in files load as the sample release, by computing the load
 pub returns-clause-release : goal.returns-clause-release
-unfolding header_of cause_of file_kind_of row_fault concept_row concrete_row description_row member_row relationship_row by_index lines_of chars is_utf8 encode
+unfolding header_of cause_of file_kind_of row_fault concept_row concrete_row description_row member_row relationship_row
+    by_index lines_of chars is_utf8 encode
 returns-clause-release c = refl

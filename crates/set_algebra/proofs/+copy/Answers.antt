@@ -12,10 +12,10 @@ copy::each-loop-plan-preserved t c =
     (plans_so_far c.args.plans.now c.loop-plan.plan-index c.plan-item.result c.loop-plan-test.true c.plan-item.is)
     c.loop-plan.invariant c.in_ok-copy.ensures
 
--- the loop of `each_unit` keeps its invariant: the copies made so far have the plans of groups of the items read so
+-- the loop of `each_group` keeps its invariant: the copies made so far have the plans of groups of the items read so
 -- far
-pub copy::each_unit-loop-plan-preserved : goal.copy::each_unit-loop-plan-preserved
-copy::each_unit-loop-plan-preserved t c =
+pub copy::each_group-loop-plan-preserved : goal.copy::each_group-loop-plan-preserved
+copy::each_group-loop-plan-preserved t c =
     groups_more _ _ _ _ _ _ c.in_ok-push.ensures.items
     (groups_so_far c.args.plans.now c.loop-plan.plan-index c.plan-item.result c.loop-plan-test.true c.plan-item.is)
     c.loop-plan.invariant c.in_ok-copy.ensures
@@ -51,6 +51,6 @@ pub plan::ConceptPlan::copy-returns-in_ok-copy-in-Pairs : goal.plan::ConceptPlan
 plan::ConceptPlan::copy-returns-in_ok-copy-in-Pairs t c = grind (arith, plans_of_items)
 
 -- the copy of a `Units` plan has the plan of the original
-pub plan::ConceptPlan::copy-returns-in_ok-boxed_unit-in-Units :
-    goal.plan::ConceptPlan::copy-returns-in_ok-boxed_unit-in-Units
-plan::ConceptPlan::copy-returns-in_ok-boxed_unit-in-Units t c = grind (arith, plans_of_items)
+pub plan::ConceptPlan::copy-returns-in_ok-boxed_group-in-Units :
+    goal.plan::ConceptPlan::copy-returns-in_ok-boxed_group-in-Units
+plan::ConceptPlan::copy-returns-in_ok-boxed_group-in-Units t c = grind (arith, plans_of_items)

@@ -3,7 +3,7 @@ use Rattle.set_algebra.specs.declared.plan.ConceptPlan.{ConceptPlan}
 use Rattle.set_algebra.specs.Plan.{plan_of, plans_of}
 use Rattle.set_algebra.specs.Depth.{plan_depth, plans_depth}
 use Rattle.set_algebra.proofs.PlanLemmas.{plan_of-Values}
-use Rattle.set_algebra.proofs.ListLemmas.{deepest_more, deepest_unit_more, plans_so_far, groups_so_far}
+use Rattle.set_algebra.proofs.ListLemmas.{deepest_more, deepest_group_more, plans_so_far, groups_so_far}
 use Rattle.set_algebra.proofs.+depth.Goals as goal
 
 -- the loop of `deepest` keeps its invariant: `deepest` is the depth of the parts read so far, cut off at 2^64 - 1
@@ -14,12 +14,12 @@ depth::deepest-loop-part-preserved t c =
     (plans_so_far c.args.parts.now c.loop-part.part-index c.part-item.result c.loop-part-test.true c.part-item.is)
     c.loop-part.invariant c.depth.ensures
 
--- the loop of `deepest_unit` keeps its invariant: `deepest` is the depth of the plans of groups read so far, cut off
+-- the loop of `deepest_group` keeps its invariant: `deepest` is the depth of the plans of groups read so far, cut off
 -- at 2^64 - 1
-pub depth::deepest_unit-loop-part-preserved : goal.depth::deepest_unit-loop-part-preserved
-depth::deepest_unit-loop-part-preserved t c =
+pub depth::deepest_group-loop-part-preserved : goal.depth::deepest_group-loop-part-preserved
+depth::deepest_group-loop-part-preserved t c =
     c.max-deepest.ensures
-    ∙ deepest_unit_more _ _ _ _ _ _
+    ∙ deepest_group_more _ _ _ _ _ _
     (groups_so_far c.args.parts.now c.loop-part.part-index c.part-item.result c.loop-part-test.true c.part-item.is)
     c.loop-part.invariant c.depth.ensures
 

@@ -10,7 +10,8 @@ pub returns-in_ok-list : goal.returns-in_ok-list
 returns-in_ok-list g c = λ count test bound is.
     let items_of = g.S.ConceptSet.items_of in
     let set = c.in-Some.set in
-    let bounded : g.S.ConceptSet.bound_of set ≡ count = subst (λ joined. IfSome joined (λ set. g.S.ConceptSet.bound_of set ≡ count)) c.in-Some.is bound in
+    let bounded : g.S.ConceptSet.bound_of set ≡ count =
+    subst (λ joined. IfSome joined (λ set. g.S.ConceptSet.bound_of set ≡ count)) c.in-Some.is bound in
     c.in_ok-list.ensures
     ∙ c.in_ok-add_all.ensures.items
     ∙ (λ i. all_items (bounded i) (items_of set) (c.as_slice.ensures.value i))

@@ -13,17 +13,21 @@ places_in-requires-clause-once c = c.requires.parents.1.first.once
 
 -- each concept of the order is below its length
 pub places_in-requires-clause-below : goal.places_in-requires-clause-below
-places_in-requires-clause-below c = order_below c.requires.parents.0 c.args.parents.now c.args.order.now c.requires.parents.1
+places_in-requires-clause-below c =
+    order_below c.requires.parents.0 c.args.parents.now c.args.order.now c.requires.parents.1
 
 -- each concept's place in the order has a list
 pub reordered-requires : goal.reordered-requires
 reordered-requires c = λ concept d within.
     let order = c.args.order.now in
     let given = c.requires.parents.1 in
-    let below : concept < length order = omega (arith, within, ap (λ (xs : List ℕ). length xs) c.as_slice-2.ensures.value, c.in_ok-places.ensures.len) in
-    let at = place_at c.requires.parents.0 c.args.parents.now order c.in_ok-places.places.items given c.in_ok-places.ensures.places concept below in
+    let below : concept < length order =
+    omega (arith, within, ap (λ (xs : List ℕ). length xs) c.as_slice-2.ensures.value, c.in_ok-places.ensures.len) in
+    let at = place_at c.requires.parents.0 c.args.parents.now order c.in_ok-places.places.items given
+    c.in_ok-places.ensures.places concept below in
     let read : get_or c.as_slice-2.result.now concept d ≡ at.place =
-    get_or_default c.as_slice-2.result.now concept d 0 within ∙ ap (λ (xs : List ℕ). get_or xs concept 0) c.as_slice-2.ensures.value ∙ at.told in
+    get_or_default c.as_slice-2.result.now concept d 0 within
+    ∙ ap (λ (xs : List ℕ). get_or xs concept 0) c.as_slice-2.ensures.value ∙ at.told in
     let count : length c.in_ok-by_place.by_place ≡ length order =
     ap (λ (lists : List (List ℕ)). length lists) (c.in_ok-by_place.ensures c.requires.parents.0 given)
     ∙ length-map order (λ concept. numbers_where (length order) (reaches c.requires.parents.0 concept)) in
@@ -36,5 +40,6 @@ returns c = IfOk-weaker c.reordered.result _ _
     found
     ∙ ap (map (λ place. list_of c.in_ok-by_place.by_place place)) c.as_slice-2.ensures.value
     ∙ lists_reordered rows c.args.parents.now c.args.order.now c.in_ok-places.places.items c.in_ok-by_place.by_place
-    given (omega (arith, c.in_ok-places.ensures.len)) c.in_ok-places.ensures.places (c.in_ok-by_place.ensures rows given))
+    given (omega (arith, c.in_ok-places.ensures.len)) c.in_ok-places.ensures.places
+    (c.in_ok-by_place.ensures rows given))
     c.reordered.ensures

@@ -7,7 +7,8 @@ use Rattle.number_lists.specs.Rising.{IsRisingBelow, listed_numbers, numbers_whe
 use Rattle.number_lists.proofs.RisingLemmas.{numbers_where-rising}
 use Rattle.hierarchy.specs.Hierarchy.{reaches}
 use Rattle.ancestor_index.specs.HierarchyLists.{is_child}
-use Rattle.ancestor_index.proofs.ClosureLemmas.{Turn, gathered_listed, length-where, order_below, own_parents, parent_placed}
+use Rattle.ancestor_index.proofs.ClosureLemmas.{Turn, gathered_listed, length-where, order_below, own_parents}
+use Rattle.ancestor_index.proofs.ClosureLemmas.{parent_placed}
 use Rattle.ancestor_index.specs.inside.Gathered.{AreRisingBelow, gathered_by}
 use Rattle.ancestor_index.specs.Wide.{AreWide}
 use Rattle.ancestor_index.proofs.GatherLemmas.{items_more, rising_more, where_below}
@@ -21,7 +22,8 @@ of-requires c =
     let given = c.requires.parents.1 in
     omega (
       arith,
-      order_below c.requires.parents.0 c.args.parents.now order given c.loop-concept.concept-index 0 c.loop-concept-test.true,
+      order_below c.requires.parents.0 c.args.parents.now order given c.loop-concept.concept-index 0
+          c.loop-concept-test.true,
       ap (λ (all : List (List ℕ)). length all) given.lists,
       length-where (length order) (is_child c.requires.parents.0),
     )
@@ -40,9 +42,12 @@ join-requires-clause-concepts c = λ i d inside.
       within = c.loop-concept-test.true;
       known = c.loop-concept.invariant.known rows given;
     } in
-    let own : c.of.result.now ≡ numbers_where (length order) (is_child rows (get_or order c.loop-concept.concept-index 0)) = c.of.ensures ∙ own_parents turn in
+    let own : c.of.result.now
+    ≡ numbers_where (length order) (is_child rows (get_or order c.loop-concept.concept-index 0)) =
+    c.of.ensures ∙ own_parents turn in
     let placed = parent_placed turn (get_or c.of.result.now i d)
-    (subst (λ (xs : List ℕ). Contains xs (get_or c.of.result.now i d)) own (Contains-get_or c.of.result.now i d inside)) in
+    (subst (λ (xs : List ℕ). Contains xs (get_or c.of.result.now i d)) own
+    (Contains-get_or c.of.result.now i d inside)) in
     (omega (arith, placed.near, c.requires.len), placed.near, placed.early)
 
 -- the parents of the concept rise
@@ -59,8 +64,11 @@ join-requires-clause-sorted c =
       within = c.loop-concept-test.true;
       known = c.loop-concept.invariant.known rows given;
     } in
-    let own : c.of.result.now ≡ numbers_where (length order) (is_child rows (get_or order c.loop-concept.concept-index 0)) = c.of.ensures ∙ own_parents turn in
-    subst (IsRisingBelow (length order)) (sym own) (numbers_where-rising (length order) (is_child rows (get_or order c.loop-concept.concept-index 0)))
+    let own : c.of.result.now
+    ≡ numbers_where (length order) (is_child rows (get_or order c.loop-concept.concept-index 0)) =
+    c.of.ensures ∙ own_parents turn in
+    subst (IsRisingBelow (length order)) (sym own)
+    (numbers_where-rising (length order) (is_child rows (get_or order c.loop-concept.concept-index 0)))
 
 -- the lists so far rise
 pub join-requires-clause-rising : goal.join-requires-clause-rising
@@ -86,7 +94,8 @@ loop-concept-preserved c =
     let count = length order in
     let k = c.loop-concept.concept-index in
     let list = c.as_slice-in-loop-concept.result.now in
-    let below : All (λ item. item < count) list = where_below count _ list (c.as_slice-in-loop-concept.ensures.value ∙ c.in_ok-join.ensures) in
+    let below : All (λ item. item < count) list =
+    where_below count _ list (c.as_slice-in-loop-concept.ensures.value ∙ c.in_ok-join.ensures) in
     let same = c.as_slice.ensures.value ∙ sym c.as_slice-in-loop-concept.ensures.value in
     record {
       known = λ rows given.
@@ -103,17 +112,22 @@ loop-concept-preserved c =
           let made : c.as_slice-in-loop-concept.result.now ≡ numbers_where count (reaches rows concept) =
           c.as_slice-in-loop-concept.ensures.value
           ∙ c.in_ok-join.ensures
-          ∙ ap (λ (concepts : List ℕ). listed_numbers count (gathered_by c.args.places.now c.loop-concept.lists concepts)) own
+          ∙ ap (λ (concepts : List ℕ). listed_numbers count
+          (gathered_by c.args.places.now c.loop-concept.lists concepts)) own
           ∙ gathered_listed turn in
           c.in_ok-lists-2.ensures
           ∙ (λ i. c.loop-concept.invariant.known rows given i ++ made i ∷ [])
           ∙ sym (map_more (λ concept. numbers_where count (reaches rows concept)) order k 0 c.loop-concept-test.true);
       rising = subst (AreRisingBelow count) (sym c.in_ok-lists-2.ensures)
           (rising_more count c.loop-concept.lists list c.loop-concept.invariant.rising
-          (subst (IsRisingBelow count) (sym (c.as_slice-in-loop-concept.ensures.value ∙ c.in_ok-join.ensures)) (numbers_where-rising count _)));
-      items = subst (AreItemsBelow count) (sym c.in_ok-lists-2.ensures) (items_more count c.loop-concept.lists list c.loop-concept.invariant.items below);
-      wide = subst (λ (lists : List (List ℕ)). AreWide count lists c.push.new.self.ends.items c.push.new.self.words.items) (sym c.in_ok-lists-2.ensures)
-          (subst (λ (pushed : List ℕ). AreWide count (c.loop-concept.lists ++ pushed ∷ []) c.push.new.self.ends.items c.push.new.self.words.items) same
+          (subst (IsRisingBelow count) (sym (c.as_slice-in-loop-concept.ensures.value ∙ c.in_ok-join.ensures))
+          (numbers_where-rising count _)));
+      items = subst (AreItemsBelow count) (sym c.in_ok-lists-2.ensures)
+          (items_more count c.loop-concept.lists list c.loop-concept.invariant.items below);
+      wide = subst (λ (lists : List (List ℕ)). AreWide count lists c.push.new.self.ends.items
+          c.push.new.self.words.items) (sym c.in_ok-lists-2.ensures)
+          (subst (λ (pushed : List ℕ). AreWide count (c.loop-concept.lists ++ pushed ∷ []) c.push.new.self.ends.items
+          c.push.new.self.words.items) same
           (c.in_ok-push.ensures c.loop-concept.lists c.loop-concept.invariant.wide));
     }
 
@@ -126,7 +140,8 @@ loop-concept-init c = record {
   items = subst (AreItemsBelow (length c.args.order.now)) (sym c.in_ok-lists.ensures)
       (All-nil (λ (items : List ℕ). All (λ item. item < length c.args.order.now) items));
   wide = subst (λ (lists : List (List ℕ)). AreWide
-      (length c.args.order.now) lists c.in_ok-wide.wide.ends.items c.in_ok-wide.wide.words.items) (sym c.in_ok-lists.ensures)
+      (length c.args.order.now) lists c.in_ok-wide.wide.ends.items c.in_ok-wide.wide.words.items)
+      (sym c.in_ok-lists.ensures)
       (c.in_ok-wide.ensures (length c.args.order.now));
 }
 

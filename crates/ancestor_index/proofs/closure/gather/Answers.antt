@@ -19,9 +19,12 @@ pub loop-concept-preserved : goal.loop-concept-preserved
 loop-concept-preserved g c =
     let items_of = g.S.ConceptSet.items_of in
     let concept = get_or c.args.concepts.now c.loop-concept.concept-index 0 in
-    let before = gathered_by c.args.places.now c.args.lists.now (take c.loop-concept.concept-index c.args.concepts.now) in
-    let pushed : AreGathered items_of c.args.count (before ++ concept ∷ []) c.push.new.self.items c.loop-concept.joined =
-    subst (λ (list : List ℕ). AreGathered items_of c.args.count (before ++ concept ∷ []) list c.loop-concept.joined) (sym c.in_ok-push.ensures.items)
+    let before = gathered_by c.args.places.now c.args.lists.now
+    (take c.loop-concept.concept-index c.args.concepts.now) in
+    let pushed : AreGathered items_of c.args.count (before ++ concept ∷ []) c.push.new.self.items
+    c.loop-concept.joined =
+    subst (λ (list : List ℕ). AreGathered items_of c.args.count (before ++ concept ∷ []) list c.loop-concept.joined)
+    (sym c.in_ok-push.ensures.items)
     (λ number below. gathered_item before c.loop-concept.list.items concept number
     (has_joined items_of c.loop-concept.joined number) (c.loop-concept.invariant.gathered number below)) in
     record {

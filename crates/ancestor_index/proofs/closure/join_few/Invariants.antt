@@ -6,4 +6,5 @@ use Rattle.ancestor_index.proofs.closure.join_few.Given as goal
 -- the room holds the concepts and the lists joined so far, in rising order
 abbrev pub invariant-loop-concept : goal.invariant-loop-concept
 invariant-loop-concept l =
-    l.room.list.items ≡ listed_numbers (l.count) (l.concepts ++ joined_by l.places l.lists (take l.concept-index l.concepts))
+    l.room.list.items ≡ listed_numbers (l.count)
+    (l.concepts ++ joined_by l.places l.lists (take l.concept-index l.concepts))

@@ -9,7 +9,8 @@ use Rattle.ancestor_index.proofs.closure.join_many.Goals as goal
 -- the sorted list rises below the bound of the set
 pub add_joined-requires : goal.add_joined-requires
 add_joined-requires c =
-    rises_below (λ (set : WordSet). set.bound) c.args.count (has c.gather.new.list.items) _ c.in_ok-joined.joined c.in_ok-joined.ensures.bound
+    rises_below (λ (set : WordSet). set.bound) c.args.count (has c.gather.new.list.items) _ c.in_ok-joined.joined
+    c.in_ok-joined.ensures.bound
     (c.keep_rising.ensures c.args.count c.in_ok-joined.ensures.below)
 
 -- the sorted list with the items of the set has the gathered numbers, in rising order

@@ -8,7 +8,8 @@ loop-place-preserved c =
     let concept = get_or c.args.order.now c.loop-place.place 0 in
     record {
       len = c.loop-place.invariant.len;
-      places = places_step c.args.order.now c.loop-place.places.items c.loop-place.place c.requires.once c.loop-place-test.true
+      places = places_step c.args.order.now c.loop-place.places.items c.loop-place.place c.requires.once
+          c.loop-place-test.true
           (omega (arith, c.requires.below c.loop-place.place 0 c.loop-place-test.true, c.loop-place.invariant.len))
           c.loop-place.invariant.places;
     }

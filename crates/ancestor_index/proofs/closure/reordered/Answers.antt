@@ -20,4 +20,5 @@ loop-place-preserved c =
 pub returns : goal.returns
 returns c =
     c.loop-place.invariant
-    ∙ ap (map (λ (place : ℕ). list_of c.args.lists.now place)) (take_all c.loop-place.place-index c.args.places.now c.loop-place-test.false)
+    ∙ ap (map (λ (place : ℕ). list_of c.args.lists.now place))
+    (take_all c.loop-place.place-index c.args.places.now c.loop-place-test.false)

@@ -12,7 +12,8 @@ loop-key-preserved c =
     let within : key < length lists = omega arith in
     let list = get_or lists key [] in
     let below : All (λ number. number < c.args.bound) list = c.requires.items key [] within in
-    let gathered : c.extend_from_slice.new.self.items ≡ list = c.in_ok-extend_from_slice.ensures.items ∙ (λ i. c.clear.ensures.items i ++ c.of.ensures i) in
+    let gathered : c.extend_from_slice.new.self.items ≡ list = c.in_ok-extend_from_slice.ensures.items
+    ∙ (λ i. c.clear.ensures.items i ++ c.of.ensures i) in
     let made : c.as_slice.result.now ≡ listed_numbers c.args.bound list =
     c.as_slice.ensures.value
     ∙ c.keep_rising.ensures c.args.bound (subst (λ (xs : List ℕ). All (λ number. number < c.args.bound) xs)

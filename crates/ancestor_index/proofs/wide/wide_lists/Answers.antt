@@ -8,11 +8,13 @@ pub loop-concept-preserved : goal.loop-concept-preserved
 loop-concept-preserved c =
     let before = take c.loop-concept.concept c.args.lists.now in
     subst (λ (lists : List (List ℕ)). AreWide c.args.count lists c.push.new.self.ends.items c.push.new.self.words.items)
-    (ap (λ (list : List ℕ). before ++ list ∷ []) c.of.ensures ∙ sym (take_more c.args.lists.now c.loop-concept.concept [] (omega arith)))
+    (ap (λ (list : List ℕ). before ++ list ∷ []) c.of.ensures
+    ∙ sym (take_more c.args.lists.now c.loop-concept.concept [] (omega arith)))
     (c.in_ok-push.ensures before c.loop-concept.invariant)
 
 -- after the last list all long lists are kept as words
 pub returns : goal.returns
 returns c =
-    subst (λ (lists : List (List ℕ)). AreWide c.args.count lists c.loop-concept.wide.ends.items c.loop-concept.wide.words.items)
+    subst (λ (lists : List (List ℕ)). AreWide c.args.count lists c.loop-concept.wide.ends.items
+    c.loop-concept.wide.words.items)
     (take_all c.loop-concept.concept c.args.lists.now (omega arith)) c.loop-concept.invariant

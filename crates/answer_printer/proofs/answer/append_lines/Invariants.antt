@@ -11,7 +11,8 @@ use Rattle.answer_printer.proofs.answer.append_lines.Given as goal
 abbrev pub invariant-loop-concept : goal.invariant-loop-concept
 invariant-loop-concept l =
     let name = shown_names l.names (name_of l.snapshot.release l.snapshot.language) in
-    let lines = λ (numbers : List ℕ). flat_map (concept_line name) (map (slice_index l.snapshot.release.concepts) numbers) in
+    let lines = λ (numbers : List ℕ). flat_map (concept_line name)
+    (map (slice_index l.snapshot.release.concepts) numbers) in
     record {
       told : l.output.items ++ lines (drop l.concept-index l.concepts) ≡ l.fn.output.items ++ lines l.concepts;
       begun : IsPrefixOf l.fn.output.items l.output.items;

@@ -12,7 +12,8 @@ use Rattle.answer_printer.proofs.answer.put_lines.Goals as goal
 
 -- the lines so far, the line at hand and the remaining lines are all lines
 joined : (done line rest left all : List ℕ) → left ≡ line ++ rest → done ++ left ≡ all → (done ++ line) ++ rest ≡ all
-joined done line rest left all next whole = append_assoc done line rest ∙ ap (λ (text : List ℕ). done ++ text) (sym next) ∙ whole
+joined done line rest left all next whole = append_assoc done line rest
+    ∙ ap (λ (text : List ℕ). done ++ text) (sym next) ∙ whole
 
 -- the line of one concept more is put
 pub loop-concept-preserved : goal.loop-concept-preserved
@@ -27,10 +28,10 @@ loop-concept-preserved g c =
     let rest = lines (drop (place + 1) c.args.concepts.now) in
     let next : left ≡ line ++ rest = at_drop_more lines c.args.concepts.now place 0 c.loop-concept-test.true in
     record {
-      sound = c.in-Ok.ensures.failure;
+      not_failed = c.in-Ok.ensures.failure;
       put = (
         done ++ line,
-        Puts-then _ _ _ c.args.piece.now done c.loop-concept.piece put line c.put_line.new.piece c.in-Ok.ensures.ok,
+        Puts-then _ _ _ c.args.buffer.now done c.loop-concept.buffer put line c.put_line.new.buffer c.in-Ok.ensures.ok,
         joined done line rest left (lines c.args.concepts.now) next whole,
       );
     }
@@ -48,9 +49,9 @@ returns-in-Err-clause-err g c =
     let rest = lines (drop (place + 1) c.args.concepts.now) in
     let next : left ≡ line ++ rest = at_drop_more lines c.args.concepts.now place 0 c.loop-concept-test.true in
     subst (λ (text : List ℕ). WritesFront (g.W.AnswerOutput.written c.args.output.now)
-    (g.W.AnswerOutput.written c.put_line.new.output) (c.args.piece.now ++ text))
+    (g.W.AnswerOutput.written c.put_line.new.output) (c.args.buffer.now ++ text))
     (joined done line rest left (lines c.args.concepts.now) next whole)
-    (Puts-cut-more _ _ _ c.args.piece.now done c.loop-concept.piece put line rest c.in-Err.ensures.err)
+    (Puts-cut-more _ _ _ c.args.buffer.now done c.loop-concept.buffer put line rest c.in-Err.ensures.err)
 
 -- after the last concept all lines are put
 pub returns-clause-ok : goal.returns-clause-ok
@@ -60,5 +61,5 @@ returns-clause-ok g c =
     let name = shown_names c.args.names (name_of release c.args.snapshot.now.language) in
     let lines = λ (numbers : List ℕ). flat_map (concept_line name) (map (slice_index release.concepts) numbers) in
     subst (λ (text : List ℕ). Puts (g.W.AnswerOutput.written c.args.output.now)
-    (g.W.AnswerOutput.written c.loop-concept.output) c.args.piece.now text c.loop-concept.piece)
+    (g.W.AnswerOutput.written c.loop-concept.output) c.args.buffer.now text c.loop-concept.buffer)
     (text_end lines c.args.concepts.now c.loop-concept.concept-index done _ whole c.loop-concept-test.false refl) put

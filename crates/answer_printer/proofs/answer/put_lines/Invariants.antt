@@ -11,10 +11,11 @@ use Rattle.answer_printer.proofs.answer.put_lines.Given as goal
 abbrev pub invariant-loop-concept : goal.invariant-loop-concept
 invariant-loop-concept g l =
     let name = shown_names l.names (name_of l.snapshot.release l.snapshot.language) in
-    let lines = λ (numbers : List ℕ). flat_map (concept_line name) (map (slice_index l.snapshot.release.concepts) numbers) in
+    let lines = λ (numbers : List ℕ). flat_map (concept_line name)
+    (map (slice_index l.snapshot.release.concepts) numbers) in
     record {
-      sound : g.W.AnswerOutput.has_failed l.output ≡ false;
+      not_failed : g.W.AnswerOutput.has_failed l.output ≡ false;
       put : (done : List ℕ)
-          × Puts (g.W.AnswerOutput.written l.fn.output) (g.W.AnswerOutput.written l.output) l.fn.piece done l.piece
+          × Puts (g.W.AnswerOutput.written l.fn.output) (g.W.AnswerOutput.written l.output) l.fn.buffer done l.buffer
           × (done ++ lines (drop l.concept-index l.concepts) ≡ lines l.concepts);
     }

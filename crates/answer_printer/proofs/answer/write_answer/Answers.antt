@@ -20,7 +20,7 @@ returns-in-Ok-put_answer-clause-ok g c =
     (c.as_slice.ensures.value ∙ c.in-Ok-head_line.ensures) c.count.ensures
     (c.as_slice-2.ensures.value ∙ c.in-Ok.ensures) in
     subst (λ (text : List ℕ). Puts (g.W.AnswerOutput.written c.args.output.now)
-    (g.W.AnswerOutput.written c.put_answer.new.output) c.args.piece.now text c.put_answer.new.piece)
+    (g.W.AnswerOutput.written c.put_answer.new.output) c.args.buffer.now text c.put_answer.new.buffer)
     whole c.in-Ok-put_answer.ensures.ok
 
 -- if the output failed, a front of the answer was written

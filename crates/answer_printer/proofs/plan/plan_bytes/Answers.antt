@@ -19,4 +19,5 @@ returns c =
     let plan_is = ap physical_of c.plan.ensures.plan in
     c.in_ok-write_plan.ensures.text
     ∙ (λ i. head_is i ++ with_bounds (outline before_bound [] (plan_is i)) bounds)
-    ∙ ap (λ (lines : List ℕ). head ++ lines) (lines_are indexed plan bounds (c.as_slice.ensures.value ∙ c.in_ok-bounds.ensures))
+    ∙ ap (λ (lines : List ℕ). head ++ lines)
+    (lines_are indexed plan bounds (c.as_slice.ensures.value ∙ c.in_ok-bounds.ensures))

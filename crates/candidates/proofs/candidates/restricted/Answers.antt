@@ -9,4 +9,5 @@ use Rattle.candidates.proofs.candidates.restricted.Goals as goal
 pub returns-in-All-clause-items : goal.returns-in-All-clause-items
 returns-in-All-clause-items g c =
     sym (filter-all (λ n. true) (g.S.ConceptSet.items_of c.args.found) (λ k d within. refl))
-    ∙ ap (λ (candidates : Candidates _). filter (may_be g.S.ConceptSet.items_of candidates) (g.S.ConceptSet.items_of c.args.found)) (sym c.in-All.is)
+    ∙ ap (λ (candidates : Candidates _). filter (may_be g.S.ConceptSet.items_of candidates)
+    (g.S.ConceptSet.items_of c.args.found)) (sym c.in-All.is)

@@ -11,8 +11,10 @@ use Rattle.command_line.proofs.words.command_line.Goals as goal
 -- the program with one more command has this command and those before
 one_more : (whole so_far own : App) (command : Result Command AllocError)
     → IsOkAnd command (λ own. HasOwnArguments own → whole ≡ with_subcommand so_far (app_of own).top)
-    → IfOk command (λ command. app_of command ≡ own) → IfOk command HasOwnArguments → whole ≡ with_subcommand so_far own.top
-one_more whole so_far own (Ok command) adds shape owns = adds owns ∙ ap (λ (app : App). with_subcommand so_far app.top) shape
+    → IfOk command (λ command. app_of command ≡ own) → IfOk command HasOwnArguments
+    → whole ≡ with_subcommand so_far own.top
+one_more whole so_far own (Ok command) adds shape owns =
+    adds owns ∙ ap (λ (app : App). with_subcommand so_far app.top) shape
 one_more whole so_far own (Err refused) adds shape owns = absurd adds
 
 -- the program has its five commands
@@ -32,10 +34,12 @@ returns c =
     one_more with_explain with_query explain_command c.explain_command.result c.in_ok-with_explain.ensures
     c.explain_command.ensures.shape c.explain_command.ensures.own
     ∙ ap (λ (app : App). add app explain_command) query_is in
-    let describe_is = one_more with_describe with_explain (language_command (codes "describe")) c.language_command.result
+    let describe_is = one_more with_describe with_explain (language_command (codes "describe"))
+    c.language_command.result
     c.in_ok-with_describe.ensures c.language_command.ensures.shape c.language_command.ensures.own
     ∙ ap (λ (app : App). add app (language_command (codes "describe"))) explain_is in
-    let session_is = one_more with_session with_describe (language_command (codes "session")) c.language_command-2.result
+    let session_is = one_more with_session with_describe (language_command (codes "session"))
+    c.language_command-2.result
     c.in_ok-with_session.ensures c.language_command-2.ensures.shape c.language_command-2.ensures.own
     ∙ ap (λ (app : App). add app (language_command (codes "session"))) describe_is in
     IfOk-weaker c.with-5.result _ _

@@ -9,4 +9,5 @@ abbrev pub invariant-loop-key : goal.invariant-loop-key
 invariant-loop-key l =
     l.text.items
     ≡ l.initial.text.items
-    ++ flat_map (attribute_line (name_in_force l.snapshot)) (map (row_with_key l.snapshot.release) (take l.key-index l.keys))
+    ++ flat_map (attribute_line (name_in_force l.snapshot))
+    (map (row_with_key l.snapshot.release) (take l.key-index l.keys))

@@ -5,7 +5,7 @@ use Rattle.ecl_lexer.specs.Tokens.{spelled, placed}
 use Rattle.ecl_lexer.proofs.CutLemmas.{CutSoFar}
 use Rattle.ecl_lexer.proofs.lexer.cut.Given as goal
 
--- the text up to `at` is cut into pieces, and `tokens` are the tokens among them. Within a run of letters, digits and
+-- the text up to `at` is cut into lexemes, and `tokens` are the tokens among them. Within a run of letters, digits and
 -- `-`, `run_end` is its end
 abbrev pub invariant-loop-at : goal.invariant-loop-at
 invariant-loop-at l = record {

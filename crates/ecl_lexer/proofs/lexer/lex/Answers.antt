@@ -7,7 +7,8 @@ use Rattle.ecl_lexer.proofs.lexer.lex.Goals as goal
 pub returns-clause-only : goal.returns-clause-only
 returns-clause-only c =
     let readable : IsReadable c.args.text.now = search rules in
-    only_fault c.args.text.now (λ tokens. map spelled tokens.items) readable c.cut.result c.cut.ensures.found c.cut.ensures.fault
+    only_fault c.args.text.now (λ tokens. map spelled tokens.items) readable c.cut.result c.cut.ensures.found
+    c.cut.ensures.fault
 
 -- a readable text with tokens is answered by tokens or by `Memory`
 pub returns-clause-whole : goal.returns-clause-whole
@@ -17,4 +18,5 @@ returns-clause-whole c =
 
 -- the placed tokens of an answer follow on from the beginning of the text
 pub returns-clause-spans : goal.returns-clause-spans
-returns-clause-spans c = answer-FollowOn c.args.text.now (λ tokens. map placed tokens.items) c.cut.result c.cut.ensures.places
+returns-clause-spans c =
+    answer-FollowOn c.args.text.now (λ tokens. map placed tokens.items) c.cut.result c.cut.ensures.places

@@ -1,9 +1,11 @@
 use Rattle.std.proofs.Common.{◌≡◌, ◌∙◌, None, ap, sym, Some}
-use Rattle.ecl_lexer.specs.declared.pieces.Piece.{Piece as Found}
+use Rattle.ecl_lexer.specs.declared.lexemes.Lexeme.{Lexeme as Found}
 use Rattle.ecl_lexer.specs.Reading.{sized_kind}
-use Rattle.ecl_lexer.proofs.SymbolLemmas.{front_two, front_three, handed_here, handed_other, sized_kind-fits, sized_kind-short}
+use Rattle.ecl_lexer.proofs.SymbolLemmas.{front_two, front_three, handed_here, handed_other, sized_kind-fits}
+use Rattle.ecl_lexer.proofs.SymbolLemmas.{sized_kind-short}
 use Rattle.ecl_lexer.proofs.symbols.symbol.Goals as goal
-use Rattle.ecl_lexer.proofs.symbols.symbol.Goals.{else-text-ge3-via-else-text-ge3, else-text-ge3-via-then-text-ge3+in-None-1}
+use Rattle.ecl_lexer.proofs.symbols.symbol.Goals.{else-text-ge3-via-else-text-ge3}
+use Rattle.ecl_lexer.proofs.symbols.symbol.Goals.{else-text-ge3-via-then-text-ge3+in-None-1}
 
 -- `symbol` returns the symbol of three bytes that `symbol_at` finds
 pub returns : goal.returns

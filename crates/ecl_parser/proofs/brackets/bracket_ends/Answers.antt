@@ -4,7 +4,8 @@ use Rattle.ecl_lexer.specs.declared.fault.QueryFault.{QueryFault}
 use Rattle.ecl_parser.specs.inside.Answers.{AreFaulty}
 use Rattle.ecl_parser.specs.inside.Brackets.{AreEnds}
 use Rattle.ecl_parser.specs.inside.Gives.{symbols}
-use Rattle.ecl_parser.proofs.MatchLemmas.{all_ended, all_shallow, deep_fault, deep_next, long_next, matched_next, no_tree, read_ahead}
+use Rattle.ecl_parser.proofs.MatchLemmas.{all_ended, all_shallow, deep_fault, deep_next, long_next, matched_next}
+use Rattle.ecl_parser.proofs.MatchLemmas.{no_tree, read_ahead}
 use Rattle.ecl_parser.proofs.brackets.bracket_ends.Goals as goal
 
 -- the fault of a token that opens a bracket too many refuses the tokens for their depth

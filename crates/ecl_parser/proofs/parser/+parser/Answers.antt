@@ -1,15 +1,23 @@
-use Rattle.constraint_tree.proofs.TreeLemmas.{refinement_tree_of-And, refinement_tree_of-Or, set_tree_of-And, set_tree_of-Or}
+use Rattle.constraint_tree.proofs.TreeLemmas.{refinement_tree_of-And, refinement_tree_of-Or, set_tree_of-And}
+use Rattle.constraint_tree.proofs.TreeLemmas.{set_tree_of-Or}
 use Rattle.constraint_tree.proofs.TreeLemmas.{tree_of-And, tree_of-Dotted, tree_of-Or}
 use Rattle.std.proofs.Common.{rules, map, Some, ap, refl, sym, ◌∙◌, arith}
-use Rattle.constraint_tree.specs.Tree.{dotted_tree, member_tree, minus_tree, refined_tree, refinement_tree_of, set_tree_of, tree_of, trees_of, within_test}
+use Rattle.constraint_tree.specs.Tree.{dotted_tree, member_tree, minus_tree, refined_tree, refinement_tree_of}
+use Rattle.constraint_tree.specs.Tree.{set_tree_of, tree_of, trees_of, within_test}
 use Rattle.ecl_parser.specs.inside.Gives.{symbols_from}
-use Rattle.ecl_parser.specs.inside.Reading.{constraint_behind, constraint_in, item_in, member_in, pair_in, part_in, readers}
-use Rattle.ecl_parser.specs.inside.Reading.{refinement_behind, refinement_in, set_behind, set_in, sub_in}
-use Rattle.ecl_parser.proofs.ReadLemmas.{all_items_read, all_parts_read, focus_in_brackets, focus_not_closed, group_in_braces}
-use Rattle.ecl_parser.proofs.ReadLemmas.{group_not_closed, group_too_deep, item_in_brackets, item_not_closed, many_done, many_end}
-use Rattle.ecl_parser.proofs.ReadLemmas.{many_fails, member_read, no_turn, pair_read, part_in_brackets, part_not_closed, part_read}
-use Rattle.ecl_parser.proofs.ReadLemmas.{part_too_deep, reverse_read, some_items_read, some_parts_read, turn_read, within_read}
-use Rattle.ecl_parser.proofs.parser.+parser.Goals.{subs-else-loop-turn-test, subs-then-loop-turn-test+then-not-take, items-else-loop-turn-test}
+use Rattle.ecl_parser.specs.inside.Reading.{constraint_after, constraint_in, item_in, member_in, pair_in, part_in}
+use Rattle.ecl_parser.specs.inside.Reading.{readers}
+use Rattle.ecl_parser.specs.inside.Reading.{refinement_after, refinement_in, set_after, set_in, sub_in}
+use Rattle.ecl_parser.proofs.ReadLemmas.{all_items_read, all_parts_read, focus_in_brackets, focus_not_closed}
+use Rattle.ecl_parser.proofs.ReadLemmas.{group_in_braces}
+use Rattle.ecl_parser.proofs.ReadLemmas.{group_not_closed, group_too_deep, item_in_brackets, item_not_closed, many_done}
+use Rattle.ecl_parser.proofs.ReadLemmas.{many_end}
+use Rattle.ecl_parser.proofs.ReadLemmas.{many_fails, member_read, no_turn, pair_read, part_in_brackets, part_not_closed}
+use Rattle.ecl_parser.proofs.ReadLemmas.{part_read}
+use Rattle.ecl_parser.proofs.ReadLemmas.{part_too_deep, reverse_read, some_items_read, some_parts_read, turn_read}
+use Rattle.ecl_parser.proofs.ReadLemmas.{within_read}
+use Rattle.ecl_parser.proofs.parser.+parser.Goals.{subs-else-loop-turn-test, subs-then-loop-turn-test+then-not-take}
+use Rattle.ecl_parser.proofs.parser.+parser.Goals.{items-else-loop-turn-test}
 use Rattle.ecl_parser.proofs.parser.+parser.Goals.{items-then-loop-turn-test+then-not-take, parts-else-loop-turn-test}
 use Rattle.ecl_parser.proofs.parser.+parser.Goals.{parts-then-loop-turn-test+then-not-take}
 use Rattle.ecl_parser.proofs.parser.+parser.Goals as goal
@@ -23,9 +31,11 @@ counted_item-returns-then-take t c =
 -- a constraint in round brackets is read as a focus
 pub focus-returns : goal.focus-returns
 focus-returns t c =
-    focus_in_brackets c.args.depth _ (symbols_from c.args.tokens.now c.args.at.now) (symbols_from c.args.tokens.now c.take-2.new.at) _ _ (omega arith)
+    focus_in_brackets c.args.depth _ (symbols_from c.args.tokens.now c.args.at.now)
+    (symbols_from c.args.tokens.now c.take-2.new.at) _ _ (omega arith)
     (search (rules, c.take_digits.ensures.left)) (search (rules, c.take.ensures.left, c.take_digits.ensures.same))
-    (search (rules, c.take-2.ensures.taken, c.take.ensures.same, c.take_digits.ensures.same)) c.in_ok-found.ensures (search (rules, c.take-3.ensures.taken))
+    (search (rules, c.take-2.ensures.taken, c.take.ensures.same, c.take_digits.ensures.same)) c.in_ok-found.ensures
+    (search (rules, c.take-3.ensures.taken))
 
 -- a refinement in round brackets is read as an item
 pub item-returns-then-take_bracket : goal.item-returns-then-take_bracket
@@ -133,7 +143,7 @@ sub-returns-in_ok-operand-in-Some-2 t c =
 
 -- a part that no AND or OR follows is read as the whole set
 pub set-returns : goal.set-returns
-unfolding set_in set_behind
+unfolding set_in set_after
 set-returns t c =
     let no_and = sym c.is_ahead.ensures.kind ∙ c.if-is_ahead.false in
     let no_or = sym c.is_ahead-2.ensures.kind ∙ c.if-is_ahead-2.false in
@@ -141,7 +151,7 @@ set-returns t c =
 
 -- an item that no AND or OR follows is read as the whole refinement
 pub refinement-returns : goal.refinement-returns
-unfolding refinement_in refinement_behind
+unfolding refinement_in refinement_after
 refinement-returns t c =
     let no_and = sym c.is_ahead.ensures.kind ∙ c.if-is_ahead.false in
     let no_or = sym c.is_ahead-2.ensures.kind ∙ c.if-is_ahead-2.false in
@@ -206,66 +216,82 @@ pub item-returns : goal.item-returns
 unfolding item_in
 item-returns t c =
     let same = c.take_bracket.ensures.same c.if-take_bracket.false in
-    rw (c.take_bracket.ensures.left c.if-take_bracket.false, rw same at c.in_ok-cardinality.ensures) c.counted_item.ensures
+    rw (c.take_bracket.ensures.left c.if-take_bracket.false, rw same at c.in_ok-cardinality.ensures)
+    c.counted_item.ensures
 
 -- a Sub and the rest of a constraint after it are read as a constraint
 pub constraint-returns : goal.constraint-returns
 unfolding constraint_in
-constraint-returns t c = rw c.in_ok-first.ensures c.constraint_behind.ensures
+constraint-returns t c = rw c.in_ok-first.ensures c.constraint_after.ensures
 
 -- operands joined by AND are read as a conjunction
-pub constraint_behind-returns-then-is_ahead : goal.constraint_behind-returns-then-is_ahead
-unfolding constraint_behind
-constraint_behind-returns-then-is_ahead t c =
+pub constraint_after-returns-then-is_ahead : goal.constraint_after-returns-then-is_ahead
+unfolding constraint_after
+constraint_after-returns-then-is_ahead t c =
     rw (sym c.is_ahead.ensures.kind ∙ c.if-is_ahead.true, c.in_ok-parts.ensures)
     (ap (λ tree. Some (tree, symbols_from c.args.tokens.now c.joined.new.at)) (sym (tree_of-And c.in_ok-parts.parts)))
 
 -- operands joined by OR are read as a disjunction
-pub constraint_behind-returns-then-is_ahead-2 : goal.constraint_behind-returns-then-is_ahead-2
-unfolding constraint_behind
-constraint_behind-returns-then-is_ahead-2 t c =
+pub constraint_after-returns-then-is_ahead-2 : goal.constraint_after-returns-then-is_ahead-2
+unfolding constraint_after
+constraint_after-returns-then-is_ahead-2 t c =
     let no_and = sym c.is_ahead.ensures.kind ∙ c.if-is_ahead.false in
     rw (no_and, sym c.is_ahead-2.ensures.kind ∙ c.if-is_ahead-2.true, c.in_ok-parts-2.ensures)
-    (ap (λ tree. Some (tree, symbols_from c.args.tokens.now c.joined-then-is_ahead-2.new.at)) (sym (tree_of-Or c.in_ok-parts-2.parts)))
+    (ap (λ tree. Some (tree, symbols_from c.args.tokens.now c.joined-then-is_ahead-2.new.at))
+    (sym (tree_of-Or c.in_ok-parts-2.parts)))
 
 -- an operand and the names after it are read as a dotted constraint
-pub constraint_behind-returns-then-is_ahead-3 : goal.constraint_behind-returns-then-is_ahead-3
-unfolding constraint_behind
-constraint_behind-returns-then-is_ahead-3 t c =
+pub constraint_after-returns-then-is_ahead-3 : goal.constraint_after-returns-then-is_ahead-3
+unfolding constraint_after
+constraint_after-returns-then-is_ahead-3 t c =
     let no_and = sym c.is_ahead.ensures.kind ∙ c.if-is_ahead.false in
     let no_or = sym c.is_ahead-2.ensures.kind ∙ c.if-is_ahead-2.false in
     rw (no_and, no_or, sym c.is_ahead-3.ensures.kind ∙ c.if-is_ahead-3.true) c.dotted.ensures
 
 -- an operand, a colon and a refinement are read as a refined constraint
-pub constraint_behind-returns-then-take : goal.constraint_behind-returns-then-take
-unfolding constraint_behind
-constraint_behind-returns-then-take t c =
+pub constraint_after-returns-then-take : goal.constraint_after-returns-then-take
+unfolding constraint_after
+constraint_after-returns-then-take t c =
     let no_and = sym c.is_ahead.ensures.kind ∙ c.if-is_ahead.false in
     let no_or = sym c.is_ahead-2.ensures.kind ∙ c.if-is_ahead-2.false in
     let no_dot = sym c.is_ahead-3.ensures.kind ∙ c.if-is_ahead-3.false in
     rw (no_and, no_or, no_dot, c.take.ensures.taken c.if-take.true) c.refined.ensures
 
 -- two operands with MINUS between them are read as a difference
-pub constraint_behind-returns-then-take-2 : goal.constraint_behind-returns-then-take-2
-unfolding constraint_behind
-constraint_behind-returns-then-take-2 t c =
+pub constraint_after-returns-then-take-2 : goal.constraint_after-returns-then-take-2
+unfolding constraint_after
+constraint_after-returns-then-take-2 t c =
     let no_and = sym c.is_ahead.ensures.kind ∙ c.if-is_ahead.false in
     let no_or = sym c.is_ahead-2.ensures.kind ∙ c.if-is_ahead-2.false in
     let no_dot = sym c.is_ahead-3.ensures.kind ∙ c.if-is_ahead-3.false in
     let same = c.take.ensures.same c.if-take.false in
-    rw (no_and, no_or, no_dot, c.take.ensures.left c.if-take.false, rw same at (c.take-2.ensures.taken c.if-take-2.true))
+    rw (
+      no_and,
+      no_or,
+      no_dot,
+      c.take.ensures.left c.if-take.false,
+      rw same at
+          (c.take-2.ensures.taken c.if-take-2.true),
+    )
     c.subtracted.ensures
 
 -- an operand that none of the joining tokens follow is read alone
-pub constraint_behind-returns : goal.constraint_behind-returns
-unfolding constraint_behind
-constraint_behind-returns t c =
+pub constraint_after-returns : goal.constraint_after-returns
+unfolding constraint_after
+constraint_after-returns t c =
     let no_and = sym c.is_ahead.ensures.kind ∙ c.if-is_ahead.false in
     let no_or = sym c.is_ahead-2.ensures.kind ∙ c.if-is_ahead-2.false in
     let no_dot = sym c.is_ahead-3.ensures.kind ∙ c.if-is_ahead-3.false in
     let same = c.take.ensures.same c.if-take.false in
     let same_still = c.take-2.ensures.same c.if-take-2.false ∙ same in
-    rw (no_and, no_or, no_dot, c.take.ensures.left c.if-take.false, rw same at (c.take-2.ensures.left c.if-take-2.false))
+    rw (
+      no_and,
+      no_or,
+      no_dot,
+      c.take.ensures.left c.if-take.false,
+      rw same at
+          (c.take-2.ensures.left c.if-take-2.false),
+    )
     (ap (λ at. Some (tree_of c.args.first, symbols_from c.args.tokens.now at)) (sym same_still))
 
 -- `joined` reads `first` and the operands that `subs` reads after it
@@ -292,7 +318,11 @@ subtracted-returns t c =
 pub dotted-returns : goal.dotted-returns
 dotted-returns t c =
     rw (rw c.new-2.ensures.items at c.in_ok-names.ensures)
-    (ap (λ start. Some (dotted_tree (tree_of start) (trees_of c.in_ok-names.names.items), symbols_from c.args.tokens.now c.subs.new.at))
+    (ap (λ start. Some (
+      dotted_tree (tree_of start) (trees_of c.in_ok-names.names.items),
+      symbols_from c.args.tokens.now
+          c.subs.new.at,
+    ))
     (sym c.in_ok-start.ensures.ok)
     ∙ ap (λ tree. Some (tree, symbols_from c.args.tokens.now c.subs.new.at))
     (sym (tree_of-Dotted c.in_ok-start.start c.in_ok-names.names)))
@@ -306,9 +336,11 @@ subs-loop-turn-init t c =
 -- one turn of `subs` moves an operand from the rest to the operands that are read
 pub subs-loop-turn-preserved : goal.subs-loop-turn-preserved
 subs-loop-turn-preserved t c =
-    turn_read (sub_in (readers c.args.depth)) c.args.joint tree_of c.loop-turn.parts.items c.push.new.self.items c.in-Ok.part
+    turn_read (sub_in (readers c.args.depth)) c.args.joint tree_of c.loop-turn.parts.items c.push.new.self.items
+    c.in-Ok.part
     c.loop-turn._turn c.len-turn-end.result (symbols_from c.args.tokens.now c.loop-turn.at)
-    (symbols_from c.args.tokens.now c.take.new.at) _ _ (omega arith) (search rules) (search (rules, c.take.ensures.taken))
+    (symbols_from c.args.tokens.now c.take.new.at) _ _ (omega arith) (search rules)
+    (search (rules, c.take.ensures.taken))
     c.in-Ok.ensures c.loop-turn.invariant
 
 -- an operand that cannot be read makes `subs` fail with its fault
@@ -331,7 +363,8 @@ subs-returns t c =
       | subs-then-loop-turn-test+then-not-take w ↦
           many_end (sub_in (readers c.args.depth)) c.args.joint _ (map tree_of c.loop-turn.parts.items)
           (symbols_from c.args.tokens.now c.loop-turn.at) (search (rules, w.take.ensures.left))
-          ∙ ap (λ at. Some (map tree_of c.loop-turn.parts.items, symbols_from c.args.tokens.now at)) (search (rules, w.take.ensures.same, w.at-is))
+          ∙ ap (λ at. Some (map tree_of c.loop-turn.parts.items, symbols_from c.args.tokens.now at))
+          (search (rules, w.take.ensures.same, w.at-is))
     ]
 
 -- before the first turn of `items` no item is read
@@ -343,9 +376,11 @@ items-loop-turn-init t c =
 -- one turn of `items` moves an item from the rest to the items that are read
 pub items-loop-turn-preserved : goal.items-loop-turn-preserved
 items-loop-turn-preserved t c =
-    turn_read (item_in (readers c.args.depth)) c.args.joint refinement_tree_of c.loop-turn.parts.items c.push.new.self.items c.in-Ok.part
+    turn_read (item_in (readers c.args.depth)) c.args.joint refinement_tree_of c.loop-turn.parts.items
+    c.push.new.self.items c.in-Ok.part
     c.loop-turn._turn c.len-turn-end.result (symbols_from c.args.tokens.now c.loop-turn.at)
-    (symbols_from c.args.tokens.now c.take.new.at) _ _ (omega arith) (search rules) (search (rules, c.take.ensures.taken))
+    (symbols_from c.args.tokens.now c.take.new.at) _ _ (omega arith) (search rules)
+    (search (rules, c.take.ensures.taken))
     c.in-Ok.ensures c.loop-turn.invariant
 
 -- an item that cannot be read makes `items` fail with its fault
@@ -364,11 +399,13 @@ items-returns t c =
       | items-else-loop-turn-test w ↦
           many_done (item_in (readers c.args.depth)) c.args.joint _ (map refinement_tree_of c.loop-turn.parts.items)
           (symbols_from c.args.tokens.now c.loop-turn.at) (omega arith)
-          ∙ ap (λ at. Some (map refinement_tree_of c.loop-turn.parts.items, symbols_from c.args.tokens.now at)) (sym w.at-is)
+          ∙ ap (λ at. Some (map refinement_tree_of c.loop-turn.parts.items, symbols_from c.args.tokens.now at))
+          (sym w.at-is)
       | items-then-loop-turn-test+then-not-take w ↦
           many_end (item_in (readers c.args.depth)) c.args.joint _ (map refinement_tree_of c.loop-turn.parts.items)
           (symbols_from c.args.tokens.now c.loop-turn.at) (search (rules, w.take.ensures.left))
-          ∙ ap (λ at. Some (map refinement_tree_of c.loop-turn.parts.items, symbols_from c.args.tokens.now at)) (search (rules, w.take.ensures.same, w.at-is))
+          ∙ ap (λ at. Some (map refinement_tree_of c.loop-turn.parts.items, symbols_from c.args.tokens.now at))
+          (search (rules, w.take.ensures.same, w.at-is))
     ]
 
 -- before the first turn of `parts` no part is read
@@ -380,9 +417,11 @@ parts-loop-turn-init t c =
 -- one turn of `parts` moves a part from the rest to the parts that are read
 pub parts-loop-turn-preserved : goal.parts-loop-turn-preserved
 parts-loop-turn-preserved t c =
-    turn_read (part_in (readers c.args.depth)) c.args.joint set_tree_of c.loop-turn.list.items c.push.new.self.items c.in-Ok.found
+    turn_read (part_in (readers c.args.depth)) c.args.joint set_tree_of c.loop-turn.list.items c.push.new.self.items
+    c.in-Ok.found
     c.loop-turn._turn c.len-turn-end.result (symbols_from c.args.tokens.now c.loop-turn.at)
-    (symbols_from c.args.tokens.now c.take.new.at) _ _ (omega arith) (search rules) (search (rules, c.take.ensures.taken))
+    (symbols_from c.args.tokens.now c.take.new.at) _ _ (omega arith) (search rules)
+    (search (rules, c.take.ensures.taken))
     c.in-Ok.ensures c.loop-turn.invariant
 
 -- a part that cannot be read makes `parts` fail with its fault
@@ -405,5 +444,6 @@ parts-returns t c =
       | parts-then-loop-turn-test+then-not-take w ↦
           many_end (part_in (readers c.args.depth)) c.args.joint _ (map set_tree_of c.loop-turn.list.items)
           (symbols_from c.args.tokens.now c.loop-turn.at) (search (rules, w.take.ensures.left))
-          ∙ ap (λ at. Some (map set_tree_of c.loop-turn.list.items, symbols_from c.args.tokens.now at)) (search (rules, w.take.ensures.same, w.at-is))
+          ∙ ap (λ at. Some (map set_tree_of c.loop-turn.list.items, symbols_from c.args.tokens.now at))
+          (search (rules, w.take.ensures.same, w.at-is))
     ]

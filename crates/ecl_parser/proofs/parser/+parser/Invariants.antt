@@ -3,14 +3,14 @@
 use Rattle.std.proofs.Common.{◌≡◌, ◌+◌, ◌-◌, ◌*◌, map}
 use Rattle.constraint_tree.specs.Tree.{refinement_tree_of, set_tree_of, tree_of}
 use Rattle.ecl_parser.specs.inside.Gives.{symbols_from}
-use Rattle.ecl_parser.specs.inside.Reading.{all_behind, item_in, many, part_in, readers, sub_in, with_front}
+use Rattle.ecl_parser.specs.inside.Reading.{all_after, item_in, many, part_in, readers, sub_in, with_front}
 use Rattle.ecl_parser.proofs.parser.+parser.Given as goal
 
 abbrev pub decreases-constraint : goal.decreases-constraint
 decreases-constraint l = 24 * l.depth + 18
 
-abbrev pub decreases-constraint_behind : goal.decreases-constraint_behind
-decreases-constraint_behind l = 24 * l.depth + 17
+abbrev pub decreases-constraint_after : goal.decreases-constraint_after
+decreases-constraint_after l = 24 * l.depth + 17
 
 abbrev pub decreases-joined : goal.decreases-joined
 decreases-joined l = 24 * l.depth + 16
@@ -66,17 +66,23 @@ decreases-focus l = 24 * l.depth + 2
 -- the operands read so far, with what the remaining turns read after them, are what the whole loop reads
 abbrev pub invariant-subs-loop-turn : goal.invariant-subs-loop-turn
 invariant-subs-loop-turn l =
-    with_front (map tree_of l.parts.items) (many (sub_in (readers l.depth)) l.joint (l._turn-end - l._turn) (symbols_from l.tokens l.at))
-    ≡ with_front (map tree_of l.fn.parts.items) (all_behind (sub_in (readers l.depth)) l.joint (symbols_from l.tokens l.fn.at))
+    with_front (map tree_of l.parts.items)
+    (many (sub_in (readers l.depth)) l.joint (l._turn-end - l._turn) (symbols_from l.tokens l.at))
+    ≡ with_front (map tree_of l.fn.parts.items)
+    (all_after (sub_in (readers l.depth)) l.joint (symbols_from l.tokens l.fn.at))
 
 -- the items read so far, with what the remaining turns read after them, are what the whole loop reads
 abbrev pub invariant-items-loop-turn : goal.invariant-items-loop-turn
 invariant-items-loop-turn l =
-    with_front (map refinement_tree_of l.parts.items) (many (item_in (readers l.depth)) l.joint (l._turn-end - l._turn) (symbols_from l.tokens l.at))
-    ≡ with_front (map refinement_tree_of l.fn.parts.items) (all_behind (item_in (readers l.depth)) l.joint (symbols_from l.tokens l.fn.at))
+    with_front (map refinement_tree_of l.parts.items)
+    (many (item_in (readers l.depth)) l.joint (l._turn-end - l._turn) (symbols_from l.tokens l.at))
+    ≡ with_front (map refinement_tree_of l.fn.parts.items)
+    (all_after (item_in (readers l.depth)) l.joint (symbols_from l.tokens l.fn.at))
 
 -- the parts read so far, with what the remaining turns read after them, are what the whole loop reads
 abbrev pub invariant-parts-loop-turn : goal.invariant-parts-loop-turn
 invariant-parts-loop-turn l =
-    with_front (map set_tree_of l.list.items) (many (part_in (readers l.depth)) l.joint (l._turn-end - l._turn) (symbols_from l.tokens l.at))
-    ≡ with_front (map set_tree_of l.fn.list.items) (all_behind (part_in (readers l.depth)) l.joint (symbols_from l.tokens l.fn.at))
+    with_front (map set_tree_of l.list.items)
+    (many (part_in (readers l.depth)) l.joint (l._turn-end - l._turn) (symbols_from l.tokens l.at))
+    ≡ with_front (map set_tree_of l.fn.list.items)
+    (all_after (part_in (readers l.depth)) l.joint (symbols_from l.tokens l.fn.at))

@@ -8,17 +8,22 @@ use Rattle.ecl_parser.proofs.text.parse.Goals as goal
 
 -- if the lexer fails on a text that is a constraint, memory ran out
 pub returns-in-Err-clause-whole : goal.returns-in-Err-clause-whole
-returns-in-Err-clause-whole c = right_whole c.args.text.now (Err c.in-Err.fault) (right_of_fault c.args.text.now c.in-Err.fault c.in-Err.ensures.fault)
+returns-in-Err-clause-whole c =
+    right_whole c.args.text.now (Err c.in-Err.fault)
+    (right_of_fault c.args.text.now c.in-Err.fault c.in-Err.ensures.fault)
 
 -- if the lexer fails on a refused text, it fails with the text's refusal, or memory ran out
 pub returns-in-Err-clause-only : goal.returns-in-Err-clause-only
-returns-in-Err-clause-only c = right_only c.args.text.now (Err c.in-Err.fault) (right_of_fault c.args.text.now c.in-Err.fault c.in-Err.ensures.fault)
+returns-in-Err-clause-only c =
+    right_only c.args.text.now (Err c.in-Err.fault)
+    (right_of_fault c.args.text.now c.in-Err.fault c.in-Err.ensures.fault)
 
 -- `tree` answers a text that is a constraint with that constraint, or memory ran out
 pub returns-clause-whole : goal.returns-clause-whole
 returns-clause-whole c =
     let are : AreTokensOf c.args.text.now (map spelled c.as_slice.result.now) =
-    subst (λ (tokens : List Token). AreTokensOf c.args.text.now (map spelled tokens)) (sym c.as_slice.ensures.value) c.in-Ok.ensures.found in
+    subst (λ (tokens : List Token). AreTokensOf c.args.text.now (map spelled tokens)) (sym c.as_slice.ensures.value)
+    c.in-Ok.ensures.found in
     right_whole c.args.text.now c.tree.result
     (right_of_tokens c.args.text.now (map spelled c.as_slice.result.now) c.tree.result c.in-Ok.ensures.readable are
     c.tree.ensures.shallow c.tree.ensures.found c.tree.ensures.fault)
@@ -27,7 +32,8 @@ returns-clause-whole c =
 pub returns-clause-only : goal.returns-clause-only
 returns-clause-only c =
     let are : AreTokensOf c.args.text.now (map spelled c.as_slice.result.now) =
-    subst (λ (tokens : List Token). AreTokensOf c.args.text.now (map spelled tokens)) (sym c.as_slice.ensures.value) c.in-Ok.ensures.found in
+    subst (λ (tokens : List Token). AreTokensOf c.args.text.now (map spelled tokens)) (sym c.as_slice.ensures.value)
+    c.in-Ok.ensures.found in
     right_only c.args.text.now c.tree.result
     (right_of_tokens c.args.text.now (map spelled c.as_slice.result.now) c.tree.result c.in-Ok.ensures.readable are
     c.tree.ensures.shallow c.tree.ensures.found c.tree.ensures.fault)

@@ -10,5 +10,7 @@ pub returns-clause-same : goal.returns-clause-same
 returns-clause-same c = λ text is short.
     let tree = tree_of c.args.constraint.now in
     let printed : c.as_slice.result.now ≡ constraint_text tree =
-    c.as_slice.ensures.value ∙ c.in_ok-print.ensures.ok ∙ ap (λ (front : List ℕ). front ++ constraint_text tree) c.new-text.ensures.items in
-    c.parse.ensures.whole tree (subst (λ (found : List ℕ). IsConstraint found tree) (sym printed) (printed_is_read text tree is short))
+    c.as_slice.ensures.value ∙ c.in_ok-print.ensures.ok
+    ∙ ap (λ (front : List ℕ). front ++ constraint_text tree) c.new-text.ensures.items in
+    c.parse.ensures.whole tree
+    (subst (λ (found : List ℕ). IsConstraint found tree) (sym printed) (printed_is_read text tree is short))

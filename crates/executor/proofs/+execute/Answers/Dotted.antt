@@ -26,8 +26,8 @@ use Rattle.executor.proofs.WorkLemmas.{some_end, some_next, some_start, some_tur
 use Rattle.executor.proofs.+execute.Goals as goal
 
 -- before the first name, the set that the attributes start from meets the invariant
-pub led_along-loop-name-init : goal.dotted_plans::led_along-loop-name-init
-led_along-loop-name-init g t c = record {
+pub execute_attributes-loop-name-init : goal.dotted_plans::execute_attributes-loop-name-init
+execute_attributes-loop-name-init g t c = record {
   items = λ plan from. from;
   bound = c.requires.bound;
   few = λ some. absurd (omega (arith, some));
@@ -37,8 +37,8 @@ led_along-loop-name-init g t c = record {
 }
 
 -- a turn that goes along one attribute name keeps the invariant of the names
-pub led_along-loop-name-preserved : goal.dotted_plans::led_along-loop-name-preserved
-led_along-loop-name-preserved g t c =
+pub execute_attributes-loop-name-preserved : goal.dotted_plans::execute_attributes-loop-name-preserved
+execute_attributes-loop-name-preserved g t c =
     let release = c.args.reader.snapshot.now.release in
     let indexed = c.args.reader.indexes.now in
     let sources : ℕ → Bool = is_one_of indexed.concepts (g.S.ConceptSet.items_of c.loop-name.found) in
@@ -68,9 +68,9 @@ led_along-loop-name-preserved g t c =
     }
 
 -- if memory is refused while a name is executed, the visits are within the bound of the values along all names
-pub led_along-returns-in_err-named-clause-counted :
-    goal.dotted_plans::led_along-returns-in_err-named-clause-counted
-led_along-returns-in_err-named-clause-counted g t c =
+pub execute_attributes-returns-in_err-named-clause-counted :
+    goal.dotted_plans::execute_attributes-returns-in_err-named-clause-counted
+execute_attributes-returns-in_err-named-clause-counted g t c =
     let indexed = c.args.reader.indexes.now in
     let first : ℕ = length (g.S.ConceptSet.items_of c.args.from) in
     record {
@@ -91,9 +91,9 @@ led_along-returns-in_err-named-clause-counted g t c =
 
 -- if memory is refused while the values along a name are found, the visits are within the bound of the values along
 -- all names
-pub led_along-returns-in_err-found-clause-counted :
-    goal.dotted_plans::led_along-returns-in_err-found-clause-counted
-led_along-returns-in_err-found-clause-counted g t c =
+pub execute_attributes-returns-in_err-found-clause-counted :
+    goal.dotted_plans::execute_attributes-returns-in_err-found-clause-counted
+execute_attributes-returns-in_err-found-clause-counted g t c =
     let indexed = c.args.reader.indexes.now in
     let first : ℕ = length (g.S.ConceptSet.items_of c.args.from) in
     let found : ℕ = length (g.S.ConceptSet.items_of c.loop-name.found) in
@@ -123,8 +123,8 @@ led_along-returns-in_err-found-clause-counted g t c =
     }
 
 -- at the end the visits are within the bound of the values along all names
-pub led_along-returns-clause-counted : goal.dotted_plans::led_along-returns-clause-counted
-led_along-returns-clause-counted g t c =
+pub execute_attributes-returns-clause-counted : goal.dotted_plans::execute_attributes-returns-clause-counted
+execute_attributes-returns-clause-counted g t c =
     let indexed = c.args.reader.indexes.now in
     let first : ℕ = length (g.S.ConceptSet.items_of c.args.from) in
     record {
@@ -137,8 +137,8 @@ led_along-returns-clause-counted g t c =
     }
 
 -- at the end what was found is what all names lead to from the start, and the floors of the names are counted
-pub led_along-returns-clause-found : goal.dotted_plans::led_along-returns-clause-found
-led_along-returns-clause-found g t c =
+pub execute_attributes-returns-clause-found : goal.dotted_plans::execute_attributes-returns-clause-found
+execute_attributes-returns-clause-found g t c =
     let release = c.args.reader.snapshot.now.release in
     λ plan from.
     record {
@@ -176,22 +176,22 @@ named_by-returns-then-eq-clause-counted g t c = record {
 }
 
 -- what the names lead to from the start, restricted to the candidates, is what the plan of values means among them
-pub led_from-returns-clause-found : goal.dotted_plans::led_from-returns-clause-found
-led_from-returns-clause-found g t c =
+pub execute_dotted-returns-clause-found : goal.dotted_plans::execute_dotted-returns-clause-found
+execute_dotted-returns-clause-found g t c =
     let release = c.args.reader.snapshot.now.release in
     let may : ℕ → Bool = may_be g.S.ConceptSet.items_of c.args.candidates.now in
     let plan : Plan = values_plan (logical_of c.args.start.now) (logicals_of c.args.names.now) in
-    let led = c.in_ok-led.ensures.found (logical_of c.args.start.now) c.in_ok-from.ensures.found.items in
+    let driven = c.in_ok-driven.ensures.found (logical_of c.args.start.now) c.in_ok-from.ensures.found.items in
     record {
-      items = kept_node release may plan (g.S.ConceptSet.items_of c.in_ok-led.led)
+      items = kept_node release may plan (g.S.ConceptSet.items_of c.in_ok-driven.driven)
           (g.S.ConceptSet.items_of c.in_ok-found.found)
-          (values_node release plan (g.S.ConceptSet.items_of c.in_ok-led.led) (logical_of c.args.start.now)
-          c.args.names.now refl led.items)
+          (values_node release plan (g.S.ConceptSet.items_of c.in_ok-driven.driven) (logical_of c.args.start.now)
+          c.args.names.now refl driven.items)
           c.in_ok-found.ensures.items;
       bound = search rules;
       floor = omega (
         arith,
         c.in_ok-from.ensures.found.floor,
-        led.floor,
+        driven.floor,
       );
     }

@@ -2,9 +2,9 @@
 use Rattle.std.proofs.Common.{ℕ, Bool}
 use Rattle.std.proofs.Common.{length, get_or, refl, arith, rules}
 use Rattle.std.specs.Prelude.{slice_get}
-use Rattle.set_algebra.specs.Meaning.{unit_means, means}
-use Rattle.set_algebra.specs.Plan.{Plan, PlanOfUnits, minus_plan, minus_units}
-use Rattle.executor.specs.inside.Logical.{logical_of, logical_units_of}
+use Rattle.set_algebra.specs.Meaning.{group_means, means}
+use Rattle.set_algebra.specs.Plan.{Plan, PlanOfGroups, minus_plan, minus_group_plan}
+use Rattle.executor.specs.inside.Logical.{logical_of, logical_groups_of}
 use Rattle.postings.specs.Groups.{all_groups}
 use Rattle.candidates.specs.Groups.{some_group_in}
 use Rattle.candidates.specs.Within.{may_be}
@@ -14,8 +14,8 @@ use Rattle.executor.proofs.WithinNodes.{minus_groups, minus_node}
 use Rattle.executor.proofs.+execute.Goals as goal
 
 -- what the first part has found and the second has not is what the difference means among the candidates
-pub in_first_alone-returns-clause-found : goal.plans::in_first_alone-returns-clause-found
-in_first_alone-returns-clause-found g t c =
+pub execute_minus-returns-clause-found : goal.plans::execute_minus-returns-clause-found
+execute_minus-returns-clause-found g t c =
     let release = c.args.reader.snapshot.now.release in
     let may : ℕ → Bool = may_be g.S.ConceptSet.items_of c.args.candidates.now in
     let first : Plan = logical_of c.args.first.now in
@@ -35,14 +35,14 @@ in_first_alone-returns-clause-found g t c =
     }
 
 -- the groups that the first part has found and the second has not are what the difference means among the candidates
-pub groups_in_first_alone-returns-clause-found : goal.unit_plans::groups_in_first_alone-returns-clause-found
-groups_in_first_alone-returns-clause-found g t c =
+pub execute_group_minus-returns-clause-found : goal.group_plans::execute_group_minus-returns-clause-found
+execute_group_minus-returns-clause-found g t c =
     let release = c.args.reader.snapshot.now.release in
     let may : ℕ → Bool = may_be g.S.ConceptSet.items_of c.args.candidates.now in
-    let first : PlanOfUnits = logical_units_of c.args.first.now in
-    let second : PlanOfUnits = logical_units_of c.args.second.now in
+    let first : PlanOfGroups = logical_groups_of c.args.first.now in
+    let second : PlanOfGroups = logical_groups_of c.args.second.now in
     record {
-      items = minus_groups release may (minus_units first second) first second
+      items = minus_groups release may (minus_group_plan first second) first second
           (g.S.ConceptSet.items_of c.in_ok-left.left)
           (g.S.ConceptSet.items_of c.in_ok-right.right) (g.S.ConceptSet.items_of c.in_ok-groups.groups) refl
           c.in_ok-left.ensures.found.items c.in_ok-right.ensures.found.items c.in_ok-groups.ensures.items;
@@ -50,61 +50,70 @@ groups_in_first_alone-returns-clause-found g t c =
       floor = omega (
         arith,
         c.in_ok-left.ensures.found.floor,
-        c.second_unit_part.ensures.counted.grows,
+        c.second_group_part.ensures.counted.grows,
         c.in_ok-right.ensures.found.floor,
         c.minus.ensures.counted.grows,
       );
     }
 
 -- what the first part has found are candidates, as `second_part` requires
-pub in_first_alone-second_part-requires-clause-among :
-    goal.plans::in_first_alone-second_part-requires-clause-among
-in_first_alone-second_part-requires-clause-among g t c =
+pub execute_minus-second_part-requires-clause-among :
+    goal.plans::execute_minus-second_part-requires-clause-among
+execute_minus-second_part-requires-clause-among g t c =
     let release = c.args.reader.snapshot.now.release in
     are_candidates (length release.concepts) (may_be g.S.ConceptSet.items_of c.args.candidates.now)
     (λ n. means release (logical_of c.args.first.now) (get_or release.concepts n 0))
     (g.S.ConceptSet.items_of c.in_ok-left.left) c.in_ok-left.ensures.found.items
 
--- the groups that the first part has found are candidates, as `second_unit_part` requires
-pub groups_in_first_alone-second_unit_part-requires-clause-among :
-    goal.unit_plans::groups_in_first_alone-second_unit_part-requires-clause-among
-groups_in_first_alone-second_unit_part-requires-clause-among g t c =
+-- the groups that the first part has found are candidates, as `second_group_part` requires
+pub execute_group_minus-second_group_part-requires-clause-among :
+    goal.group_plans::execute_group_minus-second_group_part-requires-clause-among
+execute_group_minus-second_group_part-requires-clause-among g t c =
     let release = c.args.reader.snapshot.now.release in
     are_candidates (length (all_groups release)) (may_be g.S.ConceptSet.items_of c.args.candidates.now)
-    (λ n. some_group_in release (unit_means release (logical_units_of c.args.first.now))
+    (λ n. some_group_in release (group_means release (logical_groups_of c.args.first.now))
     (slice_get (all_groups release) n))
     (g.S.ConceptSet.items_of c.in_ok-left.left) c.in_ok-left.ensures.found.items
 
 -- the visits of both parts and of the difference itself are within the bound of the difference
-pub in_first_alone-returns-clause-counted : goal.plans::in_first_alone-returns-clause-counted
-in_first_alone-returns-clause-counted g t c =
-    counted_minus c.execute_within.ensures.counted c.second_part.ensures.counted c.execute_within-2.ensures.counted c.minus.ensures.counted
-    (few_of_candidates (length c.args.reader.snapshot.now.release.concepts) (g.S.ConceptSet.items_of c.in_ok-left.left) _
+pub execute_minus-returns-clause-counted : goal.plans::execute_minus-returns-clause-counted
+execute_minus-returns-clause-counted g t c =
+    counted_minus c.execute_within.ensures.counted c.second_part.ensures.counted c.execute_within-2.ensures.counted
+    c.minus.ensures.counted
+    (few_of_candidates (length c.args.reader.snapshot.now.release.concepts) (g.S.ConceptSet.items_of c.in_ok-left.left)
+    _
     (g.S.ConceptSet.items_of c.in_ok-right.right) c.in_ok-right.ensures.found.items)
     c.in_ok-right.ensures.size (omega (arith, c.in_ok-left.ensures.size)) (omega arith)
 
 -- if memory is refused while what the second part has found is taken away, the visits are within the bound of the
 -- difference
-pub in_first_alone-returns-in_err-found-clause-counted : goal.plans::in_first_alone-returns-in_err-found-clause-counted
-in_first_alone-returns-in_err-found-clause-counted g t c =
-    counted_minus c.execute_within.ensures.counted c.second_part.ensures.counted c.execute_within-2.ensures.counted c.minus.ensures.counted
-    (few_of_candidates (length c.args.reader.snapshot.now.release.concepts) (g.S.ConceptSet.items_of c.in_ok-left.left) _
+pub execute_minus-returns-in_err-found-clause-counted : goal.plans::execute_minus-returns-in_err-found-clause-counted
+execute_minus-returns-in_err-found-clause-counted g t c =
+    counted_minus c.execute_within.ensures.counted c.second_part.ensures.counted c.execute_within-2.ensures.counted
+    c.minus.ensures.counted
+    (few_of_candidates (length c.args.reader.snapshot.now.release.concepts) (g.S.ConceptSet.items_of c.in_ok-left.left)
+    _
     (g.S.ConceptSet.items_of c.in_ok-right.right) c.in_ok-right.ensures.found.items)
     c.in_ok-right.ensures.size (omega (arith, c.in_ok-left.ensures.size)) (omega arith)
 
 -- the visits of both parts of groups and of the difference itself are within the bound of the difference
-pub groups_in_first_alone-returns-clause-counted : goal.unit_plans::groups_in_first_alone-returns-clause-counted
-groups_in_first_alone-returns-clause-counted g t c =
-    counted_minus c.execute_groups.ensures.counted c.second_unit_part.ensures.counted c.execute_groups-2.ensures.counted c.minus.ensures.counted
-    (few_of_candidates (length (all_groups c.args.reader.snapshot.now.release)) (g.S.ConceptSet.items_of c.in_ok-left.left) _
+pub execute_group_minus-returns-clause-counted : goal.group_plans::execute_group_minus-returns-clause-counted
+execute_group_minus-returns-clause-counted g t c =
+    counted_minus c.execute_groups.ensures.counted c.second_group_part.ensures.counted
+    c.execute_groups-2.ensures.counted c.minus.ensures.counted
+    (few_of_candidates (length (all_groups c.args.reader.snapshot.now.release))
+    (g.S.ConceptSet.items_of c.in_ok-left.left) _
     (g.S.ConceptSet.items_of c.in_ok-right.right) c.in_ok-right.ensures.found.items)
     c.in_ok-right.ensures.size (omega (arith, c.in_ok-left.ensures.size)) (omega arith)
 
 -- if memory is refused while the groups that the second part has found are taken away, the visits are within the
 -- bound of the difference
-pub groups_in_first_alone-returns-in_err-groups-clause-counted : goal.unit_plans::groups_in_first_alone-returns-in_err-groups-clause-counted
-groups_in_first_alone-returns-in_err-groups-clause-counted g t c =
-    counted_minus c.execute_groups.ensures.counted c.second_unit_part.ensures.counted c.execute_groups-2.ensures.counted c.minus.ensures.counted
-    (few_of_candidates (length (all_groups c.args.reader.snapshot.now.release)) (g.S.ConceptSet.items_of c.in_ok-left.left) _
+pub execute_group_minus-returns-in_err-groups-clause-counted :
+    goal.group_plans::execute_group_minus-returns-in_err-groups-clause-counted
+execute_group_minus-returns-in_err-groups-clause-counted g t c =
+    counted_minus c.execute_groups.ensures.counted c.second_group_part.ensures.counted
+    c.execute_groups-2.ensures.counted c.minus.ensures.counted
+    (few_of_candidates (length (all_groups c.args.reader.snapshot.now.release))
+    (g.S.ConceptSet.items_of c.in_ok-left.left) _
     (g.S.ConceptSet.items_of c.in_ok-right.right) c.in_ok-right.ensures.found.items)
     c.in_ok-right.ensures.size (omega (arith, c.in_ok-left.ensures.size)) (omega arith)

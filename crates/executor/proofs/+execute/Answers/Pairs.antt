@@ -1,9 +1,9 @@
 -- Answers of the leaves, which count pairs, and of their tests.
 use Rattle.std.proofs.Common.{subst, ℕ, List, ◌≤◌, ◌∙◌, Bool, false}
 use Rattle.std.proofs.Common.{refl, arith}
-use Rattle.set_algebra.specs.Meaning.{unit_means, has_pairs, means, pairs_of, value_passes}
+use Rattle.set_algebra.specs.Meaning.{group_means, has_pairs, means, pairs_of, value_passes}
 use Rattle.candidates.specs.Numbers.{is_one_of, numbers_in}
-use Rattle.set_algebra.specs.Plan.{Plan, PlanOfUnits, pairs_plan, pairs_units}
+use Rattle.set_algebra.specs.Plan.{Plan, PlanOfGroups, pairs_plan, pairs_group_plan}
 use Rattle.set_algebra.specs.Physical.{physical_of, physical_test_of}
 use Rattle.executor.specs.inside.Logical.{logical_of, logical_test_of}
 use Rattle.number_lists.specs.Rising.{IsRisingBelow}
@@ -101,20 +101,20 @@ pairs_within-returns-in_err-found-clause-counted g t c =
     c.with_pairs_within.ensures.counted
 
 -- the candidate groups with a number of pairs in the cardinality are what the leaf of groups means among them
-pub groups_with_pairs-returns-clause-found : goal.unit_plans::groups_with_pairs-returns-clause-found
+pub groups_with_pairs-returns-clause-found : goal.group_plans::groups_with_pairs-returns-clause-found
 groups_with_pairs-returns-clause-found g t c =
     let release = c.args.reader.snapshot.now.release in
     let may : ℕ → Bool = may_be g.S.ConceptSet.items_of c.args.candidates.now in
     let passes = value_passes release (logical_test_of c.args.leaf.test.now) in
     let one : ℕ → Bool = is_one_of c.args.reader.indexes.now.concepts (g.S.ConceptSet.items_of c.in_ok-typed.typed) in
     let some : List Pair → Bool = has_pairs c.args.leaf.count one passes in
-    let plan : PlanOfUnits = pairs_units c.args.leaf.count (logical_of c.args.leaf.types.now)
+    let plan : PlanOfGroups = pairs_group_plan c.args.leaf.count (logical_of c.args.leaf.types.now)
     (logical_test_of c.args.leaf.test.now) in
     record {
       items = c.in_ok-found.ensures.found.items
           ∙ (λ i. groups_within release may
           (has_pairs c.args.leaf.count one (λ value. c.in_ok-tested.ensures.tested.passes value i)))
-          ∙ groups_same release may some (unit_means release plan)
+          ∙ groups_same release may some (group_means release plan)
           (groups.pairs_node release plan (groups_where release some)
           c.args.leaf.count (logical_of c.args.leaf.types.now) (logical_test_of c.args.leaf.test.now)
           c.args.reader.indexes.now.concepts (g.S.ConceptSet.items_of c.in_ok-typed.typed) refl
@@ -127,7 +127,7 @@ groups_with_pairs-returns-clause-found g t c =
     }
 
 -- the visits of the types, of the test and of the leaf itself are within the bound of the leaf of groups
-pub groups_with_pairs-returns-clause-counted : goal.unit_plans::groups_with_pairs-returns-clause-counted
+pub groups_with_pairs-returns-clause-counted : goal.group_plans::groups_with_pairs-returns-clause-counted
 groups_with_pairs-returns-clause-counted g t c =
     leaf_reads c.args.reader.indexes.now (physical_of c.args.leaf.types.now) (physical_test_of c.args.leaf.test.now)
     c.execute_within.ensures.counted c.tested_of.ensures.counted
@@ -141,7 +141,7 @@ groups_with_pairs-returns-clause-counted g t c =
 -- if memory is refused while the groups with passing pairs are found, the visits are within the bound of the leaf of
 -- groups
 pub groups_with_pairs-returns-in_err-found-clause-counted :
-    goal.unit_plans::groups_with_pairs-returns-in_err-found-clause-counted
+    goal.group_plans::groups_with_pairs-returns-in_err-found-clause-counted
 groups_with_pairs-returns-in_err-found-clause-counted g t c =
     leaf_reads c.args.reader.indexes.now (physical_of c.args.leaf.types.now) (physical_test_of c.args.leaf.test.now)
     c.execute_within.ensures.counted c.tested_of.ensures.counted
@@ -174,7 +174,7 @@ pairs_within-with_pairs_within-requires-clause-room g t c =
 
 -- the bound of the leaf of groups has room for what its choice reads, as `groups_with_pairs_within` requires
 pub groups_with_pairs-groups_with_pairs_within-requires-clause-room :
-    goal.unit_plans::groups_with_pairs-groups_with_pairs_within-requires-clause-room
+    goal.group_plans::groups_with_pairs-groups_with_pairs_within-requires-clause-room
 groups_with_pairs-groups_with_pairs_within-requires-clause-room g t c =
     let indexed = c.args.reader.indexes.now in
     let types = physical_of c.args.leaf.types.now in

@@ -7,7 +7,7 @@ use Rattle.set_algebra.specs.Plan.{walk_plan}
 use Rattle.set_algebra.specs.Physical.{physical_of}
 use Rattle.executor.specs.inside.Logical.{logical_of}
 use Rattle.number_lists.specs.Members.{has}
-use Rattle.walks.specs.Led.{led_to}
+use Rattle.walks.specs.Related.{related_to}
 use Rattle.reading.specs.Counted.{full}
 use Rattle.reading.proofs.CountLemmas.{counted_full, counted_then}
 use Rattle.std.specs.Bool.{OnTrue}
@@ -43,9 +43,9 @@ walk_to_few-returns-clause-found g t c =
       floor = omega (
         arith,
         c.enough_for.ensures.counted.grows,
-        c.extent_of.ensures.counted.grows,
+        c.stats_of.ensures.counted.grows,
         c.in_ok-from.ensures.found.floor,
-        c.led_among.ensures.counted.grows,
+        c.related_among.ensures.counted.grows,
         several_floor indexed c.args.walk.operator (one_of (physical_of c.args.walk.operand.now)) c.requires.several,
       );
     }
@@ -58,8 +58,8 @@ walk_to_few-returns-clause-counted g t c =
     let indexed = c.args.reader.indexes.now in
     let plan = physical_of c.args.walk.operand.now in
     counted_full
-    (counted_then (counted_then (counted_then c.enough_for.ensures.counted c.extent_of.ensures.counted)
-    c.execute_within.ensures.counted) c.led_among.ensures.counted)
+    (counted_then (counted_then (counted_then c.enough_for.ensures.counted c.stats_of.ensures.counted)
+    c.execute_within.ensures.counted) c.related_among.ensures.counted)
     (omega (
       arith,
       c.requires.room,
@@ -74,8 +74,8 @@ walk_to_few-returns-in_err-found-clause-counted g t c =
     let indexed = c.args.reader.indexes.now in
     let plan = physical_of c.args.walk.operand.now in
     counted_full
-    (counted_then (counted_then (counted_then c.enough_for.ensures.counted c.extent_of.ensures.counted)
-    c.execute_within.ensures.counted) c.led_among.ensures.counted)
+    (counted_then (counted_then (counted_then c.enough_for.ensures.counted c.stats_of.ensures.counted)
+    c.execute_within.ensures.counted) c.related_among.ensures.counted)
     (omega (
       arith,
       c.requires.room,
@@ -91,7 +91,7 @@ walk_to_few-returns-in_err-from-clause-counted g t c =
     let indexed = c.args.reader.indexes.now in
     let plan = physical_of c.args.walk.operand.now in
     counted_full
-    (counted_then (counted_then c.enough_for.ensures.counted c.extent_of.ensures.counted)
+    (counted_then (counted_then c.enough_for.ensures.counted c.stats_of.ensures.counted)
     c.execute_within.ensures.counted)
     (omega (
       arith,
@@ -101,13 +101,13 @@ walk_to_few-returns-in_err-from-clause-counted g t c =
     ))
 
 -- if memory is refused while the concepts that are enough are measured, the visits are within the bound of the walk
-pub walk_to_few-returns-in_err-extent-clause-counted :
-    goal.walk_plans::walk_to_few-returns-in_err-extent-clause-counted
-walk_to_few-returns-in_err-extent-clause-counted g t c =
+pub walk_to_few-returns-in_err-stats-clause-counted :
+    goal.walk_plans::walk_to_few-returns-in_err-stats-clause-counted
+walk_to_few-returns-in_err-stats-clause-counted g t c =
     let indexed = c.args.reader.indexes.now in
     let plan = physical_of c.args.walk.operand.now in
     counted_full
-    (counted_then c.enough_for.ensures.counted c.extent_of.ensures.counted)
+    (counted_then c.enough_for.ensures.counted c.stats_of.ensures.counted)
     (omega (
       arith,
       c.requires.room,
@@ -147,11 +147,12 @@ walk_from-returns-clause-found g t c =
     let plan : Plan = walk_plan c.args.walk.operator operand in
     let from = c.in_ok-from.from in
     let items = g.S.ConceptSet.items_of from in
-    let led : List ℕ = led_to hierarchy (g.S.ConceptSet.bound_of from) c.args.walk.operator items in
+    let driven : List ℕ = related_to hierarchy (g.S.ConceptSet.bound_of from) c.args.walk.operator items in
     record {
-      items = kept_node release (may_be g.S.ConceptSet.items_of c.args.candidates.now) plan led
+      items = kept_node release (may_be g.S.ConceptSet.items_of c.args.candidates.now) plan driven
           (g.S.ConceptSet.items_of c.in_ok-found-2.found)
-          (walk_node release plan led operand c.args.walk.operator hierarchy (g.S.ConceptSet.bound_of from) items refl
+          (walk_node release plan driven operand c.args.walk.operator hierarchy (g.S.ConceptSet.bound_of from) items
+          refl
           c.args.reader.index.hierarchy
           c.in_ok-from.ensures.found.bound c.in_ok-from.ensures.found.items refl)
           c.in_ok-found-2.ensures.found.items;

@@ -1,4 +1,5 @@
-use Rattle.std.proofs.Common.{ℕ, ◌≡◌, ◌∙◌, ◌<◌, Bool, true, false, List, Some, ap, eqb, eqb-true, get_or, length, slice_get, subst, sym, refl}
+use Rattle.std.proofs.Common.{ℕ, ◌≡◌, ◌∙◌, ◌<◌, Bool, true, false, List, Some, ap, eqb, eqb-true, get_or, length}
+use Rattle.std.proofs.Common.{slice_get, subst, sym, refl}
 use Rattle.std.specs.Bool.{OnTrue}
 use Rattle.std.proofs.lemmas.Option.{slice_get_read}
 use Rattle.held_release.proofs.attribute_types.is_at.Goals as goal

@@ -1,4 +1,5 @@
-use Rattle.std.proofs.Common.{ℕ, ◌≡◌, ◌<◌, ◌+◌, ◌++◌, ◌∷◌, [], List, ap, arith, get_or, length, length-append, subst, sym}
+use Rattle.std.proofs.Common.{ℕ, ◌≡◌, ◌<◌, ◌+◌, ◌++◌, ◌∷◌, [], List, ap, arith, get_or, length, length-append, subst}
+use Rattle.std.proofs.Common.{sym}
 use Rattle.std.proofs.lemmas.List.{get_or_append_left}
 use Rattle.std.proofs.Math.Seq.{get_or-append_seam}
 use Rattle.held_release.specs.inside.Buckets.{IsBucketStart}
@@ -8,7 +9,8 @@ use Rattle.held_release.proofs.concepts.bucket_starts.Goals as goal
 -- together
 started_more : (ids starts : List ℕ) (start count : ℕ) → length starts ≡ count
     → ((bucket : ℕ) → bucket < count → IsBucketStart ids bucket (get_or starts bucket 0))
-    → IsBucketStart ids count start → (bucket : ℕ) → bucket < count + 1 → IsBucketStart ids bucket (get_or (starts ++ start ∷ []) bucket 0)
+    → IsBucketStart ids count start → (bucket : ℕ) → bucket < count + 1
+    → IsBucketStart ids bucket (get_or (starts ++ start ∷ []) bucket 0)
 started_more ids starts start count each started next bucket below =
     grind (arith, get_or_append_left starts (start ∷ []) 0 bucket, get_or-append_seam starts start [] 0, started bucket)
 

@@ -30,7 +30,8 @@ loop-low-preserved c =
     let middle = c.loop-low.low + (c.loop-low.high - c.loop-low.low) / 2 in record {
       within = omega (arith, c.loop-low-test.true, c.loop-low.invariant.within);
       above = c.loop-low.invariant.above;
-      below = λ place behind below. grind (arith, common_steps, not_falling c.args.ids.now c.requires.rising middle place);
+      below = λ place following below. grind
+          (arith, common_steps, not_falling c.args.ids.now c.requires.rising middle place);
     }
 
 -- if no place is left between `low` and `high`, `id` has no number

@@ -1,6 +1,7 @@
 use Rattle.std.proofs.lemmas.Bool.Decides.{nat_tests}
 use Rattle.std.proofs.lemmas.Grind.{common_steps}
-use Rattle.std.proofs.Common.{ℕ, ◌≡◌, ◌∙◌, ◌<◌, ◌^◌, All, List, ap, arith, filter_map, length, map, string_bytes, subst, sym, true}
+use Rattle.std.proofs.Common.{ℕ, ◌≡◌, ◌∙◌, ◌<◌, ◌^◌, All, List, ap, arith, filter_map, length, map, string_bytes, subst}
+use Rattle.std.proofs.Common.{sym, true}
 use Rattle.row_lists.specs.ListsRead.{read_in}
 use Rattle.rf2_rows.specs.Release.{Attribute, Name}
 use Rattle.hierarchy.specs.Hierarchy.{IsWithin}
@@ -9,7 +10,8 @@ use Rattle.held_release.specs.Name.{name_among}
 use Rattle.held_release.specs.Numbering.{numbered_row}
 use Rattle.held_release.specs.ValuesInForce.{is_value_among}
 use Rattle.held_release.specs.inside.Sorted.{in_file_order}
-use Rattle.held_release.proofs.FinishLemmas.{attributes_among-values, finished-Ok, finished-Err, length-attributes_among, length-names_among, length-rising}
+use Rattle.held_release.proofs.FinishLemmas.{attributes_among-values, finished-Ok, finished-Err}
+use Rattle.held_release.proofs.FinishLemmas.{length-attributes_among, length-names_among, length-rising}
 use Rattle.held_release.proofs.NumberingLemmas.{IsWithin-numbered, length-numbered}
 use Rattle.held_release.proofs.finishing.finish.Goals as goal
 use Rattle.held_release.proofs.finishing.finish.Goals.{After-len-in-Ok}
@@ -167,12 +169,15 @@ returns-in_ok-lists-in-Ok-clause-ok c =
     (grind (arith, c.in_ok-concepts.ensures, c.rising.ensures.rising)) c.rising-inactive.ensures.rising
     (grind (arith, c.in-Ok.ensures.rows, c.as_slice.ensures.value))
     c.in_ok-lists-in-Ok.ensures.attributes
-    (grind (arith, c.in_ok-lists-in-Ok.ensures.members, c.as_slice-in-Ok.ensures.value)) c.in_ok-lists-in-Ok.ensures.names
-    (grind (arith, c.in-Ok.ensures.acyclic, c.as_slice.ensures.value)) (omega (arith, c.in_ok-lists-in-Ok.ensures.sorted.count))
+    (grind (arith, c.in_ok-lists-in-Ok.ensures.members, c.as_slice-in-Ok.ensures.value))
+    c.in_ok-lists-in-Ok.ensures.names
+    (grind (arith, c.in-Ok.ensures.acyclic, c.as_slice.ensures.value))
+    (omega (arith, c.in_ok-lists-in-Ok.ensures.sorted.count))
 
 -- the fault that is answered is the fault of `finished`
 pub returns-in-Err-clause-err : goal.returns-in-Err-clause-err
 returns-in-Err-clause-err c =
-    finished-Err (string_bytes c.args.language) c.args.files c.args.read.count (read_in c.args.read.lists) c.in_ok-concepts.concepts
+    finished-Err (string_bytes c.args.language) c.args.files c.args.read.count (read_in c.args.read.lists)
+    c.in_ok-concepts.concepts
     c.in-Err.fault (grind (arith, c.in_ok-concepts.ensures, c.rising.ensures.rising))
     (grind (arith, c.in-Err.ensures.cycle, c.as_slice.ensures.value))

@@ -36,8 +36,11 @@ returns-clause-name c =
     let stays = text-extends (string_bytes c.keep_language.new.texts) (string_bytes c.keep_term.new.texts)
     c.in_ok-term.ensures.grown (get_or spans number no_span)
     (c.in_ok-language.ensures.languages number no_span c.in_ok-language.ensures.within) in
-    let end : c.start.result + c.in_ok-bytes.bytes ≡ c.in_ok-term.term.end = omega (arith, c.in_ok-bytes.ensures, c.start.ensures) in
-    let term : text_at (string_bytes c.keep_term.new.texts) (record { start = c.start.result; end = c.start.result + c.in_ok-bytes.bytes })
+    let end : c.start.result + c.in_ok-bytes.bytes ≡ c.in_ok-term.term.end =
+    omega (arith, c.in_ok-bytes.ensures, c.start.ensures) in
+    let term : text_at (string_bytes c.keep_term.new.texts)
+    (record { start = c.start.result; end = c.start.result + c.in_ok-bytes.bytes })
     ≡ c.args.name.now.term.now =
-    (λ i. text_at (string_bytes c.keep_term.new.texts) (record { start = c.start.ensures i; end = end i })) ∙ c.in_ok-term.ensures.span.same in
+    (λ i. text_at (string_bytes c.keep_term.new.texts) (record { start = c.start.ensures i; end = end i }))
+    ∙ c.in_ok-term.ensures.span.same in
     grind (arith, stays, c.in_ok-language.ensures.language, term)

@@ -25,7 +25,7 @@ range-requires-clause-start_le_end c =
 -- the line of the concept with the text between the bars as name is the line
 pub returns : goal.returns
 returns c =
-    let (name, line, long, before, behind, found) =
+    let (name, line, long, before, following, found) =
     named_line c.args.texts.now c.format.result.now c.args.concept c.args.from c.args.to
     (c.format.ensures.text ∙ ap decimal c.number.ensures.number) c.requires.rise c.requires.end c.requires.line
     c.if-to-from.false in

@@ -1,4 +1,5 @@
-use Rattle.std.proofs.Common.{ℕ, ◌≡◌, ◌++◌, ◌∷◌, ◌∙◌, [], List, None, Result, Ok, Err, OnOk, ap, append-nil, append_assoc, decimal, string_bytes, subst, sym}
+use Rattle.std.proofs.Common.{ℕ, ◌≡◌, ◌++◌, ◌∷◌, ◌∙◌, [], List, None, Result, Ok, Err, OnOk, ap, append-nil}
+use Rattle.std.proofs.Common.{append_assoc, decimal, string_bytes, subst, sym}
 use Rattle.std.specs.Bool.{if◌then◌else◌}
 use Rattle.std.specs.Result.{is_ok}
 use Rattle.held_release.specs.Line.{concept_line}

@@ -11,7 +11,8 @@ pub loop-number-preserved : goal.loop-number-preserved
 loop-number-preserved c =
     let texts = string_bytes c.loop-number.texts in
     let texts_after = string_bytes c.write_line.new.texts in
-    let name = option_map (λ (row : Name). row.term) (option_and_then (slice_get c.args.names.now) (get_or c.args.places.now c.loop-number.number None)) in
+    let name = option_map (λ (row : Name). row.term)
+    (option_and_then (slice_get c.args.names.now) (get_or c.args.places.now c.loop-number.number None)) in
     let line = concept_line (λ _. name) c.index-concepts-number.result in
     let pushed = line-pushed c.loop-number.starts.items c.push-in-loop-number.new.self.items texts texts_after line
     c.len.result c.in_ok-write_line.ensures.line

@@ -12,6 +12,7 @@ abbrev pub invariant-loop-number : goal.invariant-loop-number
 invariant-loop-number l = record {
   starts : AreStarts l.starts.items (string_bytes l.texts);
   lines : (language : List ℕ) → AreFirstPlaces language l.concepts l.names l.names l.places
-      → lines_between l.starts.items (string_bytes l.texts) ≡ map (concept_line (name_among language l.names)) (take l.number l.concepts);
+      → lines_between l.starts.items (string_bytes l.texts)
+      ≡ map (concept_line (name_among language l.names)) (take l.number l.concepts);
   noted : AreNoted l.names (string_bytes l.texts) l.spans.items;
 }

@@ -4,7 +4,8 @@ use Rattle.row_lists.specs.LentRows.{name_read}
 use Rattle.held_release.specs.inside.FirstRows.{AreFirstPlaces}
 use Rattle.held_release.specs.Numbering.{concept_number}
 use Rattle.rf2_rows.specs.Release.{Name}
-use Rattle.held_release.proofs.FirstRowLemmas.{first_places-other, first_places-own, first_within, name_at, names_from, place_read}
+use Rattle.held_release.proofs.FirstRowLemmas.{first_places-other, first_places-own, first_within, name_at, names_from}
+use Rattle.held_release.proofs.FirstRowLemmas.{place_read}
 use Rattle.std.proofs.lemmas.List.Quantifiers.{position-Some}
 use Rattle.held_release.proofs.naming.first_places.Goals as goal
 
@@ -25,19 +26,21 @@ pub loop-place-preserved-in-Some : goal.loop-place-preserved-in-Some
 loop-place-preserved-in-Some c =
     let names = c.args.names.now in
     let keys = c.args.concepts.now in
-    let behind = drop c.loop-place.place names in
+    let following = drop c.loop-place.place names in
     let row = name_read c.row.result in
     let is : row ≡ get_or names (c.loop-place.place - 1) row = c.row.ensures row in
     let own : concept_number keys row.concept ≡ Some c.in-Some.number =
     grind (arith, c.number.ensures.number, c.index_of.ensures, c.in-Some.is) in
-    let read = place_read c.args.language.now keys row.concept names behind c.loop-place.places.items
+    let read = place_read c.args.language.now keys row.concept names following c.loop-place.places.items
     c.in-Some.number c.index-later.result.now c.loop-place.invariant own c.index-later.ensures in
     subst (λ (some : List Name). AreFirstPlaces c.args.language.now keys names some
     (set c.loop-place.places.items c.in-Some.number (Some c.first_of_two-first.result)))
     (sym (names_from names c.loop-place.place row c.loop-place-test.true (omega arith) is))
-    (first_places-own c.args.language.now keys names behind row
-    (c.loop-place.place - 1) c.in-Some.number c.first_of_two-first.result c.loop-place.places.items c.len.ensures.rising own
-    (name_at names (c.loop-place.place - 1) row (omega arith) is) (grind (arith, read.1, c.first_of_two-first.ensures)) c.loop-place.invariant)
+    (first_places-own c.args.language.now keys names following row
+    (c.loop-place.place - 1) c.in-Some.number c.first_of_two-first.result c.loop-place.places.items c.len.ensures.rising
+    own
+    (name_at names (c.loop-place.place - 1) row (omega arith) is) (grind (arith, read.1, c.first_of_two-first.ensures))
+    c.loop-place.invariant)
 
 -- a row of no concept in force changes no place
 pub loop-place-preserved : goal.loop-place-preserved
@@ -47,7 +50,8 @@ loop-place-preserved c =
     grind (
       arith,
       (names_from names c.loop-place.place row),
-      (first_places-other c.args.language.now c.args.concepts.now names (drop c.loop-place.place names) row c.loop-place.places.items),
+      (first_places-other c.args.language.now c.args.concepts.now names (drop c.loop-place.place names) row
+          c.loop-place.places.items),
       (c.row.ensures row),
       c.number.ensures.number,
       c.index_of.ensures,

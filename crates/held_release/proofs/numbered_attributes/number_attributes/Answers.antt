@@ -13,7 +13,8 @@ loop-place-preserved c =
     let none : Attribute = record { source = 0; type_id = 0; group = 0; value = concept_value 0 } in
     let kept = c.loop-place.invariant in record {
       rows = c.in_ok-add.ensures.rows none
-          ∙ ap (λ (before : List Attribute). before ++ attributes_among keys (get_or c.args.attributes.now place none ∷ [])) kept.rows
+          ∙ ap (λ (before : List Attribute). before
+          ++ attributes_among keys (get_or c.args.attributes.now place none ∷ [])) kept.rows
           ∙ sym (among_more keys c.args.attributes.now place none (omega arith));
       numbered = c.in_ok-add.ensures.numbered;
       values = omega (arith, kept.values, c.in_ok-add.ensures.values);
@@ -25,4 +26,5 @@ pub returns-clause-rows : goal.returns-clause-rows
 returns-clause-rows c =
     c.loop-place.invariant.rows
     ∙ ap (attributes_among c.args.concepts.now)
-    (take_all c.loop-place.place c.args.attributes.now (omega (arith, c.loop-place-test.false, c.len-place-end.ensures)))
+    (take_all c.loop-place.place c.args.attributes.now
+    (omega (arith, c.loop-place-test.false, c.len-place-end.ensures)))

@@ -7,7 +7,8 @@ use Rattle.held_release.proofs.numbered_attributes.number_attributes.Given as go
 
 abbrev pub invariant-loop-place : goal.invariant-loop-place
 invariant-loop-place l = record {
-  rows : map (by_identifiers l.concepts) (numbered_in l.numbered) ≡ attributes_among l.concepts (take l.place l.attributes);
+  rows : map (by_identifiers l.concepts) (numbered_in l.numbered)
+      ≡ attributes_among l.concepts (take l.place l.attributes);
   numbered : AreNumbered (length l.concepts) l.numbered;
   values : length l.numbered.concrete ≤ l.place;
   count : length l.numbered.rows.items ≤ l.place;

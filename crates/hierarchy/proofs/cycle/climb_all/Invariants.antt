@@ -9,4 +9,5 @@ invariant-loop-row l =
     (MarksReached l.rows l.start l.initial.reached → MarksReached l.rows l.start l.reached)
     × (unmarked_count l.reached ≤ unmarked_count l.initial.reached)
     × OnTrue l.found (unmarked_count l.reached < unmarked_count l.initial.reached)
-    × OnFalse l.found ((k : ℕ) → k < l.row-index → (d : ℕ × ℕ) → IsFollowed l.start l.reached (slice_index_or l.rows k d))
+    × OnFalse l.found ((k : ℕ) → k < l.row-index → (d : ℕ × ℕ)
+    → IsFollowed l.start l.reached (slice_index_or l.rows k d))

@@ -11,13 +11,13 @@ few_lists : (count : ℕ) (rows : List (ℕ × ℕ)) {lists : List (List ℕ)}
 few_lists count rows {lists} is few = omega (arith, length_by count rows lists is)
 
 -- the parents are below `count`
-pub turned-requires-clause-items : goal.turned-requires-clause-items
-turned-requires-clause-items c =
+pub transposed-requires-clause-items : goal.transposed-requires-clause-items
+transposed-requires-clause-items c =
     parents_below c.args.count c.args.rows.now c.in_ok-parents.parents c.requires.within c.in_ok-parents.ensures
 
 -- there are fewer than 2^32 lists of parents to transpose
-pub turned-requires-clause-few : goal.turned-requires-clause-few
-turned-requires-clause-few c = few_lists c.args.count c.args.rows.now c.in_ok-parents.ensures c.ranges.count.fits
+pub transposed-requires-clause-few : goal.transposed-requires-clause-few
+transposed-requires-clause-few c = few_lists c.args.count c.args.rows.now c.in_ok-parents.ensures c.ranges.count.fits
 
 -- there are fewer than 2^32 lists of parents to measure
 pub lengths-requires : goal.lengths-requires
@@ -35,11 +35,13 @@ roots-requires c =
 
 -- at the start the order has the roots
 pub loop-done-init : goal.loop-done-init
-loop-done-init c = way_start c.in_ok-waiting.ensures c.in_ok-parents.ensures c.as_slice.ensures.value c.in_ok-order.ensures
+loop-done-init c = way_start c.in_ok-waiting.ensures c.in_ok-parents.ensures c.as_slice.ensures.value
+    c.in_ok-order.ensures
 
 -- the concept of the order has a list of children
 pub of-requires : goal.of-requires
-of-requires c = (way_turn c.loop-done.invariant (omega arith) c.in_ok-parents.ensures c.in_ok-children.ensures c.index-parent.ensures refl).0
+of-requires c = (way_turn c.loop-done.invariant (omega arith) c.in_ok-parents.ensures c.in_ok-children.ensures
+    c.index-parent.ensures refl).0
 
 -- each child of the concept has a count of open parents
 pub release-requires-clause-within : goal.release-requires-clause-within

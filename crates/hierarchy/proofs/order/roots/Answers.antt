@@ -21,4 +21,5 @@ loop-concept-preserved c = elim c.if-left-eq0.branch [
 
 -- after the last concept all roots are found
 pub returns : goal.returns
-returns c = subst (λ (n : ℕ). AreRoots n c.args.waiting.now c.loop-concept.roots.items) (omega arith) c.loop-concept.invariant
+returns c = subst (λ (n : ℕ). AreRoots n c.args.waiting.now c.loop-concept.roots.items) (omega arith)
+    c.loop-concept.invariant

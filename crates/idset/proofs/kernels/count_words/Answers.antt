@@ -19,4 +19,5 @@ overflow_add-result c =
 
 -- the ones of the vectors and of the rest are all ones
 pub returns : goal.returns
-returns c = (λ i. c.count_vectors.ensures i + c.count_rest.ensures i) ∙ sum_by-take-drop count_ones c.args.words.now (length c.args.words.now / 16 * 16)
+returns c = (λ i. c.count_vectors.ensures i + c.count_rest.ensures i)
+    ∙ sum_by-take-drop count_ones c.args.words.now (length c.args.words.now / 16 * 16)

@@ -15,5 +15,6 @@ returns-in_ok-set-in-Few-clause-items c =
     let other = c.in-Few.other in
     ap form_items c.few.ensures ∙ c.in_ok-set-in-Few.ensures.items
     ∙ common_items-swap (2 ^ 32) other.items.items numbers
-    (rising_fits other.bound other.items.items other.rising other.small) (rising_fits own.bound numbers own.rising own.small)
+    (rising_fits other.bound other.items.items other.rising other.small)
+    (rising_fits own.bound numbers own.rising own.small)
     ∙ ap (common_items numbers) (sym (ap form_items c.in-Few.is))

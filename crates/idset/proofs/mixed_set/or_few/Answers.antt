@@ -13,4 +13,5 @@ returns-in_ok-add_all-in-Many-clause-items c =
     ap form_items c.many.ensures ∙ c.in_ok-add_all-in-Many.ensures.items
     ∙ (λ i. all_items set.bound (c.in_ok-set-in-Many.ensures.items i) (c.list.ensures i))
     ∙ (λ i. all_items set.bound (form_items (sym c.in-Many.is i)) own.items.items)
-    ∙ all_items-swap own.bound set.bound own.items.items (form_items other) (c.requires ∙ ap form_bound c.in-Many.is ∙ sym c.in_ok-set-in-Many.ensures.bound)
+    ∙ all_items-swap own.bound set.bound own.items.items (form_items other) (c.requires ∙ ap form_bound c.in-Many.is
+    ∙ sym c.in_ok-set-in-Many.ensures.bound)

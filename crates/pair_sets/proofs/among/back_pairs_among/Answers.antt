@@ -27,15 +27,19 @@ loop-place-preserved g c =
     let here : c.index-sources-place.result ≡ get_or marks k a_mark =
     c.index-sources-place.is ∙ get_or_default marks k c.index-sources-place.result a_mark c.loop-place-test.true in
     let told : Flagged → Bool =
-    λ mark. mark.is_first && (is_type_in indexed items (get_or c.args.cells.now k 0) && passes (value_of indexed mark.number)) in
-    let counted : told (get_or marks k a_mark) ≡ c.counts_back.result = ap told (sym here) ∙ sym c.counts_back.ensures in
+    λ mark. mark.is_first && (is_type_in indexed items (get_or c.args.cells.now k 0)
+    && passes (value_of indexed mark.number)) in
+    let counted : told (get_or marks k a_mark) ≡ c.counts_back.result = ap told (sym here)
+    ∙ sym c.counts_back.ensures in
     let test : Entry → Bool = λ entry. entry.is_first && has_source_in one passes entry.row in
     let within : (entries : List Entry) → AreSources indexed.concepts entries marks → k < length entries =
     λ entries sources. omega (arith, c.loop-place-test.true, sources_long indexed.concepts entries marks sources) in
-    let tells : (entries : List Entry) → AreSources indexed.concepts entries marks → AreTypes (types_of indexed.rows) entries c.args.cells.now
+    let tells : (entries : List Entry) → AreSources indexed.concepts entries marks
+    → AreTypes (types_of indexed.rows) entries c.args.cells.now
     → test (get_or entries k an_entry) ≡ c.counts_back.result =
     λ entries sources are.
-    sym (back_told indexed passes entries marks sources one (is_type_in indexed items) c.args.cells.now (type_tells indexed items) are k
+    sym (back_told indexed passes entries marks sources one (is_type_in indexed items) c.args.cells.now
+    (type_tells indexed items) are k
     (within entries sources))
     ∙ counted in
     elim c.if-counts_back.branch [
@@ -43,13 +47,15 @@ loop-place-preserved g c =
         few = omega (arith, w.pairs-is);
         pairs = λ entries sources are.
             w.pairs-is ∙ ap (λ (n : ℕ). n + 1) (c.loop-place.invariant.pairs entries sources are)
-            ∙ sym (count_by_more_yes test entries k an_entry (within entries sources) (tells entries sources are ∙ w.if-counts_back.true));
+            ∙ sym (count_by_more_yes test entries k an_entry (within entries sources) (tells entries sources are
+            ∙ w.if-counts_back.true));
       }
       | else-counts_back w ↦ record {
         few = omega (arith, w.pairs-is);
         pairs = λ entries sources are.
             w.pairs-is ∙ c.loop-place.invariant.pairs entries sources are
-            ∙ sym (count_by_more_no test entries k an_entry (within entries sources) (tells entries sources are ∙ w.if-counts_back.false));
+            ∙ sym (count_by_more_no test entries k an_entry (within entries sources) (tells entries sources are
+            ∙ w.if-counts_back.false));
       }
     ]
 
@@ -61,4 +67,8 @@ returns g c = λ entries sources are.
     let passes : Value → Bool = passes_of g.S.ConceptSet.items_of indexed.concepts c.args.tested.now in
     c.loop-place.invariant.pairs entries sources are
     ∙ ap (count_by (λ (entry : Entry). entry.is_first && has_source_in one passes entry.row))
-    (take_all c.loop-place.place entries (omega (arith, sources_long indexed.concepts entries c.args.sources.now sources)))
+    (take_all c.loop-place.place entries (omega (
+      arith,
+      sources_long indexed.concepts entries c.args.sources.now
+          sources,
+    )))

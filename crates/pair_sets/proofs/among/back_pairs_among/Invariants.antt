@@ -12,7 +12,9 @@ use Rattle.pair_sets.proofs.among.back_pairs_among.Given as goal
 abbrev pub invariant-loop-place : goal.invariant-loop-place
 invariant-loop-place g l = record {
   few : l.pairs ≤ l.place;
-  pairs : (entries : List Entry) → AreSources l.reader.indexes.now.concepts entries l.sources → AreTypes (types_of l.reader.indexes.now.rows) entries l.cells
-      → l.pairs ≡ count_by (λ (entry : Entry). entry.is_first && has_source_in (is_one_of l.reader.indexes.now.concepts (g.S.ConceptSet.items_of l.types))
+  pairs : (entries : List Entry) → AreSources l.reader.indexes.now.concepts entries l.sources
+      → AreTypes (types_of l.reader.indexes.now.rows) entries l.cells
+      → l.pairs ≡ count_by (λ (entry : Entry). entry.is_first
+      && has_source_in (is_one_of l.reader.indexes.now.concepts (g.S.ConceptSet.items_of l.types))
       (passes_of g.S.ConceptSet.items_of l.reader.indexes.now.concepts l.tested) entry.row) (take l.place entries);
 }

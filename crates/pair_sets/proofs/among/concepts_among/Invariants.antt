@@ -13,8 +13,11 @@ use Rattle.pair_sets.proofs.among.concepts_among.Given as goal
 abbrev pub invariant-loop-concept : goal.invariant-loop-concept
 invariant-loop-concept g l = record {
   within : All (λ number. number < length l.reader.indexes.now.concepts) l.kept.items;
-  kept : l.kept.items ≡ filter (λ number. lies_in l.count (pairs_of_concept l.reader.indexes.now l.back (is_one_of l.reader.indexes.now.concepts (g.S.ConceptSet.items_of l.types))
-      (passes_of g.S.ConceptSet.items_of l.reader.indexes.now.concepts l.tested) number)) (take l.concept-index l.concepts);
+  kept : l.kept.items ≡ filter
+      (λ number. lies_in l.count (pairs_of_concept l.reader.indexes.now l.back
+      (is_one_of l.reader.indexes.now.concepts (g.S.ConceptSet.items_of l.types))
+      (passes_of g.S.ConceptSet.items_of l.reader.indexes.now.concepts l.tested) number))
+      (take l.concept-index l.concepts);
   counted : CountsWithin (sum_by (row_count_of l.reader.indexes.now (not l.back)) (take l.concept-index l.concepts))
       l.initial.visits l.visits;
 }

@@ -20,22 +20,26 @@ loop-n-preserved g c =
     let items = g.S.ConceptSet.items_of c.args.types.now in
     let one : ℕ → Bool = is_one_of indexed.concepts (g.S.ConceptSet.items_of c.args.types.now) in
     let passes : Value → Bool = passes_of g.S.ConceptSet.items_of indexed.concepts c.args.tested.now in
-    let counts_at : ℕ → Bool = λ n. at_entry (pair_counts c.args.grouped one passes) (slice_get (entries_of indexed.rows) n) in
+    let counts_at : ℕ → Bool =
+    λ n. at_entry (pair_counts c.args.grouped one passes) (slice_get (entries_of indexed.rows) n) in
     let row : ℕ = get_or c.args.rows.now c.loop-n.n-index 0 in
     let here : counts_at row ≡ c.counts.result =
-    sym (row_counts indexed c.args.grouped one passes (is_type_in indexed items) (type_tells indexed items) c.cells-row.result row
+    sym (row_counts indexed c.args.grouped one passes (is_type_in indexed items) (type_tells indexed items)
+    c.cells-row.result row
     (c.requires.rows c.loop-n.n-index 0 c.loop-n-test.true) c.cells-row.ensures)
     ∙ sym c.counts.ensures in
     elim c.if-counts.branch [
       | then-counts w ↦ record {
         few = omega (arith, w.pairs-is);
         pairs = w.pairs-is ∙ ap (λ (n : ℕ). n + 1) c.loop-n.invariant.pairs
-            ∙ sym (count_by_more_yes counts_at c.args.rows.now c.loop-n.n-index 0 c.loop-n-test.true (here ∙ w.if-counts.true));
+            ∙ sym (count_by_more_yes counts_at c.args.rows.now c.loop-n.n-index 0 c.loop-n-test.true (here
+            ∙ w.if-counts.true));
       }
       | else-counts w ↦ record {
         few = omega (arith, w.pairs-is);
         pairs = w.pairs-is ∙ c.loop-n.invariant.pairs
-            ∙ sym (count_by_more_no counts_at c.args.rows.now c.loop-n.n-index 0 c.loop-n-test.true (here ∙ w.if-counts.false));
+            ∙ sym (count_by_more_no counts_at c.args.rows.now c.loop-n.n-index 0 c.loop-n-test.true (here
+            ∙ w.if-counts.false));
       }
     ]
 

@@ -13,7 +13,8 @@ use Rattle.pair_sets.proofs.among.pairs_of_concept.Goals as goal
 pub pairs_among-requires-clause-rows : goal.pairs_among-requires-clause-rows
 pairs_among-requires-clause-rows g c =
     subst (All (λ n. n < length c.args.reader.indexes.now.rows)) (sym c.rows_of-rows.ensures.items)
-    (places_where-within (λ (row : Attribute). row.source == get_or c.args.reader.indexes.now.concepts c.args.concept 0) c.args.reader.indexes.now.rows)
+    (places_where-within (λ (row : Attribute). row.source == get_or c.args.reader.indexes.now.concepts c.args.concept 0)
+    c.args.reader.indexes.now.rows)
 
 -- there is a type for each source in the columns of the value
 pub back_pairs_among-requires-clause-long : goal.back_pairs_among-requires-clause-long

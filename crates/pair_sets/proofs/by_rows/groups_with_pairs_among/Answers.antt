@@ -21,7 +21,8 @@ numbers_asked-requires g c =
     subst (λ (count : ℕ). AreBelow g.S.ConceptSet.bound_of count c.args.candidates.now)
     (sym (c.group_count-group_count.ensures.count
     ∙ ap (λ (groups : List ConceptGroup). length groups)
-    (groups_are c.args.reader.indexes.now c.args.reader.snapshot.now.release c.args.reader.index c.concept_count.ensures.rising)))
+    (groups_are c.args.reader.indexes.now c.args.reader.snapshot.now.release c.args.reader.index
+    c.concept_count.ensures.rising)))
     c.requires.candidates
 
 -- the numbers that are tested are those of groups
@@ -48,7 +49,8 @@ returns-clause-items g c =
     IfOk-weaker c.from_numbers.result _ _
     (λ found found_is.
     groups_among_within indexed release c.args.reader.index c.concept_count.ensures.rising c.args.count one passes
-    c.group_count-group_count.result c.group_count-group_count.ensures.count (may_be g.S.ConceptSet.items_of c.args.candidates.now)
+    c.group_count-group_count.result c.group_count-group_count.ensures.count
+    (may_be g.S.ConceptSet.items_of c.args.candidates.now)
     c.as_slice.result.now c.as_slice-2.result.now (g.S.ConceptSet.items_of found)
     (λ n within. ap (λ (asked : List ℕ). has asked n) c.as_slice.ensures.value ∙ c.in_ok-asked.ensures.asked n within)
     (c.as_slice-2.ensures.value
@@ -63,7 +65,8 @@ returns-clause-bound g c =
     (λ found bound.
     bound ∙ c.group_count-group_count.ensures.count
     ∙ ap (λ (groups : List ConceptGroup). length groups)
-    (groups_are c.args.reader.indexes.now c.args.reader.snapshot.now.release c.args.reader.index c.concept_count.ensures.rising))
+    (groups_are c.args.reader.indexes.now c.args.reader.snapshot.now.release c.args.reader.index
+    c.concept_count.ensures.rising))
     c.from_numbers.ensures.bound
 
 -- if memory is refused in the test, no more is counted than the candidates and their rows, or all rows
@@ -75,9 +78,11 @@ returns-in_err-kept-clause-counted g c =
     (omega (
       arith,
       ap (sum_by (group_row_count indexed)) c.as_slice.ensures.value,
-      asked_fit g.S.ConceptSet.items_of indexed (group_row_count indexed) c.args.candidates.now asked c.in_ok-asked.ensures.items
+      asked_fit g.S.ConceptSet.items_of indexed (group_row_count indexed) c.args.candidates.now asked
+          c.in_ok-asked.ensures.items
           (group_rows_few indexed c.concept_count.ensures.numbers_rise asked
-          (subst (λ (bound : ℕ). IsRisingBelow bound asked) c.group_count-group_count.ensures.count c.in_ok-asked.ensures.rising)),
+          (subst (λ (bound : ℕ). IsRisingBelow bound asked) c.group_count-group_count.ensures.count
+          c.in_ok-asked.ensures.rising)),
     ))
 
 -- no more is counted than the candidates and their rows, or all rows
@@ -89,7 +94,9 @@ returns-clause-counted g c =
     (omega (
       arith,
       ap (sum_by (group_row_count indexed)) c.as_slice.ensures.value,
-      asked_fit g.S.ConceptSet.items_of indexed (group_row_count indexed) c.args.candidates.now asked c.in_ok-asked.ensures.items
+      asked_fit g.S.ConceptSet.items_of indexed (group_row_count indexed) c.args.candidates.now asked
+          c.in_ok-asked.ensures.items
           (group_rows_few indexed c.concept_count.ensures.numbers_rise asked
-          (subst (λ (bound : ℕ). IsRisingBelow bound asked) c.group_count-group_count.ensures.count c.in_ok-asked.ensures.rising)),
+          (subst (λ (bound : ℕ). IsRisingBelow bound asked) c.group_count-group_count.ensures.count
+          c.in_ok-asked.ensures.rising)),
     ))

@@ -33,5 +33,6 @@ returns-clause-bound g c =
     (λ found bound.
     bound ∙ c.group_count.ensures.count
     ∙ ap (λ (groups : List ConceptGroup). length groups)
-    (groups_are c.args.reader.indexes.now c.args.reader.snapshot.now.release c.args.reader.index c.concept_count.ensures.rising))
+    (groups_are c.args.reader.indexes.now c.args.reader.snapshot.now.release c.args.reader.index
+    c.concept_count.ensures.rising))
     c.as_often.ensures.bound

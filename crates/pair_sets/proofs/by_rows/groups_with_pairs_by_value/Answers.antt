@@ -17,7 +17,8 @@ returns-clause-items g c =
     let one : ℕ → Bool = is_one_of indexed.concepts (g.S.ConceptSet.items_of c.args.types.now) in
     IfOk-weaker c.as_often.result _ _
     (λ found found_is.
-    groups_found indexed release c.args.reader.index c.concept_count.ensures.rising one (is_within (is_one_of indexed.concepts c.args.values.now))
+    groups_found indexed release c.args.reader.index c.concept_count.ensures.rising one
+    (is_within (is_one_of indexed.concepts c.args.values.now))
     c.args.count c.group_count.result c.group_count.ensures.count
     c.as_slice.result.now (g.S.ConceptSet.items_of found)
     (λ n within.
@@ -33,5 +34,6 @@ returns-clause-bound g c =
     (λ found bound.
     bound ∙ c.group_count.ensures.count
     ∙ ap (λ (groups : List ConceptGroup). length groups)
-    (groups_are c.args.reader.indexes.now c.args.reader.snapshot.now.release c.args.reader.index c.concept_count.ensures.rising))
+    (groups_are c.args.reader.indexes.now c.args.reader.snapshot.now.release c.args.reader.index
+    c.concept_count.ensures.rising))
     c.as_often.ensures.bound

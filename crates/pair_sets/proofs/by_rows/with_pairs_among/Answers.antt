@@ -44,7 +44,8 @@ returns-clause-items g c =
     (λ found found_is.
     among_within indexed release c.args.reader.index rising c.args.count one passes
     (sources_known release rising c.attribute_count.ensures.by_source) c.args.back
-    c.concept_count-concept_count.result c.concept_count-concept_count.ensures.count (may_be g.S.ConceptSet.items_of c.args.candidates.now)
+    c.concept_count-concept_count.result c.concept_count-concept_count.ensures.count
+    (may_be g.S.ConceptSet.items_of c.args.candidates.now)
     c.as_slice.result.now c.as_slice-2.result.now (g.S.ConceptSet.items_of found)
     (λ n within. ap (λ (asked : List ℕ). has asked n) c.as_slice.ensures.value ∙ c.in_ok-asked.ensures.asked n within)
     (c.as_slice-2.ensures.value
@@ -64,7 +65,8 @@ returns-in_err-kept-clause-counted g c =
       ap (sum_by rows) c.as_slice.ensures.value,
       asked_fit g.S.ConceptSet.items_of indexed rows c.args.candidates.now asked c.in_ok-asked.ensures.items
           (rows_few indexed c.concept_count-concept_count.ensures.numbers_rise asked
-          (subst (λ (bound : ℕ). IsRisingBelow bound asked) c.concept_count-concept_count.ensures.numbers c.in_ok-asked.ensures.rising)
+          (subst (λ (bound : ℕ). IsRisingBelow bound asked) c.concept_count-concept_count.ensures.numbers
+          c.in_ok-asked.ensures.rising)
           (not c.args.back)),
     ))
 
@@ -80,6 +82,7 @@ returns-clause-counted g c =
       ap (sum_by rows) c.as_slice.ensures.value,
       asked_fit g.S.ConceptSet.items_of indexed rows c.args.candidates.now asked c.in_ok-asked.ensures.items
           (rows_few indexed c.concept_count-concept_count.ensures.numbers_rise asked
-          (subst (λ (bound : ℕ). IsRisingBelow bound asked) c.concept_count-concept_count.ensures.numbers c.in_ok-asked.ensures.rising)
+          (subst (λ (bound : ℕ). IsRisingBelow bound asked) c.concept_count-concept_count.ensures.numbers
+          c.in_ok-asked.ensures.rising)
           (not c.args.back)),
     ))

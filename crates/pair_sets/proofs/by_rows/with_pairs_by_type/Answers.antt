@@ -22,6 +22,12 @@ returns-clause-items g c =
     (λ n within.
     ap (times n) c.as_slice.ensures.value
     ∙ (c.in_ok-hits.ensures.hits one ids).times n
-    (omega (arith, within, c.concept_count.ensures.count, ap (λ (ids : List ℕ). length ids) c.args.reader.index.concepts)))
+    (omega (
+      arith,
+      within,
+      c.concept_count.ensures.count,
+      ap (λ (ids : List ℕ). length ids)
+          c.args.reader.index.concepts,
+    )))
     found_is)
     c.as_often.ensures.items

@@ -15,13 +15,20 @@ returns-clause-items g c =
     let one : ℕ → Bool = is_one_of indexed.concepts (g.S.ConceptSet.items_of c.args.types.now) in
     IfOk-weaker c.as_often.result _ _
     (λ found found_is.
-    concepts_found indexed release c.args.reader.index c.concept_count.ensures.rising one (is_within (is_one_of indexed.concepts c.args.values.now))
+    concepts_found indexed release c.args.reader.index c.concept_count.ensures.rising one
+    (is_within (is_one_of indexed.concepts c.args.values.now))
     (sources_known release c.concept_count.ensures.rising c.attribute_count.ensures.by_source) c.args.back
     c.args.count c.concept_count.result c.concept_count.ensures.count
     c.as_slice.result.now (g.S.ConceptSet.items_of found)
     (λ n within.
     ap (times n) c.as_slice.ensures.value
     ∙ c.in_ok-hits.ensures.hits.times n
-    (omega (arith, within, c.concept_count.ensures.count, ap (λ (ids : List ℕ). length ids) c.args.reader.index.concepts)))
+    (omega (
+      arith,
+      within,
+      c.concept_count.ensures.count,
+      ap (λ (ids : List ℕ). length ids)
+          c.args.reader.index.concepts,
+    )))
     found_is)
     c.as_often.ensures.items

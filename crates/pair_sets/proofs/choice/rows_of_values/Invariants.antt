@@ -5,4 +5,5 @@ use Rattle.pair_sets.proofs.choice.rows_of_values.Given as goal
 
 -- `rows` is how many rows the concepts so far have, saturated
 abbrev pub invariant-loop-concept : goal.invariant-loop-concept
-invariant-loop-concept l = l.rows ≡ min (sum_by (row_count_of l.reader.indexes.now l.back) (take l.concept-index l.concepts)) (2 ^ 64 - 1)
+invariant-loop-concept l =
+    l.rows ≡ min (sum_by (row_count_of l.reader.indexes.now l.back) (take l.concept-index l.concepts)) (2 ^ 64 - 1)

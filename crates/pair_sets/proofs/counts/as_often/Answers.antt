@@ -17,7 +17,8 @@ returns-in_ok-left-in-Some-clause-items g c =
     ap g.S.ConceptSet.items_of c.of.ensures ∙ c.in_ok-left-in-Some.ensures.items
     ∙ (λ i. other_items (c.in_ok-enough.ensures.items i) (c.in_ok-more-in-Some.ensures.items i))
     ∙ other_items-numbers_where c.args.bound
-    (λ n. nat_le c.args.count.min (times n c.args.numbers.now)) (λ n. nat_le (c.in-Some.most + 1) (times n c.args.numbers.now))
+    (λ n. nat_le c.args.count.min (times n c.args.numbers.now))
+    (λ n. nat_le (c.in-Some.most + 1) (times n c.args.numbers.now))
     ∙ numbers_where-agree c.args.bound _ (λ n. lies_in c.args.count (times n c.args.numbers.now))
     (λ n within. up_to c.args.count c.in-Some.most (times n c.args.numbers.now) c.in-Some.is)
 

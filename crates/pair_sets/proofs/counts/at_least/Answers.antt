@@ -21,15 +21,18 @@ pub returns-in-1-clause-items : goal.returns-in-1-clause-items
 returns-in-1-clause-items g c = IfOk-weaker c.from_numbers.result _ _
     (λ found items. items
     ∙ numbers_where-agree c.args.bound (has c.args.numbers.now) (λ n. nat_le c.args.least (times n c.args.numbers.now))
-    (λ n within. has_times c.args.numbers.now n ∙ ap (λ least. nat_le least (times n c.args.numbers.now)) (sym c.in-1.is)))
+    (λ n within. has_times c.args.numbers.now n
+    ∙ ap (λ least. nat_le least (times n c.args.numbers.now)) (sym c.in-1.is)))
     c.from_numbers.ensures.items
 
 -- the numbers that are left after `least` - 1 of each are taken are those that stand there at least `least` times
 pub returns-in_ok-left-in_default-clause-items : goal.returns-in_ok-left-in_default-clause-items
 returns-in_ok-left-in_default-clause-items g c = IfOk-weaker c.from_numbers-in_default.result _ _
     (λ found items. items ∙ ap (λ (xs : List ℕ). numbers_where c.args.bound (has xs)) c.as_slice.ensures.value
-    ∙ numbers_where-agree c.args.bound (has c.in_ok-left-in_default.left.items) (λ n. nat_le c.args.least (times n c.args.numbers.now))
-    (λ n within. has_times c.in_ok-left-in_default.left.items n ∙ ap (nat_le 1) (c.in_ok-left-in_default.ensures.times n)
+    ∙ numbers_where-agree c.args.bound (has c.in_ok-left-in_default.left.items)
+    (λ n. nat_le c.args.least (times n c.args.numbers.now))
+    (λ n within. has_times c.in_ok-left-in_default.left.items n
+    ∙ ap (nat_le 1) (c.in_ok-left-in_default.ensures.times n)
     ∙ beyond c.args.least (times n c.args.numbers.now) (omega arith)))
     c.from_numbers-in_default.ensures.items
 

@@ -18,7 +18,8 @@ loop-done-init c = record {
 
 -- the numbers that are left are below `bound`
 pub repeats-requires-in-loop-done : goal.repeats-requires-in-loop-done
-repeats-requires-in-loop-done c = subst (All (λ n. n < c.args.bound)) (sym c.as_slice.ensures.value) c.loop-done.invariant.within
+repeats-requires-in-loop-done c =
+    subst (All (λ n. n < c.args.bound)) (sym c.as_slice.ensures.value) c.loop-done.invariant.within
 
 -- a turn takes one more of each number
 pub loop-done-preserved : goal.loop-done-preserved
@@ -43,11 +44,13 @@ returns-clause-times c = λ n.
     elim c.loop-done-test.branch [
       | then-loop-done-test+else-not-is_empty w ↦
           none_left (times n left.items) c.loop-done.done c.args.less seen (c.loop-done.invariant.often n)
-          (ap (times n) (nil_from_length left.items (omega (arith, eqb-true (vec_len left) 0 (sym w.is_empty.ensures ∙ w.if-not-is_empty.false)))))
+          (ap (times n) (nil_from_length left.items
+          (omega (arith, eqb-true (vec_len left) 0 (sym w.is_empty.ensures ∙ w.if-not-is_empty.false)))))
           c.loop-done.invariant.most
       | else-loop-done-test w ↦
           c.loop-done.invariant.often n
-          ∙ ap (λ done. seen - done) (done_all c.loop-done.done c.args.less w.loop-done-test.false c.loop-done.invariant.most)
+          ∙ ap (λ done. seen - done)
+          (done_all c.loop-done.done c.args.less w.loop-done-test.false c.loop-done.invariant.most)
     ]
 
 -- the count of turns is below `less`, so one more fits in 64 bits

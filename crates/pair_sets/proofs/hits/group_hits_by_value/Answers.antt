@@ -11,7 +11,8 @@ use Rattle.pair_sets.proofs.hits.group_hits_by_value.Goals as goal
 
 -- rising values are each a number of a concept
 pub owners_by_value-requires-clause-values : goal.owners_by_value-requires-clause-values
-owners_by_value-requires-clause-values g c = all_below (length c.args.reader.indexes.now.concepts) c.args.values.now c.requires.values
+owners_by_value-requires-clause-values g c =
+    all_below (length c.args.reader.indexes.now.concepts) c.args.values.now c.requires.values
 
 -- the groups of the rows of the values are the hits of all rows that count for groups
 pub returns-clause-hits : goal.returns-clause-hits
@@ -22,6 +23,7 @@ returns-clause-hits g c =
     IfOk-weaker c.owners_by_value.result _ _
     (λ hits are.
     of_values count (λ number (entry : Entry). is_in_some (slice_get (groups_in indexed) number) entry.row)
-    (λ (entry : Entry). entry.is_first_in_group) indexed c.concept_count.ensures.numbers_rise one hits.items c.args.values.now c.requires.values
+    (λ (entry : Entry). entry.is_first_in_group) indexed c.concept_count.ensures.numbers_rise one hits.items
+    c.args.values.now c.requires.values
     are)
     c.owners_by_value.ensures.hits

@@ -16,9 +16,12 @@ returns-then-back-clause-hits g c =
     let passes : Value → Bool = passes_of g.S.ConceptSet.items_of indexed.concepts c.args.tested.now in
     IfOk-weaker c.values_by_type.result _ _
     (λ hits are one ids.
-    subst (λ (back : Bool). AreHits count (counts_for_concept back indexed.concepts one passes) (entries_of indexed.rows) hits.items) (sym c.if-back.true)
-    (of_types count (λ number (entry : Entry). value_eq entry.row.value (concept_value (get_or indexed.concepts number 0)))
-    (λ (entry : Entry). entry.is_first) (λ (entry : Entry). passes (concept_value entry.row.source)) indexed one hits.items
+    subst (λ (back : Bool). AreHits count (counts_for_concept back indexed.concepts one passes)
+    (entries_of indexed.rows) hits.items) (sym c.if-back.true)
+    (of_types count (λ number (entry : Entry). value_eq entry.row.value
+    (concept_value (get_or indexed.concepts number 0)))
+    (λ (entry : Entry). entry.is_first) (λ (entry : Entry). passes (concept_value entry.row.source)) indexed one
+    hits.items
     c.args.ids.now ids are))
     c.values_by_type.ensures.hits
 
@@ -30,7 +33,8 @@ returns-else-back-clause-hits g c =
     let passes : Value → Bool = passes_of g.S.ConceptSet.items_of indexed.concepts c.args.tested.now in
     IfOk-weaker c.owners_by_type.result _ _
     (λ hits are one ids.
-    subst (λ (back : Bool). AreHits count (counts_for_concept back indexed.concepts one passes) (entries_of indexed.rows) hits.items) (sym c.if-back.false)
+    subst (λ (back : Bool). AreHits count (counts_for_concept back indexed.concepts one passes)
+    (entries_of indexed.rows) hits.items) (sym c.if-back.false)
     (of_types count (λ number (entry : Entry). entry.row.source == get_or indexed.concepts number 0)
     (λ (entry : Entry). entry.is_first) (λ (entry : Entry). passes entry.row.value) indexed one hits.items
     c.args.ids.now ids are))

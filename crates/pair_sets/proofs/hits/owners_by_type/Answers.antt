@@ -6,7 +6,8 @@ use Rattle.postings.specs.Entries.{entries_with_type}
 use Rattle.rf2_rows.specs.Release.{Value}
 use Rattle.pair_sets.specs.inside.Hits.{AreHits, value_of, counts_for_owner, entries_with_types, owner_count}
 use Rattle.pair_sets.specs.Tested.{passes_of}
-use Rattle.pair_sets.proofs.HitLemmas.{marks_below, pushed_below, hits_pushed, no_hits, owned_hits, owners_below, owners_long}
+use Rattle.pair_sets.proofs.HitLemmas.{marks_below, pushed_below, hits_pushed, no_hits, owned_hits, owners_below}
+use Rattle.pair_sets.proofs.HitLemmas.{owners_long}
 use Rattle.pair_sets.proofs.HitLemmas.{values_long, values_told}
 use Rattle.pair_sets.proofs.VainLemmas.{none_kept}
 use Rattle.pair_sets.proofs.hits.owners_by_type.Goals as goal
@@ -14,12 +15,14 @@ use Rattle.pair_sets.proofs.hits.owners_by_type.Goals as goal
 -- before the first type, the empty list has the hits of no rows
 pub loop-id-init : goal.loop-id-init
 loop-id-init g c = record {
-  within = subst (All (λ number. number < owner_count c.args.owner c.args.reader.indexes.now)) (sym c.in_ok-hits.ensures.items)
+  within = subst (All (λ number. number < owner_count c.args.owner c.args.reader.indexes.now))
+      (sym c.in_ok-hits.ensures.items)
       (λ k d within. absurd (omega (arith, within)));
   hits =
       let indexed = c.args.reader.indexes.now in
       let passes : Value → Bool = passes_of g.S.ConceptSet.items_of indexed.concepts c.args.tested.now in
-      subst (AreHits (owner_count c.args.owner indexed) (counts_for_owner c.args.owner indexed (λ row. passes row.value)) [])
+      subst (AreHits (owner_count c.args.owner indexed)
+      (counts_for_owner c.args.owner indexed (λ row. passes row.value)) [])
       (sym c.in_ok-hits.ensures.items)
       (no_hits (owner_count c.args.owner indexed) (counts_for_owner c.args.owner indexed (λ row. passes row.value)));
   counted = counted_none;
@@ -42,7 +45,8 @@ push_passing-requires-clause-long g c =
     let indexed = c.args.reader.indexes.now in
     let columns = c.type_columns-columns in
     let owners = c.owners_in-owners in
-    owners_long c.args.owner indexed _ owners.result.now (owners.ensures indexed _ columns.ensures.columns.sources columns.ensures.columns.groups)
+    owners_long c.args.owner indexed _ owners.result.now
+    (owners.ensures indexed _ columns.ensures.columns.sources columns.ensures.columns.groups)
     ∙ sym (values_long indexed _ columns.result.values.now columns.ensures.columns.values)
 
 -- the owners that are pushed for the type at hand are the hits of its rows, which are counted
@@ -61,11 +65,13 @@ loop-id-preserved g c =
       hits = hits_pushed (entries_with_type indexed.rows) c.args.ids.now c.loop-id.id-index c.loop-id-test.true
           (owner_count c.args.owner indexed) (counts_for_owner c.args.owner indexed (λ row. passes row.value))
           c.loop-id.hits.items c.push_passing.new.hits.items _ c.in_ok-push_passing.ensures c.loop-id.invariant.hits
-          (owned_hits (λ row. passes row.value) (λ n. passes (value_of indexed n)) _ owners.result.now columns.result.values.now
+          (owned_hits (λ row. passes row.value) (λ n. passes (value_of indexed n)) _ owners.result.now
+          columns.result.values.now
           (values_long indexed _ columns.result.values.now columns.ensures.columns.values)
           (values_told indexed _ columns.result.values.now columns.ensures.columns.values passes)
           c.args.owner indexed c.concept_count.ensures.numbers_rise are);
-      counted = counted_next (type_row_count c.args.reader.indexes.now) c.args.ids.now c.loop-id.id-index c.loop-id-test.true
+      counted = counted_next (type_row_count c.args.reader.indexes.now) c.args.ids.now c.loop-id.id-index
+          c.loop-id-test.true
           c.loop-id.invariant.counted (counted_out c.type_columns-columns.ensures.counted (omega arith));
     }
 
@@ -78,7 +84,8 @@ pub returns-clause-hits : goal.returns-clause-hits
 returns-clause-hits g c =
     let indexed = c.args.reader.indexes.now in
     let passes : Value → Bool = passes_of g.S.ConceptSet.items_of indexed.concepts c.args.tested.now in
-    subst (λ (ids : List ℕ). AreHits (owner_count c.args.owner indexed) (counts_for_owner c.args.owner indexed (λ row. passes row.value))
+    subst (λ (ids : List ℕ). AreHits (owner_count c.args.owner indexed)
+    (counts_for_owner c.args.owner indexed (λ row. passes row.value))
     (entries_with_types indexed.rows ids) c.loop-id.hits.items)
     (take_all c.loop-id.id-index c.args.ids.now (omega arith)) c.loop-id.invariant.hits
 

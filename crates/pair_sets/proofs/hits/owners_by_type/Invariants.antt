@@ -11,7 +11,9 @@ abbrev pub invariant-loop-id : goal.invariant-loop-id
 invariant-loop-id g l = record {
   within : All (λ number. number < owner_count l.owner l.reader.indexes.now) l.hits.items;
   hits : AreHits (owner_count l.owner l.reader.indexes.now)
-      (counts_for_owner l.owner l.reader.indexes.now (λ row. passes_of g.S.ConceptSet.items_of l.reader.indexes.now.concepts l.tested row.value))
+      (counts_for_owner l.owner l.reader.indexes.now
+      (λ row. passes_of g.S.ConceptSet.items_of l.reader.indexes.now.concepts l.tested row.value))
       (entries_with_types l.reader.indexes.now.rows (take l.id-index l.ids)) l.hits.items;
-  counted : CountsWithin (sum_by (type_row_count l.reader.indexes.now) (take l.id-index l.ids)) l.initial.visits l.visits;
+  counted : CountsWithin (sum_by (type_row_count l.reader.indexes.now) (take l.id-index l.ids)) l.initial.visits
+      l.visits;
 }

@@ -12,7 +12,9 @@ abbrev pub invariant-loop-value : goal.invariant-loop-value
 invariant-loop-value g l = record {
   within : All (λ number. number < owner_count l.owner l.reader.indexes.now) l.hits.items;
   hits : AreHits (owner_count l.owner l.reader.indexes.now)
-      (counts_for_owner l.owner l.reader.indexes.now (λ row. is_one_of l.reader.indexes.now.concepts (g.S.ConceptSet.items_of l.types) row.type_id))
+      (counts_for_owner l.owner l.reader.indexes.now
+      (λ row. is_one_of l.reader.indexes.now.concepts (g.S.ConceptSet.items_of l.types) row.type_id))
       (entries_with_values l.reader.indexes.now (take l.value-index l.values)) l.hits.items;
-  counted : CountsWithin (sum_by (row_count_of l.reader.indexes.now false) (take l.value-index l.values)) l.initial.visits l.visits;
+  counted : CountsWithin (sum_by (row_count_of l.reader.indexes.now false) (take l.value-index l.values))
+      l.initial.visits l.visits;
 }

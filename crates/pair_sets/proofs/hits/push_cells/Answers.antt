@@ -1,4 +1,5 @@
-use Rattle.std.proofs.Common.{ℕ, Vec, Bool, List, ◌≡◌, ◌∙◌, ◌++◌, ◌∷◌, ◌+◌, [], ◌&&◌, cond, get_or, true, false, take, sym, ap, append-nil, arith, length, ltb}
+use Rattle.std.proofs.Common.{ℕ, Vec, Bool, List, ◌≡◌, ◌∙◌, ◌++◌, ◌∷◌, ◌+◌, [], ◌&&◌, cond, get_or, true, false, take}
+use Rattle.std.proofs.Common.{sym, ap, append-nil, arith, length, ltb}
 use Rattle.std.proofs.lemmas.List.{take_all}
 use Rattle.postings.specs.Columns.{Flagged}
 use Rattle.pair_sets.specs.inside.Hits.{value_of, picked}
@@ -50,4 +51,5 @@ returns g c =
     ++ picked (λ mark cell. ltb cell (length c.args.reader.indexes.now.concepts)
     && (mark.is_first && passes_of g.S.ConceptSet.items_of c.args.reader.indexes.now.concepts c.args.tested.now
     (value_of c.args.reader.indexes.now mark.number))) (λ mark cell. cell)
-    (take_all c.loop-place.place c.args.marks.now (omega arith) i) (take_all c.loop-place.place c.args.cells.now (omega arith) i))
+    (take_all c.loop-place.place c.args.marks.now (omega arith) i)
+    (take_all c.loop-place.place c.args.cells.now (omega arith) i))

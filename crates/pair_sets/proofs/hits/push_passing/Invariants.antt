@@ -8,5 +8,6 @@ abbrev pub invariant-loop-place : goal.invariant-loop-place
 invariant-loop-place g l =
     l.hits.items
     ≡ l.fn.hits.items
-    ++ picked (λ mark cell. mark.is_first && passes_of g.S.ConceptSet.items_of l.reader.indexes.now.concepts l.tested (value_of l.reader.indexes.now cell)) (λ mark cell. mark.number)
+    ++ picked (λ mark cell. mark.is_first && passes_of g.S.ConceptSet.items_of l.reader.indexes.now.concepts l.tested
+    (value_of l.reader.indexes.now cell)) (λ mark cell. mark.number)
     (take l.place l.marks) (take l.place l.cells)

@@ -1,4 +1,5 @@
-use Rattle.std.proofs.Common.{ℕ, Vec, Bool, List, ◌≡◌, ◌∙◌, ◌++◌, ◌∷◌, ◌+◌, [], ◌&&◌, cond, get_or, true, false, take, sym, ap, append-nil, arith}
+use Rattle.std.proofs.Common.{ℕ, Vec, Bool, List, ◌≡◌, ◌∙◌, ◌++◌, ◌∷◌, ◌+◌, [], ◌&&◌, cond, get_or, true, false, take}
+use Rattle.std.proofs.Common.{sym, ap, append-nil, arith}
 use Rattle.std.proofs.lemmas.List.{take_all}
 use Rattle.postings.specs.Columns.{Flagged}
 use Rattle.pair_sets.specs.inside.Hits.{is_type_in, picked}
@@ -18,7 +19,8 @@ loop-place-preserved g c =
     let cells = c.args.cells.now in
     let k = c.loop-place.place in
     let mark : Flagged = c.index-marks-place.result in
-    let kept : Flagged → ℕ → Bool = λ mark cell. mark.is_first && is_type_in indexed (g.S.ConceptSet.items_of c.args.types.now) cell in
+    let kept : Flagged → ℕ → Bool =
+    λ mark cell. mark.is_first && is_type_in indexed (g.S.ConceptSet.items_of c.args.types.now) cell in
     let number : Flagged → ℕ → ℕ = λ mark cell. mark.number in
     let here : kept (get_or marks k mark) (get_or cells k 0) ≡ c.has_type.result =
     ap (λ (m : Flagged). kept m (get_or cells k 0)) (sym c.index-marks-place.is) ∙ sym c.has_type.ensures in
@@ -44,5 +46,7 @@ pub returns : goal.returns
 returns g c =
     c.loop-place.invariant
     ∙ (λ i. c.args.hits.now.items
-    ++ picked (λ mark cell. mark.is_first && is_type_in c.args.reader.indexes.now (g.S.ConceptSet.items_of c.args.types.now) cell) (λ mark cell. mark.number)
-    (take_all c.loop-place.place c.args.marks.now (omega arith) i) (take_all c.loop-place.place c.args.cells.now (omega arith) i))
+    ++ picked (λ mark cell. mark.is_first && is_type_in c.args.reader.indexes.now
+    (g.S.ConceptSet.items_of c.args.types.now) cell) (λ mark cell. mark.number)
+    (take_all c.loop-place.place c.args.marks.now (omega arith) i)
+    (take_all c.loop-place.place c.args.cells.now (omega arith) i))

@@ -7,5 +7,6 @@ abbrev pub invariant-loop-place : goal.invariant-loop-place
 invariant-loop-place g l =
     l.hits.items
     ≡ l.fn.hits.items
-    ++ picked (λ mark cell. mark.is_first && is_type_in l.reader.indexes.now (g.S.ConceptSet.items_of l.types) cell) (λ mark cell. mark.number)
+    ++ picked (λ mark cell. mark.is_first && is_type_in l.reader.indexes.now (g.S.ConceptSet.items_of l.types) cell)
+    (λ mark cell. mark.number)
     (take l.place l.marks) (take l.place l.cells)

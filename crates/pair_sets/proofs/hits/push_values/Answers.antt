@@ -1,4 +1,5 @@
-use Rattle.std.proofs.Common.{ℕ, Vec, Bool, ◌≡◌, ◌<◌, ◌∙◌, ◌∷◌, ◌==◌, ◌&&◌, ◌+◌, [], List, All, ltb, true, false, get_or, length, refl, sym, ap, subst, arith}
+use Rattle.std.proofs.Common.{ℕ, Vec, Bool, ◌≡◌, ◌<◌, ◌∙◌, ◌∷◌, ◌==◌, ◌&&◌, ◌+◌, [], List, All, ltb, true, false}
+use Rattle.std.proofs.Common.{get_or, length, refl, sym, ap, subst, arith}
 use Rattle.std.specs.Prelude.{count_by}
 use Rattle.std.proofs.lemmas.Bool.{and_parts, ltb-true}
 use Rattle.std.proofs.lemmas.List.{take_all}
@@ -32,14 +33,19 @@ loop-n-preserved g c =
           let below : cells.value < bound = ltb-true cells.value bound (and_parts (ltb cells.value bound) _ keeps).0 in
           record {
             within = λ before.
-                subst (All (λ number. number < length indexed.concepts)) (sym (ap (λ (hits : Vec ℕ _). hits.items) w.hits-is ∙ w.in_ok-push.ensures.items))
-                (All-append (λ number. number < length indexed.concepts) c.loop-n.hits.items (cells.value ∷ []) (c.loop-n.invariant.within before)
+                subst (All (λ number. number < length indexed.concepts))
+                (sym (ap (λ (hits : Vec ℕ _). hits.items) w.hits-is ∙ w.in_ok-push.ensures.items))
+                (All-append (λ number. number < length indexed.concepts) c.loop-n.hits.items (cells.value ∷ [])
+                (c.loop-n.invariant.within before)
                 (one_below (length indexed.concepts) cells.value below));
             times = λ number inside.
-                ap (λ (hits : Vec ℕ _). times number hits.items) w.hits-is ∙ ap (times number) w.in_ok-push.ensures.items
-                ∙ pushed_more (counts_at indexed rising one told tells bound refl number) rows k c.loop-n-test.true cells.value number
+                ap (λ (hits : Vec ℕ _). times number hits.items) w.hits-is
+                ∙ ap (times number) w.in_ok-push.ensures.items
+                ∙ pushed_more (counts_at indexed rising one told tells bound refl number) rows k c.loop-n-test.true
+                cells.value number
                 (times number c.args.hits.now.items) c.loop-n.hits.items (c.loop-n.invariant.times number inside)
-                (cells_tell indexed rising one told tells bound refl cells (get_or rows k 0) number (c.requires.rows k 0 c.loop-n-test.true)
+                (cells_tell indexed rising one told tells bound refl cells (get_or rows k 0) number
+                (c.requires.rows k 0 c.loop-n-test.true)
                 inside c.cells-row.ensures
                 ∙ (λ i. keeps i && (cells.value == number)));
           }
@@ -47,13 +53,16 @@ loop-n-preserved g c =
           let leaves : kept ≡ false = sym c.counts.ensures ∙ w.if-counts.false in
           record {
             within = λ before.
-                subst (All (λ number. number < length indexed.concepts)) (sym (ap (λ (hits : Vec ℕ _). hits.items) w.hits-is))
+                subst (All (λ number. number < length indexed.concepts))
+                (sym (ap (λ (hits : Vec ℕ _). hits.items) w.hits-is))
                 (c.loop-n.invariant.within before);
             times = λ number inside.
                 ap (λ (hits : Vec ℕ _). times number hits.items) w.hits-is
-                ∙ none_pushed (counts_at indexed rising one told tells bound refl number) rows k c.loop-n-test.true cells.value number
+                ∙ none_pushed (counts_at indexed rising one told tells bound refl number) rows k c.loop-n-test.true
+                cells.value number
                 (times number c.args.hits.now.items) c.loop-n.hits.items (c.loop-n.invariant.times number inside)
-                (cells_tell indexed rising one told tells bound refl cells (get_or rows k 0) number (c.requires.rows k 0 c.loop-n-test.true)
+                (cells_tell indexed rising one told tells bound refl cells (get_or rows k 0) number
+                (c.requires.rows k 0 c.loop-n-test.true)
                 inside c.cells-row.ensures
                 ∙ (λ i. leaves i && (cells.value == number)));
           }
@@ -66,6 +75,7 @@ returns-clause-times g c = λ number inside.
     let items : List ℕ = g.S.ConceptSet.items_of c.args.types.now in
     c.loop-n.invariant.times number inside
     ∙ ap (λ (rows : List ℕ). times number c.args.hits.now.items
-    + count_by (counts_at indexed c.concept_count.ensures.numbers_rise (is_one_of indexed.concepts items) (is_type_in indexed items) (type_tells indexed items)
+    + count_by (counts_at indexed c.concept_count.ensures.numbers_rise (is_one_of indexed.concepts items)
+    (is_type_in indexed items) (type_tells indexed items)
     (length indexed.concepts) refl number) rows)
     (take_all c.loop-n.n-index c.args.rows.now (omega arith))

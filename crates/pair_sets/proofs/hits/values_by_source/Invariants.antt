@@ -12,7 +12,9 @@ abbrev pub invariant-loop-source : goal.invariant-loop-source
 invariant-loop-source g l = record {
   within : All (λ number. number < length l.reader.indexes.now.concepts) l.hits.items;
   hits : AreHits (length l.reader.indexes.now.concepts)
-      (counts_for_value l.reader.indexes.now.concepts (λ row. is_one_of l.reader.indexes.now.concepts (g.S.ConceptSet.items_of l.types) row.type_id))
+      (counts_for_value l.reader.indexes.now.concepts
+      (λ row. is_one_of l.reader.indexes.now.concepts (g.S.ConceptSet.items_of l.types) row.type_id))
       (entries_with_sources l.reader.indexes.now (take l.source-index l.sources)) l.hits.items;
-  counted : CountsWithin (sum_by (row_count_of l.reader.indexes.now true) (take l.source-index l.sources)) l.initial.visits l.visits;
+  counted : CountsWithin (sum_by (row_count_of l.reader.indexes.now true) (take l.source-index l.sources))
+      l.initial.visits l.visits;
 }

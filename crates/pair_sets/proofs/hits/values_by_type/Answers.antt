@@ -15,12 +15,16 @@ use Rattle.pair_sets.proofs.hits.values_by_type.Goals as goal
 -- before the first type, the empty list has the hits of no rows
 pub loop-id-init : goal.loop-id-init
 loop-id-init g c = record {
-  within = subst (All (λ number. number < length c.args.reader.indexes.now.concepts)) (sym c.in_ok-hits.ensures.items) (λ k d within. absurd (omega (arith, within)));
+  within = subst (All (λ number. number < length c.args.reader.indexes.now.concepts)) (sym c.in_ok-hits.ensures.items)
+      (λ k d within. absurd (omega (arith, within)));
   hits =
-      let passes : Value → Bool = passes_of g.S.ConceptSet.items_of c.args.reader.indexes.now.concepts c.args.tested.now in
-      subst (AreHits (length c.args.reader.indexes.now.concepts) (counts_for_value c.args.reader.indexes.now.concepts (λ row. passes (concept_value row.source))) [])
+      let passes : Value → Bool =
+      passes_of g.S.ConceptSet.items_of c.args.reader.indexes.now.concepts c.args.tested.now in
+      subst (AreHits (length c.args.reader.indexes.now.concepts)
+      (counts_for_value c.args.reader.indexes.now.concepts (λ row. passes (concept_value row.source))) [])
       (sym c.in_ok-hits.ensures.items)
-      (no_hits (length c.args.reader.indexes.now.concepts) (counts_for_value c.args.reader.indexes.now.concepts (λ row. passes (concept_value row.source))));
+      (no_hits (length c.args.reader.indexes.now.concepts)
+      (counts_for_value c.args.reader.indexes.now.concepts (λ row. passes (concept_value row.source))));
   counted = counted_none;
 }
 
@@ -46,19 +50,23 @@ push_cells-requires-clause-long g c =
 -- the values that are pushed for the type at hand are the hits of its rows, which are counted
 pub loop-id-preserved : goal.loop-id-preserved
 loop-id-preserved g c = record {
-  within = pushed_below (length c.args.reader.indexes.now.concepts) c.loop-id.hits.items c.push_cells.new.hits.items _ c.in_ok-push_cells.ensures
+  within = pushed_below (length c.args.reader.indexes.now.concepts) c.loop-id.hits.items c.push_cells.new.hits.items _
+      c.in_ok-push_cells.ensures
       c.loop-id.invariant.within
       (cells_below _ _ c.type_columns-columns.result.sources.now c.type_columns-columns.result.values.now);
   hits =
-      let passes : Value → Bool = passes_of g.S.ConceptSet.items_of c.args.reader.indexes.now.concepts c.args.tested.now in
+      let passes : Value → Bool =
+      passes_of g.S.ConceptSet.items_of c.args.reader.indexes.now.concepts c.args.tested.now in
       let indexed = c.args.reader.indexes.now in
       let columns = c.type_columns-columns in
       hits_pushed (entries_with_type indexed.rows) c.args.ids.now c.loop-id.id-index c.loop-id-test.true
       (length indexed.concepts) (counts_for_value indexed.concepts (λ row. passes (concept_value row.source)))
       c.loop-id.hits.items c.push_cells.new.hits.items _ c.in_ok-push_cells.ensures c.loop-id.invariant.hits
       (backward_hits indexed passes c.concept_count.ensures.numbers_rise _ columns.result.sources.now
-      columns.result.values.now columns.ensures.columns.values columns.ensures.columns.sources (length indexed.concepts) refl);
-  counted = counted_next (type_row_count c.args.reader.indexes.now) c.args.ids.now c.loop-id.id-index c.loop-id-test.true
+      columns.result.values.now columns.ensures.columns.values columns.ensures.columns.sources (length indexed.concepts)
+      refl);
+  counted = counted_next (type_row_count c.args.reader.indexes.now) c.args.ids.now c.loop-id.id-index
+      c.loop-id-test.true
       c.loop-id.invariant.counted (counted_out c.type_columns-columns.ensures.counted (omega arith));
 }
 
@@ -69,7 +77,8 @@ returns-clause-within g c = c.loop-id.invariant.within
 -- after the last type, the list has the hits of the rows of all types
 pub returns-clause-hits : goal.returns-clause-hits
 returns-clause-hits g c =
-    let passes : Value → Bool = passes_of g.S.ConceptSet.items_of c.args.reader.indexes.now.concepts c.args.tested.now in
+    let passes : Value → Bool =
+    passes_of g.S.ConceptSet.items_of c.args.reader.indexes.now.concepts c.args.tested.now in
     subst (λ (ids : List ℕ). AreHits (length c.args.reader.indexes.now.concepts)
     (counts_for_value c.args.reader.indexes.now.concepts (λ row. passes (concept_value row.source)))
     (entries_with_types c.args.reader.indexes.now.rows ids) c.loop-id.hits.items)

@@ -12,8 +12,10 @@ abbrev pub invariant-loop-id : goal.invariant-loop-id
 invariant-loop-id g l = record {
   within : All (λ number. number < length l.reader.indexes.now.concepts) l.hits.items;
   hits : AreHits (length l.reader.indexes.now.concepts)
-      (counts_for_value l.reader.indexes.now.concepts (λ row. passes_of g.S.ConceptSet.items_of l.reader.indexes.now.concepts l.tested
+      (counts_for_value l.reader.indexes.now.concepts
+      (λ row. passes_of g.S.ConceptSet.items_of l.reader.indexes.now.concepts l.tested
       (concept_value row.source)))
       (entries_with_types l.reader.indexes.now.rows (take l.id-index l.ids)) l.hits.items;
-  counted : CountsWithin (sum_by (type_row_count l.reader.indexes.now) (take l.id-index l.ids)) l.initial.visits l.visits;
+  counted : CountsWithin (sum_by (type_row_count l.reader.indexes.now) (take l.id-index l.ids)) l.initial.visits
+      l.visits;
 }

@@ -6,9 +6,9 @@ use Rattle.candidates.specs.Groups.{groups_where}
 use Rattle.candidates.specs.Numbers.{is_one_of}
 use Rattle.pair_sets.specs.Tested.{passes_of}
 use Rattle.postings.specs.Indexed.{types_of}
-use Rattle.pair_sets.specs.inside.Ways.{HasTypes, passes_by}
+use Rattle.pair_sets.specs.inside.AccessPaths.{HasTypes, passes_by}
 use Rattle.candidates.specs.Within.{groups_within, may_be}
-use Rattle.pair_sets.specs.declared.ways.Way.{Way}
+use Rattle.pair_sets.specs.declared.access_paths.AccessPath.{AccessPath}
 use Rattle.candidates.proofs.WithinLemmas.{kept_groups}
 use Rattle.pair_sets.proofs.leaves.groups_with_pairs_by.Goals as goal
 
@@ -21,7 +21,8 @@ returns-in_ok-found-in-ByCandidates-clause-items g c =
     let one : ℕ → Bool = is_one_of concepts (g.S.ConceptSet.items_of c.args.types.now) in
     let may : ℕ → Bool = may_be g.S.ConceptSet.items_of c.args.candidates.now in
     c.in_ok-found-in-ByCandidates.ensures.items
-    ∙ ap (λ (way : Way _). groups_within release may (has_pairs c.args.count one (passes_by g.S.ConceptSet.items_of concepts way))) (sym c.in-ByCandidates.is)
+    ∙ ap (λ (path : AccessPath _). groups_within release may
+    (has_pairs c.args.count one (passes_by g.S.ConceptSet.items_of concepts path))) (sym c.in-ByCandidates.is)
 
 -- the candidates among the groups that are found by value are the candidates whose number of matching pairs lies in
 -- `count`
@@ -34,9 +35,11 @@ returns-in_ok-found-in-ByValue-clause-items g c =
     kept_groups release may (has_pairs c.args.count one (is_within (is_one_of concepts c.in-ByValue.values.items)))
     (g.S.ConceptSet.items_of c.in_ok-some-in-ByValue.some) (g.S.ConceptSet.items_of c.in_ok-found-in-ByValue.found)
     (c.in_ok-some-in-ByValue.ensures.items
-    ∙ ap (λ (values : List ℕ). groups_where release (has_pairs c.args.count one (is_within (is_one_of concepts values)))) c.deref.ensures.value)
+    ∙ ap (λ (values : List ℕ). groups_where release
+    (has_pairs c.args.count one (is_within (is_one_of concepts values)))) c.deref.ensures.value)
     c.in_ok-found-in-ByValue.ensures.items
-    ∙ ap (λ (way : Way _). groups_within release may (has_pairs c.args.count one (passes_by g.S.ConceptSet.items_of concepts way))) (sym c.in-ByValue.is)
+    ∙ ap (λ (path : AccessPath _). groups_within release may
+    (has_pairs c.args.count one (passes_by g.S.ConceptSet.items_of concepts path))) (sym c.in-ByValue.is)
 
 -- the candidates among the groups that are found by type are the candidates whose number of matching pairs lies in
 -- `count`
@@ -47,13 +50,16 @@ returns-in_ok-found-in-ByType-clause-items g c =
     let one : ℕ → Bool = is_one_of concepts (g.S.ConceptSet.items_of c.args.types.now) in
     let may : ℕ → Bool = may_be g.S.ConceptSet.items_of c.args.candidates.now in
     let ids : c.deref-in-ByType.result.now ≡ filter one (types_of c.args.reader.indexes.now.rows) =
-    c.deref-in-ByType.ensures.value ∙ subst (λ (way : Way _). HasTypes (types_of c.args.reader.indexes.now.rows) one way) c.in-ByType.is c.requires.ids in
+    c.deref-in-ByType.ensures.value
+    ∙ subst (λ (path : AccessPath _). HasTypes (types_of c.args.reader.indexes.now.rows) one path) c.in-ByType.is
+    c.requires.ids in
     let passes = passes_of g.S.ConceptSet.items_of concepts c.in-ByType.tested in
     kept_groups release may (has_pairs c.args.count one passes)
     (g.S.ConceptSet.items_of c.in_ok-some-in-ByType.some) (g.S.ConceptSet.items_of c.in_ok-found-in-ByType.found)
     (c.in_ok-some-in-ByType.ensures.items one ids)
     c.in_ok-found-in-ByType.ensures.items
-    ∙ ap (λ (way : Way _). groups_within release may (has_pairs c.args.count one (passes_by g.S.ConceptSet.items_of concepts way))) (sym c.in-ByType.is)
+    ∙ ap (λ (path : AccessPath _). groups_within release may
+    (has_pairs c.args.count one (passes_by g.S.ConceptSet.items_of concepts path))) (sym c.in-ByType.is)
 
 -- a scan takes all groups for candidates, so it finds each group whose number of matching pairs lies in `count`
 pub returns-in_ok-found-in-Scan-clause-items : goal.returns-in_ok-found-in-Scan-clause-items
@@ -67,4 +73,5 @@ returns-in_ok-found-in-Scan-clause-items g c =
     (g.S.ConceptSet.items_of c.in_ok-some-in-Scan.some) (g.S.ConceptSet.items_of c.in_ok-found-in-Scan.found)
     c.in_ok-some-in-Scan.ensures.items
     c.in_ok-found-in-Scan.ensures.items
-    ∙ ap (λ (way : Way _). groups_within release may (has_pairs c.args.count one (passes_by g.S.ConceptSet.items_of concepts way))) (sym c.in-Scan.is)
+    ∙ ap (λ (path : AccessPath _). groups_within release may
+    (has_pairs c.args.count one (passes_by g.S.ConceptSet.items_of concepts path))) (sym c.in-Scan.is)

@@ -13,15 +13,15 @@ returns-clause-found g c =
       items =
           c.in_ok-found.ensures.items
           ∙ (λ i. groups_within release (may_be g.S.ConceptSet.items_of c.args.candidates.now)
-          (has_pairs c.args.leaf.count one (λ value. c.in_ok-way.ensures.way.passes value i)));
+          (has_pairs c.args.leaf.count one (λ value. c.in_ok-path.ensures.path.passes value i)));
       bound = c.in_ok-found.ensures.bound;
       floor = omega arith;
     }
 
 -- the set or the numbers of the way are below the count of concepts
-pub groups_with_pairs_by-requires-clause-way : goal.groups_with_pairs_by-requires-clause-way
-groups_with_pairs_by-requires-clause-way g c = c.in_ok-way.ensures.way.below
+pub groups_with_pairs_by-requires-clause-path : goal.groups_with_pairs_by-requires-clause-path
+groups_with_pairs_by-requires-clause-path g c = c.in_ok-path.ensures.path.below
 
 -- the types whose rows the way reads are those in the set
 pub groups_with_pairs_by-requires-clause-ids : goal.groups_with_pairs_by-requires-clause-ids
-groups_with_pairs_by-requires-clause-ids g c = c.in_ok-way.ensures.way.types
+groups_with_pairs_by-requires-clause-ids g c = c.in_ok-path.ensures.path.types

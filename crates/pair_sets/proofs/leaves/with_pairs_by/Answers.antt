@@ -5,9 +5,9 @@ use Rattle.set_algebra.specs.Meaning.{has_pairs, pairs_of}
 use Rattle.candidates.specs.Numbers.{is_one_of, numbers_in}
 use Rattle.pair_sets.specs.Tested.{passes_of}
 use Rattle.postings.specs.Indexed.{types_of}
-use Rattle.pair_sets.specs.inside.Ways.{HasTypes, passes_by}
+use Rattle.pair_sets.specs.inside.AccessPaths.{HasTypes, passes_by}
 use Rattle.candidates.specs.Within.{may_be, numbers_within}
-use Rattle.pair_sets.specs.declared.ways.Way.{Way}
+use Rattle.pair_sets.specs.declared.access_paths.AccessPath.{AccessPath}
 use Rattle.candidates.proofs.WithinLemmas.{kept_set}
 use Rattle.pair_sets.proofs.leaves.with_pairs_by.Goals as goal
 
@@ -20,8 +20,9 @@ returns-in_ok-found-in-ByCandidates-clause-items g c =
     let one : ℕ → Bool = is_one_of concepts (g.S.ConceptSet.items_of c.args.types.now) in
     let may : ℕ → Bool = may_be g.S.ConceptSet.items_of c.args.candidates.now in
     c.in_ok-found-in-ByCandidates.ensures.items
-    ∙ ap (λ (way : Way _). numbers_within release may
-    (λ concept. has_pairs c.args.count one (passes_by g.S.ConceptSet.items_of concepts way) (pairs_of release c.args.back concept)))
+    ∙ ap (λ (path : AccessPath _). numbers_within release may
+    (λ concept. has_pairs c.args.count one (passes_by g.S.ConceptSet.items_of concepts path)
+    (pairs_of release c.args.back concept)))
     (sym c.in-ByCandidates.is)
 
 -- the candidates among the concepts that are found by value are the candidates whose number of matching pairs lies in
@@ -33,15 +34,18 @@ returns-in_ok-found-in-ByValue-clause-items g c =
     let one : ℕ → Bool = is_one_of concepts (g.S.ConceptSet.items_of c.args.types.now) in
     let may : ℕ → Bool = may_be g.S.ConceptSet.items_of c.args.candidates.now in
     kept_set release may
-    (λ concept. has_pairs c.args.count one (is_within (is_one_of concepts c.in-ByValue.values.items)) (pairs_of release c.args.back concept))
+    (λ concept. has_pairs c.args.count one (is_within (is_one_of concepts c.in-ByValue.values.items))
+    (pairs_of release c.args.back concept))
     (g.S.ConceptSet.items_of c.in_ok-some-in-ByValue.some) (g.S.ConceptSet.items_of c.in_ok-found-in-ByValue.found)
     (c.in_ok-some-in-ByValue.ensures.items
     ∙ ap (λ (values : List ℕ). numbers_in release
-    (λ concept. has_pairs c.args.count one (is_within (is_one_of concepts values)) (pairs_of release c.args.back concept)))
+    (λ concept. has_pairs c.args.count one (is_within (is_one_of concepts values))
+    (pairs_of release c.args.back concept)))
     c.deref.ensures.value)
     c.in_ok-found-in-ByValue.ensures.items
-    ∙ ap (λ (way : Way _). numbers_within release may
-    (λ concept. has_pairs c.args.count one (passes_by g.S.ConceptSet.items_of concepts way) (pairs_of release c.args.back concept)))
+    ∙ ap (λ (path : AccessPath _). numbers_within release may
+    (λ concept. has_pairs c.args.count one (passes_by g.S.ConceptSet.items_of concepts path)
+    (pairs_of release c.args.back concept)))
     (sym c.in-ByValue.is)
 
 -- the candidates among the concepts that are found by type are the candidates whose number of matching pairs lies in
@@ -53,14 +57,17 @@ returns-in_ok-found-in-ByType-clause-items g c =
     let one : ℕ → Bool = is_one_of concepts (g.S.ConceptSet.items_of c.args.types.now) in
     let may : ℕ → Bool = may_be g.S.ConceptSet.items_of c.args.candidates.now in
     let ids : c.deref-in-ByType.result.now ≡ filter one (types_of c.args.reader.indexes.now.rows) =
-    c.deref-in-ByType.ensures.value ∙ subst (λ (way : Way _). HasTypes (types_of c.args.reader.indexes.now.rows) one way) c.in-ByType.is c.requires.ids in
+    c.deref-in-ByType.ensures.value
+    ∙ subst (λ (path : AccessPath _). HasTypes (types_of c.args.reader.indexes.now.rows) one path) c.in-ByType.is
+    c.requires.ids in
     let passes = passes_of g.S.ConceptSet.items_of concepts c.in-ByType.tested in
     kept_set release may (λ concept. has_pairs c.args.count one passes (pairs_of release c.args.back concept))
     (g.S.ConceptSet.items_of c.in_ok-some-in-ByType.some) (g.S.ConceptSet.items_of c.in_ok-found-in-ByType.found)
     (c.in_ok-some-in-ByType.ensures.items one ids)
     c.in_ok-found-in-ByType.ensures.items
-    ∙ ap (λ (way : Way _). numbers_within release may
-    (λ concept. has_pairs c.args.count one (passes_by g.S.ConceptSet.items_of concepts way) (pairs_of release c.args.back concept)))
+    ∙ ap (λ (path : AccessPath _). numbers_within release may
+    (λ concept. has_pairs c.args.count one (passes_by g.S.ConceptSet.items_of concepts path)
+    (pairs_of release c.args.back concept)))
     (sym c.in-ByType.is)
 
 -- a scan takes all concepts for candidates, so it finds each concept whose number of matching pairs lies in `count`
@@ -75,6 +82,7 @@ returns-in_ok-found-in-Scan-clause-items g c =
     (g.S.ConceptSet.items_of c.in_ok-some-in-Scan.some) (g.S.ConceptSet.items_of c.in_ok-found-in-Scan.found)
     c.in_ok-some-in-Scan.ensures.items
     c.in_ok-found-in-Scan.ensures.items
-    ∙ ap (λ (way : Way _). numbers_within release may
-    (λ concept. has_pairs c.args.count one (passes_by g.S.ConceptSet.items_of concepts way) (pairs_of release c.args.back concept)))
+    ∙ ap (λ (path : AccessPath _). numbers_within release may
+    (λ concept. has_pairs c.args.count one (passes_by g.S.ConceptSet.items_of concepts path)
+    (pairs_of release c.args.back concept)))
     (sym c.in-Scan.is)

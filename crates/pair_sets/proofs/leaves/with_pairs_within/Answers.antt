@@ -13,16 +13,16 @@ returns-clause-found g c =
       items =
           c.in_ok-found.ensures.items
           ∙ (λ i. numbers_within release (may_be g.S.ConceptSet.items_of c.args.candidates.now)
-          (λ concept. has_pairs c.args.leaf.count one (λ value. c.in_ok-way.ensures.way.passes value i)
+          (λ concept. has_pairs c.args.leaf.count one (λ value. c.in_ok-path.ensures.path.passes value i)
           (pairs_of release c.args.back concept)));
       bound = c.in_ok-found.ensures.bound;
       floor = omega arith;
     }
 
 -- the set or the numbers of the way are below the count of concepts
-pub with_pairs_by-requires-clause-way : goal.with_pairs_by-requires-clause-way
-with_pairs_by-requires-clause-way g c = c.in_ok-way.ensures.way.below
+pub with_pairs_by-requires-clause-path : goal.with_pairs_by-requires-clause-path
+with_pairs_by-requires-clause-path g c = c.in_ok-path.ensures.path.below
 
 -- the types whose rows the way reads are those in the set
 pub with_pairs_by-requires-clause-ids : goal.with_pairs_by-requires-clause-ids
-with_pairs_by-requires-clause-ids g c = c.in_ok-way.ensures.way.types
+with_pairs_by-requires-clause-ids g c = c.in_ok-path.ensures.path.types

@@ -16,7 +16,8 @@ pub returns-then-place-decimal_count : goal.returns-then-place-decimal_count
 returns-then-place-decimal_count c =
     let indexed = c.args.reader.indexes.now in
     let k : ℕ = c.args.value - c.concept_count-concepts.result in
-    let whole : length indexed.concepts + k ≡ c.args.value = omega (arith, c.concept_count-concepts.ensures.numbers, c.if-value-concepts.false) in
+    let whole : length indexed.concepts + k ≡ c.args.value =
+    omega (arith, c.concept_count-concepts.ensures.numbers, c.if-value-concepts.false) in
     past_decimals c.args.compare c.args.number.0 indexed k
     (omega (arith, c.if-place-decimal_count.true, c.decimal_count.ensures))
     ∙ ap (λ (n : ℕ). is_number_that c.args.compare c.args.number.0 (value_of indexed n)) whole
@@ -26,9 +27,11 @@ pub returns : goal.returns
 returns c =
     let indexed = c.args.reader.indexes.now in
     let k : ℕ = c.args.value - c.concept_count-concepts.result in
-    let whole : length indexed.concepts + k ≡ c.args.value = omega (arith, c.concept_count-concepts.ensures.numbers, c.if-value-concepts.false) in
+    let whole : length indexed.concepts + k ≡ c.args.value =
+    omega (arith, c.concept_count-concepts.ensures.numbers, c.if-value-concepts.false) in
     c.meets.ensures
     ∙ ap (meets c.args.compare) c.compare_decimal.ensures
-    ∙ decimal_told c.args.compare c.args.number.0 indexed k (omega (arith, c.if-place-decimal_count.false, c.decimal_count.ensures))
+    ∙ decimal_told c.args.compare c.args.number.0 indexed k
+    (omega (arith, c.if-place-decimal_count.false, c.decimal_count.ensures))
     (get_or indexed.decimals k (pos 0)) refl
     ∙ ap (λ (n : ℕ). is_number_that c.args.compare c.args.number.0 (value_of indexed n)) whole

@@ -11,7 +11,8 @@ pub returns-in-Some : goal.returns-in-Some
 returns-in-Some g c =
     let concepts = c.args.reader.indexes.now.concepts in
     let items = g.S.ConceptSet.items_of c.args.set.now in
-    let found = concept_number-Some concepts c.args.id c.in-Some.concept (sym c.index_of.ensures.indexed ∙ c.in-Some.is) in
+    let found = concept_number-Some concepts c.args.id c.in-Some.concept (sym c.index_of.ensures.indexed
+    ∙ c.in-Some.is) in
     c.has.ensures
     ∙ sym (one_by_number concepts c.concept_count.ensures.numbers_rise items
     (subst (λ (count : ℕ). All (λ item. item < count) items) c.requires

@@ -13,7 +13,8 @@ returns-in-Some g c =
     let below = subst (λ (count : ℕ). All (λ item. item < count) items) c.requires
     (all_below (g.S.ConceptSet.bound_of c.args.types.now) items (g.met.S.ConceptSet.rising c.args.types.now)) in
     c.has.ensures
-    ∙ typed indexed c.concept_count.ensures.numbers_rise items below (slice_get (types_of indexed.rows) c.args.place) c.in-Some.concept
+    ∙ typed indexed c.concept_count.ensures.numbers_rise items below (slice_get (types_of indexed.rows) c.args.place)
+    c.in-Some.concept
     (sym c.type_concept.ensures ∙ c.in-Some.is)
 
 -- a type that is no concept is not in the set
@@ -23,4 +24,5 @@ returns-in-None g c =
     let items = g.S.ConceptSet.items_of c.args.types.now in
     let below = subst (λ (count : ℕ). All (λ item. item < count) items) c.requires
     (all_below (g.S.ConceptSet.bound_of c.args.types.now) items (g.met.S.ConceptSet.rising c.args.types.now)) in
-    no_typed indexed items below (slice_get (types_of indexed.rows) c.args.place) (sym c.type_concept.ensures ∙ c.in-None.is)
+    no_typed indexed items below (slice_get (types_of indexed.rows) c.args.place) (sym c.type_concept.ensures
+    ∙ c.in-None.is)

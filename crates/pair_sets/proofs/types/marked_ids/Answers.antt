@@ -1,4 +1,5 @@
-use Rattle.std.proofs.Common.{ℕ, ◌<◌, length, Vec, true, false, ◌≡◌, ◌∙◌, ◌∷◌, ◌++◌, [], get_or, append-nil, sym, ap, arith}
+use Rattle.std.proofs.Common.{ℕ, ◌<◌, length, Vec, true, false, ◌≡◌, ◌∙◌, ◌∷◌, ◌++◌, [], get_or, append-nil, sym, ap}
+use Rattle.std.proofs.Common.{arith}
 use Rattle.std.specs.Prelude.{filter}
 use Rattle.std.proofs.lemmas.List.{take_all}
 use Rattle.postings.specs.Indexed.{types_of}
@@ -29,4 +30,6 @@ loop-place-preserved c =
 -- after the last type, `ids` are those of all types that are marked
 pub returns : goal.returns
 returns c = λ one told.
-    c.loop-place.invariant one told ∙ ap (filter one) (take_all c.loop-place.place (types_of c.args.reader.indexes.now.rows) (omega (arith, c.type_count-place-end.ensures.count)))
+    c.loop-place.invariant one told
+    ∙ ap (filter one) (take_all c.loop-place.place (types_of c.args.reader.indexes.now.rows)
+    (omega (arith, c.type_count-place-end.ensures.count)))

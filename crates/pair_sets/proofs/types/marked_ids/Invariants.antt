@@ -7,5 +7,6 @@ use Rattle.pair_sets.proofs.types.marked_ids.Given as goal
 -- `ids` are the types so far that are marked
 abbrev pub invariant-loop-place : goal.invariant-loop-place
 invariant-loop-place l =
-    (one : ℕ → Bool) → ((place : ℕ) → place < length (types_of l.reader.indexes.now.rows) → is_set l.places place ≡ one (get_or (types_of l.reader.indexes.now.rows) place 0))
+    (one : ℕ → Bool) → ((place : ℕ) → place < length (types_of l.reader.indexes.now.rows)
+    → is_set l.places place ≡ one (get_or (types_of l.reader.indexes.now.rows) place 0))
     → l.ids.items ≡ filter one (take l.place (types_of l.reader.indexes.now.rows))

@@ -10,7 +10,8 @@ pub places_of_concepts-requires : goal.places_of_concepts-requires
 places_of_concepts-requires g c = record {
   below =
       let items = g.S.ConceptSet.items_of c.args.set.now in
-      subst (All (λ concept. concept < length c.args.reader.indexes.now.concepts)) (sym (c.as_slice.ensures.value ∙ c.in_ok-concepts.ensures.items))
+      subst (All (λ concept. concept < length c.args.reader.indexes.now.concepts))
+      (sym (c.as_slice.ensures.value ∙ c.in_ok-concepts.ensures.items))
       (subst (λ (count : ℕ). All (λ concept. concept < count) items) c.requires.bound
       (all_below (g.S.ConceptSet.bound_of c.args.set.now) items (g.met.S.ConceptSet.rising c.args.set.now)));
 }

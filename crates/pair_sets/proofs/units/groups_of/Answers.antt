@@ -15,7 +15,8 @@ use Rattle.pair_sets.proofs.units.groups_of.Goals as goal
 pub numbers_of_groups-requires : goal.numbers_of_groups-requires
 numbers_of_groups-requires g c =
     let items = g.S.ConceptSet.items_of c.args.concepts.now in
-    subst (All (λ number. number < length c.args.reader.indexes.now.concepts)) (sym (c.as_slice.ensures.value ∙ c.in_ok-own.ensures.items))
+    subst (All (λ number. number < length c.args.reader.indexes.now.concepts))
+    (sym (c.as_slice.ensures.value ∙ c.in_ok-own.ensures.items))
     (subst (λ (bound : ℕ). All (λ number. number < bound) items)
     (c.requires.bound ∙ ap (λ (ids : List ℕ). length ids) (sym c.args.reader.index.concepts))
     (all_below (g.S.ConceptSet.bound_of c.args.concepts.now) items (g.met.S.ConceptSet.rising c.args.concepts.now)))
@@ -25,14 +26,16 @@ pub returns-clause-groups : goal.returns-clause-groups
 returns-clause-groups g c =
     IfOk-weaker c.from_numbers.result _ _
     (λ groups listed.
-    owned c.args.reader.indexes.now c.args.reader.snapshot.now.release c.args.reader.index c.concept_count.ensures.rising
+    owned c.args.reader.indexes.now c.args.reader.snapshot.now.release c.args.reader.index
+    c.concept_count.ensures.rising
     (g.S.ConceptSet.items_of c.args.concepts.now) c.in_ok-numbers.numbers.items
     (λ concept group is_item. c.in_ok-numbers.ensures.all concept group
     (ap (λ (xs : List ℕ). has xs concept) (c.as_slice.ensures.value ∙ c.in_ok-own.ensures.items) ∙ is_item))
     (g.S.ConceptSet.items_of groups)
     (listed
     ∙ ap (λ (bound : ℕ). numbers_where bound (has c.as_slice-2.result.now)) c.group_count.ensures.count
-    ∙ ap (λ (xs : List ℕ). numbers_where (length (groups_in c.args.reader.indexes.now)) (has xs)) c.as_slice-2.ensures.value))
+    ∙ ap (λ (xs : List ℕ). numbers_where (length (groups_in c.args.reader.indexes.now)) (has xs))
+    c.as_slice-2.ensures.value))
     c.from_numbers.ensures.items
 
 -- the set of groups has the count of groups as its bound
@@ -42,7 +45,8 @@ returns-clause-bound g c =
     (λ groups bound.
     bound ∙ c.group_count.ensures.count
     ∙ ap (λ (groups : List ConceptGroup). length groups)
-    (groups_are c.args.reader.indexes.now c.args.reader.snapshot.now.release c.args.reader.index c.concept_count.ensures.rising))
+    (groups_are c.args.reader.indexes.now c.args.reader.snapshot.now.release c.args.reader.index
+    c.concept_count.ensures.rising))
     c.from_numbers.ensures.bound
 
 -- the set has no more groups than the concepts have, added up

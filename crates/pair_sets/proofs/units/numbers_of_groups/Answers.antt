@@ -1,4 +1,5 @@
-use Rattle.std.proofs.Common.{ℕ, List, ◌≡◌, ◌≤◌, ◌<◌, ◌+◌, ◌-◌, ◌∙◌, ◌++◌, All, length, length-append, get_or, inl, inr, sym, ap, subst, arith}
+use Rattle.std.proofs.Common.{ℕ, List, ◌≡◌, ◌≤◌, ◌<◌, ◌+◌, ◌-◌, ◌∙◌, ◌++◌, All, length, length-append, get_or, inl, inr}
+use Rattle.std.proofs.Common.{sym, ap, subst, arith}
 use Rattle.std.specs.List.{range_with_len}
 use Rattle.std.proofs.lemmas.List.{take_all}
 use Rattle.std.proofs.lemmas.List.FromFn.{length-range_with_len}
@@ -21,9 +22,11 @@ loop-concept-preserved c =
     let pushed : c.push_range.new.found.items ≡ c.loop-concept.found.items ++ more = c.in_ok-push_range.ensures in
     record {
       within = subst (All (λ group. group < length (groups_in indexed))) (sym pushed)
-          (All-append (λ group. group < length (groups_in indexed)) c.loop-concept.found.items more c.loop-concept.invariant.within
+          (All-append (λ group. group < length (groups_in indexed)) c.loop-concept.found.items more
+          c.loop-concept.invariant.within
           (range_below units.start units.end (length (groups_in indexed))
-          (subst (λ (n : ℕ). n ≤ length (groups_in indexed)) (sym c.units_of-units.ensures.end) (before_all indexed (get_or concepts k 0 + 1)))));
+          (subst (λ (n : ℕ). n ≤ length (groups_in indexed)) (sym c.units_of-units.ensures.end)
+          (before_all indexed (get_or concepts k 0 + 1)))));
       few = omega (
         arith,
         ap (λ (numbers : List ℕ). length numbers) pushed,
@@ -37,7 +40,8 @@ loop-concept-preserved c =
       all = λ concept group there from below.
           ap (λ (xs : List ℕ). has xs group) pushed
           ∙ elim (taken_more concepts k concept c.loop-concept-test.true there) [
-            | inl before ↦ has_sooner c.loop-concept.found.items more group (c.loop-concept.invariant.all concept group before from below)
+            | inl before ↦ has_sooner c.loop-concept.found.items more group
+                (c.loop-concept.invariant.all concept group before from below)
             | inr same ↦
                 let first : units.start ≤ group =
                 subst (λ (n : ℕ). n ≤ group) (sym c.units_of-units.ensures.start)
@@ -45,7 +49,8 @@ loop-concept-preserved c =
                 let last : group < units.end =
                 subst (λ (n : ℕ). group < n) (sym c.units_of-units.ensures.end)
                 (subst (λ (n : ℕ). group < length (groups_before indexed (n + 1))) (sym same) below) in
-                has_later c.loop-concept.found.items more group (has_range units.start (units.end - units.start) group first (omega (arith, first, last)))
+                has_later c.loop-concept.found.items more group
+                (has_range units.start (units.end - units.start) group first (omega (arith, first, last)))
           ];
     }
 

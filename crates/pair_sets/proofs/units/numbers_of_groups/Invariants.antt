@@ -10,6 +10,7 @@ abbrev pub invariant-loop-concept : goal.invariant-loop-concept
 invariant-loop-concept l = record {
   within : All (λ group. group < length (groups_in l.reader.indexes.now)) l.found.items;
   few : length l.found.items ≡ sum_by (group_count_of l.reader.indexes.now) (take l.concept-index l.concepts);
-  all : (concept group : ℕ) → has (take l.concept-index l.concepts) concept ≡ true → length (groups_before l.reader.indexes.now concept) ≤ group
+  all : (concept group : ℕ) → has (take l.concept-index l.concepts) concept ≡ true
+      → length (groups_before l.reader.indexes.now concept) ≤ group
       → group < length (groups_before l.reader.indexes.now (concept + 1)) → has l.found.items group ≡ true;
 }

@@ -13,7 +13,8 @@ loop-number-preserved c =
     record {
       found = c.in_ok-push.ensures.items
           ∙ (λ i. c.loop-number.invariant.found i ++ sym last i ∷ [])
-          ∙ append_assoc c.args.found.now.items (range_with_len start (number - start)) ((start + (number - start)) ∷ [])
+          ∙ append_assoc c.args.found.now.items (range_with_len start (number - start))
+          ((start + (number - start)) ∷ [])
           ∙ ap (λ (xs : List ℕ). c.args.found.now.items ++ xs) (sym (range_next start (number - start)))
           ∙ ap (λ (n : ℕ). c.args.found.now.items ++ range_with_len start n) (sym steps);
       few = omega arith;

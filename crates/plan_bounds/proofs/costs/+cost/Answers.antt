@@ -1,5 +1,6 @@
 use Rattle.std.proofs.Common.{ℕ, ◌≡◌, ◌==◌, ◌+◌, ◌*◌, ◌∙◌, false, sym, ap, arith}
-use Rattle.set_algebra.specs.Physical.{Physical, PhysicalUnits, physical_of, physical_test_of, physical_units_list_of, physicals_of}
+use Rattle.set_algebra.specs.Physical.{Physical, PhysicalGroups, physical_of, physical_test_of, physical_groups_list_of}
+use Rattle.set_algebra.specs.Physical.{physicals_of}
 use Rattle.plan_bounds.specs.Alternatives.{leaf_bound, leaf_size, passed_over}
 use Rattle.plan_bounds.specs.Bounds.{bound, capped, leaf_bound_at, own_number, values_bound}
 use Rattle.plan_bounds.specs.Counts.{leaf_of}
@@ -8,41 +9,43 @@ use Rattle.plan_bounds.specs.Nodes.{group_sum, test_sum}
 use Rattle.plan_bounds.specs.Sizes.{group_size, group_sizes, least_of, size, sizes, total, values_size}
 use Rattle.plan_bounds.proofs.ListLemmas.{capped_least, capped_product, capped_three, capped_two}
 use Rattle.plan_bounds.proofs.LoopLemmas.{sizes_end, sizes_turn, sum_end, sum_turn}
-use Rattle.plan_bounds.proofs.PartLemmas.{and_are, and_units_are, group_count-parts, minus_are, minus_units_are, or_are}
-use Rattle.plan_bounds.proofs.PartLemmas.{or_units_are, pairs_are, pairs_units_are, plan_count-parts, units_are, values_are}
+use Rattle.plan_bounds.proofs.PartLemmas.{and_are, and_group_plan_is, group_count-parts, minus_are, minus_group_plan_is}
+use Rattle.plan_bounds.proofs.PartLemmas.{or_are}
+use Rattle.plan_bounds.proofs.PartLemmas.{or_group_plan_is, pairs_are, pairs_group_plan_is, plan_count-parts}
+use Rattle.plan_bounds.proofs.PartLemmas.{group_plan_is, values_are}
 use Rattle.plan_bounds.proofs.costs.+cost.Goals as goal
 
--- a turn that takes the size and the bound of one part keeps the invariants of the tally and the sum
+-- a turn that takes the size and the bound of one part keeps the invariants of the summary and the sum
 pub parts_cost-loop-place-preserved : goal.parts_cost-loop-place-preserved
 parts_cost-loop-place-preserved t c =
     let left = c.loop-place.invariant in
     let part = c.cost-part.ensures in
     record {
-      sizes = sizes_turn left.sizes c.loop-place-test.true c.index-parts-place.is part.size c.with-tally.ensures;
+      sizes = sizes_turn left.sizes c.loop-place-test.true c.index-parts-place.is part.size c.with-summary.ensures;
       sum = sum_turn left.sum c.loop-place-test.true c.index-parts-place.is part.bound c.saturating_add-bound.ensures;
     }
 
--- at the end the tally and the bound are those of all parts
+-- at the end the summary and the bound are those of all parts
 pub parts_cost-returns : goal.parts_cost-returns
 parts_cost-returns t c = record {
-  tally = sizes_end c.loop-place.invariant.sizes c.loop-place-test.false;
+  summary = sizes_end c.loop-place.invariant.sizes c.loop-place-test.false;
   bound = sum_end c.loop-place.invariant.sum c.loop-place-test.false;
 }
 
--- a turn that takes the size and the bound of one group plan keeps the invariants of the tally and the sum
-pub unit_parts_cost-loop-place-preserved : goal.unit_parts_cost-loop-place-preserved
-unit_parts_cost-loop-place-preserved t c =
+-- a turn that takes the size and the bound of one group plan keeps the invariants of the summary and the sum
+pub group_parts_cost-loop-place-preserved : goal.group_parts_cost-loop-place-preserved
+group_parts_cost-loop-place-preserved t c =
     let left = c.loop-place.invariant in
-    let part = c.unit_cost-part.ensures in
+    let part = c.group_cost-part.ensures in
     record {
-      sizes = sizes_turn left.sizes c.loop-place-test.true c.index-parts-place.is part.size c.with-tally.ensures;
+      sizes = sizes_turn left.sizes c.loop-place-test.true c.index-parts-place.is part.size c.with-summary.ensures;
       sum = sum_turn left.sum c.loop-place-test.true c.index-parts-place.is part.bound c.saturating_add-bound.ensures;
     }
 
--- at the end the tally and the bound are those of all group plans
-pub unit_parts_cost-returns : goal.unit_parts_cost-returns
-unit_parts_cost-returns t c = record {
-  tally = sizes_end c.loop-place.invariant.sizes c.loop-place-test.false;
+-- at the end the summary and the bound are those of all group plans
+pub group_parts_cost-returns : goal.group_parts_cost-returns
+group_parts_cost-returns t c = record {
+  summary = sizes_end c.loop-place.invariant.sizes c.loop-place-test.false;
   bound = sum_end c.loop-place.invariant.sum c.loop-place-test.false;
 }
 
@@ -55,12 +58,13 @@ cost-returns-in-And t c =
     let is = and_are c.in-And.parts c.in-And.is c.deref-in-And.ensures.value in
     record {
       size = c.with_parts-in-And.ensures.size
-          ∙ c.cost_of_all.ensures.size
-          ∙ inner.tally.least
+          ∙ c.cost_of_and.ensures.size
+          ∙ inner.summary.least
           ∙ ap (λ (all : ℕ). least_of all (sizes indexed parts)) c.concepts-all.ensures
           ∙ sym (ap (size indexed) is);
       bound = capped_two _ _ c.with_parts-in-And.ensures.bound
-          (c.cost_of_all.ensures.bound ∙ (λ i. capped (inner.tally.sum i * 2)) ∙ capped_product (total (sizes indexed parts)) 2) inner.bound
+          (c.cost_of_and.ensures.bound ∙ (λ i. capped (inner.summary.sum i * 2))
+          ∙ capped_product (total (sizes indexed parts)) 2) inner.bound
           ∙ sym (ap (λ (plan : Physical). capped (bound indexed plan)) is);
     }
 
@@ -73,12 +77,13 @@ cost-returns-in-Or t c =
     let count : c.len.result ≡ plan_count parts = omega (arith, plan_count-parts c.deref-in-Or.result.now) in
     let is = or_are c.in-Or.parts c.in-Or.is c.deref-in-Or.ensures.value in
     record {
-      size = capped_least (total (sizes indexed parts)) (c.with_parts-in-Or.ensures.size ∙ c.cost_of_some-own.ensures.size)
-          inner.tally.sum c.concepts-all.ensures c.concepts-all.type_inv
+      size = capped_least (total (sizes indexed parts)) (c.with_parts-in-Or.ensures.size
+          ∙ c.cost_of_or-own.ensures.size)
+          inner.summary.sum c.concepts-all.ensures c.concepts-all.type_inv
           ∙ sym (ap (size indexed) is);
       bound = capped_two _ _ c.with_parts-in-Or.ensures.bound
-          (c.cost_of_some-own.ensures.bound
-          ∙ (λ i. capped (inner.tally.sum i * count i))
+          (c.cost_of_or-own.ensures.bound
+          ∙ (λ i. capped (inner.summary.sum i * count i))
           ∙ capped_product (total (sizes indexed parts)) (plan_count parts)) inner.bound
           ∙ sym (ap (λ (plan : Physical). capped (bound indexed plan)) is);
     }
@@ -88,8 +93,10 @@ pub cost-returns-in-Minus-clause-bound : goal.cost-returns-in-Minus-clause-bound
 cost-returns-in-Minus-clause-bound t c =
     let left = c.cost-left.ensures in
     let right = c.cost-right.ensures in
-    let is = minus_are c.in-Minus.first c.in-Minus.second c.in-Minus.is c.deref-in-Minus.ensures c.deref-in-Minus-2.ensures in
-    capped_three _ _ _ c.with_two.ensures.bound (c.cost_of_first.ensures.bound ∙ (λ i. capped (left.size i + right.size i)))
+    let is = minus_are c.in-Minus.first c.in-Minus.second c.in-Minus.is c.deref-in-Minus.ensures
+    c.deref-in-Minus-2.ensures in
+    capped_three _ _ _ c.with_two.ensures.bound (c.cost_of_minus.ensures.bound
+    ∙ (λ i. capped (left.size i + right.size i)))
     left.bound right.bound
     ∙ sym (ap (λ (plan : Physical). capped (bound c.args.lengths.indexes.now plan)) is)
 
@@ -97,7 +104,8 @@ cost-returns-in-Minus-clause-bound t c =
 pub cost-returns-in-Values : goal.cost-returns-in-Values
 cost-returns-in-Values t c =
     let indexed = c.args.lengths.indexes.now in
-    let is = values_are c.in-Values.start c.in-Values.names c.in-Values.is c.deref-in-Values.ensures c.deref-in-Values-2.ensures.value in
+    let is = values_are c.in-Values.start c.in-Values.names c.in-Values.is c.deref-in-Values.ensures
+    c.deref-in-Values-2.ensures.value in
     record {
       size = c.values_cost.ensures.size ∙ sym (ap (size indexed) is);
       bound = c.values_cost.ensures.bound ∙ sym (ap (λ (plan : Physical). capped (bound indexed plan)) is);
@@ -112,17 +120,18 @@ cost-returns-in-Pairs-clause-bound t c =
     c.pairs_cost.ensures.bound
     ∙ ap (λ (all : ℕ). capped (leaf_bound_at indexed all c.in-Pairs.back c.in-Pairs.count types test c.in-Pairs.choice
     + (bound indexed types + test_sum (own_number indexed) test))) c.concepts-all.ensures
-    ∙ sym (ap (λ (plan : Physical). capped (bound indexed plan)) (pairs_are c.in-Pairs.types c.in-Pairs.is c.deref-in-Pairs.ensures))
+    ∙ sym (ap (λ (plan : Physical). capped (bound indexed plan))
+    (pairs_are c.in-Pairs.types c.in-Pairs.is c.deref-in-Pairs.ensures))
 
 -- the own bound of a node that counts groups is the size of its plan of groups, and all concepts if none may pass
 pub cost-returns-in-Units-clause-bound : goal.cost-returns-in-Units-clause-bound
 cost-returns-in-Units-clause-bound t c =
-    let inner = c.unit_cost-inner.ensures in
+    let inner = c.group_cost-inner.ensures in
     capped_two _ _ c.with_parts-in-Units.ensures.bound
-    (c.cost_of_units-own.ensures.bound
+    (c.cost_of_groups-own.ensures.bound
     ∙ (λ i. capped (inner.size i + passed_over (c.in-Units.count.min == 0) (c.concepts-all.ensures i)))) inner.bound
     ∙ sym (ap (λ (plan : Physical). capped (bound c.args.lengths.indexes.now plan))
-    (units_are c.in-Units.units c.in-Units.is c.deref-in-Units.ensures))
+    (group_plan_is c.in-Units.units c.in-Units.is c.deref-in-Units.ensures))
 
 -- the size and the bound of a `Values` node count as many types as the node has names
 pub values_cost-returns : goal.values_cost-returns
@@ -131,7 +140,8 @@ values_cost-returns t c =
     let from = c.cost-from.ensures in
     let count = sym (plan_count-parts c.args.names.now) in
     record {
-      size = c.with_parts.ensures.size ∙ c.cost_of_values-own.ensures.size ∙ (λ i. values_size indexed (count i) (from.size i));
+      size = c.with_parts.ensures.size ∙ c.cost_of_values-own.ensures.size
+          ∙ (λ i. values_size indexed (count i) (from.size i));
       bound = omega (
         arith,
         c.cost_of_values-own.ensures.bound ∙ (λ i. capped (values_bound indexed (count i) (from.size i))),
@@ -155,62 +165,66 @@ pairs_cost-returns t c =
 
 -- the size of a conjunction of group plans is the least of its parts, and its own bound is twice the total of their
 -- sizes
-pub unit_cost-returns-in-And : goal.unit_cost-returns-in-And
-unit_cost-returns-in-And t c =
+pub group_cost-returns-in-And : goal.group_cost-returns-in-And
+group_cost-returns-in-And t c =
     let indexed = c.args.lengths.indexes.now in
-    let parts = physical_units_list_of c.deref.result.now in
-    let inner = c.unit_parts_cost-inner.ensures in
-    let is = and_units_are c.in-And.parts c.in-And.is c.deref.ensures.value in
+    let parts = physical_groups_list_of c.deref.result.now in
+    let inner = c.group_parts_cost-inner.ensures in
+    let is = and_group_plan_is c.in-And.parts c.in-And.is c.deref.ensures.value in
     record {
       size = c.with_parts.ensures.size
-          ∙ c.cost_of_all.ensures.size
-          ∙ inner.tally.least
+          ∙ c.cost_of_and.ensures.size
+          ∙ inner.summary.least
           ∙ ap (λ (all : ℕ). least_of all (group_sizes indexed parts)) c.groups-all.ensures
           ∙ sym (ap (group_size indexed) is);
       bound = capped_two _ _ c.with_parts.ensures.bound
-          (c.cost_of_all.ensures.bound ∙ (λ i. capped (inner.tally.sum i * 2)) ∙ capped_product (total (group_sizes indexed parts)) 2)
+          (c.cost_of_and.ensures.bound ∙ (λ i. capped (inner.summary.sum i * 2))
+          ∙ capped_product (total (group_sizes indexed parts)) 2)
           inner.bound
-          ∙ sym (ap (λ (plan : PhysicalUnits). capped (group_sum (own_number indexed) plan)) is);
+          ∙ sym (ap (λ (plan : PhysicalGroups). capped (group_sum (own_number indexed) plan)) is);
     }
 
 -- the size of a disjunction of group plans is at most the total of its parts, and its own bound is that total for
 -- each part
-pub unit_cost-returns-in-Or : goal.unit_cost-returns-in-Or
-unit_cost-returns-in-Or t c =
+pub group_cost-returns-in-Or : goal.group_cost-returns-in-Or
+group_cost-returns-in-Or t c =
     let indexed = c.args.lengths.indexes.now in
-    let parts = physical_units_list_of c.deref-in-Or.result.now in
-    let inner = c.unit_parts_cost-inner-in-Or.ensures in
+    let parts = physical_groups_list_of c.deref-in-Or.result.now in
+    let inner = c.group_parts_cost-inner-in-Or.ensures in
     let count : c.len.result ≡ group_count parts = omega (arith, group_count-parts c.deref-in-Or.result.now) in
-    let is = or_units_are c.in-Or.parts c.in-Or.is c.deref-in-Or.ensures.value in
+    let is = or_group_plan_is c.in-Or.parts c.in-Or.is c.deref-in-Or.ensures.value in
     record {
-      size = capped_least (total (group_sizes indexed parts)) (c.with_parts-in-Or.ensures.size ∙ c.cost_of_some-own.ensures.size)
-          inner.tally.sum c.groups-all.ensures c.groups-all.type_inv
+      size = capped_least (total (group_sizes indexed parts)) (c.with_parts-in-Or.ensures.size
+          ∙ c.cost_of_or-own.ensures.size)
+          inner.summary.sum c.groups-all.ensures c.groups-all.type_inv
           ∙ sym (ap (group_size indexed) is);
       bound = capped_two _ _ c.with_parts-in-Or.ensures.bound
-          (c.cost_of_some-own.ensures.bound
-          ∙ (λ i. capped (inner.tally.sum i * count i))
+          (c.cost_of_or-own.ensures.bound
+          ∙ (λ i. capped (inner.summary.sum i * count i))
           ∙ capped_product (total (group_sizes indexed parts)) (group_count parts)) inner.bound
-          ∙ sym (ap (λ (plan : PhysicalUnits). capped (group_sum (own_number indexed) plan)) is);
+          ∙ sym (ap (λ (plan : PhysicalGroups). capped (group_sum (own_number indexed) plan)) is);
     }
 
 -- the own bound of a difference of group plans is the sum of the sizes of its two parts
-pub unit_cost-returns-in-Minus-clause-bound : goal.unit_cost-returns-in-Minus-clause-bound
-unit_cost-returns-in-Minus-clause-bound t c =
-    let left = c.unit_cost-left.ensures in
-    let right = c.unit_cost-right.ensures in
-    let is = minus_units_are c.in-Minus.first c.in-Minus.second c.in-Minus.is c.deref-in-Minus.ensures c.deref-in-Minus-2.ensures in
-    capped_three _ _ _ c.with_two.ensures.bound (c.cost_of_first.ensures.bound ∙ (λ i. capped (left.size i + right.size i)))
+pub group_cost-returns-in-Minus-clause-bound : goal.group_cost-returns-in-Minus-clause-bound
+group_cost-returns-in-Minus-clause-bound t c =
+    let left = c.group_cost-left.ensures in
+    let right = c.group_cost-right.ensures in
+    let is = minus_group_plan_is c.in-Minus.first c.in-Minus.second c.in-Minus.is c.deref-in-Minus.ensures
+    c.deref-in-Minus-2.ensures in
+    capped_three _ _ _ c.with_two.ensures.bound (c.cost_of_minus.ensures.bound
+    ∙ (λ i. capped (left.size i + right.size i)))
     left.bound right.bound
-    ∙ sym (ap (λ (plan : PhysicalUnits). capped (group_sum (own_number c.args.lengths.indexes.now) plan)) is)
+    ∙ sym (ap (λ (plan : PhysicalGroups). capped (group_sum (own_number c.args.lengths.indexes.now) plan)) is)
 
 -- the bound of a leaf of groups is the one that `pairs_cost` returns for all groups
-pub unit_cost-returns-in-Pairs-clause-bound : goal.unit_cost-returns-in-Pairs-clause-bound
-unit_cost-returns-in-Pairs-clause-bound t c =
+pub group_cost-returns-in-Pairs-clause-bound : goal.group_cost-returns-in-Pairs-clause-bound
+group_cost-returns-in-Pairs-clause-bound t c =
     let indexed = c.args.lengths.indexes.now in
     let types = physical_of c.deref-in-Pairs.result.now in
     let test = physical_test_of c.in-Pairs.test in
-    let is = pairs_units_are c.in-Pairs.types c.in-Pairs.is c.deref-in-Pairs.ensures in
+    let is = pairs_group_plan_is c.in-Pairs.types c.in-Pairs.is c.deref-in-Pairs.ensures in
     c.pairs_cost.ensures.bound
     ∙ ap (λ (all : ℕ). capped (leaf_bound_at indexed all false c.in-Pairs.count types test c.in-Pairs.choice
     + (bound indexed types + test_sum (own_number indexed) test))) c.groups-all.ensures
-    ∙ sym (ap (λ (plan : PhysicalUnits). capped (group_sum (own_number indexed) plan)) is)
+    ∙ sym (ap (λ (plan : PhysicalGroups). capped (group_sum (own_number indexed) plan)) is)

@@ -17,9 +17,9 @@ invariant-put_in_each-loop-place l = record {
 
 -- the plans of groups before `place` have their choices, the others are unchanged, and `rest` is what is left of the
 -- list
-abbrev pub invariant-put_in_each_units-loop-place : goal.invariant-put_in_each_units-loop-place
-invariant-put_in_each_units-loop-place l = record {
-  unvisited : goal.unvisited-put_in_each_units-loop-place l;
+abbrev pub invariant-put_in_each_groups-loop-place : goal.invariant-put_in_each_groups-loop-place
+invariant-put_in_each_groups-loop-place l = record {
+  unvisited : goal.unvisited-put_in_each_groups-loop-place l;
   each : Each asking_groups l.asked l.parts.items l.initial.parts.items l.place;
   left : l.rest ≡ asking_groups.rest l.asked (take l.place l.initial.parts.items);
 }
@@ -28,8 +28,8 @@ invariant-put_in_each_units-loop-place l = record {
 abbrev pub decreases-put_asked : goal.decreases-put_asked
 decreases-put_asked l = 4 * goal.size-put_asked l
 
-abbrev pub decreases-put_in_units : goal.decreases-put_in_units
-decreases-put_in_units l = 4 * goal.size-put_in_units l
+abbrev pub decreases-put_in_groups : goal.decreases-put_in_groups
+decreases-put_in_groups l = 4 * goal.size-put_in_groups l
 
 abbrev pub decreases-put_in_test : goal.decreases-put_in_test
 decreases-put_in_test l = 4 * goal.size-put_in_test l + 1
@@ -37,8 +37,8 @@ decreases-put_in_test l = 4 * goal.size-put_in_test l + 1
 abbrev pub decreases-put_in_each : goal.decreases-put_in_each
 decreases-put_in_each l = 4 * goal.size-put_in_each l + 1
 
-abbrev pub decreases-put_in_each_units : goal.decreases-put_in_each_units
-decreases-put_in_each_units l = 4 * goal.size-put_in_each_units l + 1
+abbrev pub decreases-put_in_each_groups : goal.decreases-put_in_each_groups
+decreases-put_in_each_groups l = 4 * goal.size-put_in_each_groups l + 1
 
 -- two sub-plans are as deep as the deeper of them
 abbrev pub decreases-put_in_leaf : goal.decreases-put_in_leaf

@@ -19,7 +19,8 @@ assign_parts-loop-place-preserved t c =
     let before : List ConceptPlan = c.args.parts.now.items in
     let place : ℕ = c.loop-place.place in
     let old : ConceptPlan = c.index_mut.result.now in
-    let inside : place < length items = omega (arith, left.unvisited.0, c.loop-place-test.true, c.len-place-end.ensures) in
+    let inside : place < length items =
+    omega (arith, left.unvisited.0, c.loop-place-test.true, c.len-place-end.ensures) in
     let was : (d : ConceptPlan) → old ≡ get_or before place d =
     λ d. c.index_mut.ensures.value ∙ get_or_default items place old d inside ∙ left.unvisited.1 place d (omega arith) in
     record {
@@ -27,10 +28,11 @@ assign_parts-loop-place-preserved t c =
       each = each_more (choosing_concepts c.args.lengths.indexes.now) tt items before place old
           c.assign_choices-size.new.plan left.each inside was
           c.assign_choices-size.ensures.plan;
-      sizes = sizes_turn left.sizes (omega (arith, inside, left.unvisited.0)) (was old) c.assign_choices-size.ensures.size c.with-tally.ensures;
+      sizes = sizes_turn left.sizes (omega (arith, inside, left.unvisited.0)) (was old)
+          c.assign_choices-size.ensures.size c.with-summary.ensures;
     }
 
--- at the end all plans of concepts have their choices, and the tally has their sizes
+-- at the end all plans of concepts have their choices, and the summary has their sizes
 pub assign_parts-returns : goal.assign_parts-returns
 assign_parts-returns t c =
     let left = c.loop-place.invariant in
@@ -39,37 +41,39 @@ assign_parts-returns t c =
       parts = each_all (choosing_concepts c.args.lengths.indexes.now) tt c.loop-place.parts.items before
           left.unvisited.0
           (λ k d below. left.each k d (omega (arith, below, c.loop-place-test.false, c.len-place-end.ensures)));
-      tally = sizes_end left.sizes (omega (arith, c.loop-place-test.false, c.len-place-end.ensures));
+      summary = sizes_end left.sizes (omega (arith, c.loop-place-test.false, c.len-place-end.ensures));
     }
 
 -- a turn that gives one plan of groups its choices keeps the invariant
-pub assign_unit_parts-loop-place-preserved : goal.assign_unit_parts-loop-place-preserved
-assign_unit_parts-loop-place-preserved t c =
+pub assign_group_parts-loop-place-preserved : goal.assign_group_parts-loop-place-preserved
+assign_group_parts-loop-place-preserved t c =
     let left = c.loop-place.invariant in
     let items : List UnitPlan = c.loop-place.parts.items in
     let before : List UnitPlan = c.args.parts.now.items in
     let place : ℕ = c.loop-place.place in
     let old : UnitPlan = c.index_mut.result.now in
-    let inside : place < length items = omega (arith, left.unvisited.0, c.loop-place-test.true, c.len-place-end.ensures) in
+    let inside : place < length items =
+    omega (arith, left.unvisited.0, c.loop-place-test.true, c.len-place-end.ensures) in
     let was : (d : UnitPlan) → old ≡ get_or before place d =
     λ d. c.index_mut.ensures.value ∙ get_or_default items place old d inside ∙ left.unvisited.1 place d (omega arith) in
     record {
       unvisited = search rules;
       each = each_more (choosing_groups c.args.lengths.indexes.now) tt items before place old
-          c.assign_units-size.new.plan left.each inside was
-          c.assign_units-size.ensures.plan;
-      sizes = sizes_turn left.sizes (omega (arith, inside, left.unvisited.0)) (was old) c.assign_units-size.ensures.size c.with-tally.ensures;
+          c.assign_groups-size.new.plan left.each inside was
+          c.assign_groups-size.ensures.plan;
+      sizes = sizes_turn left.sizes (omega (arith, inside, left.unvisited.0)) (was old)
+          c.assign_groups-size.ensures.size c.with-summary.ensures;
     }
 
--- at the end all plans of groups have their choices, and the tally has their sizes
-pub assign_unit_parts-returns : goal.assign_unit_parts-returns
-assign_unit_parts-returns t c =
+-- at the end all plans of groups have their choices, and the summary has their sizes
+pub assign_group_parts-returns : goal.assign_group_parts-returns
+assign_group_parts-returns t c =
     let left = c.loop-place.invariant in
     let before : List UnitPlan = c.args.parts.now.items in
     record {
       parts = each_all (choosing_groups c.args.lengths.indexes.now) tt c.loop-place.parts.items before left.unvisited.0
           (λ k d below. left.each k d (omega (arith, below, c.loop-place-test.false, c.len-place-end.ensures)));
-      tally = sizes_end left.sizes (omega (arith, c.loop-place-test.false, c.len-place-end.ensures));
+      summary = sizes_end left.sizes (omega (arith, c.loop-place-test.false, c.len-place-end.ensures));
     }
 
 -- the size of a `Values` node counts as many types as the node has names

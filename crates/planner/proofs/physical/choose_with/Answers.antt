@@ -24,7 +24,8 @@ pub returns-clause-plan : goal.returns-clause-plan
 returns-clause-plan c =
     let assigned = rw c.lengths.ensures at c.assign_choices.ensures.plan in
     ap plan_of c.in_ok-physical.ensures.plan
-    ∙ asked_plan_kept c.args.indexes.now c.args.asked.now (plan_of c.args.plan) c.assign_choices.new.plan c.put_asked.new.plan
+    ∙ asked_plan_kept c.args.indexes.now c.args.asked.now (plan_of c.args.plan) c.assign_choices.new.plan
+    c.put_asked.new.plan
     assigned c.put_asked.ensures.plan
 
 -- the choices are the requested ones, leaf by leaf, or the least ones if a leaf does not offer them

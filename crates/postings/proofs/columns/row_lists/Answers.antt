@@ -10,7 +10,8 @@ within : (count : ℕ) (keys flat : List ℕ) (cells : ℕ) → flat ≡ concat 
     → All (λ place. place < cells) flat
 within count keys flat cells is long =
     subst (λ (places : List ℕ). All (λ place. place < cells) places) (sym is)
-    (subst (λ (n : ℕ). All (λ place. place < n) (concat (places_by count keys))) (sym long) (places_by-within count keys))
+    (subst (λ (n : ℕ). All (λ place. place < n) (concat (places_by count keys))) (sym long)
+    (places_by-within count keys))
 
 -- a column made from a borrowed copy of the cells is a column of the cells
 told : {X : Type 0} (cells lent : List X) (places flat : List ℕ) (column : List X) → lent ≡ cells → flat ≡ places
@@ -21,13 +22,15 @@ told cells lent places flat column lent_is is made default =
 -- the listed places are within the marks with the sources
 pub column-requires : goal.column-requires
 column-requires c =
-    within c.args.count c.args.keys.now c.flat.result.now (length c.as_slice.result.now) (c.flat.ensures ∙ ap concat c.in_ok-rows.ensures)
+    within c.args.count c.args.keys.now c.flat.result.now (length c.as_slice.result.now) (c.flat.ensures
+    ∙ ap concat c.in_ok-rows.ensures)
     (c.as_slice.ensures.len ∙ c.requires.sources)
 
 -- the listed places are within the other cells
 pub column-requires-2 : goal.column-requires-2
 column-requires-2 c =
-    within c.args.count c.args.keys.now c.flat-2.result.now (length c.args.others.now) (c.flat-2.ensures ∙ ap concat c.in_ok-rows.ensures)
+    within c.args.count c.args.keys.now c.flat-2.result.now (length c.args.others.now) (c.flat-2.ensures
+    ∙ ap concat c.in_ok-rows.ensures)
     c.requires.others
 
 -- the listed places are within the marks with the groups

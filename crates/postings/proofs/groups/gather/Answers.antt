@@ -17,4 +17,5 @@ loop-place-preserved c = λ default.
 -- after the last place `own` has the rows at all places
 pub returns : goal.returns
 returns c = λ default. c.loop-place.invariant default
-    ∙ ap (map (λ place. get_or c.args.rows.now place default)) (take_all c.loop-place.place-index c.args.places.now (omega arith))
+    ∙ ap (map (λ place. get_or c.args.rows.now place default))
+    (take_all c.loop-place.place-index c.args.places.now (omega arith))

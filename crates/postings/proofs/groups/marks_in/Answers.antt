@@ -30,7 +30,8 @@ record Gathered (rows found : List CodedRow) (count source : ℕ) : Type 0 where
   left : groups_ahead rows source + length found ≤ length rows
 
 -- `gather` leaves the rows of the source in `own`
-gathered : (c : In_ok-gather) → Gathered c.args.rows.now c.gather.new.own.items (length c.args.by_source.now) c.loop-source.source
+gathered : (c : In_ok-gather)
+    → Gathered c.args.rows.now c.gather.new.own.items (length c.args.by_source.now) c.loop-source.source
 gathered c =
     let none : CodedRow = record { source = 0; type_place = 0; group = 0; value = 0 } in
     let rows : List CodedRow = c.args.rows.now in
@@ -45,7 +46,12 @@ gathered c =
     record {
       below = below;
       own = own;
-      left = omega (arith, rows_left rows count source c.requires.sorted below, ap (λ (own : List CodedRow). length own) own);
+      left = omega (
+        arith,
+        rows_left rows count source c.requires.sorted below,
+        ap (λ (own : List CodedRow). length own)
+            own,
+      );
     }
 
 -- the source of each gathered row is below 2^31

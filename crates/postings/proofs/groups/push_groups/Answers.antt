@@ -4,9 +4,10 @@ use Rattle.std.specs.List.{list_any}
 use Rattle.std.proofs.lemmas.Cmp.{nat_eq_equiv}
 use Rattle.std.proofs.lemmas.List.{take_all, take_more}
 use Rattle.std.proofs.lemmas.List.Elements.{All-more}
-use Rattle.first_met.specs.FirstMet.{keys_behind}
+use Rattle.key_interner.specs.KeyInterner.{keys_after}
 use Rattle.number_lists.proofs.ListLemmas.{split_at}
-use Rattle.postings.specs.inside.Coded.{group_codes, has_same_in_group, marks_after, numbers_of_groups, pair_code, place_in_source}
+use Rattle.postings.specs.inside.Coded.{group_codes, has_same_in_group, marks_after, numbers_of_groups, pair_code}
+use Rattle.postings.specs.inside.Coded.{place_in_source}
 use Rattle.postings.specs.inside.PairKeys.{IsShort, grouped_key, ungrouped_keys}
 use Rattle.postings.specs.declared.rows.CodedRow.{CodedRow}
 use Rattle.postings.proofs.DistinctLemmas.{distinct-map_more}
@@ -21,7 +22,8 @@ none : CodedRow
 none = record { source = 0; type_place = 0; group = 0; value = 0 }
 
 -- the place that was found is that of the row's group
-placed : (c : In_ok-place) → c.in_ok-place.place ≡ place_in_source c.args.rows.now (get_or c.args.rows.now c.loop-row.row-index none)
+placed : (c : In_ok-place)
+    → c.in_ok-place.place ≡ place_in_source c.args.rows.now (get_or c.args.rows.now c.loop-row.row-index none)
 unfolding none
 placed c =
     let rows : List CodedRow = c.args.rows.now in
@@ -29,7 +31,8 @@ placed c =
     let row : CodedRow = get_or rows at none in
     let split : rows ≡ take at rows ++ row ∷ drop (at + 1) rows = split_at rows at none c.loop-row-test.true in
     c.in_ok-place.ensures.place (take at rows) (drop (at + 1) rows) c.loop-row.invariant.short
-    (c.as_slice.ensures.value ∙ c.loop-row.invariant.numbers ∙ ap numbers_of_groups split) c.loop-row.invariant.ungrouped
+    (c.as_slice.ensures.value ∙ c.loop-row.invariant.numbers ∙ ap numbers_of_groups split)
+    c.loop-row.invariant.ungrouped
     ∙ ap (λ (rows : List CodedRow). place_in_source rows row) (sym split)
 
 -- the place of a row's group is at most the number of rows
@@ -81,13 +84,16 @@ loop-row-preserved c =
       ungrouped = c.in_ok-place.ensures.ungrouped (take at rows) c.loop-row.invariant.ungrouped
           ∙ ap ungrouped_keys (sym (take_more rows at none within));
       seen = c.in_ok-is_first.ensures.keys
-          ∙ (λ i. keys_behind (c.loop-row.invariant.seen i) (c.grouped_key.ensures.key i))
+          ∙ (λ i. keys_after (c.loop-row.invariant.seen i) (c.grouped_key.ensures.key i))
           ∙ sym (distinct-map_more nat_eq nat_eq_equiv grouped_key rows at none within);
       marks = c.in_ok-push.ensures.items
           ∙ (λ i. c.loop-row.invariant.marks i ++ c.new.result ∷ [])
-          ∙ append_assoc c.args.groups.now.items (marks_after has_same_in_group number [] (take at rows)) (c.new.result ∷ [])
-          ∙ ap (λ marks. c.args.groups.now.items ++ marks) (marks_more has_same_in_group number rows at none c.new.result within
-          (c.new.ensures.number ∙ ap (λ (place : ℕ). c.args.ahead + place) (placed (goal.at.loop-row-preserved c).In_ok-place))
+          ∙ append_assoc c.args.groups.now.items (marks_after has_same_in_group number [] (take at rows))
+          (c.new.result ∷ [])
+          ∙ ap (λ marks. c.args.groups.now.items ++ marks)
+          (marks_more has_same_in_group number rows at none c.new.result within
+          (c.new.ensures.number ∙ ap (λ (place : ℕ). c.args.ahead + place)
+          (placed (goal.at.loop-row-preserved c).In_ok-place))
           (c.new.ensures.first ∙ c.in_ok-is_first.ensures.new
           ∙ (λ i. not (list_any (nat_eq (c.grouped_key.ensures.key i)) (c.loop-row.invariant.seen i)))
           ∙ ap not (any-key has_same_in_group grouped_key same_in_group (take at rows) row c.loop-row.invariant.short
@@ -140,4 +146,5 @@ returns-clause-count c = counted (goal.at.returns-clause-count c).After-len-2
 
 -- the rows have no more groups than there are rows
 pub returns-clause-few : goal.returns-clause-few
-returns-clause-few c = omega (arith, counted (goal.at.returns-clause-few c).After-len-2, length-group_codes-le c.args.rows.now)
+returns-clause-few c = omega
+    (arith, counted (goal.at.returns-clause-few c).After-len-2, length-group_codes-le c.args.rows.now)

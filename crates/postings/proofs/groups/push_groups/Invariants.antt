@@ -14,6 +14,7 @@ invariant-loop-row l = record {
   short : HaveShort (take l.row-index l.rows);
   ungrouped : l.tables.ungrouped ≡ ungrouped_keys (take l.row-index l.rows);
   seen : l.tables.seen ≡ grouped_keys (take l.row-index l.rows);
-  marks : l.groups.items ≡ l.fn.groups.items ++ marks_after has_same_in_group (λ row. l.ahead + place_in_source l.rows row) []
+  marks : l.groups.items ≡ l.fn.groups.items
+      ++ marks_after has_same_in_group (λ row. l.ahead + place_in_source l.rows row) []
       (take l.row-index l.rows);
 }

@@ -3,7 +3,7 @@ use Rattle.std.specs.List.{list_any}
 use Rattle.std.proofs.lemmas.Cmp.{nat_eq_equiv}
 use Rattle.std.proofs.lemmas.List.{take_all}
 use Rattle.std.proofs.lemmas.List.Elements.{All-more}
-use Rattle.first_met.specs.FirstMet.{keys_behind}
+use Rattle.key_interner.specs.KeyInterner.{keys_after}
 use Rattle.postings.specs.inside.Coded.{has_same_pair, pair_code, source_marks}
 use Rattle.postings.specs.Columns.{Flagged}
 use Rattle.postings.specs.inside.PairKeys.{IsShort, pair_key}
@@ -28,15 +28,17 @@ loop-row-preserved c =
       short = All-more (λ (row : CodedRow). IsShort (pair_code row)) rows at none within c.loop-row.invariant.short
           c.pair_key.ensures.short;
       seen = c.in_ok-is_first.ensures.keys
-          ∙ (λ i. keys_behind (c.loop-row.invariant.seen i) (c.pair_key.ensures.key i))
+          ∙ (λ i. keys_after (c.loop-row.invariant.seen i) (c.pair_key.ensures.key i))
           ∙ sym (distinct-map_more nat_eq nat_eq_equiv pair_key rows at none within);
       marks = pushed
           ∙ (λ i. c.loop-row.invariant.marks i ++ mark ∷ [])
           ∙ append_assoc before (source_marks (take at rows)) (mark ∷ [])
-          ∙ ap (λ marks. before ++ marks) (marks_more has_same_pair (λ row. row.source) rows at none mark within c.new.ensures.number
+          ∙ ap (λ marks. before ++ marks)
+          (marks_more has_same_pair (λ row. row.source) rows at none mark within c.new.ensures.number
           (c.new.ensures.first ∙ c.in_ok-is_first.ensures.new
           ∙ (λ i. not (list_any (nat_eq (c.pair_key.ensures.key i)) (c.loop-row.invariant.seen i)))
-          ∙ ap not (any-key has_same_pair pair_key same_pair (take at rows) row c.loop-row.invariant.short c.pair_key.ensures.short)));
+          ∙ ap not (any-key has_same_pair pair_key same_pair (take at rows) row c.loop-row.invariant.short
+          c.pair_key.ensures.short)));
     }
 
 -- after the last row `sources` has got the marks of all rows with their source

@@ -38,7 +38,8 @@ loop-row-preserved c =
     All-push (λ number. number < 2 ^ 32) c.loop-row.numbers.items row.group c.loop-row.invariant.small (omega arith) in
     elim c.if-row-ne0.branch [
       | then-row-ne0+in_ok-push w ↦ record {
-        numbers = rw (w.numbers-is, w.in_ok-push.ensures.items, more, so_far, ne_eqb row.group 0 w.if-row-ne0.true) refl;
+        numbers = rw (w.numbers-is, w.in_ok-push.ensures.items, more, so_far, ne_eqb row.group 0 w.if-row-ne0.true)
+            refl;
         small = rw (w.numbers-is, w.in_ok-push.ensures.items) small;
       }
       | else-row-ne0 w ↦ record {

@@ -20,4 +20,5 @@ loop-id-preserved c =
 
 -- after the last identifier the numbers are those of all identifiers
 pub returns : goal.returns
-returns c = c.loop-id.invariant ∙ ap (map (concept_number c.args.concepts.now)) (take_all c.loop-id.id-index c.args.ids.now (omega arith))
+returns c = c.loop-id.invariant
+    ∙ ap (map (concept_number c.args.concepts.now)) (take_all c.loop-id.id-index c.args.ids.now (omega arith))

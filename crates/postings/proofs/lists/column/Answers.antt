@@ -20,4 +20,5 @@ loop-place-preserved g c = λ default.
 -- after the last place the column has the cells at all places
 pub returns : goal.returns
 returns g c = λ default. c.loop-place.invariant default
-    ∙ ap (map (λ place. get_or c.args.cells.now place default)) (take_all c.loop-place.place-index c.args.places.now (omega arith))
+    ∙ ap (map (λ place. get_or c.args.cells.now place default))
+    (take_all c.loop-place.place-index c.args.places.now (omega arith))

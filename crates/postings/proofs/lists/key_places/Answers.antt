@@ -20,14 +20,17 @@ loop-place-preserved c =
     elim c.if-key-count.branch [
       | then-key-count+in_ok-push w ↦
           ap (λ (pairs : Vec (ℕ × ℕ) _). pairs.items) w.pairs-is ∙ w.in_ok-push.ensures.items
-          ∙ (λ i. c.loop-place.invariant i ++ cond (sym (lt-ltb key c.args.count w.if-key-count.true) i) ((key, place) ∷ []) [])
+          ∙ (λ i. c.loop-place.invariant i ++ cond (sym (lt-ltb key c.args.count w.if-key-count.true) i)
+          ((key, place) ∷ []) [])
           ∙ more
       | else-key-count w ↦
           ap (λ (pairs : Vec (ℕ × ℕ) _). pairs.items) w.pairs-is ∙ sym (append-nil c.loop-place.pairs.items)
-          ∙ (λ i. c.loop-place.invariant i ++ cond (sym (le-ltb key c.args.count w.if-key-count.false) i) ((key, place) ∷ []) [])
+          ∙ (λ i. c.loop-place.invariant i ++ cond (sym (le-ltb key c.args.count w.if-key-count.false) i)
+          ((key, place) ∷ []) [])
           ∙ more
     ]
 
 -- after the last key the pairs are those of all keys
 pub returns : goal.returns
-returns c = c.loop-place.invariant ∙ ap (keyed_places c.args.count 0) (take_all c.loop-place.place c.args.keys.now (omega arith))
+returns c = c.loop-place.invariant
+    ∙ ap (keyed_places c.args.count 0) (take_all c.loop-place.place c.args.keys.now (omega arith))

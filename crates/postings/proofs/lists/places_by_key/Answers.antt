@@ -8,7 +8,8 @@ use Rattle.postings.proofs.lists.places_by_key.Goals as goal
 -- the keys of the pairs are below the count
 pub from_pairs-requires-clause-keys : goal.from_pairs-requires-clause-keys
 from_pairs-requires-clause-keys c =
-    subst (λ (pairs : List (ℕ × ℕ)). AreKeysBelow c.args.count pairs) (sym (c.as_slice.ensures.value ∙ c.in_ok-pairs.ensures))
+    subst (λ (pairs : List (ℕ × ℕ)). AreKeysBelow c.args.count pairs)
+    (sym (c.as_slice.ensures.value ∙ c.in_ok-pairs.ensures))
     (keyed_below c.args.count 0 c.args.keys.now)
 
 -- there are less than 2^32 pairs
@@ -27,5 +28,6 @@ returns c =
     let count = c.args.count in
     IfOk-weaker c.from_pairs.result (λ lists. lists ≡ lists_by count c.as_slice.result.now)
     (λ lists. lists ≡ places_by count c.args.keys.now)
-    (λ lists is. is ∙ ap (lists_by count) (c.as_slice.ensures.value ∙ c.in_ok-pairs.ensures) ∙ places_by_keyed count c.args.keys.now)
+    (λ lists is. is ∙ ap (lists_by count) (c.as_slice.ensures.value ∙ c.in_ok-pairs.ensures)
+    ∙ places_by_keyed count c.args.keys.now)
     c.from_pairs.ensures

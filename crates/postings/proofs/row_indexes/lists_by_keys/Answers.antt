@@ -19,7 +19,8 @@ places_among-requires-clause-few c =
     let keys = c.as_slice-type_places.result.now in
     omega (
       arith,
-      ap (λ (xs : List ℕ). length xs) (c.flat.ensures ∙ listed (goal.at.places_among-requires-clause-few c).In_ok-by_type),
+      ap (λ (xs : List ℕ). length xs) (c.flat.ensures
+          ∙ listed (goal.at.places_among-requires-clause-few c).In_ok-by_type),
       length-places c.args.types keys,
       ap (λ (xs : List ℕ). length xs) c.as_slice-type_places.ensures.value,
       c.requires.long.few,
@@ -30,13 +31,16 @@ pub places_among-requires-clause-within : goal.places_among-requires-clause-with
 places_among-requires-clause-within c =
     let keys = c.as_slice-type_places.result.now in
     subst (λ (xs : List ℕ). All (λ n. n < length keys) xs)
-    (sym (c.flat.ensures ∙ listed (goal.at.places_among-requires-clause-within c).In_ok-by_type)) (places_by-within c.args.types keys)
+    (sym (c.flat.ensures ∙ listed (goal.at.places_among-requires-clause-within c).In_ok-by_type))
+    (places_by-within c.args.types keys)
 
 -- the lists by type have each row
 pub places_among-requires-clause-all : goal.places_among-requires-clause-all
 places_among-requires-clause-all c = λ number below.
     let keys = c.as_slice-type_places.result.now in
-    subst (λ (xs : List ℕ). Contains xs number) (sym (c.flat.ensures ∙ listed (goal.at.places_among-requires-clause-all c).In_ok-by_type))
+    subst (λ (xs : List ℕ). Contains xs number)
+    (sym (c.flat.ensures ∙ listed (goal.at.places_among-requires-clause-all c).In_ok-by_type))
     (each_place c.args.types keys
-    (subst (λ (xs : List ℕ). All (λ key. key < c.args.types) xs) (sym c.as_slice-type_places.ensures.value) c.requires.types)
+    (subst (λ (xs : List ℕ). All (λ key. key < c.args.types) xs) (sym c.as_slice-type_places.ensures.value)
+    c.requires.types)
     number below)

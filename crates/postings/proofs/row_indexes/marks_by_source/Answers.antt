@@ -10,7 +10,8 @@ use Rattle.postings.proofs.row_indexes.marks_by_source.Goals.{In_ok-by_source}
 
 -- there is a list of rows for each source
 long : (c : In_ok-by_source) → length c.in_ok-by_source.by_source ≡ c.args.count
-long c = ap (λ (xs : List (List ℕ)). length xs) c.in_ok-by_source.ensures ∙ length-places_by c.args.count c.as_slice.result.now
+long c = ap (λ (xs : List (List ℕ)). length xs) c.in_ok-by_source.ensures
+    ∙ length-places_by c.args.count c.as_slice.result.now
 
 -- there are less than 2^32 sources of rows
 pub places_by_key-requires : goal.places_by_key-requires
@@ -38,13 +39,15 @@ row_marks-requires-clause-lists c =
 -- the rows stand source by source, for as many sources as there are lists
 pub row_marks-requires-clause-sorted : goal.row_marks-requires-clause-sorted
 row_marks-requires-clause-sorted c =
-    subst (λ (n : ℕ). IsBySource n c.args.rows.now) (sym (long (goal.at.row_marks-requires-clause-sorted c).In_ok-by_source))
+    subst (λ (n : ℕ). IsBySource n c.args.rows.now)
+    (sym (long (goal.at.row_marks-requires-clause-sorted c).In_ok-by_source))
     c.requires.sorted
 
 -- the marks are those of the rows of `count` sources
 pub returns-clause-marks : goal.returns-clause-marks
 returns-clause-marks c =
-    subst (λ (n : ℕ). AreRowMarks n c.args.rows.now c.in_ok-marks.marks) (long (goal.at.returns-clause-marks c).In_ok-by_source)
+    subst (λ (n : ℕ). AreRowMarks n c.args.rows.now c.in_ok-marks.marks)
+    (long (goal.at.returns-clause-marks c).In_ok-by_source)
     c.in_ok-marks.ensures
 
 -- the row numbers are those of all sources, one source after the other

@@ -6,7 +6,10 @@ use Rattle.postings.proofs.row_indexes.numbers_by_group.Goals as goal
 
 -- before the first row there is a group number, 0, for each group
 pub loop-place-init : goal.loop-place-init
-loop-place-init c = record { len = c.in_ok-numbers.ensures.len; numbers = λ n mark row below. absurd (omega (arith, below)) }
+loop-place-init c = record {
+  len = c.in_ok-numbers.ensures.len;
+  numbers = λ n mark row below. absurd (omega (arith, below));
+}
 
 -- the number of each row's group is below the number of groups
 pub index_mut-requires : goal.index_mut-requires
@@ -33,8 +36,10 @@ loop-place-preserved c =
     sym (c.number.ensures.number ∙ ap (λ (mark : Flagged). mark.number) c.index-marks-place.is) in
     record {
       len = c.loop-place.invariant.len;
-      numbers = subst (λ (unit : ℕ). AreNumbered marks rows (at + 1) (set c.loop-place.numbers.items unit (get_or rows at none).group)) unit
-          (numbered_more marks rows c.loop-place.numbers.items at some none c.loop-place-test.true c.requires.long c.requires.one
+      numbers = subst (λ (unit : ℕ). AreNumbered marks rows (at + 1)
+          (set c.loop-place.numbers.items unit (get_or rows at none).group)) unit
+          (numbered_more marks rows c.loop-place.numbers.items at some none c.loop-place-test.true c.requires.long
+          c.requires.one
           (omega (
             arith,
             c.requires.within at some (omega (arith, c.requires.long, c.loop-place-test.true)),

@@ -16,9 +16,11 @@ use Rattle.postings.specs.declared.rows.CodedRow.{CodedRow}
 use Rattle.held_release.specs.declared.attribute_types.Types.{Types}
 use Rattle.postings.specs.declared.values.Values.{Values}
 use Rattle.postings.proofs.IndexLemmas.{few_types}
-use Rattle.postings.proofs.KeptLemmas.{coded_kept, each_kept, many_groups, marked_are, one_number, units_are, units_below}
+use Rattle.postings.proofs.KeptLemmas.{coded_kept, each_kept, many_groups, marked_are, one_number, group_numbers_are}
+use Rattle.postings.proofs.KeptLemmas.{groups_below}
 use Rattle.postings.proofs.RowIndexLemmas.{by_source_are, few_codes, is_sorted, starts_last}
-use Rattle.postings.proofs.RowListLemmas.{by_type_told, by_value_told, group_lists_told, of_one_length, type_places_below}
+use Rattle.postings.proofs.RowListLemmas.{by_type_told, by_value_told, group_lists_told, of_one_length}
+use Rattle.postings.proofs.RowListLemmas.{type_places_below}
 use Rattle.postings.proofs.SourceRowLemmas.{ahead_told, start_within}
 use Rattle.postings.proofs.row_indexes.row_indexes.Goals as goal
 use Rattle.postings.proofs.row_indexes.row_indexes.Goals.{In_ok-keys, In_ok-marks}
@@ -27,16 +29,19 @@ use Rattle.postings.proofs.row_indexes.row_indexes.Goals.{In_ok-keys, In_ok-mark
 marked : (c : In_ok-marks)
     → AreRowMarks (length c.args.snapshot.now.release.concepts) c.in_ok-coded.coded.rows.items c.in_ok-marks.marks
 marked c =
-    subst (λ (rows : List CodedRow). AreRowMarks (length c.args.snapshot.now.release.concepts) rows c.in_ok-marks.marks) c.as_slice.ensures.value
+    subst (λ (rows : List CodedRow). AreRowMarks (length c.args.snapshot.now.release.concepts) rows c.in_ok-marks.marks)
+    c.as_slice.ensures.value
     (subst (λ (n : ℕ). AreRowMarks n c.as_slice.result.now c.in_ok-marks.marks) c.concept_count-count.ensures.count
     c.in_ok-marks.ensures.marks)
 
 -- the places of types that serve as keys are those of the rows
-typed : (c : In_ok-keys) → c.in_ok-keys.keys.type_places.items ≡ map (λ (row : CodedRow). row.type_place) c.in_ok-coded.coded.rows.items
+typed : (c : In_ok-keys)
+    → c.in_ok-keys.keys.type_places.items ≡ map (λ (row : CodedRow). row.type_place) c.in_ok-coded.coded.rows.items
 typed c = c.in_ok-keys.ensures.types ∙ ap (map (λ (row : CodedRow). row.type_place)) c.as_slice-3.ensures.value
 
 -- the numbers of values that serve as keys are those of the rows
-valued : (c : In_ok-keys) → c.in_ok-keys.keys.values.items ≡ map (λ (row : CodedRow). row.value) c.in_ok-coded.coded.rows.items
+valued : (c : In_ok-keys)
+    → c.in_ok-keys.keys.values.items ≡ map (λ (row : CodedRow). row.value) c.in_ok-coded.coded.rows.items
 valued c = c.in_ok-keys.ensures.values ∙ ap (map (λ (row : CodedRow). row.value)) c.as_slice-3.ensures.value
 
 -- there are less than 2^31 rows of numbers
@@ -68,7 +73,8 @@ group_lists-requires-clause-long c =
     omega (
       arith,
       c.as_slice-2.ensures.len,
-      many_groups c.args.snapshot.now.release c.concept_count-count.ensures.rising c.in_ok-coded.coded c.in_ok-coded.ensures
+      many_groups c.args.snapshot.now.release c.concept_count-count.ensures.rising c.in_ok-coded.coded
+          c.in_ok-coded.ensures
           c.in_ok-marks.marks (marked (goal.at.group_lists-requires-clause-long c).In_ok-marks),
     )
 
@@ -78,14 +84,17 @@ group_lists-requires-clause-within c =
     let starts = c.in_ok-marks.marks.starts.items in
     let last : length starts - 1 ≡ vec_len c.in_ok-marks.marks.starts - 1 = omega arith in
     subst (λ (n : ℕ). All (λ (mark : Flagged). mark.number < get_or starts n 0) c.in_ok-marks.marks.groups.items) last
-    (units_below c.args.snapshot.now.release c.concept_count-count.ensures.rising c.in_ok-coded.coded c.in_ok-coded.ensures
+    (groups_below c.args.snapshot.now.release c.concept_count-count.ensures.rising c.in_ok-coded.coded
+    c.in_ok-coded.ensures
     c.in_ok-marks.marks (marked (goal.at.group_lists-requires-clause-within c).In_ok-marks))
 
 -- rows of one group have one group number
 pub group_lists-requires-clause-one : goal.group_lists-requires-clause-one
 group_lists-requires-clause-one c =
-    subst (λ (rows : List CodedRow). HaveOneNumber c.in_ok-marks.marks.groups.items rows) (sym c.as_slice-2.ensures.value)
-    (one_number c.args.snapshot.now.release c.concept_count-count.ensures.rising c.in_ok-coded.coded c.in_ok-coded.ensures
+    subst (λ (rows : List CodedRow). HaveOneNumber c.in_ok-marks.marks.groups.items rows)
+    (sym c.as_slice-2.ensures.value)
+    (one_number c.args.snapshot.now.release c.concept_count-count.ensures.rising c.in_ok-coded.coded
+    c.in_ok-coded.ensures
     c.in_ok-marks.marks (marked (goal.at.group_lists-requires-clause-one c).In_ok-marks))
 
 -- 32 bits hold the number of types
@@ -105,15 +114,18 @@ overflow_cast-len c =
 pub lists_by_keys-requires-clause-long : goal.lists_by_keys-requires-clause-long
 lists_by_keys-requires-clause-long c =
     let at = goal.at.lists_by_keys-requires-clause-long c in
-    of_one_length c.args.snapshot.now.release c.concept_count-count.ensures.rising c.in_ok-coded.coded c.in_ok-coded.ensures
+    of_one_length c.args.snapshot.now.release c.concept_count-count.ensures.rising c.in_ok-coded.coded
+    c.in_ok-coded.ensures
     c.in_ok-marks.marks (marked at.In_ok-marks) c.in_ok-keys.keys.type_places.items c.in_ok-keys.keys.values.items
     (λ row. row.type_place) (λ row. row.value) (typed at.In_ok-keys) (valued at.In_ok-keys)
 
 -- the place of each row's type is below the number of types
 pub lists_by_keys-requires-clause-types : goal.lists_by_keys-requires-clause-types
 lists_by_keys-requires-clause-types c =
-    subst (λ (xs : List ℕ). All (λ key. key < c.len.result) xs) (sym (typed (goal.at.lists_by_keys-requires-clause-types c).In_ok-keys))
-    (type_places_below c.args.snapshot.now.release c.concept_count-count.ensures.rising c.in_ok-coded.coded c.in_ok-coded.ensures
+    subst (λ (xs : List ℕ). All (λ key. key < c.len.result) xs)
+    (sym (typed (goal.at.lists_by_keys-requires-clause-types c).In_ok-keys))
+    (type_places_below c.args.snapshot.now.release c.concept_count-count.ensures.rising c.in_ok-coded.coded
+    c.in_ok-coded.ensures
     c.len.result (omega (
       arith,
       c.len.ensures,
@@ -149,34 +161,44 @@ returns c =
       by_value = lists.by_value;
       groups = c.in_ok-groups.groups;
     } in
-    let by_type : AreRowLists c.len.result indexes.type_places.items (map (λ (row : CodedRow). row.value) codes) marks indexes.by_type =
-    subst (λ (cells : List ℕ). AreRowLists c.len.result indexes.type_places.items cells marks indexes.by_type) cells_are listed.by_type in
+    let by_type : AreRowLists c.len.result indexes.type_places.items (map (λ (row : CodedRow). row.value) codes) marks
+    indexes.by_type =
+    subst (λ (cells : List ℕ). AreRowLists c.len.result indexes.type_places.items cells marks indexes.by_type) cells_are
+    listed.by_type in
     let many : vec_len keys.type_places ≡ length codes =
     omega (arith, ap (λ (xs : List ℕ). length xs) keys_are, length-map codes (λ (row : CodedRow). row.type_place)) in
     let places_len : length indexes.places.items ≡ length codes = omega (arith, many, listed.len) in
-    let found : (n : ℕ) → n < length codes → slice_get (concat indexes.by_type.rows) (slice_index indexes.places.items n) ≡ Some n =
+    let found : (n : ℕ) → n < length codes
+    → slice_get (concat indexes.by_type.rows) (slice_index indexes.places.items n) ≡ Some n =
     λ n below. listed.found n (omega (arith, below, many)) in
     let kept_len : length indexes.groups.numbers.items ≡ get_or starts (length starts - 1) 0 =
     omega (arith, c.in_ok-groups.ensures.len, ap (λ (n : ℕ). get_or starts n 0) last) in
     let numbers_len = kept_len ∙ starts_last release rises coded are marks marks_are in
     let numbers : AreNumbersOf marks.groups.items codes indexes.groups.numbers.items =
-    subst (λ (rows : List CodedRow). AreNumbersOf marks.groups.items rows indexes.groups.numbers.items) c.as_slice-2.ensures.value
+    subst (λ (rows : List CodedRow). AreNumbersOf marks.groups.items rows indexes.groups.numbers.items)
+    c.as_slice-2.ensures.value
     c.in_ok-groups.ensures.numbers in
     let count = c.len.result in
     let sources = by_source_are release rises coded are in
     record {
-      coded = coded_kept release rises coded are marks marks_are indexes count keys_are by_type places_len found numbers_len numbers
+      coded = coded_kept release rises coded are marks marks_are indexes count keys_are by_type places_len found
+          numbers_len numbers
           c.into_tables-types.ensures.types c.into_tables-types.ensures.values;
-      kept = each_kept release rises coded are marks marks_are indexes count keys_are by_type places_len found numbers_len numbers;
-      units = units_are release rises coded are marks marks_are indexes count keys_are by_type places_len found numbers_len numbers;
-      marked = marked_are release rises coded are marks marks_are indexes count keys_are by_type places_len found numbers_len numbers;
+      kept = each_kept release rises coded are marks marks_are indexes count keys_are by_type places_len found
+          numbers_len numbers;
+      units = group_numbers_are release rises coded are marks marks_are indexes count keys_are by_type places_len found
+          numbers_len numbers;
+      marked = marked_are release rises coded are marks marks_are indexes count keys_are by_type places_len found
+          numbers_len numbers;
       row_numbers = c.in_ok-marks.ensures.rows
           ∙ (λ i. concat (places_by (c.concept_count-count.ensures.count i)
           (map (λ (row : CodedRow). row.source) (c.as_slice.ensures.value i))))
           ∙ ap concat sources;
       ahead = λ concept within.
-          (λ i. length (concat (take (get_or (c.in_ok-groups.ensures.starts i) concept 0) (c.in_ok-groups.ensures.rows i))))
-          ∙ ahead_told release rises coded are marks marks_are concept within (get_or starts (vec_len marks.starts - 1) 0)
+          (λ i. length (concat (take (get_or (c.in_ok-groups.ensures.starts i) concept 0)
+          (c.in_ok-groups.ensures.rows i))))
+          ∙ ahead_told release rises coded are marks marks_are concept within
+          (get_or starts (vec_len marks.starts - 1) 0)
           (omega (
             arith,
             start_within release rises coded are marks marks_are concept within,
@@ -186,7 +208,8 @@ returns c =
           ∙ ap (λ (lists : List (List ℕ)). length (concat (take concept lists))) sources;
       by_type = subst (λ (values : Values). AreByType release.concepts (values_in release.concepts values)
           (attributes_by_source release) indexes.by_type) (sym c.into_tables-types.ensures.values)
-          (by_type_told release rises coded are marks marks_are lists.by_type c.len.result keys.type_places.items keys.values.items listed.by_type
+          (by_type_told release rises coded are marks marks_are lists.by_type c.len.result keys.type_places.items
+          keys.values.items listed.by_type
           (omega (
             arith,
             c.len.ensures,
@@ -195,8 +218,11 @@ returns c =
           ))
           keys_are cells_are);
       by_value = by_value_told release rises coded are marks marks_are lists.by_value c.concept_count-count.result
-          keys.values.items keys.type_places.items listed.by_value c.concept_count-count.ensures.count cells_are keys_are;
-      groups = group_lists_told release rises coded are marks marks_are c.in_ok-groups.groups kept_len c.in_ok-groups.ensures.starts
+          keys.values.items keys.type_places.items listed.by_value c.concept_count-count.ensures.count cells_are
+          keys_are;
+      groups = group_lists_told release rises coded are marks marks_are c.in_ok-groups.groups kept_len
+          c.in_ok-groups.ensures.starts
           (c.in_ok-groups.ensures.rows
-          ∙ ap (λ (n : ℕ). places_by (get_or starts n 0) (map (λ (mark : Flagged). mark.number) marks.groups.items)) last);
+          ∙ ap (λ (n : ℕ). places_by (get_or starts n 0) (map (λ (mark : Flagged). mark.number) marks.groups.items))
+          last);
     }

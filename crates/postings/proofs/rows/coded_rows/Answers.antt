@@ -6,7 +6,8 @@ use Rattle.std.proofs.lemmas.List.{take_all}
 use Rattle.std.proofs.lemmas.Option.{get_or_from_slice_get, slice_get_within}
 use Rattle.postings.proofs.DistinctLemmas.{insert_key}
 use Rattle.rf2_rows.specs.Release.{Attribute, text_value}
-use Rattle.held_release.specs.AttributesBySource.{attribute_numbered, attributes_by_source, by_identifiers, numbered_lent, value_by_identifier}
+use Rattle.held_release.specs.AttributesBySource.{attribute_numbered, attributes_by_source, by_identifiers}
+use Rattle.held_release.specs.AttributesBySource.{numbered_lent, value_by_identifier}
 use Rattle.postings.specs.inside.Coded.{IsCoded, row_coded}
 use Rattle.postings.specs.Indexed.{types_of, value_at}
 use Rattle.postings.specs.inside.ValueTables.{values_in}
@@ -46,7 +47,8 @@ number-value-requires-clause-there c =
     let row = by_identifiers release.concepts (attribute_numbered c.attribute_numbers-row.result) in
     let has : Attribute → Type 0 = λ row. Contains (values_in release.concepts c.in_ok-values.values) row.value in
     subst has (get_or_from_slice_get rows c.loop-n.n row row c.attribute_numbers-row.ensures.row)
-    (c.in_ok-values.ensures.all c.loop-n.n row (slice_get_within rows c.loop-n.n row c.attribute_numbers-row.ensures.row))
+    (c.in_ok-values.ensures.all c.loop-n.n row (slice_get_within rows c.loop-n.n row
+    c.attribute_numbers-row.ensures.row))
 
 -- the decimals and the texts rise strictly
 pub number-value-requires-clause-rising : goal.number-value-requires-clause-rising
@@ -75,7 +77,8 @@ loop-n-preserved c =
     let more = insert_key nat_eq types read.type_id in
     let grown : c.place_near.new.self.numbers ≡ more = c.in_ok-type_place.ensures.numbers in
     let placed : slice_get more c.in_ok-type_place.type_place ≡ Some read.type_id =
-    ap (λ (keys : List ℕ). slice_get keys c.in_ok-type_place.type_place) (sym grown) ∙ c.in_ok-type_place.ensures.place in
+    ap (λ (keys : List ℕ). slice_get keys c.in_ok-type_place.type_place) (sym grown)
+    ∙ c.in_ok-type_place.ensures.place in
     let coded : CodedRow = record {
       source = read.source;
       type_place = c.in_ok-type_place.type_place;
@@ -83,22 +86,27 @@ loop-n-preserved c =
       value =
           c.number-value.result;
     } in
-    let same_type : get_or more coded.type_place 0 ≡ read.type_id = get_or_from_slice_get more coded.type_place read.type_id 0 placed in
+    let same_type : get_or more coded.type_place 0 ≡ read.type_id =
+    get_or_from_slice_get more coded.type_place read.type_id 0 placed in
     let same_value : value_at values coded.value ≡ value_by_identifier concepts (numbered_lent read.value) =
-    get_or_from_slice_get values coded.value (value_by_identifier concepts (numbered_lent read.value)) (text_value []) c.number-value.ensures in
-    let stands : row ≡ row_coded concepts more values coded = λ i. record row { type_id = sym same_type i; value = sym same_value i } in
+    get_or_from_slice_get values coded.value (value_by_identifier concepts (numbered_lent read.value)) (text_value [])
+    c.number-value.ensures in
+    let stands : row ≡ row_coded concepts more values coded =
+    λ i. record row { type_id = sym same_type i; value = sym same_value i } in
     let is_coded : IsCoded concepts more values coded =
     record {
       source = c.attribute_numbers-row.ensures.source;
       type_place = slice_get_within more coded.type_place read.type_id placed;
       value =
-          slice_get_within values coded.value (value_by_identifier concepts (numbered_lent read.value)) c.number-value.ensures;
+          slice_get_within values coded.value (value_by_identifier concepts (numbered_lent read.value))
+          c.number-value.ensures;
     } in
     let pushed : c.push.new.self.items ≡ c.loop-n.rows.items ++ coded ∷ [] = c.in_ok-push.ensures.items in
     let invariant = c.loop-n.invariant in
     record {
       rows = (λ i. map (row_coded concepts (grown i) values) (pushed i))
-          ∙ rows_push types read.type_id concepts values c.loop-n.rows.items coded rows n invariant.within invariant.rows
+          ∙ rows_push types read.type_id concepts values c.loop-n.rows.items coded rows n invariant.within
+          invariant.rows
           (here ∙ ap (λ (row : Attribute). Some row) stands);
       within = subst (λ (keys : List ℕ). All (IsCoded concepts keys values) c.push.new.self.items) (sym grown)
           (subst (All (IsCoded concepts more values)) (sym pushed)

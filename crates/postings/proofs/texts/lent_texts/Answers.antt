@@ -1,6 +1,7 @@
 use Rattle.std.proofs.Common.{ℕ, ◌++◌, ◌∷◌, [], ◌∙◌, Bor, List, Vec, Global, map, take, ap, sym, arith}
 use Rattle.std.proofs.lemmas.List.{append-nil, map_push, take_all}
-use Rattle.held_release.specs.AttributesBySource.{attribute_numbered, attributes_by_source, by_identifiers, numbered_lent, value_by_identifier}
+use Rattle.held_release.specs.AttributesBySource.{attribute_numbered, attributes_by_source, by_identifiers}
+use Rattle.held_release.specs.AttributesBySource.{numbered_lent, value_by_identifier}
 use Rattle.held_release.specs.declared.sorted_attributes.NumberedValue.{NumberedValue}
 use Rattle.postings.specs.RowValues.{texts_at, texts_of}
 use Rattle.postings.proofs.ValueLemmas.{texts_more}
@@ -13,7 +14,8 @@ loop-n-preserved c =
     let release = c.args.snapshot.now.release in
     let before = texts_of (take c.loop-n.n (attributes_by_source release)) in
     let row = by_identifiers release.concepts (attribute_numbered c.attribute_numbers-row.result) in
-    let with : NumberedValue → List (List ℕ) = λ value. before ++ texts_at (value_by_identifier release.concepts (numbered_lent value)) in
+    let with : NumberedValue → List (List ℕ) =
+    λ value. before ++ texts_at (value_by_identifier release.concepts (numbered_lent value)) in
     elim c.match-row.branch [
       | in-Other+in_ok-push-in-Other w ↦
           ap (λ (texts : Vec (Bor (List ℕ)) Global). map (λ text. text.now) texts.items) w.texts-is

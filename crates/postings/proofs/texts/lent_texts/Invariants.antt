@@ -5,4 +5,5 @@ use Rattle.postings.proofs.texts.lent_texts.Given as goal
 
 -- `texts` has the texts of the rows so far
 abbrev pub invariant-loop-n : goal.invariant-loop-n
-invariant-loop-n l = map (λ text. text.now) l.texts.items ≡ texts_of (take l.n (attributes_by_source l.snapshot.release))
+invariant-loop-n l = map (λ text. text.now) l.texts.items
+    ≡ texts_of (take l.n (attributes_by_source l.snapshot.release))

@@ -11,7 +11,8 @@ use Rattle.postings.proofs.texts.texts_among.Goals.{In_ok-texts-2}
 
 -- the texts are the sorted ones without repeats
 left : (c : In_ok-texts-2) → c.in_ok-texts-2.texts
-    ≡ map (λ (text : Bor (List ℕ)). text.now) (dedup (λ one other. bytes_eq one.now other.now) c.sort_unstable.new.self.items)
+    ≡ map (λ (text : Bor (List ℕ)). text.now)
+    (dedup (λ one other. bytes_eq one.now other.now) c.sort_unstable.new.self.items)
 left c =
     c.in_ok-texts-2.ensures
     ∙ ap (λ (texts : List (Bor (List ℕ))). map (λ (text : Bor (List ℕ)). text.now) texts) (c.as_slice.ensures.value
@@ -20,7 +21,8 @@ left c =
 -- the texts rise strictly by their bytes
 pub returns-clause-rising : goal.returns-clause-rising
 returns-clause-rising c =
-    subst (λ (texts : List (List ℕ)). IsStrictlySortedBy text_cmp texts) (sym (left (goal.at.returns-clause-rising c).In_ok-texts-2))
+    subst (λ (texts : List (List ℕ)). IsStrictlySortedBy text_cmp texts)
+    (sym (left (goal.at.returns-clause-rising c).In_ok-texts-2))
     (texts_sorted (λ (text : Bor (List ℕ)). text.now) c.sort_unstable.new.self.items c.sort_unstable.ensures.sorted)
 
 -- the texts are those among the values of the rows

@@ -22,14 +22,20 @@ loop-n-preserved c =
     let read = attribute_numbered c.attribute_numbers-row.result in
     c.in_ok-add_decimal.ensures
     ∙ (λ i. c.loop-n.invariant i ++ sym (same_decimals release.concepts read.value) i)
-    ∙ sym (decimals_more (attributes_by_source release) c.loop-n.n (by_identifiers release.concepts read) c.attribute_numbers-row.ensures.row)
+    ∙ sym (decimals_more (attributes_by_source release) c.loop-n.n (by_identifiers release.concepts read)
+    c.attribute_numbers-row.ensures.row)
 
 -- the decimals of all rows are gathered
 gathered : (c : After-dedup) → c.loop-n.decimals.items ≡ decimals_of (attributes_by_source c.args.snapshot.now.release)
 gathered c =
     c.loop-n.invariant
     ∙ ap decimals_of (take_all c.loop-n.n (attributes_by_source c.args.snapshot.now.release)
-    (omega (arith, c.loop-n-test.false, c.attribute_count-n-end.ensures.by_source, c.attribute_count-n-end.ensures.count)))
+    (omega (
+      arith,
+      c.loop-n-test.false,
+      c.attribute_count-n-end.ensures.by_source,
+      c.attribute_count-n-end.ensures.count,
+    )))
 
 -- the decimals that are left have no repeats
 left : (c : After-dedup) → c.dedup.new.self.items ≡ dedup int_eq c.sort_unstable.new.self.items
@@ -39,7 +45,8 @@ left c = dedup_is int_eq c.sort_unstable.new.self.items c.dedup.new.self.items c
 pub returns-clause-rising : goal.returns-clause-rising
 returns-clause-rising c =
     subst (IsStrictlySortedBy int_cmp) (sym (left (goal.at.returns-clause-rising c).After-dedup))
-    (IsStrictlySortedBy-dedup int_cmp_total (λ one other. refl) c.sort_unstable.new.self.items c.sort_unstable.ensures.sorted)
+    (IsStrictlySortedBy-dedup int_cmp_total (λ one other. refl) c.sort_unstable.new.self.items
+    c.sort_unstable.ensures.sorted)
 
 -- the decimals are those among the values of the rows
 pub returns-clause-members : goal.returns-clause-members
@@ -48,7 +55,8 @@ returns-clause-members c = λ decimal.
     let sorted = c.sort_unstable.new.self.items in
     let moved = c.sort_unstable.ensures.permutation in (
       λ there. subst (λ (all : List ℤ). Contains all decimal) (gathered at)
-          (Contains-permutation sorted c.loop-n.decimals.items decimal (IsPermutation-sym c.loop-n.decimals.items sorted moved)
+          (Contains-permutation sorted c.loop-n.decimals.items decimal
+          (IsPermutation-sym c.loop-n.decimals.items sorted moved)
           (Contains-from_dedup int_eq sorted decimal (subst (λ (all : List ℤ). Contains all decimal) (left at) there))),
       λ there. subst (λ (all : List ℤ). Contains all decimal) (sym (left at))
           (Contains-dedup int_eq_equiv (λ x y. (Decides-int_eq x y).0) sorted decimal

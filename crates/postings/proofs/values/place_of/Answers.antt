@@ -6,7 +6,8 @@ use Rattle.postings.proofs.values.place_of.Goals as goal
 -- the place that the binary search finds is that of the decimal
 pub returns-in-Ok : goal.returns-in-Ok
 returns-in-Ok c =
-    found_place int_cmp_total c.args.decimals.now c.requires.rising c.args.decimal.now exact_signed c.in-Ok.place c.in-Ok.ensures.bound
+    found_place int_cmp_total c.args.decimals.now c.requires.rising c.args.decimal.now exact_signed c.in-Ok.place
+    c.in-Ok.ensures.bound
     c.in-Ok.ensures.position
 
 -- the binary search does not miss a decimal that is there

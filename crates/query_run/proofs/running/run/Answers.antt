@@ -11,14 +11,16 @@ use Rattle.query_run.specs.declared.running.RunFault.{RunFault}
 use Rattle.query_run.proofs.KeptLemmas.{kept_clear, last_count, last_leaves, last_written}
 use Rattle.query_run.proofs.LineLemmas.{IsCutInto-pending, IsCutInto-then}
 use Rattle.query_run.proofs.FaultLemmas.{AnswerFault-failed, AnswerFault-turns, answers_none, answers_then}
-use Rattle.query_run.proofs.RunLemmas.{WritesFirst_cut, feeds_cut, HasStopped_in, finish_count, finish_answers, finish_fault}
+use Rattle.query_run.proofs.RunLemmas.{WritesFirst_cut, feeds_cut, HasStopped_in, finish_count, finish_answers}
+use Rattle.query_run.proofs.RunLemmas.{finish_fault}
 use Rattle.query_run.proofs.running.run.Goals as goal
 
 -- a read of no byte consumes nothing
 ended : (old mid new : Option (List ℕ)) (read buffer : List ℕ) (count : ℕ) → count ≡ 0 → Consumes old mid read
     → Consumes mid new (take count buffer) → Consumes old new read
 ended old mid new read buffer count none first second =
-    subst (Consumes old new) (append-nil read) (Consumes-trans old mid new read [] first (subst (λ (n : ℕ). Consumes mid new (take n buffer)) none second))
+    subst (Consumes old new) (append-nil read)
+    (Consumes-trans old mid new read [] first (subst (λ (n : ℕ). Consumes mid new (take n buffer)) none second))
 
 -- a count of answers stays right if the number of lines added to it is replaced by an equal number
 counted : (result : Result ℕ RunFault) (answered more all : ℕ) → more ≡ all
@@ -38,8 +40,8 @@ next_turn before mid after turn (inr full) counted = inr (omega arith)
 pub loop-turn-init : goal.loop-turn-init
 loop-turn-init g c =
     let written = g.W.AnswerOutput.written c.args.output.now in record {
-      input_sound = c.requires.input;
-      output_sound = c.requires.output;
+      input_not_failed = c.requires.input;
+      output_not_failed = c.requires.output;
       turns = inl (omega arith);
       reads = omega arith;
       room = search rules;
@@ -84,7 +86,8 @@ returns-then-count-eq0-clause-count g c =
     count (g.W.AnswerOutput.written c.args.output.now) (g.W.AnswerOutput.written c.loop-turn.output)
     wrote input_old input_new (g.W.AnswerOutput.written c.finish.new.output) all c.finish.result
     (c.in-Ok-read.ensures.bytes.1 c.if-count-eq0.true (omega (arith, c.loop-turn.invariant.room)))
-    (counted c.finish.result c.loop-turn.progress.answered _ _ (last_count unended c.loop-turn.progress.pending.items kept cut.unended) c.finish.ensures.count)
+    (counted c.finish.result c.loop-turn.progress.answered _ _
+    (last_count unended c.loop-turn.progress.pending.items kept cut.unended) c.finish.ensures.count)
 
 -- at the end of the input the answers to all query lines are written
 pub returns-then-count-eq0-clause-answers : goal.returns-then-count-eq0-clause-answers
@@ -116,12 +119,14 @@ returns-then-count-eq0-clause-fault g c =
     c.in-Ok-read.ensures.bytes.0 in
     finish_fault (g.A.AnswerLine.answers c.args.answerer.now) read lines unended cut c.loop-turn.progress.answered
     count (g.W.AnswerOutput.written c.args.output.now) (g.W.AnswerOutput.written c.loop-turn.output)
-    wrote input_old input_new (g.W.AnswerOutput.written c.finish.new.output) all c.finish.result (g.W.AnswerOutput.has_failed c.finish.new.output)
+    wrote input_old input_new (g.W.AnswerOutput.written c.finish.new.output) all c.finish.result
+    (g.W.AnswerOutput.has_failed c.finish.new.output)
     (IfErr-weaker c.finish.result _ _ (λ fault left. (
       left.0,
       last_leaves
           (g.A.AnswerLine.answers c.args.answerer.now)
-          (g.met.A.AnswerLine.same_front c.args.answerer.now) unended c.loop-turn.progress.pending.items kept cut.unended
+          (g.met.A.AnswerLine.same_front c.args.answerer.now) unended c.loop-turn.progress.pending.items kept
+          cut.unended
           fault _ _ left.1,
     )) c.finish.ensures.fault)
 
@@ -134,7 +139,8 @@ returns-in-Err-take_piece-clause-fault g c =
     let input_old = g.R.QueryInput.remaining c.args.input.now in
     let input_new = g.R.QueryInput.remaining c.read.new.self in
     let all : Consumes input_old input_new (read ++ piece) =
-    Consumes-trans input_old (g.R.QueryInput.remaining c.loop-turn.input) input_new read piece consumed c.in-Ok-read.ensures.bytes.0 in
+    Consumes-trans input_old (g.R.QueryInput.remaining c.loop-turn.input) input_new read piece consumed
+    c.in-Ok-read.ensures.bytes.0 in
     HasStopped_in (g.A.AnswerLine.answers c.args.answerer.now) read lines unended cut c.loop-turn.progress.answered
     count (g.W.AnswerOutput.written c.args.output.now) (g.W.AnswerOutput.written c.loop-turn.output) wrote
     c.in-Err-take_piece.fault (query_lines (unended ++ piece)) further
@@ -146,12 +152,14 @@ returns-in-Err-take_piece-clause-fault g c =
 pub loop-turn-preserved : goal.loop-turn-preserved
 loop-turn-preserved g c =
     let (read, lines, consumed, (unended, cut, kept), count, wrote) = c.loop-turn.invariant.lines in
-    let (more, (behind, cut_more, kept_more), count_more, wrote_more) = c.in-Ok-take_piece.ensures.ok unended cut.unended kept in
+    let (more, (following, cut_more, kept_more), count_more, wrote_more) =
+    c.in-Ok-take_piece.ensures.ok unended cut.unended kept in
     let piece : List ℕ = take c.in-Ok-read.count c.read.new.buffer in record {
-      input_sound = search rules;
-      output_sound = c.in-Ok-take_piece.ensures.sound;
+      input_not_failed = search rules;
+      output_not_failed = c.in-Ok-take_piece.ensures.not_failed;
       turns = next_turn (g.R.QueryInput.read_count c.args.input.now) (g.R.QueryInput.read_count c.loop-turn.input)
-          (g.R.QueryInput.read_count c.read.new.self) c.loop-turn._turn c.loop-turn.invariant.turns c.read.ensures.counted;
+          (g.R.QueryInput.read_count c.read.new.self) c.loop-turn._turn c.loop-turn.invariant.turns
+          c.read.ensures.counted;
       reads = omega (arith, c.read.ensures.counted, c.loop-turn.invariant.reads);
       room = search rules;
       waiting = c.in-Ok-take_piece.ensures.waiting;
@@ -168,7 +176,7 @@ loop-turn-preserved g c =
         lines ++ more,
         Consumes-trans (g.R.QueryInput.remaining c.args.input.now) (g.R.QueryInput.remaining c.loop-turn.input)
             (g.R.QueryInput.remaining c.read.new.self) read piece consumed c.in-Ok-read.ensures.bytes.0,
-        (behind, IsCutInto-then read lines unended piece more behind cut cut_more, kept_more),
+        (following, IsCutInto-then read lines unended piece more following cut cut_more, kept_more),
         omega (arith, count, count_more, length-append lines more),
         answers_then (g.A.AnswerLine.answers c.args.answerer.now) (g.W.AnswerOutput.written c.args.output.now)
             (g.W.AnswerOutput.written c.loop-turn.output)
@@ -201,8 +209,8 @@ pub returns-in-Err-take_piece-clause-failed : goal.returns-in-Err-take_piece-cla
 returns-in-Err-take_piece-clause-failed g c =
     let (read, lines, consumed, (unended, cut, kept), count, wrote) = c.loop-turn.invariant.lines in
     let (further, is, leaves) = c.in-Err-take_piece.ensures.fault unended cut.unended kept in
-    let sound : g.R.QueryInput.has_failed c.read.new.self ≡ false = search rules in
-    AnswerFault-failed c.in-Err-take_piece.fault _ _ _ sound is
+    let not_failed : g.R.QueryInput.has_failed c.read.new.self ≡ false = search rules in
+    AnswerFault-failed c.in-Err-take_piece.fault _ _ _ not_failed is
 
 -- if an answer met a fault, the fault is not `Turns`
 pub returns-in-Err-take_piece-clause-turns : goal.returns-in-Err-take_piece-clause-turns
@@ -215,19 +223,20 @@ returns-in-Err-take_piece-clause-turns g c =
 pub returns-then-count-eq0-clause-end : goal.returns-then-count-eq0-clause-end
 returns-then-count-eq0-clause-end g c =
     let ended = c.in-Ok-read.ensures.bytes.1 c.if-count-eq0.true (omega (arith, c.loop-turn.invariant.room)) in
-    on_ok_weaker c.finish.result (λ sound. ended) c.finish.ensures.sound
+    on_ok_weaker c.finish.result (λ not_failed. ended) c.finish.ensures.not_failed
 
 -- after a run that ends well neither stream has failed
-pub returns-then-count-eq0-clause-sound : goal.returns-then-count-eq0-clause-sound
-returns-then-count-eq0-clause-sound g c =
-    let input_sound : g.R.QueryInput.has_failed c.read.new.self ≡ false = search rules in
-    on_ok_weaker c.finish.result (λ sound. (input_sound, sound)) c.finish.ensures.sound
+pub returns-then-count-eq0-clause-not_failed : goal.returns-then-count-eq0-clause-not_failed
+returns-then-count-eq0-clause-not_failed g c =
+    let input_not_failed : g.R.QueryInput.has_failed c.read.new.self ≡ false = search rules in
+    on_ok_weaker c.finish.result (λ not_failed. (input_not_failed, not_failed)) c.finish.ensures.not_failed
 
 -- if the last answer met a fault, the input has not failed
 pub returns-then-count-eq0-clause-failed : goal.returns-then-count-eq0-clause-failed
 returns-then-count-eq0-clause-failed g c =
-    let sound : g.R.QueryInput.has_failed c.read.new.self ≡ false = search rules in
-    IfErr-weaker c.finish.result _ _ (λ fault left. AnswerFault-failed fault _ _ _ sound left.0) c.finish.ensures.fault
+    let not_failed : g.R.QueryInput.has_failed c.read.new.self ≡ false = search rules in
+    IfErr-weaker c.finish.result _ _ (λ fault left. AnswerFault-failed fault _ _ _ not_failed left.0)
+    c.finish.ensures.fault
 
 -- if the last answer met a fault, the fault is not `Turns`
 pub returns-then-count-eq0-clause-turns : goal.returns-then-count-eq0-clause-turns

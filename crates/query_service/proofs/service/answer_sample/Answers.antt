@@ -10,4 +10,5 @@ returns-in-Ok g c =
 -- the built-in release could not be loaded, so memory was refused
 pub returns-in-Err : goal.returns-in-Err
 returns-in-Err g c =
-    refuses_sample g.R.QueryInput g.W.AnswerOutput g.E.AnswerOutput c.in-Err.fault c.refuse.result _ _ _ _ c.in-Err.ensures.err c.refuse.ensures
+    refuses_sample g.R.QueryInput g.W.AnswerOutput g.E.AnswerOutput c.in-Err.fault c.refuse.result _ _ _ _
+    c.in-Err.ensures.err c.refuse.ensures

@@ -16,7 +16,7 @@ returns-in-Ok g c =
           loaded = loaded_whole _ c.standard.result c.args.lang.now names contents c.standard.ensures c.in-Ok.ensures.ok
               c.in-Ok.ensures.names;
           named = c.in-Ok.ensures.names;
-          device = record { failed = tt; calm = c.in-Ok.ensures.calm };
+          device = record { failed = tt; failure_is_device = c.in-Ok.ensures.failure_is_device };
           bounded = within_standard c.standard.result _ _ c.standard.ensures c.in-Ok.ensures.bounded;
         });
       },
@@ -36,7 +36,7 @@ returns g c =
               (g.S.FileSource.history c.load_from.new.source) c.in-Err.fault c.standard.ensures c.in-Err.ensures.err
               c.in-Err.ensures.names;
           named = c.in-Err.ensures.names;
-          device = record { failed = c.in-Err.ensures.device; calm = c.in-Err.ensures.calm };
+          device = record { failed = c.in-Err.ensures.device; failure_is_device = c.in-Err.ensures.failure_is_device };
           bounded = within_standard c.standard.result _ _ c.standard.ensures c.in-Err.ensures.bounded;
         });
       },

@@ -8,7 +8,11 @@ use Rattle.query_service.proofs.service.report_source.Goals as goal
 pub returns-in-Ok-write_all : goal.returns-in-Ok-write_all
 returns-in-Ok-write_all g c =
     let (contents, text, loads) = c.in-Ok.ensures.ok in
-    let task : Task = record { mode = Check; loaded = Ok contents; names = map string_bytes c.report.new.names.items } in
+    let task : Task = record {
+      mode = Check;
+      loaded = Ok contents;
+      names = map string_bytes c.report.new.names.items;
+    } in
     let wrote = c.in-Ok-write_all.ensures in (
       task,
       record {
@@ -16,19 +20,25 @@ returns-in-Ok-write_all g c =
         loaded = record {
           loaded = loads;
           named = c.in-Ok.ensures.named;
-          device = record { failed = tt; calm = c.in-Ok.ensures.calm };
+          device = record { failed = tt; failure_is_device = c.in-Ok.ensures.failure_is_device };
           bounded = c.in-Ok.ensures.bounded;
         };
       },
-      ends_reported g.R.QueryInput g.W.AnswerOutput g.E.AnswerOutput task contents c.as_slice.result.now c.args.input.now
-          c.args.output.now c.write_all.new.output c.args.errors.now refl refl (c.as_slice.ensures.value ∙ text) wrote.ok c.requires.input wrote.failure,
+      ends_reported g.R.QueryInput g.W.AnswerOutput g.E.AnswerOutput task contents c.as_slice.result.now
+          c.args.input.now
+          c.args.output.now c.write_all.new.output c.args.errors.now refl refl (c.as_slice.ensures.value ∙ text)
+          wrote.ok c.requires.input wrote.failure,
     )
 
 -- the report was written in part, so the output has failed
 pub returns-in-Ok : goal.returns-in-Ok
 returns-in-Ok g c =
     let (contents, text, loads) = c.in-Ok.ensures.ok in
-    let task : Task = record { mode = Check; loaded = Ok contents; names = map string_bytes c.report.new.names.items } in
+    let task : Task = record {
+      mode = Check;
+      loaded = Ok contents;
+      names = map string_bytes c.report.new.names.items;
+    } in
     let wrote = c.in-Err-write_all.ensures in (
       task,
       record {
@@ -36,12 +46,13 @@ returns-in-Ok g c =
         loaded = record {
           loaded = loads;
           named = c.in-Ok.ensures.named;
-          device = record { failed = tt; calm = c.in-Ok.ensures.calm };
+          device = record { failed = tt; failure_is_device = c.in-Ok.ensures.failure_is_device };
           bounded = c.in-Ok.ensures.bounded;
         };
       },
       ends_cut g.R.QueryInput g.W.AnswerOutput g.E.AnswerOutput task contents c.as_slice.result.now c.args.input.now
-          c.args.output.now c.write_all.new.output c.args.errors.now c.tell_fault.new.errors c.tell_fault.result refl refl (c.as_slice.ensures.value ∙ text)
+          c.args.output.now c.write_all.new.output c.args.errors.now c.tell_fault.new.errors c.tell_fault.result refl
+          refl (c.as_slice.ensures.value ∙ text)
           c.tell_fault.ensures.status wrote.err c.requires.input wrote.failure c.tell_fault.ensures.told,
     )
 
@@ -56,7 +67,7 @@ returns g c =
         loaded = record {
           loaded = c.in-Err.ensures.err;
           named = c.in-Err.ensures.named;
-          device = record { failed = c.in-Err.ensures.device; calm = c.in-Err.ensures.calm };
+          device = record { failed = c.in-Err.ensures.device; failure_is_device = c.in-Err.ensures.failure_is_device };
           bounded = c.in-Err.ensures.bounded;
         };
       },

@@ -10,7 +10,7 @@ returns-in-Ok g c = record {
       (streams c.args.input.now c.args.output.now c.args.errors.now)
       (streams c.run_in.new.input c.run_in.new.output c.args.errors.now) c.requires.lines
       (record { read = c.in-Ok.ensures.end; written = c.in-Ok.ensures.answers });
-  sound = c.in-Ok.ensures.sound;
+  not_failed = c.in-Ok.ensures.not_failed;
   told = refl;
 }
 

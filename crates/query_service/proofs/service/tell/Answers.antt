@@ -10,17 +10,23 @@ use Rattle.query_service.proofs.service.tell.Goals as goal
 -- a write of a line appends all of it, or if it fails, a front of it
 told : {T F E : Type 0} (e : Ghosts E) (result : Result T F) (before after : E) (line : List ℕ)
     → OnOk result (Appends (e.written before) (e.written after) line)
-    → OnErr result ((place : ℕ) × (place < length line) × Appends (e.written before) (e.written after) (take place line))
+    → OnErr result ((place : ℕ) × (place < length line)
+    × Appends (e.written before) (e.written after) (take place line))
     → e.has_failed after ≡ is_err result → IsTold e before after line
 told e (Ok done) before after line ok err is = record {
-  whole = λ sound. ok;
-  front = (length line, subst (λ (text : List ℕ). Appends (e.written before) (e.written after) text) (sym (take-length line)) ok);
+  whole = λ not_failed. ok;
+  front = (
+    length line,
+    subst (λ (text : List ℕ). Appends (e.written before) (e.written after) text)
+        (sym (take-length line)) ok,
+  );
 }
 told e (Err fault) before after line ok err is = record {
-  whole = λ sound. absurd (false≢true (sym sound ∙ is));
+  whole = λ not_failed. absurd (false≢true (sym not_failed ∙ is));
   front = (err.0, err.2);
 }
 
 -- the line was written, or a front of it if the write failed
 pub returns : goal.returns
-returns g c = told g.E.AnswerOutput c.write_all.result _ _ c.args.line.now c.write_all.ensures.ok c.write_all.ensures.err c.write_all.ensures.failure
+returns g c = told g.E.AnswerOutput c.write_all.result _ _ c.args.line.now c.write_all.ensures.ok
+    c.write_all.ensures.err c.write_all.ensures.failure

@@ -21,7 +21,8 @@ returns-clause-ok c =
     on_ok_weaker c.print_plan.result
     (λ printed. (
       plan_text indexed (physical_of physical.plan),
-      explains c.args.snapshot.now tree indexed (physical_of physical.plan) c.requires chosen.chosen chosen.least meaning,
+      explains c.args.snapshot.now tree indexed (physical_of physical.plan) c.requires chosen.chosen chosen.least
+          meaning,
       printed,
     ))
     c.print_plan.ensures.ok

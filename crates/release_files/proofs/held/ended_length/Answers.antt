@@ -1,5 +1,6 @@
 -- The search begins after the bytes that were searched.
-use Rattle.std.proofs.Common.{◌≡◌, ◌<◌, ℕ, ◌+◌, length, drop, take, sym, subst, add-one, length-drop, arith, get_or, true, eqb}
+use Rattle.std.proofs.Common.{◌≡◌, ◌<◌, ℕ, ◌+◌, length, drop, take, sym, subst, add-one, length-drop, arith, get_or}
+use Rattle.std.proofs.Common.{true, eqb}
 use Rattle.std.proofs.lemmas.List.{get_or-drop, take_rest, take_all}
 use Rattle.release_files.specs.Held.{IsEndedPart}
 use Rattle.release_files.specs.Lines.{HasNoFeed}
@@ -20,7 +21,8 @@ returns-in-Some c =
     let is : eqb (get_or bytes (searched + at) 0) 10 ≡ true = rw (get_or-drop searched bytes at 0) at found.2 in (
       omega arith,
       omega arith,
-      subst (λ (n : ℕ). IsEndedPart (take n bytes)) (sym (add-one (searched + at))) (ended_part bytes (searched + at) fits clear is),
+      subst (λ (n : ℕ). IsEndedPart (take n bytes)) (sym (add-one (searched + at)))
+          (ended_part bytes (searched + at) fits clear is),
     )
 
 -- if no line feed is found after the searched bytes, there is none

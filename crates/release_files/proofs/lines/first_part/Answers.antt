@@ -7,7 +7,8 @@ use Rattle.release_files.proofs.lines.first_part.Goals as goal
 pub returns-in-Some-clause-parts : goal.returns-in-Some-clause-parts
 returns-in-Some-clause-parts c =
     let found = c.in-Some.ensures in
-    let cut = parts_first c.args.bytes.now c.in-Some.at found.0.high (λ k below. found.0.before k (omega arith) below) found.1 in
+    let cut = parts_first c.args.bytes.now c.in-Some.at found.0.high (λ k below. found.0.before k (omega arith) below)
+    found.1 in
     rw (c.split_at.ensures.front, c.split_at.ensures.back, add-one) cut
 
 -- bytes without a line feed are one part

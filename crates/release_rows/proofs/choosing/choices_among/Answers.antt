@@ -13,7 +13,8 @@ returns-then-is_empty-clause-ok g c = if_told _ (g.P.PlaceSource.places c.args.f
 
 -- if no key is repeated, no row that was read conflicts with an earlier one
 pub returns-then-is_empty-clause-clear : goal.returns-then-is_empty-clause-clear
-returns-then-is_empty-clause-clear g c = if_told _ (g.P.PlaceSource.places c.args.files.now) (λ places told seen beyond are.
+returns-then-is_empty-clause-clear g c =
+    if_told _ (g.P.PlaceSource.places c.args.files.now) (λ places told seen beyond are.
     no_conflict-seen c.keys.result.now seen (c.keys.ensures.keys ∙ are.keys)
     (none_twice c.in_ok-repeated.repeated.items c.keys.result.now
     (grind (arith, nat_tests, c.if-is_empty.ensures)) c.in_ok-repeated.ensures.members))

@@ -7,8 +7,17 @@ use Rattle.release_rows.proofs.choosing.choose_rows.Goals as goal
 
 -- there are never more rows than can be numbered within the limits, so that fault is not answered wrongly
 pub returns-then-keys-clause-err : goal.returns-then-keys-clause-err
-returns-then-keys-clause-err g c = if_told _ (g.P.PlaceSource.places c.args.files.now) (λ places told other own limits room seen.
-    absurd (omega (arith, count-seen limits places (kept_in c.args.rows) None seen, seen.few, ap length c.keys.ensures.keys, room, c.if-keys.true)))
+returns-then-keys-clause-err g c =
+    if_told _ (g.P.PlaceSource.places c.args.files.now) (λ places told other own limits room seen.
+    absurd (omega (
+      arith,
+      count-seen limits places (kept_in c.args.rows) None seen,
+      seen.few,
+      ap length
+          c.keys.ensures.keys,
+      room,
+      c.if-keys.true,
+    )))
 
 -- if choices are found or not needed, the lists that are kept are made of the chosen rows of the places
 pub returns-in_ok-read-in-Ok-clause-ok : goal.returns-in_ok-read-in-Ok-clause-ok
@@ -19,7 +28,8 @@ returns-in_ok-read-in-Ok-clause-ok g c = if_told _ (g.P.PlaceSource.places c.arg
 
 -- a conflict that is found among the rows is the first fault of the places
 pub returns-in-Err-clause-err : goal.returns-in-Err-clause-err
-returns-in-Err-clause-err g c = if_told _ (g.P.PlaceSource.places c.args.files.now) (λ places told other own limits room seen.
+returns-in-Err-clause-err g c =
+    if_told _ (g.P.PlaceSource.places c.args.files.now) (λ places told other own limits room seen.
     conflict-seen limits places (kept_in c.args.rows) None c.in-Err.fault seen
     (at_told _ _ places told c.in-Err.ensures.err other own seen.seen seen.beyond
     (are-seen limits places (kept_in c.args.rows) None seen)))

@@ -6,7 +6,8 @@ use Rattle.release_rows.proofs.choosing.compare.Goals as goal
 
 -- if no key is left after the second pass, the marks are the choices among the rows that the first pass read
 pub returns-else-not-is_empty-clause-ok : goal.returns-else-not-is_empty-clause-ok
-returns-else-not-is_empty-clause-ok g c = if_told _ (g.P.PlaceSource.places c.args.files.now) (λ places told seen beyond are.
+returns-else-not-is_empty-clause-ok g c =
+    if_told _ (g.P.PlaceSource.places c.args.files.now) (λ places told seen beyond are.
     let start = c.new-comparing.ensures in
     let all = compared-all c.args.keys.now c.args.repeated.items places seen beyond are c.requires.covers start.few
     c.new-comparing.result start.uuids start.left
@@ -16,7 +17,8 @@ returns-else-not-is_empty-clause-ok g c = if_told _ (g.P.PlaceSource.places c.ar
 
 -- files that stay the same have as many rows as before, so no key is left
 pub returns-then-not-is_empty-clause-err : goal.returns-then-not-is_empty-clause-err
-returns-then-not-is_empty-clause-err g c = if_told _ (g.P.PlaceSource.places c.args.files.now) (λ places told other own seen beyond are.
+returns-then-not-is_empty-clause-err g c =
+    if_told _ (g.P.PlaceSource.places c.args.files.now) (λ places told other own seen beyond are.
     let start = c.new-comparing.ensures in
     let all = compared-all c.args.keys.now c.args.repeated.items places seen beyond are c.requires.covers start.few
     c.new-comparing.result start.uuids start.left
@@ -26,8 +28,10 @@ returns-then-not-is_empty-clause-err g c = if_told _ (g.P.PlaceSource.places c.a
 
 -- the fault at which the second pass stops is the first conflict of the rows that the first pass read
 pub returns-in-Err-clause-err : goal.returns-in-Err-clause-err
-returns-in-Err-clause-err g c = if_told _ (g.P.PlaceSource.places c.args.files.now) (λ places told other own seen beyond are.
+returns-in-Err-clause-err g c =
+    if_told _ (g.P.PlaceSource.places c.args.files.now) (λ places told other own seen beyond are.
     let start = c.new-comparing.ensures in
-    compared-until c.args.keys.now c.args.repeated.items places seen beyond are c.requires.covers start.few c.new-comparing.result start.uuids start.left
+    compared-until c.args.keys.now c.args.repeated.items places seen beyond are c.requires.covers start.few
+    c.new-comparing.result start.uuids start.left
     c.new-versions.result start.taken c.new-versions.ensures.repeated c.new-versions.ensures.taken
     c.take_places.new.taker c.in-Err.fault (at_told _ _ places told c.in-Err.ensures.err other own))

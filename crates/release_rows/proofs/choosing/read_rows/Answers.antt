@@ -12,7 +12,8 @@ use Rattle.release_rows.proofs.choosing.read_rows.Goals as goal
 -- if the first pass takes all places, what `choose_rows` answers is read from the places
 pub returns-in-Ok-clause-ok : goal.returns-in-Ok-clause-ok
 returns-in-Ok-clause-ok g c = if_told _ (g.P.PlaceSource.places c.args.files.now) (λ places told.
-    if_ok _ _ c.choose_rows.result (λ read said. read_unmarked c.args.limits places read.count (listed_in read.lists) (said c.args.limits
+    if_ok _ _ c.choose_rows.result
+    (λ read said. read_unmarked c.args.limits places read.count (listed_in read.lists) (said c.args.limits
     (seen-whole c.args.limits c.new-rows.result c.take_places.new.taker places c.new-rows.ensures
     (at_told _ _ places told c.in-Ok.ensures.ok))))
     (at_told _ _ places (c.in-Ok.ensures.places ∙ told) c.choose_rows.ensures.ok))
@@ -37,13 +38,14 @@ returns-in-Err-clause-err g c = if_told _ (g.P.PlaceSource.places c.args.files.n
 -- was counted
 pub returns-in-Err-clause-device : goal.returns-in-Err-clause-device
 returns-in-Err-clause-device g c device = elim (cases_Bool (is_device c.in-Err.fault)) [
-  | inl own ↦ rw ((c.first_of_faults.ensures.stays own).0, (c.first_of_faults.ensures.stays own).1) (c.in-Err.ensures.device own)
+  | inl own ↦ rw ((c.first_of_faults.ensures.stays own).0, (c.first_of_faults.ensures.stays own).1)
+      (c.in-Err.ensures.device own)
   | inr other ↦
       fails_since (g.P.PlaceSource.asked c.args.files.now).names (g.P.PlaceSource.asked c.take_places.new.self).names
       (g.P.PlaceSource.history c.args.files.now) (g.P.PlaceSource.history c.take_places.new.self)
       (g.P.PlaceSource.history c.first_of_faults.new.files) c.first_of_faults.result
       (ap (λ (asked : AskedFiles). asked.names) c.in-Err.ensures.asked)
-      (c.in-Err.ensures.calm other) (c.first_of_faults.ensures.device other device)
+      (c.in-Err.ensures.failure_is_device other) (c.first_of_faults.ensures.device other device)
 ]
 
 -- if the first pass stops, the fault that is answered names one of the files
@@ -54,8 +56,8 @@ returns-in-Err-clause-named g c =
     (c.first_of_faults.ensures.named (subst (Names c.in-Err.fault) (sym c.in-Err.ensures.asked) c.in-Err.ensures.named))
 
 -- if the first pass stops, the count of failures rises only if the answer is a failure of the device
-pub returns-in-Err-clause-calm : goal.returns-in-Err-clause-calm
-returns-in-Err-clause-calm g c other =
+pub returns-in-Err-clause-failure_is_device : goal.returns-in-Err-clause-failure_is_device
+returns-in-Err-clause-failure_is_device g c other =
     let own = false_from_ne_true _ (λ device.
     false≢true (sym other ∙ ap is_device (c.first_of_faults.ensures.stays device).0 ∙ device)) in
-    c.first_of_faults.ensures.calm other ∙ c.in-Err.ensures.calm own
+    c.first_of_faults.ensures.failure_is_device other ∙ c.in-Err.ensures.failure_is_device own

@@ -3,7 +3,9 @@ use Rattle.release_files.proofs.HeldLemmas.{ReadsOn-trans}
 use Rattle.release_files.specs.Lines.{line_text, lines_of}
 use Rattle.release_files.specs.PieceLines.{lines_to_come}
 use Rattle.release_rows.proofs.TakingLemmas.{stops_first}
-use Rattle.release_rows.proofs.PiecesLemmas.{cut_bytes, cut_reachable, cut_short, device_failed, device_fails, fails_from, few_lines, gave_line, gave_none, gives_next, goes_lines, goes_none, reads_most}
+use Rattle.release_rows.proofs.PiecesLemmas.{cut_bytes, cut_reachable, cut_short, device_failed, device_fails}
+use Rattle.release_rows.proofs.PiecesLemmas.{fails_from, few_lines, gave_line, gave_none, gives_next, goes_lines}
+use Rattle.release_rows.proofs.PiecesLemmas.{goes_none, reads_most}
 use Rattle.release_rows.proofs.pieces.take_opened.Goals as goal
 
 -- if the first line is refused, going over the places of the file stops there
@@ -39,7 +41,8 @@ returns-in-Ok-clause-goes g c bytes told short =
     sym lines ∙ gave.cut in
     goes_lines g.T.PlaceTaker.takes g.T.PlaceTaker.refuses c.args.file c.args.kind _ _
     (lines_of (take (c.args.byte_limit + 1) bytes)) (line_text c.in-Ok-Some.first) others cut
-    (λ fault failed. fails_from c.args.file (H c.args.source.now) (H c.next_line.new.source) (H c.take_later.new.source) fault c.in-Ok-Some.ensures.failures failed)
+    (λ fault failed. fails_from c.args.file (H c.args.source.now) (H c.next_line.new.source) (H c.take_later.new.source)
+    fault c.in-Ok-Some.ensures.failures failed)
     c.args.taker.now c.take.new.self c.take_later.new.taker c.in-Ok.ensures.ok c.take_later.result
     (c.take_later.ensures.goes gave.now gave.told
     (few_lines c.saturating_add-limit.result bytes (line_text c.in-Ok-Some.first) others
@@ -63,7 +66,8 @@ returns-in-Ok-None-clause-goes g c bytes told short =
 pub returns-in-Err-clause-goes : goal.returns-in-Err-clause-goes
 returns-in-Err-clause-goes g c bytes told short other =
     let H = g.S.FileSource.history in
-    inl (device_fails c.args.file (H c.args.source.now) (H c.args.source.now) (H c.next_line.new.source) c.in-Err.fault c.fault_of.result c.in-Err.ensures.failures refl
+    inl (device_fails c.args.file (H c.args.source.now) (H c.args.source.now) (H c.next_line.new.source) c.in-Err.fault
+    c.fault_of.result c.in-Err.ensures.failures refl
     c.fault_of.ensures other)
 
 -- if the first line is refused, the source has taken no more bytes than may be read
@@ -91,4 +95,5 @@ returns-in-Err-clause-bounded g c = reads_most _ _ _ _ _ c.next_line.follows.hol
 pub returns-in-Err-clause-failed : goal.returns-in-Err-clause-failed
 returns-in-Err-clause-failed g c device =
     let H = g.S.FileSource.history in
-    device_failed c.args.file (H c.args.source.now) (H c.next_line.new.source) c.in-Err.fault c.fault_of.result c.in-Err.ensures.failures c.fault_of.ensures device
+    device_failed c.args.file (H c.args.source.now) (H c.next_line.new.source) c.in-Err.fault c.fault_of.result
+    c.in-Err.ensures.failures c.fault_of.ensures device

@@ -19,7 +19,12 @@ loop-file-preserved g c =
 
 -- after the last file all places have been taken
 pub returns-clause-ok : goal.returns-clause-ok
-returns-clause-ok g c = grind (arith, Leads-end, (places_from-end c.loop-file.file c.args.files.now c.loop-file-test.false), c.loop-file.invariant)
+returns-clause-ok g c = grind (
+  arith,
+  Leads-end,
+  (places_from-end c.loop-file.file c.args.files.now c.loop-file-test.false),
+  c.loop-file.invariant,
+)
 
 -- if a place of a file is refused, going over all places stops there
 pub returns-in-Err-clause-err : goal.returns-in-Err-clause-err

@@ -1,4 +1,5 @@
-use Rattle.std.proofs.Common.{ℕ, ◌≡◌, ◌≤◌, ◌-◌, ◌++◌, ◌↔◌, ◌∙◌, List, ap, arith, filter, length, length-append, nat_lt, not, subst, sym}
+use Rattle.std.proofs.Common.{ℕ, ◌≡◌, ◌≤◌, ◌-◌, ◌++◌, ◌↔◌, ◌∙◌, List, ap, arith, filter, length, length-append, nat_lt}
+use Rattle.std.proofs.Common.{not, subst, sym}
 use Rattle.number_lists.specs.Members.{times}
 use Rattle.release_rows.proofs.NeighbourLemmas.{length-sides, twice_on_a_side}
 use Rattle.release_rows.proofs.repeated.again_keys.Goals as goal
@@ -8,8 +9,8 @@ bound : ℕ
 bound = 12223372036854775808
 
 -- if few keys are late, the equal neighbours of the sorted doubtful keys are the keys that occur twice
-pub returns-then-few_are_behind-clause-members : goal.returns-then-few_are_behind-clause-members
-returns-then-few_are_behind-clause-members c = λ key.
+pub returns-then-few_are_after-clause-members : goal.returns-then-few_are_after-clause-members
+returns-then-few_are_after-clause-members c = λ key.
     let less = c.in_ok-again.ensures.times key in
     let twice = c.in_ok-doubtful.ensures.twice key in
     ((λ some. twice.0 (omega (arith, some, less))), (λ two. let more = twice.1 two in omega (arith, more, less)))
@@ -28,7 +29,8 @@ returns-clause-members c = λ key.
     c.in_ok-others-2.ensures.times key ∙ ap (λ (keys : List ℕ). times key keys - 1) c.in_ok-others.ensures in
     let all : c.extend_from_slice.new.self.items ≡ low ++ high =
     c.in_ok-extend_from_slice.ensures.items ∙ ap (λ (others : List ℕ). low ++ others) c.as_slice.ensures.value in
-    subst (λ (again : List ℕ). (1 ≤ times key again) ↔ (2 ≤ times key keys)) (sym all) (twice_on_a_side bound keys low high lows highs key)
+    subst (λ (again : List ℕ). (1 ≤ times key again) ↔ (2 ≤ times key keys)) (sym all)
+    (twice_on_a_side bound keys low high lows highs key)
 
 -- no more keys are found than the list has
 pub returns-clause-few : goal.returns-clause-few

@@ -15,10 +15,17 @@ new-requires c = rw (dedup_is nat_eq c.sort_unstable.new.self.items c.dedup.new.
 -- a key occurs twice among the doubtful keys exactly if it does in the list, and the list has at least as many keys
 pub returns : goal.returns
 returns c =
-    let once = dedup_is nat_eq c.sort_unstable.new.self.items c.dedup.new.self.items c.dedup.ensures.filtered in record {
+    let once = dedup_is nat_eq c.sort_unstable.new.self.items c.dedup.new.self.items c.dedup.ensures.filtered in
+    record {
       twice = λ key.
           rw c.in_ok-doubtful.ensures
-          (twice_among c.args.keys.now c.in_ok-behind.behind.items c.sort_unstable.new.self.items c.new.result
-          c.in_ok-behind.ensures c.sort_unstable.ensures.permutation (c.new.ensures ∙ once) key);
-      few = grind (arith, common_steps, length-filter (has c.new.result) c.args.keys.now, count_by-le-length (has c.new.result) c.args.keys.now);
+          (twice_among c.args.keys.now c.in_ok-following.following.items c.sort_unstable.new.self.items c.new.result
+          c.in_ok-following.ensures c.sort_unstable.ensures.permutation (c.new.ensures ∙ once) key);
+      few = grind (
+        arith,
+        common_steps,
+        length-filter (has c.new.result) c.args.keys.now,
+        count_by-le-length
+            (has c.new.result) c.args.keys.now,
+      );
     }

@@ -5,14 +5,16 @@ use Rattle.release_rows.proofs.repeated.repeated_keys.Goals as goal
 
 -- if the keys rise, no key occurs twice, and the empty list has all that do
 pub returns-then-rises-clause-members : goal.returns-then-rises-clause-members
-returns-then-rises-clause-members c = λ key. grind (arith, c.new.ensures.items, rising_once c.args.keys.now c.if-rises.ensures key)
+returns-then-rises-clause-members c =
+    λ key. grind (arith, c.new.ensures.items, rising_once c.args.keys.now c.if-rises.ensures key)
 
 -- the sorted repeated keys without repetitions rise, are the keys that occur twice, and are no more than the list has
 pub returns : goal.returns
 returns c =
     let sorted = c.sort_unstable.new.self.items in
     let are = dedup_is nat_eq sorted c.dedup.new.self.items c.dedup.ensures.filtered in record {
-      rising = once_rises c.in_ok-repeated.repeated.items sorted c.dedup.new.self.items c.sort_unstable.ensures.permutation c.sort_unstable.ensures.sorted are;
+      rising = once_rises c.in_ok-repeated.repeated.items sorted c.dedup.new.self.items
+          c.sort_unstable.ensures.permutation c.sort_unstable.ensures.sorted are;
       members = λ key.
           let once = once_members c.in_ok-repeated.repeated.items sorted c.dedup.new.self.items
           c.sort_unstable.ensures.permutation c.sort_unstable.ensures.sorted are key in

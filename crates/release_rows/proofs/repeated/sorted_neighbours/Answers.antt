@@ -8,7 +8,8 @@ use Rattle.release_rows.proofs.repeated.sorted_neighbours.Goals as goal
 pub returns-clause-times : goal.returns-clause-times
 returns-clause-times c = λ key.
     ap (times key) (c.in_ok-again.ensures ∙ ap equal_neighbours c.as_slice.ensures.value)
-    ∙ times_again c.args.keys.items c.sort_unstable.new.self.items c.sort_unstable.ensures.permutation c.sort_unstable.ensures.sorted key
+    ∙ times_again c.args.keys.items c.sort_unstable.new.self.items c.sort_unstable.ensures.permutation
+    c.sort_unstable.ensures.sorted key
 
 -- the equal neighbours are no more than the keys
 pub returns-clause-few : goal.returns-clause-few

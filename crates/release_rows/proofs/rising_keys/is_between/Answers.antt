@@ -3,7 +3,8 @@ use Rattle.std.proofs.lemmas.Grind.{common_steps}
 use Rattle.std.proofs.lemmas.Bool.Decides.{nat_tests}
 use Rattle.number_lists.proofs.IncreasingLemmas.{has-between}
 use Rattle.release_rows.proofs.rising_keys.is_between.Goals as goal
-use Rattle.release_rows.proofs.rising_keys.is_between.Goals.{then-place-rising+then-place-eq0, then-place-rising+else-place-eq0, else-place-rising}
+use Rattle.release_rows.proofs.rising_keys.is_between.Goals.{then-place-rising+then-place-eq0}
+use Rattle.release_rows.proofs.rising_keys.is_between.Goals.{then-place-rising+else-place-eq0, else-place-rising}
 
 -- a key below the first key is not in the list
 pub returns-then-place-rising-2 : goal.returns-then-place-rising-2
@@ -11,4 +12,5 @@ returns-then-place-rising-2 c = grind (arith, common_steps, nat_tests, has-betwe
 
 -- a key above the one before `place` and below the one at `place` is not in the list
 pub returns-else-place-rising-2 : goal.returns-else-place-rising-2
-returns-else-place-rising-2 c = grind (arith, common_steps, nat_tests, has-between c.args.rising.now c.requires c.args.key c.args.place)
+returns-else-place-rising-2 c =
+    grind (arith, common_steps, nat_tests, has-between c.args.rising.now c.requires c.args.key c.args.place)

@@ -6,11 +6,13 @@ use Rattle.release_rows.proofs.versions.find_latest.Goals.{then-index-code, else
 
 -- the key of the version has an index in `latest` that can be read
 pub index-requires : goal.index-requires
-index-requires c = grind (arith, c.requires c.loop-number.number no_version, c.code_and_place-code.ensures.code no_version)
+index-requires c = grind
+    (arith, c.requires c.loop-number.number no_version, c.code_and_place-code.ensures.code no_version)
 
 -- the key of the version has an index in `latest` that can be written
 pub index_mut-requires : goal.index_mut-requires
-index_mut-requires c = grind (arith, c.requires c.loop-number.number no_version, c.code_and_place-code.ensures.code no_version)
+index_mut-requires c = grind
+    (arith, c.requires c.loop-number.number no_version, c.code_and_place-code.ensures.code no_version)
 
 -- after one more version, `latest` has the greatest code of each key so far
 pub loop-number-preserved : goal.loop-number-preserved
@@ -20,8 +22,10 @@ loop-number-preserved c =
     let number = c.loop-number.number in
     let code = c.code_and_place-code.result.0 in
     let within : number < length versions = omega arith in
-    let among : code / 2 ^ 32 < length latest = grind (arith, c.requires number no_version, c.code_and_place-code.ensures.code no_version) in
-    let takes = latest_takes latest versions number no_version within c.loop-number.invariant.1 code (c.code_and_place-code.ensures.code no_version) among in
+    let among : code / 2 ^ 32 < length latest =
+    grind (arith, c.requires number no_version, c.code_and_place-code.ensures.code no_version) in
+    let takes = latest_takes latest versions number no_version within c.loop-number.invariant.1 code
+    (c.code_and_place-code.ensures.code no_version) among in
     grind (
       arith,
       common_steps,

@@ -8,11 +8,13 @@ use Rattle.release_rows.proofs.versions.leave_latest.Goals.{then-code-latest, el
 
 -- the key of the version has an index in `latest`
 pub bounds-latest-key_place : goal.bounds-latest-key_place
-bounds-latest-key_place c = grind (arith, c.requires.keys c.loop-number.number no_version, c.code_and_place-code.ensures.code no_version)
+bounds-latest-key_place c =
+    grind (arith, c.requires.keys c.loop-number.number no_version, c.code_and_place-code.ensures.code no_version)
 
 -- the first row of the version has a mark that can be written
 pub index_mut-requires : goal.index_mut-requires
-index_mut-requires c = grind (arith, c.requires.places c.loop-number.number no_version, c.code_and_place-code.ensures.place no_version)
+index_mut-requires c = grind
+    (arith, c.requires.places c.loop-number.number no_version, c.code_and_place-code.ensures.place no_version)
 
 -- after one more version, the marks lack those of the outdated versions so far
 pub loop-number-preserved : goal.loop-number-preserved
@@ -26,7 +28,8 @@ loop-number-preserved c =
     omega (arith, c.requires.places number no_version within, at.place no_version, c.loop-number.invariant.0) in
     let more = without_more chosen c.args.chosen.now.items versions number no_version within
     c.loop-number.invariant.1 c.code_and_place-code.result.1 (at.place no_version) placed in
-    let keeps = without_keeps chosen c.args.chosen.now.items versions number no_version within c.loop-number.invariant.1 in
+    let keeps = without_keeps chosen c.args.chosen.now.items versions number no_version within
+    c.loop-number.invariant.1 in
     grind (
       arith,
       common_steps,

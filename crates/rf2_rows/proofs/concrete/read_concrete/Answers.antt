@@ -26,4 +26,9 @@ returns-in_err-end c = grind (arith, concrete_fault c.args.fields.now c.if-field
 
 -- if all columns are accepted, the row has their values
 pub returns : goal.returns
-returns c = grind (arith, concrete_fault c.args.fields.now c.if-fields-ne10.false, ten_texts c.args.fields.now c.if-fields-ne10.false)
+returns c = grind (
+  arith,
+  concrete_fault c.args.fields.now c.if-fields-ne10.false,
+  ten_texts c.args.fields.now
+      c.if-fields-ne10.false,
+)

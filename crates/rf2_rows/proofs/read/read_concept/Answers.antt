@@ -18,4 +18,9 @@ returns-in_err-definition_status_id c = grind (arith, concept_fault c.args.field
 
 -- if all columns are accepted, the row has their values
 pub returns : goal.returns
-returns c = grind (arith, concept_fault c.args.fields.now c.if-fields-ne5.false, five_texts c.args.fields.now c.if-fields-ne5.false)
+returns c = grind (
+  arith,
+  concept_fault c.args.fields.now c.if-fields-ne5.false,
+  five_texts c.args.fields.now
+      c.if-fields-ne5.false,
+)

@@ -14,4 +14,9 @@ returns-in_err-version c = grind (arith, description_fault c.args.fields.now c.i
 
 -- if the first four columns are accepted, the result of the remaining columns is that of the line
 pub returns : goal.returns
-returns c = grind (arith, description_fault c.args.fields.now c.if-fields-ne9.false, nine_texts c.args.fields.now c.if-fields-ne9.false)
+returns c = grind (
+  arith,
+  description_fault c.args.fields.now c.if-fields-ne9.false,
+  nine_texts c.args.fields.now
+      c.if-fields-ne9.false,
+)

@@ -22,4 +22,9 @@ returns-in_err-referenced_component_id c = grind (arith, member_fault c.args.fie
 
 -- if all columns are accepted, the row has their values
 pub returns : goal.returns
-returns c = grind (arith, member_fault c.args.fields.now c.if-fields-ne6.false, six_texts c.args.fields.now c.if-fields-ne6.false)
+returns c = grind (
+  arith,
+  member_fault c.args.fields.now c.if-fields-ne6.false,
+  six_texts c.args.fields.now
+      c.if-fields-ne6.false,
+)

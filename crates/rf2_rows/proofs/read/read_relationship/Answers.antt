@@ -26,4 +26,9 @@ returns-in_err-end c = grind (arith, relationship_fault c.args.fields.now c.if-f
 
 -- if all columns are accepted, the row has their values
 pub returns : goal.returns
-returns c = grind (arith, relationship_fault c.args.fields.now c.if-fields-ne10.false, ten_texts c.args.fields.now c.if-fields-ne10.false)
+returns c = grind (
+  arith,
+  relationship_fault c.args.fields.now c.if-fields-ne10.false,
+  ten_texts c.args.fields.now
+      c.if-fields-ne10.false,
+)

@@ -9,7 +9,8 @@ abbrev pub invariant-loop-left : goal.invariant-loop-left
 invariant-loop-left l =
     (l.start ≤ l.place) × (l.from ≤ l.place) × (l.place ≤ l.from + 64) × (l.start ≤ length l.line)
     × (l.left ≡ tabs_in l.line l.place (l.from + 64)) × NoTab l.line l.start l.place
-    × (texts_of l.fields.items ++ parts_from l.line l.start ≡ texts_of l.initial.fields.items ++ parts_from l.line l.initial.start)
+    × (texts_of l.fields.items ++ parts_from l.line l.start ≡ texts_of l.initial.fields.items
+    ++ parts_from l.line l.initial.start)
 
 -- the distance from `place` to the end of the 64 bytes gets less
 abbrev pub decreases-loop-left : goal.decreases-loop-left

@@ -7,7 +7,8 @@ use Rattle.rf2_rows.proofs.tabs.push_fields.Given as goal
 -- the fields found and the parts not yet cut make up the fields of the line
 abbrev pub invariant-loop-looked : goal.invariant-loop-looked
 invariant-loop-looked l =
-    (l.start ≤ l.looked) × (l.start ≤ length l.line) × NoTab l.line l.start l.looked × (texts_of l.fields.items ++ parts_from l.line l.start ≡ fields_of l.line)
+    (l.start ≤ l.looked) × (l.start ≤ length l.line) × NoTab l.line l.start l.looked
+    × (texts_of l.fields.items ++ parts_from l.line l.start ≡ fields_of l.line)
 
 -- the distance from `looked` to the end of the line gets less
 abbrev pub decreases-loop-looked : goal.decreases-loop-looked

@@ -1,5 +1,6 @@
 -- At each place the format is that of the column, and both texts are accepted in it.
-use Rattle.std.proofs.Common.{◌≡◌, ℕ, ◌+◌, ◌<◌, ◌&&◌, Bool, true, List, [], ◌≤◌, length, get_or, drop, map, None, refl, sym, ap, ◌∙◌, arith}
+use Rattle.std.proofs.Common.{◌≡◌, ℕ, ◌+◌, ◌<◌, ◌&&◌, Bool, true, List, [], ◌≤◌, length, get_or, drop, map, None, refl}
+use Rattle.std.proofs.Common.{sym, ap, ◌∙◌, arith}
 use Rattle.std.specs.Borrow.{Bor}
 use Rattle.std.proofs.Math.ListN.{get_or-map, length-map}
 use Rattle.std.proofs.lemmas.List.{drop_all, drop_more}
@@ -24,7 +25,8 @@ few_columns kind = grind arith
 abbrev named_at : List Named → ℕ → Named
 named_at names place = get_or names place (Id Concept)
 
-module _ (kind : FileKind) (names : List Named) (are : map format_of names ≡ map (λ column. column.format) (columns_of kind)) where
+module _ (kind : FileKind) (names : List Named)
+    (are : map format_of names ≡ map (λ column. column.format) (columns_of kind)) where
   -- there is one format name for each column of the kind
   as_many : length names ≡ length (columns_of kind)
   as_many = sym (length-map names format_of) ∙ ap length are ∙ length-map (columns_of kind) (λ column. column.format)
@@ -37,17 +39,26 @@ module _ (kind : FileKind) (names : List Named) (are : map format_of names ≡ m
       ∙ get_or-map (λ (column : Column). column.format) (columns_of kind) place (column [] (id_format Concept))
 
   -- accepted fields have a field for each name
-  within : (fields : List (Bor (List ℕ))) (place : ℕ) → fields_fault kind (texts_of fields) ≡ None → place < length names → place < length fields
+  within : (fields : List (Bor (List ℕ))) (place : ℕ) → fields_fault kind (texts_of fields) ≡ None
+      → place < length names → place < length fields
   within fields place accepted inside =
-      omega (arith, as_many, width_of_fields kind (texts_of fields) accepted, length-map fields (λ (field : Bor (List ℕ)). field.now))
+      omega (
+        arith,
+        as_many,
+        width_of_fields kind (texts_of fields) accepted,
+        length-map fields
+            (λ (field : Bor (List ℕ)). field.now),
+      )
 
   -- the text at a place of accepted fields is accepted in its column
   accepted_there : (fields : List (Bor (List ℕ))) (place : ℕ) → fields_fault kind (texts_of fields) ≡ None
       → place < length names → cause_of (format_of (named_at names place)) (text_at fields place) ≡ None
   accepted_there fields place accepted inside =
-      rw (named place, ← get_or-texts_of fields place) (accepted_at kind (texts_of fields) place accepted (omega (arith, as_many)))
+      rw (named place, ← get_or-texts_of fields place)
+      (accepted_at kind (texts_of fields) place accepted (omega (arith, as_many)))
 
-  module _ (ones others : List (Bor (List ℕ))) (accepted : fields_fault kind (texts_of ones) ≡ None) (also : fields_fault kind (texts_of others) ≡ None) where
+  module _ (ones others : List (Bor (List ℕ))) (accepted : fields_fault kind (texts_of ones) ≡ None)
+      (also : fields_fault kind (texts_of others) ≡ None) where
     -- the fields from a place on are one exactly if the values at the place are one and the fields after it are
     decides : (place : ℕ) (same : Bool) → place < length names
         → same ≡ same_value (format_of (named_at names place)) (text_at ones place) (text_at others place)
@@ -68,7 +79,8 @@ module _ (kind : FileKind) (names : List Named) (are : map format_of names ≡ m
         ) refl
 
     -- after the last place nothing is left that could differ
-    decided : (place : ℕ) → length names ≡ place → same_values (drop place (columns_of kind)) (drop place (texts_of ones)) (drop place (texts_of others)) ≡ true
+    decided : (place : ℕ) → length names ≡ place
+        → same_values (drop place (columns_of kind)) (drop place (texts_of ones)) (drop place (texts_of others)) ≡ true
     decided place all =
         let width = width_of_fields kind (texts_of ones) accepted in
         let width_also = width_of_fields kind (texts_of others) also in

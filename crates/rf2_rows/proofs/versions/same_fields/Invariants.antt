@@ -8,4 +8,5 @@ use Rattle.rf2_rows.proofs.versions.same_fields.Given as goal
 abbrev pub invariant-loop-place : goal.invariant-loop-place
 invariant-loop-place l =
     same_values (columns_of l.fn.kind) (texts_of l.ones) (texts_of l.others)
-    ≡ same_values (drop l.place (columns_of l.fn.kind)) (drop l.place (texts_of l.ones)) (drop l.place (texts_of l.others))
+    ≡ same_values (drop l.place (columns_of l.fn.kind)) (drop l.place (texts_of l.ones))
+    (drop l.place (texts_of l.others))

@@ -6,4 +6,5 @@ use Rattle.row_lists.proofs.row_lists.chosen_items.Given as goal
 -- the items chosen so far, followed by the chosen items still to come, are all chosen items
 abbrev pub invariant-loop-place : goal.invariant-loop-place
 invariant-loop-place g l =
-    items_chosen (in_list l.list l.marks) l.choices l.items ≡ l.chosen.items ++ to_come l.list l.marks l.choices l.place l.left
+    items_chosen (in_list l.list l.marks) l.choices l.items ≡ l.chosen.items ++ to_come l.list l.marks l.choices l.place
+    l.left

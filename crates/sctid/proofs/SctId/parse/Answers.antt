@@ -9,7 +9,8 @@ pub invariant_of-result : goal.invariant_of-result
 invariant_of-result c =
     let read = c.in-Some.ensures in
     let text = c.args.text.now in
-    let text_is = ap decimal read.number ∙ decimal_of_text text (omega arith) (omega arith) (sym read.digits) (omega arith) in
+    let text_is = ap decimal read.number
+    ∙ decimal_of_text text (omega arith) (omega arith) (sym read.digits) (omega arith) in
     let valid : fault_of text ≡ None = grind (arith, nat_tests) in
     (read.small, ap fault_of text_is ∙ valid)
 

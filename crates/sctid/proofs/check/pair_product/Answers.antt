@@ -9,10 +9,16 @@ pub returns : goal.returns
 returns c =
     let index = c.args.index in
     let pair = c.args.pair in
-    let product = ap (slice_index (slice_index_or PAIR_PRODUCTS index [])) c.from.ensures ∙ table-pair index pair c.requires.index c.requires.pair in
+    let product = ap (slice_index (slice_index_or PAIR_PRODUCTS index [])) c.from.ensures
+    ∙ table-pair index pair c.requires.index c.requires.pair in
     let right_in = permuted-lt (2 * index) (pair % 10) (omega arith) in
     let left_in = permuted-lt (2 * index + 1) (pair / 10) (omega arith) in
     record {
       product = product;
-      element = omega (arith, product, times-lt (permuted (2 * index) (pair % 10)) (permuted (2 * index + 1) (pair / 10)) right_in left_in);
+      element = omega (
+        arith,
+        product,
+        times-lt (permuted (2 * index) (pair % 10))
+            (permuted (2 * index + 1) (pair / 10)) right_in left_in,
+      );
     }

@@ -31,7 +31,8 @@ pub returns-then-not-is_digits-clause-digits : goal.returns-then-not-is_digits-c
 returns-then-not-is_digits-clause-digits c =
     let text = c.args.text.now in
     let i = c.loop-block.block-index in
-    let read = block_is text c.as_rchunks.result.1.now i (omega (arith, c.as_rchunks.ensures.back_len)) c.as_rchunks.ensures.back in
+    let read = block_is text c.as_rchunks.result.1.now i (omega (arith, c.as_rchunks.ensures.back_len))
+    c.as_rchunks.ensures.back in
     let block = ap (list_all is_ascii_digit) (sym read) ∙ sym c.if-not-is_digits.ensures in
     sym (not_digits text (length text % 8 + 8 * (i + 1)) (digits-block text i c.loop-block.invariant.digits ∙ block))
 
@@ -40,7 +41,11 @@ pub overflow_mul-read : goal.overflow_mul-read
 overflow_mul-read c =
     let text = c.args.text.now in
     let i = c.loop-block.block-index in
-    omega (arith, front_small text (length text % 8 + 8 * i) 10 (omega (arith, c.as_rchunks.ensures.back_len)) c.loop-block.invariant.digits)
+    omega (
+      arith,
+      front_small text (length text % 8 + 8 * i) 10 (omega (arith, c.as_rchunks.ensures.back_len))
+          c.loop-block.invariant.digits,
+    )
 
 -- the number with the next block fits into 64 bits
 pub overflow_add-read : goal.overflow_add-read
@@ -52,7 +57,12 @@ overflow_add-read c =
     let block = ap (list_all is_ascii_digit) (sym read) ∙ sym c.if-not-is_digits.ensures in
     let more = digits-block text i c.loop-block.invariant.digits ∙ block in
     let number = c.read_block-right.ensures.number ∙ ap (digits_value 10) read in
-    omega (arith, value-block text i within block, front_small text (length text % 8 + 8 * (i + 1)) 18 (omega (arith, c.as_rchunks.ensures.back_len)) more)
+    omega (
+      arith,
+      value-block text i within block,
+      front_small text (length text % 8 + 8 * (i + 1)) 18
+          (omega (arith, c.as_rchunks.ensures.back_len)) more,
+    )
 
 -- the check products of the block and of the text so far are elements
 pub times-requires : goal.times-requires
@@ -60,7 +70,12 @@ times-requires c =
     let text = c.args.text.now in
     let i = c.loop-block.block-index in
     record {
-      left = omega (arith, c.read_block-right.ensures.product, check_product-lt (get_or c.as_rchunks.result.1.now i []) (sym c.if-not-is_digits.ensures));
+      left = omega (
+        arith,
+        c.read_block-right.ensures.product,
+        check_product-lt (get_or c.as_rchunks.result.1.now i [])
+            (sym c.if-not-is_digits.ensures),
+      );
       right = omega (arith, check_product-lt (so_far text i) c.loop-block.invariant.digits);
     }
 

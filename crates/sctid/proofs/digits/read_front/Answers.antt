@@ -55,7 +55,8 @@ loop-byte-preserved c =
       place = omega arith;
       element = c.times-product.ensures.element;
       product = λ all.
-          check_product-more text i place so_far c.loop-byte-test.true all (omega arith) c.loop-byte.invariant.element (c.loop-byte.invariant.product all)
+          check_product-more text i place so_far c.loop-byte-test.true all (omega arith) c.loop-byte.invariant.element
+          (c.loop-byte.invariant.product all)
           ∙ ap (times (check_product (drop (i + 1) text))) (sym product_is);
     }
 
@@ -64,7 +65,8 @@ pub returns-clause-product : goal.returns-clause-product
 returns-clause-product c =
     let text = c.args.text.now in
     let i = c.loop-byte.byte-index in
-    let all : list_all is_ascii_digit text ≡ true = rw (take_all i text c.loop-byte-test.false) at c.loop-byte.invariant.digits in
+    let all : list_all is_ascii_digit text ≡ true =
+    rw (take_all i text c.loop-byte-test.false) at c.loop-byte.invariant.digits in
     sym (c.loop-byte.invariant.product all
     ∙ ap (λ p. times p c.loop-byte.product) (at_drop_all check_product text i c.loop-byte-test.false)
     ∙ zero-times c.loop-byte.product c.loop-byte.invariant.element)

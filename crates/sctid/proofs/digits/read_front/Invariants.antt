@@ -13,5 +13,6 @@ invariant-loop-byte l = record {
   value : l.number ≡ digits_value 10 (take l.byte-index l.text);
   place : l.place + l.byte-index ≡ length l.text;
   element : l.product < 10;
-  product : list_all is_ascii_digit l.text ≡ true → check_product l.text ≡ times (check_product (drop l.byte-index l.text)) l.product;
+  product : list_all is_ascii_digit l.text ≡ true
+      → check_product l.text ≡ times (check_product (drop l.byte-index l.text)) l.product;
 }

@@ -10,4 +10,5 @@ returns-clause-same c = lowered_depth
 -- the plan of each text that is a constraint is at most `most_deep` deep
 pub returns-clause-most : goal.returns-clause-most
 returns-clause-most c = λ text tree constraint.
-    subst (λ (depth : ℕ). depth ≤ most_deep) (sym (lowered_depth tree)) (c.constraints_are_not_deep.ensures text tree constraint)
+    subst (λ (depth : ℕ). depth ≤ most_deep) (sym (lowered_depth tree))
+    (c.constraints_are_not_deep.ensures text tree constraint)

@@ -9,7 +9,7 @@ returns-clause-attribute c = refl
 pub returns-clause-number : goal.returns-clause-number
 returns-clause-number c = refl
 
--- the plan of a query with braces has the conjunction of two plans of groups inside `units_plan`
+-- the plan of a query with braces has the conjunction of two plans of groups inside `groups_plan`
 pub returns-clause-braces : goal.returns-clause-braces
 returns-clause-braces c = refl
 

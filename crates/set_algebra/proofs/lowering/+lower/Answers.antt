@@ -19,21 +19,24 @@ each-loop-part-preserved t c =
 pub each_satisfying-loop-part-preserved : goal.each_satisfying-loop-part-preserved
 each_satisfying-loop-part-preserved t c =
     plans_more _ _ _ _ _ _ c.in_ok-push.ensures.items
-    (lowered_refinements_so_far c.args.parts.now c.loop-part.part-index c.part-item.result c.loop-part-test.true c.part-item.is)
+    (lowered_refinements_so_far c.args.parts.now c.loop-part.part-index c.part-item.result c.loop-part-test.true
+    c.part-item.is)
     c.loop-part.invariant c.in_ok-plan.ensures
 
 -- the loop of `each_groups` keeps its invariant: the plans made so far are those of the attribute sets read so far
 pub each_groups-loop-part-preserved : goal.each_groups-loop-part-preserved
 each_groups-loop-part-preserved t c =
     groups_more _ _ _ _ _ _ c.in_ok-push.ensures.items
-    (lowered_sets_so_far c.args.parts.now c.loop-part.part-index c.part-item.result c.loop-part-test.true c.part-item.is)
+    (lowered_sets_so_far c.args.parts.now c.loop-part.part-index c.part-item.result c.loop-part-test.true
+    c.part-item.is)
     c.loop-part.invariant c.in_ok-plan.ensures
 
 -- `concepts` makes of a dotted constraint the plan that `lowered` gives
 pub concepts-returns-in_ok-each-in-Dotted : goal.concepts-returns-in_ok-each-in-Dotted
 concepts-returns-in_ok-each-in-Dotted t c =
     let start_is = ap (λ (start : Constraint). lowered (tree_of start)) c.deref-in-Dotted.ensures in
-    let names_are = ap (λ (names : List Constraint). lowered_trees (trees_of names)) c.deref-in-Dotted-2.ensures.value in
+    let names_are = ap (λ (names : List Constraint). lowered_trees (trees_of names))
+    c.deref-in-Dotted-2.ensures.value in
     values_made c.in_ok-start-in-Dotted.start c.in_ok-each-in-Dotted.field-0 _ _
     (c.in_ok-start-in-Dotted.ensures ∙ start_is) (c.in_ok-each-in-Dotted.ensures ∙ names_are)
     ∙ sym (ap lowered (ap tree_of c.in-Dotted.is ∙ tree_of-Dotted c.in-Dotted.start c.in-Dotted.names))

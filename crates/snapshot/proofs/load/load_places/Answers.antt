@@ -59,9 +59,9 @@ returns-in_ok-language-in-Ok-clause-device g c =
     c.finish.ensures.err
 
 -- a fault of finishing counts no failure
-pub returns-in_ok-language-in-Ok-clause-calm : goal.returns-in_ok-language-in-Ok-clause-calm
-returns-in_ok-language-in-Ok-clause-calm g c = raised_by_none (g.P.PlaceSource.history c.args.files.now)
-    (g.P.PlaceSource.history c.read_rows.new.files) c.finish.result c.in-Ok.ensures.calm
+pub returns-in_ok-language-in-Ok-clause-failure_is_device : goal.returns-in_ok-language-in-Ok-clause-failure_is_device
+returns-in_ok-language-in-Ok-clause-failure_is_device g c = raised_by_none (g.P.PlaceSource.history c.args.files.now)
+    (g.P.PlaceSource.history c.read_rows.new.files) c.finish.result c.in-Ok.ensures.failure_is_device
 
 -- a fault of finishing names no file that failed
 pub returns-in_ok-language-in-Ok-clause-kind : goal.returns-in_ok-language-in-Ok-clause-kind

@@ -1,5 +1,5 @@
 use Rattle.std.proofs.Common.{◌≡◌, ◌++◌, map, string_bytes, take}
-use Rattle.streams.specs.Walk.{numbered_name}
+use Rattle.streams.specs.Traversal.{numbered_name}
 use Rattle.streams.proofs.folder.add_numbered.Given as goal
 
 -- the list has the names before, and the names so far, each after the number

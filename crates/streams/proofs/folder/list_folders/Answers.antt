@@ -1,7 +1,7 @@
 use Rattle.std.proofs.Common.{◌≡◌, ◌≢◌, ◌∙◌, ap, arith, rules, get_or, length, map, string_bytes}
 use Rattle.std.proofs.lemmas.Option.{slice_get-get_or}
 use Rattle.std.proofs.lemmas.Result.{IfOk-weaker}
-use Rattle.streams.specs.Walk.{AreFilesBelow, AreFilesOf, AreFilesOfAll}
+use Rattle.streams.specs.Traversal.{AreFilesBelow, AreFilesOf, AreFilesOfAll}
 use Rattle.streams.proofs.folder.list_folders.Goals as goal
 
 -- if there is one folder, the names are the paths of its files

@@ -1,5 +1,5 @@
 use Rattle.std.proofs.Common.{◌≡◌, ◌+◌, ◌++◌, ℕ, List, Some, drop, map, string_bytes}
-use Rattle.streams.specs.Walk.{AreFilesOfAll, FolderTree}
+use Rattle.streams.specs.Traversal.{AreFilesOfAll, FolderTree}
 use Rattle.streams.proofs.folder.list_several.Given as goal
 
 -- the names listed so far, followed by those of the files of the folders ahead, are the names of all files

@@ -6,7 +6,7 @@ use Rattle.streams.proofs.output.write_all.Given as goal
 abbrev pub invariant-loop-at : goal.invariant-loop-at
 invariant-loop-at g l = record {
   within : l.at ≤ length l.bytes;
-  sound : g.W.AnswerOutput.has_failed l.output ≡ false;
+  not_failed : g.W.AnswerOutput.has_failed l.output ≡ false;
   bytes : Appends (g.W.AnswerOutput.written l.fn.output) (g.W.AnswerOutput.written l.output) (take l.at l.bytes);
 }
 

@@ -9,5 +9,6 @@ use Rattle.walks.proofs.reference_sets.components.Given as goal
 abbrev pub invariant-loop-refset : goal.invariant-loop-refset
 invariant-loop-refset l = record {
   found : l.found.items ≡ flat_map (list_of l.reader.indexes.now.members) (take l.refset-index l.refsets);
-  counted : CountsWithin (items_in l.reader.indexes.now.members (take l.refset-index l.refsets)) l.initial.visits l.visits;
+  counted : CountsWithin (items_in l.reader.indexes.now.members (take l.refset-index l.refsets)) l.initial.visits
+      l.visits;
 }

@@ -14,7 +14,8 @@ from_numbers-requires g c =
     let release = c.args.reader.snapshot.now.release in
     let refsets : List ℕ = c.args.refsets.now in
     let below : All (λ refset. refset < length release.concepts) refsets =
-    subst (λ (ids : List ℕ). All (λ refset. refset < length ids) refsets) c.args.reader.index.concepts c.requires.below in
+    subst (λ (ids : List ℕ). All (λ refset. refset < length ids) refsets) c.args.reader.index.concepts
+    c.requires.below in
     let found_are : c.as_slice.result.now ≡ flat_map (list_of (members_of release)) refsets =
     c.as_slice.ensures.value ∙ c.in_ok-found.ensures.items
     ∙ ap (λ (lists : List (List ℕ)). flat_map (list_of lists) refsets) c.args.reader.index.members in
@@ -28,7 +29,8 @@ returns-clause-items g c =
     let release = c.args.reader.snapshot.now.release in
     let refsets : List ℕ = c.args.refsets.now in
     let below : All (λ refset. refset < length release.concepts) refsets =
-    subst (λ (ids : List ℕ). All (λ refset. refset < length ids) refsets) c.args.reader.index.concepts c.requires.below in
+    subst (λ (ids : List ℕ). All (λ refset. refset < length ids) refsets) c.args.reader.index.concepts
+    c.requires.below in
     let found_are : c.as_slice.result.now ≡ flat_map (list_of (members_of release)) refsets =
     c.as_slice.ensures.value ∙ c.in_ok-found.ensures.items
     ∙ ap (λ (lists : List (List ℕ)). flat_map (list_of lists) refsets) c.args.reader.index.members in

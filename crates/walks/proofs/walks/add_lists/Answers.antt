@@ -9,7 +9,7 @@ use Rattle.number_lists.specs.Members.{has}
 use Rattle.reading.specs.Counted.{CountsWithin}
 use Rattle.reading.proofs.CountLemmas.{counted_both, counted_in, counted_none}
 use Rattle.walks.specs.Families.{items_in, lists_of}
-use Rattle.walks.specs.Led.{IsOver}
+use Rattle.walks.specs.Related.{IsOver}
 use Rattle.walks.specs.inside.Counts.{Spends}
 use Rattle.walks.specs.inside.Joined.{AreJoined, is_long, is_whole, with_length}
 use Rattle.walks.proofs.JoinedLemmas.{join_skipped, over_length, with_length_more, with_length_same}

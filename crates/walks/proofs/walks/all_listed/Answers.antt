@@ -7,7 +7,7 @@ use Rattle.walks.specs.Families.{lists_of}
 use Rattle.number_lists.proofs.RisingLemmas.{all_below}
 use Rattle.number_lists.specs.Rising.{IsRisingBelow}
 use Rattle.reading.proofs.CountLemmas.{counted_both, counted_in}
-use Rattle.walks.specs.Led.{IsOver}
+use Rattle.walks.specs.Related.{IsOver}
 use Rattle.walks.proofs.JoinedLemmas.{both_joined}
 use Rattle.walks.proofs.ReadLemmas.{parts_within}
 use Rattle.walks.proofs.walks.all_listed.Goals as goal
@@ -24,14 +24,17 @@ returns-clause-joined g c =
     λ n. ap (λ (xs : List ℕ). has xs n) c.in_ok-found.ensures.items in
     subst (λ (own : List ℕ). AreJoined lists own items) c.requires.concepts
     (both_joined lists concepts items
-    (c.in_ok-short.ensures.joined c.if-not-short.false (with_length lists true concepts) (c.in_ok-long.ensures.joined c.if-not-long.false [] none)))
+    (c.in_ok-short.ensures.joined c.if-not-short.false (with_length lists true concepts)
+    (c.in_ok-long.ensures.joined c.if-not-long.false [] none)))
 
 -- the concepts are below the bound of the set to which the long lists are added
 pub add_lists-requires-clause-below : goal.add_lists-requires-clause-below
 add_lists-requires-clause-below g c =
-    subst (λ (count : ℕ). All (λ concept. concept < count) c.args.concepts.now) (sym (c.in_ok-found.ensures.bound ∙ c.bound-count.ensures))
+    subst (λ (count : ℕ). All (λ concept. concept < count) c.args.concepts.now)
+    (sym (c.in_ok-found.ensures.bound ∙ c.bound-count.ensures))
     (subst (All (λ concept. concept < g.S.ConceptSet.bound_of c.args.operand.now)) (sym c.requires.concepts)
-    (all_below (g.S.ConceptSet.bound_of c.args.operand.now) (g.S.ConceptSet.items_of c.args.operand.now) (g.met.S.ConceptSet.rising c.args.operand.now)))
+    (all_below (g.S.ConceptSet.bound_of c.args.operand.now) (g.S.ConceptSet.items_of c.args.operand.now)
+    (g.met.S.ConceptSet.rising c.args.operand.now)))
 
 -- the concepts are below the bound of the set to which the short lists are added
 pub add_lists-requires-2-clause-below : goal.add_lists-requires-2-clause-below
@@ -39,14 +42,16 @@ add_lists-requires-2-clause-below g c =
     subst (λ (count : ℕ). All (λ concept. concept < count) c.args.concepts.now)
     (sym (c.add_lists.ensures.bound ∙ c.in_ok-found.ensures.bound ∙ c.bound-count.ensures))
     (subst (All (λ concept. concept < g.S.ConceptSet.bound_of c.args.operand.now)) (sym c.requires.concepts)
-    (all_below (g.S.ConceptSet.bound_of c.args.operand.now) (g.S.ConceptSet.items_of c.args.operand.now) (g.met.S.ConceptSet.rising c.args.operand.now)))
+    (all_below (g.S.ConceptSet.bound_of c.args.operand.now) (g.S.ConceptSet.items_of c.args.operand.now)
+    (g.met.S.ConceptSet.rising c.args.operand.now)))
 
 -- the concepts whose lists are measured are below the bound of `operand`
 pub has_more_items-requires-clause-below : goal.has_more_items-requires-clause-below
 has_more_items-requires-clause-below g c =
     subst (λ (count : ℕ). All (λ concept. concept < count) c.args.concepts.now) (sym c.bound-count.ensures)
     (subst (All (λ concept. concept < g.S.ConceptSet.bound_of c.args.operand.now)) (sym c.requires.concepts)
-    (all_below (g.S.ConceptSet.bound_of c.args.operand.now) (g.S.ConceptSet.items_of c.args.operand.now) (g.met.S.ConceptSet.rising c.args.operand.now)))
+    (all_below (g.S.ConceptSet.bound_of c.args.operand.now) (g.S.ConceptSet.items_of c.args.operand.now)
+    (g.met.S.ConceptSet.rising c.args.operand.now)))
 
 -- if memory is refused for the long lists, no more is counted than all lists have
 pub returns-in_err-long-clause-counted : goal.returns-in_err-long-clause-counted

@@ -12,8 +12,10 @@ use Rattle.walks.proofs.walks.apart.Goals as goal
 -- the items of the set are below its bound
 pub kept_apart-requires-clause-below : goal.kept_apart-requires-clause-below
 kept_apart-requires-clause-below g c =
-    subst (λ (items : List ℕ). All (λ item. item < g.S.ConceptSet.bound_of c.args.operand.now) items) (sym c.requires.concepts)
-    (all_below (g.S.ConceptSet.bound_of c.args.operand.now) (g.S.ConceptSet.items_of c.args.operand.now) (g.met.S.ConceptSet.rising c.args.operand.now))
+    subst (λ (items : List ℕ). All (λ item. item < g.S.ConceptSet.bound_of c.args.operand.now) items)
+    (sym c.requires.concepts)
+    (all_below (g.S.ConceptSet.bound_of c.args.operand.now) (g.S.ConceptSet.items_of c.args.operand.now)
+    (g.met.S.ConceptSet.rising c.args.operand.now))
 
 -- the items that are kept apart rise
 pub from_items-requires : goal.from_items-requires

@@ -21,5 +21,6 @@ returns-then-items-most-clause-few c =
       c.loop-concept.invariant,
       c.saturating_add-items.ensures,
       c.length.ensures,
-      sum_by_more_le (λ concept. length (list_of lists concept)) c.args.concepts.now c.loop-concept.concept-index 0 c.loop-concept-test.true,
+      sum_by_more_le (λ concept. length (list_of lists concept)) c.args.concepts.now c.loop-concept.concept-index 0
+          c.loop-concept-test.true,
     )

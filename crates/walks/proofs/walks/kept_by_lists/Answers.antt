@@ -1,4 +1,5 @@
-use Rattle.std.proofs.Common.{ℕ, List, Vec, Bool, ◌≡◌, ◌<◌, length, not, true, false, get_or, ◌∙◌, sym, ap, append-nil, arith}
+use Rattle.std.proofs.Common.{ℕ, List, Vec, Bool, ◌≡◌, ◌<◌, length, not, true, false, get_or, ◌∙◌, sym, ap, append-nil}
+use Rattle.std.proofs.Common.{arith}
 use Rattle.std.specs.Prelude.{filter}
 use Rattle.std.specs.List.{list_any}
 use Rattle.std.proofs.lemmas.List.{take_all}
@@ -16,7 +17,12 @@ pub list-requires : goal.list-requires
 list-requires g c =
     let below : get_or c.args.concepts.now c.loop-concept.concept-index 0 < g.S.ConceptSet.bound_of c.args.set.now =
     c.requires.below c.loop-concept.concept-index 0 c.loop-concept-test.true in
-    omega (arith, below, over_length (g.S.ConceptSet.bound_of c.args.set.now) c.args.reader.indexes.now.hierarchy c.requires.over c.args.family)
+    omega (
+      arith,
+      below,
+      over_length (g.S.ConceptSet.bound_of c.args.set.now) c.args.reader.indexes.now.hierarchy
+          c.requires.over c.args.family,
+    )
 
 -- the concept at hand is kept if its list has none of the set, and its list is counted
 pub loop-concept-preserved : goal.loop-concept-preserved

@@ -1,6 +1,6 @@
 use Rattle.std.proofs.Common.{ℕ, List, ◌≡◌, ◌<◌, ◌≤◌, ◌∷◌, [], ◌∙◌, length, get_or, refl, sym, arith}
 use Rattle.std.proofs.lemmas.Result.{IfOk-weaker}
-use Rattle.walks.specs.Led.{joined}
+use Rattle.walks.specs.Related.{joined}
 use Rattle.walks.specs.Families.{lists_of}
 use Rattle.std.proofs.lemmas.List.{nil_from_length}
 use Rattle.walks.proofs.JoinedLemmas.{joined_none}
@@ -24,14 +24,17 @@ pub returns-in-len1-clause-items : goal.returns-in-len1-clause-items
 returns-in-len1-clause-items g c =
     let only = only_item c.args.concepts.now c.in-len1.len_at_least c.in-len1.len_below ∙ c.requires.concepts in
     IfOk-weaker c.list_of_one.result _ _
-    (λ found same. same ∙ (λ i. joined (c.bound-in-len1.ensures i) (lists_of c.args.reader.indexes.now.hierarchy c.args.family) (only i)))
+    (λ found same. same ∙ (λ i. joined (c.bound-in-len1.ensures i)
+    (lists_of c.args.reader.indexes.now.hierarchy c.args.family) (only i)))
     c.list_of_one.ensures.items
 
 -- the joined lists of an empty set have no number
 pub returns-in-empty-clause-items : goal.returns-in-empty-clause-items
 returns-in-empty-clause-items g c = IfOk-weaker c.from_items.result _ _
     (λ found same.
-    same ∙ sym (joined_none (g.S.ConceptSet.bound_of c.args.operand.now) (lists_of c.args.reader.indexes.now.hierarchy c.args.family))
-    ∙ (λ i. joined (g.S.ConceptSet.bound_of c.args.operand.now) (lists_of c.args.reader.indexes.now.hierarchy c.args.family)
+    same ∙ sym (joined_none (g.S.ConceptSet.bound_of c.args.operand.now)
+    (lists_of c.args.reader.indexes.now.hierarchy c.args.family))
+    ∙ (λ i. joined (g.S.ConceptSet.bound_of c.args.operand.now)
+    (lists_of c.args.reader.indexes.now.hierarchy c.args.family)
     ((sym (nil_from_length c.args.concepts.now (omega arith)) ∙ c.requires.concepts) i)))
     c.from_items.ensures.items

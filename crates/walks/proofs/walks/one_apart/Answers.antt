@@ -2,7 +2,7 @@ use Rattle.std.proofs.Common.{◌∙◌, sym, arith}
 use Rattle.std.proofs.lemmas.Result.{IfOk-weaker}
 use Rattle.walks.specs.Families.{lists_of}
 use Rattle.walks.proofs.JoinedLemmas.{over_length}
-use Rattle.walks.proofs.LedLemmas.{none_left, one_left}
+use Rattle.walks.proofs.RelatedLemmas.{none_left, one_left}
 use Rattle.walks.proofs.walks.one_apart.Goals as goal
 
 -- the concept has a list in the family

@@ -9,7 +9,8 @@ use Rattle.walks.proofs.walks.union.Goals as goal
 -- the words of what was found mark numbers below the bound of `operand`
 pub from_words-requires : goal.from_words-requires
 from_words-requires g c =
-    subst (λ (count : ℕ). AreWordsBelow count c.words.result.now) (c.in_ok-found.ensures.bound ∙ sym c.bound.ensures) c.words.ensures.below
+    subst (λ (count : ℕ). AreWordsBelow count c.words.result.now) (c.in_ok-found.ensures.bound ∙ sym c.bound.ensures)
+    c.words.ensures.below
 
 -- the numbers that the words mark are the joined lists of the set
 pub returns-clause-items : goal.returns-clause-items
@@ -22,6 +23,7 @@ returns-clause-items g c =
     same
     ∙ (λ i. numbers_where ((c.bound.ensures ∙ sym c.in_ok-found.ensures.bound) i) (is_set c.words.result.now))
     ∙ sym c.words.ensures.items
-    ∙ all_joined count (lists_of c.args.reader.indexes.now.hierarchy c.args.family) (g.S.ConceptSet.items_of c.args.operand.now) items
+    ∙ all_joined count (lists_of c.args.reader.indexes.now.hierarchy c.args.family)
+    (g.S.ConceptSet.items_of c.args.operand.now) items
     (subst (λ (n : ℕ). IsRisingBelow n items) c.in_ok-found.ensures.bound found.rising) c.in_ok-found.ensures.joined)
     c.from_words.ensures.items

@@ -2,11 +2,12 @@ use Rattle.std.proofs.Common.{ℕ, ◌≡◌, ◌<◌, ◌^◌, ◌∙◌, List,
 use Rattle.std.specs.Prelude.{All}
 use Rattle.std.specs.List.Sorted.{IsStrictlyIncreasing}
 use Rattle.hierarchy.specs.Hierarchy.{IsWithin, reaches}
-use Rattle.number_lists.specs.KeyedLists.{turned, turned_from}
+use Rattle.number_lists.specs.KeyedLists.{transposed, transposed_from}
 use Rattle.number_lists.proofs.KeyedLemmas.{length-lists_by}
 use Rattle.ancestor_index.specs.HierarchyLists.{is_child, lists_where}
 use Rattle.ancestor_index.specs.Wide.{AreWide}
-use Rattle.ancestor_index.proofs.BuildLemmas.{ancestors_told, given_parents, hierarchy_told, order_count, turned_where, where_below}
+use Rattle.ancestor_index.proofs.BuildLemmas.{ancestors_told, given_parents, hierarchy_told, order_count}
+use Rattle.ancestor_index.proofs.BuildLemmas.{transposed_where, where_below}
 use Rattle.ancestor_index.proofs.ClosureLemmas.{length-where}
 use Rattle.ancestor_index.proofs.CompleteLemmas.{rising}
 use Rattle.ancestor_index.proofs.index.AncestorIndex.build.Goals as goal
@@ -18,13 +19,14 @@ linked_lists-requires-clause-within c =
     (sym c.concept_count-count.ensures.count) c.isa_rows-rows.ensures.within
 
 -- the parents are below the count of concepts
-pub turned-requires-clause-items : goal.turned-requires-clause-items
-turned-requires-clause-items c =
-    where_below c.concept_count-count.result (is_child c.isa_rows-rows.result.now) c.in_ok-parents.parents c.in_ok-parents.ensures
+pub transposed-requires-clause-items : goal.transposed-requires-clause-items
+transposed-requires-clause-items c =
+    where_below c.concept_count-count.result (is_child c.isa_rows-rows.result.now) c.in_ok-parents.parents
+    c.in_ok-parents.ensures
 
 -- there are fewer than 2^32 lists of parents
-pub turned-requires-clause-few : goal.turned-requires-clause-few
-turned-requires-clause-few c =
+pub transposed-requires-clause-few : goal.transposed-requires-clause-few
+transposed-requires-clause-few c =
     let fit : c.concept_count-count.result < 2 ^ 32 = c.concept_count-count.type_inv in
     omega (
       arith,
@@ -39,7 +41,12 @@ ancestor_lists-requires-clause-few c =
     let fit : c.concept_count-count.result < 2 ^ 32 = c.concept_count-count.type_inv in
     let rows = c.isa_rows-rows.result.now in
     let first = c.parents_first.ensures rows c.isa_rows-rows.ensures.rows c.isa_rows-rows.ensures.within in
-    omega (arith, order_count (length c.args.snapshot.now.release.concepts) rows c.parents_first.result.now first, c.concept_count-count.ensures.count, fit)
+    omega (
+      arith,
+      order_count (length c.args.snapshot.now.release.concepts) rows c.parents_first.result.now first,
+      c.concept_count-count.ensures.count,
+      fit,
+    )
 
 -- the lists of parents are those of the rows, and the order has parents first
 pub ancestor_lists-requires-clause-parents : goal.ancestor_lists-requires-clause-parents
@@ -47,42 +54,49 @@ ancestor_lists-requires-clause-parents c =
     let rows = c.isa_rows-rows.result.now in
     let first = c.parents_first.ensures rows c.isa_rows-rows.ensures.rows c.isa_rows-rows.ensures.within in (
       rows,
-      given_parents (length c.args.snapshot.now.release.concepts) rows c.in_ok-parents.parents c.parents_first.result.now c.isa_rows-rows.ensures.within
+      given_parents (length c.args.snapshot.now.release.concepts) rows c.in_ok-parents.parents
+          c.parents_first.result.now c.isa_rows-rows.ensures.within
           (c.in_ok-parents.ensures ∙ (λ i. lists_where (c.concept_count-count.ensures.count i) (is_child rows))) first,
     )
 
 -- the ancestors are below the count of concepts
-pub turned_rising-requires-clause-items : goal.turned_rising-requires-clause-items
-turned_rising-requires-clause-items c =
+pub transposed_rising-requires-clause-items : goal.transposed_rising-requires-clause-items
+transposed_rising-requires-clause-items c =
     let rows = c.isa_rows-rows.result.now in
     let count = c.concept_count-count.result in
     let all = length c.args.snapshot.now.release.concepts in
     let ancestors = ancestors_told all count rows c.in_ok-parents.parents c.in_ok-ancestors.ancestors
-    c.parents_first.result.now c.concept_count-count.ensures.count c.isa_rows-rows.ensures.within c.in_ok-parents.ensures
-    (c.parents_first.ensures rows c.isa_rows-rows.ensures.rows c.isa_rows-rows.ensures.within) c.in_ok-ancestors.ensures in
+    c.parents_first.result.now c.concept_count-count.ensures.count c.isa_rows-rows.ensures.within
+    c.in_ok-parents.ensures
+    (c.parents_first.ensures rows c.isa_rows-rows.ensures.rows c.isa_rows-rows.ensures.within)
+    c.in_ok-ancestors.ensures in
     where_below count (reaches rows) c.in_ok-ancestors.ancestors ancestors
 
 -- there are fewer than 2^32 lists of ancestors
-pub turned_rising-requires-clause-few : goal.turned_rising-requires-clause-few
-turned_rising-requires-clause-few c =
+pub transposed_rising-requires-clause-few : goal.transposed_rising-requires-clause-few
+transposed_rising-requires-clause-few c =
     let fit : c.concept_count-count.result < 2 ^ 32 = c.concept_count-count.type_inv in
     let rows = c.isa_rows-rows.result.now in
     let count = c.concept_count-count.result in
     let all = length c.args.snapshot.now.release.concepts in
     let ancestors = ancestors_told all count rows c.in_ok-parents.parents c.in_ok-ancestors.ancestors
-    c.parents_first.result.now c.concept_count-count.ensures.count c.isa_rows-rows.ensures.within c.in_ok-parents.ensures
-    (c.parents_first.ensures rows c.isa_rows-rows.ensures.rows c.isa_rows-rows.ensures.within) c.in_ok-ancestors.ensures in
+    c.parents_first.result.now c.concept_count-count.ensures.count c.isa_rows-rows.ensures.within
+    c.in_ok-parents.ensures
+    (c.parents_first.ensures rows c.isa_rows-rows.ensures.rows c.isa_rows-rows.ensures.within)
+    c.in_ok-ancestors.ensures in
     omega (arith, ap (λ (lists : List (List ℕ)). length lists) ancestors, length-where count (reaches rows), fit)
 
 -- the lists of ancestors rise
-pub turned_rising-requires-clause-rising : goal.turned_rising-requires-clause-rising
-turned_rising-requires-clause-rising c =
+pub transposed_rising-requires-clause-rising : goal.transposed_rising-requires-clause-rising
+transposed_rising-requires-clause-rising c =
     let rows = c.isa_rows-rows.result.now in
     let count = c.concept_count-count.result in
     let all = length c.args.snapshot.now.release.concepts in
     let ancestors = ancestors_told all count rows c.in_ok-parents.parents c.in_ok-ancestors.ancestors
-    c.parents_first.result.now c.concept_count-count.ensures.count c.isa_rows-rows.ensures.within c.in_ok-parents.ensures
-    (c.parents_first.ensures rows c.isa_rows-rows.ensures.rows c.isa_rows-rows.ensures.within) c.in_ok-ancestors.ensures in
+    c.parents_first.result.now c.concept_count-count.ensures.count c.isa_rows-rows.ensures.within
+    c.in_ok-parents.ensures
+    (c.parents_first.ensures rows c.isa_rows-rows.ensures.rows c.isa_rows-rows.ensures.within)
+    c.in_ok-ancestors.ensures in
     subst (λ (lists : List (List ℕ)). All IsStrictlyIncreasing lists) (sym ancestors) (rising count (reaches rows))
 
 -- the descendants are below the count of concepts
@@ -92,11 +106,13 @@ wide_lists-requires-clause-items c =
     let count = c.concept_count-count.result in
     let all = length c.args.snapshot.now.release.concepts in
     let ancestors = ancestors_told all count rows c.in_ok-parents.parents c.in_ok-ancestors.ancestors
-    c.parents_first.result.now c.concept_count-count.ensures.count c.isa_rows-rows.ensures.within c.in_ok-parents.ensures
-    (c.parents_first.ensures rows c.isa_rows-rows.ensures.rows c.isa_rows-rows.ensures.within) c.in_ok-ancestors.ensures in
+    c.parents_first.result.now c.concept_count-count.ensures.count c.isa_rows-rows.ensures.within
+    c.in_ok-parents.ensures
+    (c.parents_first.ensures rows c.isa_rows-rows.ensures.rows c.isa_rows-rows.ensures.within)
+    c.in_ok-ancestors.ensures in
     let descendants : c.in_ok-descendants.descendants
     ≡ lists_where count (λ concept other. reaches rows other concept) = c.in_ok-descendants.ensures
-    ∙ ap (turned count) ancestors ∙ turned_where count (reaches rows) in
+    ∙ ap (transposed count) ancestors ∙ transposed_where count (reaches rows) in
     where_below count (λ concept other. reaches rows other concept) c.in_ok-descendants.descendants descendants
 
 -- there are fewer than 2^32 lists of descendants
@@ -107,7 +123,7 @@ wide_lists-requires-clause-few c =
       arith,
       fit,
       ap (λ (lists : List (List ℕ)). length lists) c.in_ok-descendants.ensures,
-      length-lists_by c.concept_count-count.result (turned_from 0 c.in_ok-ancestors.ancestors),
+      length-lists_by c.concept_count-count.result (transposed_from 0 c.in_ok-ancestors.ancestors),
     )
 
 -- the long lists of descendants are kept as words
@@ -116,7 +132,7 @@ invariant_of-result c =
     let fit : c.concept_count-count.result < 2 ^ 32 = c.concept_count-count.type_inv in
     let long : length c.in_ok-descendants.descendants ≡ c.concept_count-count.result =
     ap (λ (lists : List (List ℕ)). length lists) c.in_ok-descendants.ensures
-    ∙ length-lists_by c.concept_count-count.result (turned_from 0 c.in_ok-ancestors.ancestors) in (
+    ∙ length-lists_by c.concept_count-count.result (transposed_from 0 c.in_ok-ancestors.ancestors) in (
       omega (arith, fit, long),
       subst (λ (n : ℕ). AreWide n c.in_ok-descendants.descendants c.in_ok-wide.wide.ends.items
           c.in_ok-wide.wide.words.items) (sym long) c.in_ok-wide.ensures,
@@ -129,13 +145,15 @@ returns-clause-hierarchy c =
     let count = c.concept_count-count.result in
     let all = length c.args.snapshot.now.release.concepts in
     let ancestors = ancestors_told all count rows c.in_ok-parents.parents c.in_ok-ancestors.ancestors
-    c.parents_first.result.now c.concept_count-count.ensures.count c.isa_rows-rows.ensures.within c.in_ok-parents.ensures
-    (c.parents_first.ensures rows c.isa_rows-rows.ensures.rows c.isa_rows-rows.ensures.within) c.in_ok-ancestors.ensures in
+    c.parents_first.result.now c.concept_count-count.ensures.count c.isa_rows-rows.ensures.within
+    c.in_ok-parents.ensures
+    (c.parents_first.ensures rows c.isa_rows-rows.ensures.rows c.isa_rows-rows.ensures.within)
+    c.in_ok-ancestors.ensures in
     let children : c.in_ok-children.children ≡ lists_where count (λ concept other. is_child rows other concept) =
-    c.in_ok-children.ensures ∙ ap (turned count) c.in_ok-parents.ensures ∙ turned_where count (is_child rows) in
+    c.in_ok-children.ensures ∙ ap (transposed count) c.in_ok-parents.ensures ∙ transposed_where count (is_child rows) in
     let descendants : c.in_ok-descendants.descendants
     ≡ lists_where count (λ concept other. reaches rows other concept) = c.in_ok-descendants.ensures
-    ∙ ap (turned count) ancestors ∙ turned_where count (reaches rows) in
+    ∙ ap (transposed count) ancestors ∙ transposed_where count (reaches rows) in
     hierarchy_told c.args.snapshot.now.release rows count c.concept_count-count.ensures.count
     c.concept_count-count.ensures.rising c.isa_rows-rows.ensures.within c.isa_rows-rows.ensures.rows
     c.in_ok-ancestors.ancestors c.in_ok-descendants.descendants c.in_ok-parents.parents c.in_ok-children.children

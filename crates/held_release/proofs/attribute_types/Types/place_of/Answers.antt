@@ -21,7 +21,7 @@ overflow_cast-result c =
 pub returns-clause-place : goal.returns-clause-place
 returns-clause-place c =
     let place = c.in_ok-place.place in
-    let met : slice_get c.meet.new.self place ≡ Some c.args.id =
+    let met : slice_get c.intern.new.self place ≡ Some c.args.id =
     (λ i. slice_get (c.in_ok-place.ensures.keys i) (c.in_ok-place.ensures.place i))
     ∙ placed_type c.args.self.now.numbers c.number.result
     ∙ ap (λ (id : ℕ). Some id) c.number.ensures.number in

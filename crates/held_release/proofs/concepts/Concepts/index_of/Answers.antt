@@ -1,6 +1,6 @@
 use Rattle.std.proofs.Common.{arith}
 use Rattle.std.proofs.lemmas.Grind.{common_steps}
-use Rattle.held_release.proofs.BucketLemmas.{greater_behind, less_before}
+use Rattle.held_release.proofs.BucketLemmas.{greater_after, less_before}
 use Rattle.held_release.proofs.concepts.Concepts.index_of.Goals as goal
 
 -- every identifier before the start of the bucket of `id` is less than `id`
@@ -15,10 +15,10 @@ number_between-requires-clause-above c = λ place before.
 
 -- every identifier from the start of the next bucket on is greater than `id`
 pub number_between-requires-clause-below : goal.number_between-requires-clause-below
-number_between-requires-clause-below c = λ place behind inside.
+number_between-requires-clause-below c = λ place following inside.
     grind (
       arith,
       common_steps,
-      greater_behind c.self.inside.ids.items c.self.inside.starts.items c.self.invariant.starts c.args.id
+      greater_after c.self.inside.ids.items c.self.inside.starts.items c.self.invariant.starts c.args.id
           c.bucket_of-bucket.result c.bucket_of-bucket.ensures.is place,
     )

@@ -11,8 +11,10 @@ returns-clause-row c =
     let concepts = c.args.self.now.release.concepts in
     let row = c.attribute_numbers-row.result in
     let value : value_by_identifier concepts (numbered_lent row.value) ≡ value_lent c.identified_value.result =
-    ap (λ (contents : Contents). value_by_identifier contents.release.concepts (numbered_lent row.value)) (sym c.self.view_is)
+    ap (λ (contents : Contents). value_by_identifier contents.release.concepts (numbered_lent row.value))
+    (sym c.self.view_is)
     ∙ sym c.identified_value.ensures.value in
     c.attribute_numbers-row.ensures.row
     ∙ ap (λ (value : Value).
-    Some (record { source = slice_index concepts row.source; type_id = row.type_id; group = row.group; value = value })) value
+    Some (record { source = slice_index concepts row.source; type_id = row.type_id; group = row.group; value = value }))
+    value

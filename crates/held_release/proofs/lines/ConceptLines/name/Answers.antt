@@ -27,7 +27,8 @@ index-to-requires c = grind (
 
 -- the text between the two starts that are read is the line at `number`
 line_read : (starts texts text : List ℕ) (lists : List (List ℕ)) (number from to : ℕ) → text ≡ texts
-    → (lines more : List ℕ) × (texts ≡ lines ++ more) × AreStarts starts lines → cut starts texts ≡ lists → number < length lists
+    → (lines more : List ℕ) × (texts ≡ lines ++ more) × AreStarts starts lines → cut starts texts ≡ lists
+    → number < length lists
     → from ≡ get_or starts number from → to ≡ get_or starts (number + 1) to
     → (from ≤ to) × (to ≤ length text) × (slice_range text from to ≡ get_or lists number [])
 line_read starts texts text lists number from to same begun are below from_read to_read =

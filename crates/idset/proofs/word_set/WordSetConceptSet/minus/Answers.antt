@@ -20,7 +20,8 @@ invariant_of-result c =
     let theirs = c.args.other.now in
     let made : c.in_ok-words.words.items ≡ zip2 bit_minus mine.words.items theirs.words.items = c.in_ok-words.ensures
     ∙ (λ i. zip2 bit_minus (c.deref.ensures.value i) (c.deref-2.ensures.value i)) in
-    let holds = holds_minus mine.bound theirs.bound mine.words.items theirs.words.items c.in_ok-words.words.items c.requires mine.held theirs.held made in
+    let holds = holds_minus mine.bound theirs.bound mine.words.items theirs.words.items c.in_ok-words.words.items
+    c.requires mine.held theirs.held made in
     record { held = holds.held; small = mine.small; rising = holds.rising }
 
 -- `bit_minus` of the words of both sets holds the items of the first that are not in the second
@@ -30,4 +31,5 @@ returns-clause-items c =
     let theirs = c.args.other.now in
     let made : c.in_ok-words.words.items ≡ zip2 bit_minus mine.words.items theirs.words.items = c.in_ok-words.ensures
     ∙ (λ i. zip2 bit_minus (c.deref.ensures.value i) (c.deref-2.ensures.value i)) in
-    (holds_minus mine.bound theirs.bound mine.words.items theirs.words.items c.in_ok-words.words.items c.requires mine.held theirs.held made).items
+    (holds_minus mine.bound theirs.bound mine.words.items theirs.words.items c.in_ok-words.words.items c.requires
+    mine.held theirs.held made).items

@@ -19,7 +19,8 @@ invariant_of-result c =
     let theirs = c.args.other.now in
     let made : c.in_ok-words.words.items ≡ zip2 bit_or mine.words.items theirs.words.items = c.in_ok-words.ensures
     ∙ (λ i. zip2 bit_or (c.deref.ensures.value i) (c.deref-2.ensures.value i)) in
-    let holds = holds_or mine.bound theirs.bound mine.words.items theirs.words.items c.in_ok-words.words.items c.requires mine.held theirs.held made in
+    let holds = holds_or mine.bound theirs.bound mine.words.items theirs.words.items c.in_ok-words.words.items
+    c.requires mine.held theirs.held made in
     record { held = holds.held; small = mine.small; rising = holds.rising }
 
 -- `bit_or` of the words of both sets holds their union
@@ -29,4 +30,5 @@ returns-clause-items c =
     let theirs = c.args.other.now in
     let made : c.in_ok-words.words.items ≡ zip2 bit_or mine.words.items theirs.words.items = c.in_ok-words.ensures
     ∙ (λ i. zip2 bit_or (c.deref.ensures.value i) (c.deref-2.ensures.value i)) in
-    (holds_or mine.bound theirs.bound mine.words.items theirs.words.items c.in_ok-words.words.items c.requires mine.held theirs.held made).items
+    (holds_or mine.bound theirs.bound mine.words.items theirs.words.items c.in_ok-words.words.items c.requires mine.held
+    theirs.held made).items

@@ -25,4 +25,5 @@ returns-in-Some c =
 
 -- a type without a place has no rows
 pub returns-in-None : goal.returns-in-None
-returns-in-None c = no_rows_with_type c.self.inside c.self.invariant c.args.self.now c.self.view_is c.args.id (sym c.in-None.ensures.found)
+returns-in-None c = no_rows_with_type c.self.inside c.self.invariant c.args.self.now c.self.view_is c.args.id
+    (sym c.in-None.ensures.found)

@@ -8,4 +8,5 @@ of-requires c = value_listed c.self.inside c.self.invariant c.args.self.now c.se
 
 -- the list of a concept by value has the rows whose value it is
 pub returns : goal.returns
-returns c = c.of.ensures ∙ rows_with_value c.self.inside c.self.invariant c.args.self.now c.self.view_is c.args.concept c.requires
+returns c = c.of.ensures
+    ∙ rows_with_value c.self.inside c.self.invariant c.args.self.now c.self.view_is c.args.concept c.requires

@@ -1,5 +1,5 @@
 use Rattle.postings.proofs.CellsToldLemmas.{cells_told}
-use Rattle.postings.proofs.UnitLemmas.{row_there}
+use Rattle.postings.proofs.GroupNumberLemmas.{row_there}
 use Rattle.postings.proofs.index.Indexes.cells.Goals as goal
 
 -- the indexes keep row `n`, so that `row` may read it
@@ -13,5 +13,7 @@ firsts-is_first-requires c = row_there c.self.inside c.self.invariant c.args.sel
 -- the cells are those of row `n`
 pub returns : goal.returns
 returns c =
-    cells_told c.self.inside c.self.invariant c.args.self.now c.self.view_is c.args.n c.requires c.row-row.result c.row-row.ensures
-    c.firsts-is_first.result.0 c.firsts-is_first.result.1 c.firsts-is_first.ensures.source c.firsts-is_first.ensures.group
+    cells_told c.self.inside c.self.invariant c.args.self.now c.self.view_is c.args.n c.requires c.row-row.result
+    c.row-row.ensures
+    c.firsts-is_first.result.0 c.firsts-is_first.result.1 c.firsts-is_first.ensures.source
+    c.firsts-is_first.ensures.group

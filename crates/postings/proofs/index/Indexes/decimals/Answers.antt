@@ -10,4 +10,5 @@ use Rattle.postings.proofs.index.Indexes.decimals.Goals as goal
 pub returns-clause-rising : goal.returns-clause-rising
 returns-clause-rising c =
     subst (λ (indexed : Indexed). IsSorted int_cmp indexed.decimals) c.self.view_is
-    (rising_is_sorted int_cmp_total c.self.inside.rows.values.decimals.items c.self.invariant.rows.coded.tables.rising.decimals_rise)
+    (rising_is_sorted int_cmp_total c.self.inside.rows.values.decimals.items
+    c.self.invariant.rows.coded.tables.rising.decimals_rise)

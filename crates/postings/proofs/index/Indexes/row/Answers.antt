@@ -7,7 +7,7 @@ use Rattle.postings.specs.inside.KeptRows.{rows_kept}
 use Rattle.postings.specs.inside.ValueTables.{values_in}
 use Rattle.postings.proofs.BuildLemmas.{row_told}
 use Rattle.postings.proofs.KeptLemmas.{kept_at, length-kept}
-use Rattle.postings.proofs.UnitLemmas.{length-rows, near, row_coded_within, row_there}
+use Rattle.postings.proofs.GroupNumberLemmas.{length-rows, near, row_coded_within, row_there}
 use Rattle.postings.proofs.index.Indexes.row.Goals as goal
 use Rattle.postings.proofs.index.Indexes.row.Goals.{After-row-row}
 
@@ -50,14 +50,17 @@ returns-clause-row c =
     let row = c.row-row.result in
     let known = near c.self.inside c.self.invariant c.args.self.now c.self.view_is c.args.n c.requires in
     let long = length-rows c.self.inside c.self.invariant c.args.self.now c.self.view_is in
-    let valued = c.value.ensures ∙ ap (λ (indexed : Indexed). value_at (values_of indexed) row.value) (sym c.self.view_is) in
+    let valued = c.value.ensures
+    ∙ ap (λ (indexed : Indexed). value_at (values_of indexed) row.value) (sym c.self.view_is) in
     subst (λ (indexed : Indexed). slice_get indexed.rows c.args.n
     ≡ Some (with_source indexed.concepts (attribute_of
-    (record { source = row.source; type_id = c.index.result.now; group = row.group; value = c.value.result })))) c.self.view_is
+    (record { source = row.source; type_id = c.index.result.now; group = row.group; value = c.value.result }))))
+    c.self.view_is
     (row_told concepts types ids values (rows_kept c.self.inside.rows) c.args.n row
     (omega (arith, known, long, length-kept c.self.inside.rows))
     (c.row-row.ensures ∙ sym (kept_at c.self.inside.rows c.args.n row (omega (arith, known, long))))
-    c.index.result.now c.value.result c.self.invariant.rows.coded.ids (within (goal.at.returns-clause-row c).After-row-row).type_place
+    c.index.result.now c.value.result c.self.invariant.rows.coded.ids
+    (within (goal.at.returns-clause-row c).After-row-row).type_place
     c.index.ensures valued)
 
 -- the source of the row is the number of a concept

@@ -1,6 +1,6 @@
 use Rattle.std.proofs.Common.{length, ap, arith}
 use Rattle.postings.specs.Indexed.{Indexed}
-use Rattle.postings.proofs.UnitLemmas.{length-rows}
+use Rattle.postings.proofs.GroupNumberLemmas.{length-rows}
 use Rattle.postings.proofs.index.Indexes.row_count.Goals as goal
 
 -- 32 bits hold the number of rows

@@ -9,11 +9,13 @@ of_source-requires-clause-starts c =
 
 -- the groups of a concept start no later than those of the next concept
 pub of_source-requires-clause-rise : goal.of_source-requires-clause-rise
-of_source-requires-clause-rise c = starts_rise c.self.inside c.self.invariant c.args.self.now c.self.view_is c.args.concept c.requires
+of_source-requires-clause-rise c =
+    starts_rise c.self.inside c.self.invariant c.args.self.now c.self.view_is c.args.concept c.requires
 
 -- the groups of a concept end no later than all groups
 pub of_source-requires-clause-end : goal.of_source-requires-clause-end
-of_source-requires-clause-end c = starts_end c.self.inside c.self.invariant c.args.self.now c.self.view_is c.args.concept c.requires
+of_source-requires-clause-end c =
+    starts_end c.self.inside c.self.invariant c.args.self.now c.self.view_is c.args.concept c.requires
 
 -- the indexes keep as many row numbers as all groups have rows
 pub of_source-requires-clause-long : goal.of_source-requires-clause-long
@@ -23,4 +25,5 @@ of_source-requires-clause-long c =
 -- the rows of the source are those whose source is the concept
 pub returns : goal.returns
 returns c =
-    c.of_source.ensures ∙ rows_with_source c.self.inside c.self.invariant c.args.self.now c.self.view_is c.args.concept c.requires
+    c.of_source.ensures ∙ rows_with_source c.self.inside c.self.invariant c.args.self.now c.self.view_is c.args.concept
+    c.requires

@@ -8,9 +8,12 @@ use Rattle.postings.proofs.index.Indexes.stats.Goals as goal
 -- the counts are those of any release whose indexes they are
 pub returns-clause-release : goal.returns-clause-release
 returns-clause-release c = λ release is.
-    let ancestors = c.ancestor_count.ensures ∙ ap (λ (indexed : Indexed). length (concat indexed.hierarchy.ancestors)) c.self.view_is in
-    let links = c.link_count.ensures ∙ ap (λ (indexed : Indexed). length (concat indexed.hierarchy.parents)) c.self.view_is in
-    let members = ap (λ (xs : List ℕ). length xs) c.flat.ensures ∙ ap (λ (indexed : Indexed). length (concat indexed.members)) c.self.view_is in
+    let ancestors = c.ancestor_count.ensures
+    ∙ ap (λ (indexed : Indexed). length (concat indexed.hierarchy.ancestors)) c.self.view_is in
+    let links = c.link_count.ensures
+    ∙ ap (λ (indexed : Indexed). length (concat indexed.hierarchy.parents)) c.self.view_is in
+    let members = ap (λ (xs : List ℕ). length xs) c.flat.ensures
+    ∙ ap (λ (indexed : Indexed). length (concat indexed.members)) c.self.view_is in
     (λ i. record {
       n = c.concept_count.ensures.count i;
       a = c.row_count.ensures.count i;

@@ -14,7 +14,8 @@ overflow_cast-type_place c =
 -- there is a list of rows at the place of a type, and so columns
 pub columns-columns-requires-clause-key : goal.columns-columns-requires-clause-key
 columns-columns-requires-clause-key c =
-    type_listed c.self.inside c.self.invariant c.args.self.now c.self.view_is c.args.id c.in-Some.type_place (sym c.in-Some.ensures.index)
+    type_listed c.self.inside c.self.invariant c.args.self.now c.self.view_is c.args.id c.in-Some.type_place
+    (sym c.in-Some.ensures.index)
 
 -- the columns at the place of a type are those of the rows of the type
 pub returns-in-Some : goal.returns-in-Some
@@ -26,5 +27,6 @@ returns-in-Some c =
 -- the columns of a type without a place are empty
 pub returns-in-None : goal.returns-in-None
 returns-in-None c =
-    no_columns_with_type c.self.inside c.self.invariant c.args.self.now c.self.view_is c.args.id (sym c.in-None.ensures.found) _ refl refl
+    no_columns_with_type c.self.inside c.self.invariant c.args.self.now c.self.view_is c.args.id
+    (sym c.in-None.ensures.found) _ refl refl
     refl

@@ -3,18 +3,20 @@ use Rattle.std.proofs.lemmas.List.{get_or_default}
 use Rattle.postings.specs.Columns.{Flagged}
 use Rattle.postings.specs.Indexed.{Indexed}
 use Rattle.postings.specs.inside.KeptRows.{IsKept, mark_at, row_kept}
-use Rattle.postings.proofs.UnitLemmas.{concept_told, first_kept, has_first, source_within, unit_listed}
+use Rattle.postings.proofs.GroupNumberLemmas.{concept_told, first_kept, has_first, source_within, group_listed}
 use Rattle.postings.proofs.index.Indexes.unit_concept.Goals as goal
 use Rattle.postings.proofs.index.Indexes.unit_concept.Goals.{After-index-at, After-number, After-of}
 
 -- the indexes keep the first row of the group
 there : (c : After-of) → IsKept c.self.inside.rows (get_or c.of.result.now 0 0)
 there c =
-    first_kept c.self.inside c.self.invariant c.args.self.now c.self.view_is c.args.unit c.requires (get_or c.of.result.now 0 0) 0
+    first_kept c.self.inside c.self.invariant c.args.self.now c.self.view_is c.args.unit c.requires
+    (get_or c.of.result.now 0 0) 0
     (ap (λ (rows : List ℕ). get_or rows 0 0) c.of.ensures)
 
 -- the code reads the place of the group's first row
-placed : (c : After-index-at) → c.index-at.result.now ≡ slice_index c.self.inside.rows.places.items (get_or c.of.result.now 0 0)
+placed : (c : After-index-at)
+    → c.index-at.result.now ≡ slice_index c.self.inside.rows.places.items (get_or c.of.result.now 0 0)
 placed c =
     c.index-at.ensures
     ∙ get_or_default c.self.inside.rows.places.items (get_or c.of.result.now 0 0) c.index-at.result.now 0
@@ -34,7 +36,7 @@ read c =
 
 -- there is a list of rows for the group
 pub of-requires : goal.of-requires
-of-requires c = unit_listed c.self.inside c.self.invariant c.args.self.now c.self.view_is c.args.unit c.requires
+of-requires c = group_listed c.self.inside c.self.invariant c.args.self.now c.self.view_is c.args.unit c.requires
 
 -- the list of the group's rows is not empty
 pub bounds-of-0 : goal.bounds-of-0
@@ -60,7 +62,8 @@ returns-clause-within c =
     omega (
       arith,
       read (goal.at.returns-clause-within c).After-number,
-      source_within c.self.inside c.self.invariant c.args.self.now c.self.view_is c.args.unit c.requires (get_or c.of.result.now 0 0) 0
+      source_within c.self.inside c.self.invariant c.args.self.now c.self.view_is c.args.unit c.requires
+          (get_or c.of.result.now 0 0) 0
           (ap (λ (rows : List ℕ). get_or rows 0 0) c.of.ensures),
       ap (λ (indexed : Indexed). length indexed.concepts) c.self.view_is,
     )
@@ -68,5 +71,7 @@ returns-clause-within c =
 -- the source of the group's first row is the concept of the group
 pub returns-clause-concept : goal.returns-clause-concept
 returns-clause-concept c =
-    concept_told c.self.inside c.self.invariant c.args.self.now c.self.view_is c.args.unit c.requires (get_or c.of.result.now 0 0) 0
-    (ap (λ (rows : List ℕ). get_or rows 0 0) c.of.ensures) c.number.result (read (goal.at.returns-clause-concept c).After-number)
+    concept_told c.self.inside c.self.invariant c.args.self.now c.self.view_is c.args.unit c.requires
+    (get_or c.of.result.now 0 0) 0
+    (ap (λ (rows : List ℕ). get_or rows 0 0) c.of.ensures) c.number.result
+    (read (goal.at.returns-clause-concept c).After-number)

@@ -1,5 +1,5 @@
 use Rattle.std.proofs.Common.{rules}
-use Rattle.postings.proofs.UnitLemmas.{rows_told}
+use Rattle.postings.proofs.GroupNumberLemmas.{rows_told}
 use Rattle.postings.proofs.index.Indexes.unit_rows.Goals as goal
 
 -- the list of a group has the numbers of its rows

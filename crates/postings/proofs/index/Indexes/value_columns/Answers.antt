@@ -3,7 +3,8 @@ use Rattle.postings.proofs.index.Indexes.value_columns.Goals as goal
 
 -- there is a list of rows by value for each concept, and so columns
 pub columns-columns-requires-clause-key : goal.columns-columns-requires-clause-key
-columns-columns-requires-clause-key c = value_listed c.self.inside c.self.invariant c.args.self.now c.self.view_is c.args.concept c.requires
+columns-columns-requires-clause-key c =
+    value_listed c.self.inside c.self.invariant c.args.self.now c.self.view_is c.args.concept c.requires
 
 -- the columns of a concept by value are those of the rows whose value it is
 pub returns : goal.returns

@@ -18,8 +18,10 @@ in_order c =
             arith,
             c.requires.starts,
             c.requires.rise,
-            c.index-first.ensures ∙ get_or_default starts concept c.index-first.result.now 0 (omega (arith, c.requires.starts)),
-            c.index-next.ensures ∙ get_or_default starts (concept + 1) c.index-next.result.now 0 (omega (arith, c.requires.starts)),
+            c.index-first.ensures ∙ get_or_default starts concept c.index-first.result.now 0
+                (omega (arith, c.requires.starts)),
+            c.index-next.ensures ∙ get_or_default starts (concept + 1) c.index-next.result.now 0
+                (omega (arith, c.requires.starts)),
           )),
     )
 

@@ -19,4 +19,5 @@ loop-text-preserved c =
 pub returns : goal.returns
 returns c =
     c.loop-text.invariant
-    ∙ ap (map (λ (text : Bor (List ℕ)). text.now)) (take_all c.loop-text.text-index c.args.texts.now c.loop-text-test.false)
+    ∙ ap (map (λ (text : Bor (List ℕ)). text.now))
+    (take_all c.loop-text.text-index c.args.texts.now c.loop-text-test.false)

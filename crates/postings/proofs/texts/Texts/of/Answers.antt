@@ -14,12 +14,15 @@ record Ends (starts bytes : List ℕ) (place from to : ℕ) : Type 0 where
 
 -- the code reads the two ends of the text
 ends : (c : After-index-to)
-    → Ends c.self.inside.starts.items c.self.inside.bytes.items c.args.place c.index-from.result.now c.index-to.result.now
+    → Ends c.self.inside.starts.items c.self.inside.bytes.items c.args.place c.index-from.result.now
+    c.index-to.result.now
 ends c =
     let starts = c.self.inside.starts.items in
     let bytes = c.self.inside.bytes.items in
-    let next : c.args.place + 1 < length starts = below_cut starts bytes c.args.self.now c.args.place c.self.view_is c.requires in
-    let start = c.index-from.ensures ∙ get_or_default starts c.args.place c.index-from.result.now 0 (omega (arith, next)) in
+    let next : c.args.place + 1 < length starts =
+    below_cut starts bytes c.args.self.now c.args.place c.self.view_is c.requires in
+    let start = c.index-from.ensures
+    ∙ get_or_default starts c.args.place c.index-from.result.now 0 (omega (arith, next)) in
     let end = c.index-to.ensures ∙ get_or_default starts (c.args.place + 1) c.index-to.result.now 0 next in
     record {
       start = start;
@@ -31,7 +34,11 @@ ends c =
 -- the text has a start
 pub index-from-requires : goal.index-from-requires
 index-from-requires c =
-    omega (arith, below_cut c.self.inside.starts.items c.self.inside.bytes.items c.args.self.now c.args.place c.self.view_is c.requires)
+    omega (
+      arith,
+      below_cut c.self.inside.starts.items c.self.inside.bytes.items c.args.self.now c.args.place
+          c.self.view_is c.requires,
+    )
 
 -- the place after the text fits in a `usize`
 pub overflow_add-place : goal.overflow_add-place
@@ -47,7 +54,11 @@ overflow_add-place c =
 -- there is a start after that of the text
 pub index-to-requires : goal.index-to-requires
 index-to-requires c =
-    omega (arith, below_cut c.self.inside.starts.items c.self.inside.bytes.items c.args.self.now c.args.place c.self.view_is c.requires)
+    omega (
+      arith,
+      below_cut c.self.inside.starts.items c.self.inside.bytes.items c.args.self.now c.args.place
+          c.self.view_is c.requires,
+    )
 
 -- the length of the slice of the text is no negative number
 pub slice_bounds-result-count : goal.slice_bounds-result-count
@@ -68,4 +79,5 @@ pub returns : goal.returns
 returns c =
     let at = ends (goal.at.returns c).After-index-to in
     (λ i. slice_range (c.deref.ensures.value i) (at.start i) (at.end i))
-    ∙ sym (found c.self.inside.starts.items c.self.inside.bytes.items c.args.self.now c.args.place c.self.view_is c.requires)
+    ∙ sym (found c.self.inside.starts.items c.self.inside.bytes.items c.args.self.now c.args.place c.self.view_is
+    c.requires)

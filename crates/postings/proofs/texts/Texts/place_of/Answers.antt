@@ -10,7 +10,8 @@ use Rattle.postings.proofs.texts.Texts.place_of.Goals as goal
 use Rattle.postings.proofs.texts.Texts.place_of.Goals.{After-is_lt}
 
 -- whether the text in the middle stands before one that is the text
-asked : (c : After-is_lt) → (place : ℕ) → place < length c.args.self.now → get_or c.args.self.now place [] ≡ c.args.text.now
+asked : (c : After-is_lt) → (place : ℕ) → place < length c.args.self.now
+    → get_or c.args.self.now place [] ≡ c.args.text.now
     → c.is_lt.result ≡ ltb (c.loop-from.from + (c.loop-from.to - c.loop-from.from) / 2) place
 asked c place below is =
     let middle = c.loop-from.from + (c.loop-from.to - c.loop-from.from) / 2 in
@@ -24,7 +25,11 @@ pub loop-from-preserved-then-is_lt : goal.loop-from-preserved-then-is_lt
 loop-from-preserved-then-is_lt c = record {
   within = c.loop-from.invariant.within;
   between = λ place below is. (
-    omega (arith, ltb-true _ place (sym (asked (goal.at.loop-from-preserved-then-is_lt c).After-is_lt place below is) ∙ c.if-is_lt.true)),
+    omega (
+      arith,
+      ltb-true _ place (sym (asked (goal.at.loop-from-preserved-then-is_lt c).After-is_lt place below is)
+          ∙ c.if-is_lt.true),
+    ),
     (c.loop-from.invariant.between place below is).1,
   );
 }
@@ -35,7 +40,11 @@ loop-from-preserved c = record {
   within = omega (arith, c.loop-from-test.true, c.loop-from.invariant.within);
   between = λ place below is. (
     (c.loop-from.invariant.between place below is).0,
-    omega (arith, ltb-false _ place (sym (asked (goal.at.loop-from-preserved c).After-is_lt place below is) ∙ c.if-is_lt.false)),
+    omega (
+      arith,
+      ltb-false _ place (sym (asked (goal.at.loop-from-preserved c).After-is_lt place below is)
+          ∙ c.if-is_lt.false),
+    ),
   );
 }
 
@@ -45,7 +54,8 @@ returns c =
     let texts = c.args.self.now in
     let place = c.requires.there.0 in
     let below = c.requires.there.1 in
-    let is : get_or texts place [] ≡ c.args.text.now = get_or_default texts place [] c.args.text.now below ∙ c.requires.there.2 in
+    let is : get_or texts place [] ≡ c.args.text.now = get_or_default texts place [] c.args.text.now below
+    ∙ c.requires.there.2 in
     let between = c.loop-from.invariant.between place below is in
     let at : c.loop-from.from ≡ place = omega (arith, between.0, between.1, c.loop-from-test.false) in
     ap (λ (n : ℕ). slice_get texts n) at ∙ slice_get-get_or texts place [] below ∙ ap (λ text. Some text) is

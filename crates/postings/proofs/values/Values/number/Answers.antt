@@ -7,7 +7,8 @@ use Rattle.std.proofs.lemmas.Option.{slice_get_within}
 use Rattle.held_release.specs.AttributesBySource.{IsNumberBelow, numbered_lent, value_by_identifier}
 use Rattle.held_release.specs.declared.sorted_attributes.NumberedValue.{NumberedValue}
 use Rattle.postings.specs.inside.ValueTables.{values_in}
-use Rattle.postings.proofs.ValueLemmas.{concept_placed, decimal_placed, had_decimal, had_text, length-values, text_placed}
+use Rattle.postings.proofs.ValueLemmas.{concept_placed, decimal_placed, had_decimal, had_text, length-values}
+use Rattle.postings.proofs.ValueLemmas.{text_placed}
 use Rattle.postings.proofs.values.Values.number.Goals as goal
 use Rattle.postings.proofs.values.Values.number.Goals.{After-place_of, After-place_of-place}
 
@@ -26,7 +27,8 @@ near_decimal c =
 
 -- 32 bits hold the place of a text, counted after the concepts and the decimals
 near_text : (c : After-place_of-place)
-    → length c.args.snapshot.now.release.concepts + (length c.args.self.now.decimals.items + c.place_of-place.result) < 2 ^ 32
+    → length c.args.snapshot.now.release.concepts + (length c.args.self.now.decimals.items + c.place_of-place.result)
+    < 2 ^ 32
 near_text c =
     let tables = c.args.self.now in
     omega (
@@ -46,7 +48,8 @@ pub place_of-requires-clause-there : goal.place_of-requires-clause-there
 place_of-requires-clause-there c =
     let concepts = c.args.snapshot.now.release.concepts in
     let tables = c.args.self.now in
-    let has : NumberedValue → Type 0 = λ value. Contains (values_in concepts tables) (value_by_identifier concepts (numbered_lent value)) in
+    let has : NumberedValue → Type 0 =
+    λ value. Contains (values_in concepts tables) (value_by_identifier concepts (numbered_lent value)) in
     let there = subst has c.in-Decimal.is c.requires.there in
     subst (λ (decimals : List ℤ). Contains decimals c.in-Decimal.decimal.0) (sym c.as_slice.ensures.value)
     (had_decimal concepts tables.decimals.items tables.texts c.in-Decimal.decimal.0 there)
@@ -56,7 +59,8 @@ pub place_of-place-requires-clause-there : goal.place_of-place-requires-clause-t
 place_of-place-requires-clause-there c =
     let concepts = c.args.snapshot.now.release.concepts in
     let tables = c.args.self.now in
-    let has : NumberedValue → Type 0 = λ value. Contains (values_in concepts tables) (value_by_identifier concepts (numbered_lent value)) in
+    let has : NumberedValue → Type 0 =
+    λ value. Contains (values_in concepts tables) (value_by_identifier concepts (numbered_lent value)) in
     let there = subst has c.in-Other.is c.requires.there in
     had_text concepts tables.decimals.items tables.texts c.in-Other.text.now there
 
@@ -67,17 +71,35 @@ overflow_cast-result c = record { fits = omega (arith, near_decimal (goal.at.ove
 -- 32 bits hold the number of a decimal
 pub overflow_add-result : goal.overflow_add-result
 overflow_add-result c =
-    record { fits = omega (arith, near_decimal (goal.at.overflow_add-result c).After-place_of, c.concept_count-concepts.ensures.count) }
+    record {
+      fits = omega (
+        arith,
+        near_decimal (goal.at.overflow_add-result c).After-place_of,
+        c.concept_count-concepts.ensures.count,
+      );
+    }
 
 -- the number of decimals and the place of a text together fit in a `usize`
 pub overflow_add-result-in-Other : goal.overflow_add-result-in-Other
 overflow_add-result-in-Other c =
-    record { fits = omega (arith, near_text (goal.at.overflow_add-result-in-Other c).After-place_of-place, c.len.ensures) }
+    record {
+      fits = omega (
+        arith,
+        near_text (goal.at.overflow_add-result-in-Other c).After-place_of-place,
+        c.len.ensures,
+      );
+    }
 
 -- 32 bits hold the place of a text, counted after the decimals
 pub overflow_cast-result-in-Other : goal.overflow_cast-result-in-Other
 overflow_cast-result-in-Other c =
-    record { fits = omega (arith, near_text (goal.at.overflow_cast-result-in-Other c).After-place_of-place, c.len.ensures) }
+    record {
+      fits = omega (
+        arith,
+        near_text (goal.at.overflow_cast-result-in-Other c).After-place_of-place,
+        c.len.ensures,
+      );
+    }
 
 -- 32 bits hold the number of a text
 pub overflow_add-result-in-Other-2 : goal.overflow_add-result-in-Other-2
@@ -97,7 +119,8 @@ returns-in-Concept c =
     let concepts = c.args.snapshot.now.release.concepts in
     let tables = c.args.self.now in
     concept_placed concepts tables.decimals.items tables.texts c.in-Concept.number
-    (subst (λ (value : NumberedValue). IsNumberBelow (length concepts) (numbered_lent value)) c.in-Concept.is c.requires.below)
+    (subst (λ (value : NumberedValue). IsNumberBelow (length concepts) (numbered_lent value)) c.in-Concept.is
+    c.requires.below)
     ∙ ap (λ (value : NumberedValue). Some (value_by_identifier concepts (numbered_lent value))) (sym c.in-Concept.is)
 
 -- the value with the number of a decimal is the decimal
@@ -105,9 +128,11 @@ pub returns-in-Decimal : goal.returns-in-Decimal
 returns-in-Decimal c =
     let concepts = c.args.snapshot.now.release.concepts in
     let tables = c.args.self.now in
-    ap (λ (count : ℕ). slice_get (values_in concepts tables) (count + c.place_of.result)) c.concept_count-concepts.ensures.count
+    ap (λ (count : ℕ). slice_get (values_in concepts tables) (count + c.place_of.result))
+    c.concept_count-concepts.ensures.count
     ∙ decimal_placed concepts tables.decimals.items tables.texts c.in-Decimal.decimal.0 c.place_of.result
-    (ap (λ (decimals : List ℤ). slice_get decimals c.place_of.result) (sym c.as_slice.ensures.value) ∙ c.place_of.ensures)
+    (ap (λ (decimals : List ℤ). slice_get decimals c.place_of.result) (sym c.as_slice.ensures.value)
+    ∙ c.place_of.ensures)
     ∙ ap (λ (value : NumberedValue). Some (value_by_identifier concepts (numbered_lent value))) (sym c.in-Decimal.is)
 
 -- the value with the number of a text is the text
@@ -116,6 +141,8 @@ returns-in-Other c =
     let concepts = c.args.snapshot.now.release.concepts in
     let tables = c.args.self.now in
     let long : c.len.result ≡ length tables.decimals.items = omega (arith, c.len.ensures) in
-    (λ i. slice_get (values_in concepts tables) (c.concept_count-concepts.ensures.count i + (long i + c.place_of-place.result)))
-    ∙ text_placed concepts tables.decimals.items tables.texts c.in-Other.text.now c.place_of-place.result c.place_of-place.ensures
+    (λ i. slice_get (values_in concepts tables) (c.concept_count-concepts.ensures.count i
+    + (long i + c.place_of-place.result)))
+    ∙ text_placed concepts tables.decimals.items tables.texts c.in-Other.text.now c.place_of-place.result
+    c.place_of-place.ensures
     ∙ ap (λ (value : NumberedValue). Some (value_by_identifier concepts (numbered_lent value))) (sym c.in-Other.is)

@@ -1,7 +1,7 @@
 use Rattle.std.proofs.Common.{ℕ, ◌+◌, ◌-◌, ◌≡◌, ◌<◌, ◌∙◌, [], length, get_or, sym, ap, arith}
 use Rattle.rf2_rows.specs.Release.{text_value}
 use Rattle.postings.specs.Indexed.{value_at}
-use Rattle.postings.proofs.ValueLemmas.{text_behind, values_behind}
+use Rattle.postings.proofs.ValueLemmas.{text_after, values_after}
 use Rattle.postings.proofs.values.Values.value.Goals as goal
 
 -- the text at a place after the decimals is the value there
@@ -14,5 +14,5 @@ returns c =
     let at : length decimals + k ≡ c.args.place = omega (arith, long, c.if-place-decimals.false) in
     let below : k < length texts = omega (arith, at, c.requires) in
     ap text_value (c.of.ensures ∙ ap (λ (n : ℕ). get_or texts (c.args.place - n) []) long)
-    ∙ sym (text_behind decimals texts k (text_value []) below)
-    ∙ ap (value_at (values_behind decimals texts)) at
+    ∙ sym (text_after decimals texts k (text_value []) below)
+    ∙ ap (value_at (values_after decimals texts)) at

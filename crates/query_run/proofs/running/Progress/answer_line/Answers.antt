@@ -8,7 +8,8 @@ use Rattle.query_run.proofs.running.Progress.answer_line.Goals as goal
 pub returns-in-Ok-clause-answer : goal.returns-in-Ok-clause-answer
 returns-in-Ok-clause-answer g c =
     let (text, is, wrote) = c.in-Ok.ensures.answer in
-    answers_one (g.A.AnswerLine.answers c.args.answerer.now) _ _ (c.args.self.now.pending.items ++ c.args.line.now) text is wrote
+    answers_one (g.A.AnswerLine.answers c.args.answerer.now) _ _ (c.args.self.now.pending.items ++ c.args.line.now) text
+    is wrote
 
 -- a fault of the answer leaves what the run's fault says
 pub returns-in-Err-clause-fault : goal.returns-in-Err-clause-fault
@@ -20,7 +21,9 @@ returns-in-Err-clause-fault g c =
     let after = g.W.AnswerOutput.written c.write_answer.new.output in
     let failed = g.W.AnswerOutput.has_failed c.write_answer.new.output in
     let told = sym (c.of.ensures ∙ ap (run_fault_of c.in-Err.fault) c.in-Err.ensures.answered) in (
-      subst (λ (fault : RunFault). IsAnswerFault fault count failed) told (is_answer_fault c.in-Err.fault count failed c.in-Err.ensures.failed),
+      subst (λ (fault : RunFault). IsAnswerFault fault count failed) told
+          (is_answer_fault c.in-Err.fault count failed c.in-Err.ensures.failed),
       subst (λ (fault : RunFault). LeavesWritten answers (line ∷ []) 0 fault before after) told
-          (leaves_one answers before after line c.write_answer.new.self.waiting c.in-Err.fault count c.in-Err.ensures.fault),
+          (leaves_one answers before after line c.write_answer.new.self.waiting c.in-Err.fault count
+          c.in-Err.ensures.fault),
     )

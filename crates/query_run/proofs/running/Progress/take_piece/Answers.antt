@@ -1,4 +1,5 @@
-use Rattle.std.proofs.Common.{◌≡◌, ℕ, ◌+◌, ◌∷◌, ◌++◌, [], List, length, take, refl, sym, ap, ◌∙◌, subst, append_assoc, length-append, arith}
+use Rattle.std.proofs.Common.{◌≡◌, ℕ, ◌+◌, ◌∷◌, ◌++◌, [], List, length, take, refl, sym, ap, ◌∙◌, subst, append_assoc}
+use Rattle.std.proofs.Common.{length-append, arith}
 use Rattle.std.proofs.lemmas.List.{take_at}
 use Rattle.query_run.specs.Lines.{AreWritten, IsCutInto, query_lines}
 use Rattle.query_run.specs.Fault.{IsAnswerFault, LeavesWritten}
@@ -10,7 +11,7 @@ use Rattle.query_run.proofs.running.Progress.take_piece.Goals as goal
 -- before the first line the bytes before the piece are pending
 pub loop-line-init : goal.loop-line-init
 loop-line-init g c = record {
-  sound = c.requires.sound;
+  not_failed = c.requires.not_failed;
   waiting = c.requires.waiting;
   few = omega arith;
   lines = λ unended clear kept. (
@@ -32,11 +33,18 @@ loop-line-preserved g c =
     let answers = g.A.AnswerLine.answers c.args.answerer.now in
     let rest_is : c.loop-line.rest.now ≡ line ++ 10 ∷ rest = c.in-Some.ensures.0 in
     record {
-      sound = c.in-Ok.ensures.sound;
+      not_failed = c.in-Ok.ensures.not_failed;
       waiting = c.in-Ok.ensures.waiting;
-      few = omega (arith, ap length rest_is, length-append line (10 ∷ rest), c.in-Ok.ensures.answered, c.loop-line.invariant.few);
+      few = omega (
+        arith,
+        ap length rest_is,
+        length-append line (10 ∷ rest),
+        c.in-Ok.ensures.answered,
+        c.loop-line.invariant.few,
+      );
       lines = λ unended clear kept.
-          let (before, lines, whole, (begun, cut, is), count, wrote) = c.loop-line.invariant.lines unended clear kept in (
+          let (before, lines, whole, (begun, cut, is), count, wrote) =
+          c.loop-line.invariant.lines unended clear kept in (
             before ++ (line ++ 10 ∷ []),
             lines ++ (begun ++ line) ∷ [],
             whole ∙ ap (λ (bytes : List ℕ). before ++ bytes) rest_is ∙ simp append_assoc,
@@ -57,7 +65,8 @@ returns-in-Err-clause-fault g c unended clear kept =
     let rest = c.in-Some.later.now in
     let rest_is : c.loop-line.rest.now ≡ line ++ 10 ∷ rest = c.in-Some.ensures.0 in
     let all : query_lines (unended ++ c.args.piece.now) ≡ lines ++ ((begun ++ line) ∷ query_lines rest) =
-    ap query_lines (whole ∙ ap (λ (bytes : List ℕ). before ++ bytes) rest_is) ∙ query_lines_from before lines begun line rest cut c.in-Some.ensures.1 in
+    ap query_lines (whole ∙ ap (λ (bytes : List ℕ). before ++ bytes) rest_is)
+    ∙ query_lines_from before lines begun line rest cut c.in-Some.ensures.1 in
     let answers = g.A.AnswerLine.answers c.args.answerer.now in
     let old = g.W.AnswerOutput.written c.args.output.now in
     let mid = g.W.AnswerOutput.written c.loop-line.output in
@@ -67,9 +76,11 @@ returns-in-Err-clause-fault g c unended clear kept =
     (leaves_kept answers (g.met.A.AnswerLine.same_front c.args.answerer.now) begun c.loop-line.self.pending.items is
     line c.in-Err.fault mid new c.in-Err.ensures.fault.1) in (
       length lines + 0,
-      subst (λ (n : ℕ). IsAnswerFault c.in-Err.fault n (g.W.AnswerOutput.has_failed c.answer_line.new.output)) (omega (arith, count)) c.in-Err.ensures.fault.0,
+      subst (λ (n : ℕ). IsAnswerFault c.in-Err.fault n (g.W.AnswerOutput.has_failed c.answer_line.new.output))
+          (omega (arith, count)) c.in-Err.ensures.fault.0,
       subst (λ (found : List (List ℕ)). LeavesWritten answers found (length lines + 0) c.in-Err.fault old new) (sym all)
-          (LeavesWritten_after answers lines ((begun ++ line) ∷ query_lines rest) 0 old mid new c.in-Err.fault wrote here),
+          (LeavesWritten_after answers lines ((begun ++ line) ∷ query_lines rest) 0 old mid new c.in-Err.fault wrote
+          here),
     )
 
 -- the bytes after the last line feed of the piece are kept
@@ -80,8 +91,10 @@ returns-in-Ok-keep-clause-ok g c unended clear kept =
       lines,
       (
         begun ++ rest,
-        subst (λ (bytes : List ℕ). IsCutInto bytes lines (begun ++ rest)) (sym whole) (IsCutInto-unended before lines begun rest cut c.in_default.ensures),
-        kept_more begun c.loop-line.self.pending.items rest c.keep.new.self.pending.items is c.in-Ok-keep.ensures.pending,
+        subst (λ (bytes : List ℕ). IsCutInto bytes lines (begun ++ rest)) (sym whole)
+            (IsCutInto-unended before lines begun rest cut c.in_default.ensures),
+        kept_more begun c.loop-line.self.pending.items rest c.keep.new.self.pending.items is
+            c.in-Ok-keep.ensures.pending,
       ),
       omega (arith, count, c.keep.ensures.answered),
       wrote,
@@ -95,12 +108,13 @@ returns-in-Err-keep-clause-fault g c unended clear kept =
     let all : query_lines (unended ++ c.args.piece.now) ≡ lines ++ query_lines (begun ++ rest) =
     ap query_lines whole ∙ cut.goes_on rest in (
       length lines,
-      (omega (arith, count, c.keep.ensures.answered), c.loop-line.invariant.sound),
+      (omega (arith, count, c.keep.ensures.answered), c.loop-line.invariant.not_failed),
       (
         omega (arith, ap length all, length-append lines (query_lines (begun ++ rest))),
         subst (λ (found : List (List ℕ)). AreWritten (g.A.AnswerLine.answers c.args.answerer.now) found
             (g.W.AnswerOutput.written c.args.output.now) (g.W.AnswerOutput.written c.loop-line.output))
-            (sym (ap (take (length lines)) all ∙ take_at lines (query_lines (begun ++ rest)) (length lines) refl)) wrote,
+            (sym (ap (take (length lines)) all ∙ take_at lines (query_lines (begun ++ rest)) (length lines) refl))
+            wrote,
       ),
     )
 

@@ -7,7 +7,7 @@ use Rattle.query_run.proofs.running.Progress.take_piece.Given as goal
 -- were answered
 abbrev pub invariant-loop-line : goal.invariant-loop-line
 invariant-loop-line g l = record {
-  sound : g.W.AnswerOutput.has_failed l.output ≡ false;
+  not_failed : g.W.AnswerOutput.has_failed l.output ≡ false;
   waiting : l.self.waiting ≡ [];
   few : l.self.answered + length l.rest ≤ l.fn.self.answered + length l.piece;
   lines : (unended : List ℕ) → HasNoFeed unended → l.fn.self.pending.items ≡ kept_of unended
@@ -15,7 +15,8 @@ invariant-loop-line g l = record {
       × (unended ++ l.piece ≡ before ++ l.rest)
       × IsCutTo before lines l.self.pending.items
       × (l.self.answered ≡ l.fn.self.answered + length lines)
-      × AreWritten (g.A.AnswerLine.answers l.answerer) lines (g.W.AnswerOutput.written l.fn.output) (g.W.AnswerOutput.written l.output);
+      × AreWritten (g.A.AnswerLine.answers l.answerer) lines (g.W.AnswerOutput.written l.fn.output)
+      (g.W.AnswerOutput.written l.output);
 }
 
 -- the rest of the piece gets shorter

@@ -11,5 +11,6 @@ has_number-requires c =
     let refset = c.args.refset in
     let below : refset < length release.concepts =
     subst (λ (ids : List ℕ). refset < length ids) c.args.self.index.concepts c.requires in
-    subst IsRising (sym (c.members.ensures ∙ ap (λ (lists : List (List ℕ)). list_of lists refset) c.args.self.index.members))
+    subst IsRising (sym (c.members.ensures
+    ∙ ap (λ (lists : List (List ℕ)). list_of lists refset) c.args.self.index.members))
     (members_rise release refset below (omega (arith, c.concept_count.ensures.few)))

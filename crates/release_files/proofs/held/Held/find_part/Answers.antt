@@ -2,14 +2,16 @@
 use Rattle.std.proofs.Common.{◌≡◌, ℕ, length, ap, sym, refl, ◌∙◌, subst, arith}
 use Rattle.release_files.specs.Held.{GrowsBy, reachable}
 use Rattle.release_files.specs.Lines.{HasNoFeed}
-use Rattle.release_files.proofs.HeldLemmas.{begins_ended, begins_last, GrowsBy-clear, GrowsBy-keeps, GrowsBy-length, GrowsBy-none, KeepsBytes-trans, ReadsOn-trans, TakesWithin-trans}
+use Rattle.release_files.proofs.HeldLemmas.{begins_ended, begins_last, GrowsBy-clear, GrowsBy-keeps, GrowsBy-length}
+use Rattle.release_files.proofs.HeldLemmas.{GrowsBy-none, KeepsBytes-trans, ReadsOn-trans, TakesWithin-trans}
 use Rattle.release_files.proofs.held.Held.find_part.Goals as goal
 
 -- if a line feed is found, the bytes up to it are the first part
 pub returns-in-Some-clause-part : goal.returns-in-Some-clause-part
 returns-in-Some-clause-part g c =
     let (some, within, part) = rw c.bytes.ensures at c.in-Some.ensures in
-    begins_ended (reachable c.loop-count.self.left (g.S.FileSource.rest c.loop-count.source)) c.loop-count.self.bytes c.in-Some.count some part
+    begins_ended (reachable c.loop-count.self.left (g.S.FileSource.rest c.loop-count.source)) c.loop-count.self.bytes
+    c.in-Some.count some part
 
 -- if no more bytes come, the bytes without a line feed are the last part, or there is none
 pub returns-then-branch-eq0-clause-part : goal.returns-then-branch-eq0-clause-part

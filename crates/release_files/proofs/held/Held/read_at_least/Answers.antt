@@ -1,6 +1,7 @@
 use Rattle.std.proofs.Common.{◌∙◌, ap, arith, length}
 use Rattle.release_files.specs.Held.{reachable}
-use Rattle.release_files.proofs.HeldLemmas.{GrowsBy-keeps, GrowsBy-length, KeepsBytes-trans, ReadsOn-trans, TakesWithin-trans}
+use Rattle.release_files.proofs.HeldLemmas.{GrowsBy-keeps, GrowsBy-length, KeepsBytes-trans, ReadsOn-trans}
+use Rattle.release_files.proofs.HeldLemmas.{TakesWithin-trans}
 use Rattle.release_files.proofs.held.Held.read_at_least.Goals as goal
 
 -- a piece that is read keeps the invariant

@@ -12,14 +12,14 @@ returns-clause-piece g c =
     let at = inside.filled - inside.start in
     let moved = c.move_to_front.new.buffer in
     let grown = c.grow.new.buffer in
-    let read = c.read_behind.new.buffer in
+    let read = c.read_after.new.buffer in
     let moved_long : length moved ≡ inside.buffer.len = c.move_to_front.auto.buffer ∙ c.as_mut_slice.ensures.len in
     let moved_is : (with_items inside.buffer moved).items ≡ moved = with_items_is inside.buffer moved moved_long in
     let read_is : (with_items grown read).items ≡ read =
-    with_items_is grown read (c.read_behind.auto.buffer ∙ c.as_mut_slice-2.ensures.len) in
+    with_items_is grown read (c.read_after.auto.buffer ∙ c.as_mut_slice-2.ensures.len) in
     let left_is : inside.left ≡ c.args.self.now.left = ap (λ held. held.left) c.self.view_is in
     rw read_is (grows_reached
-    (g.S.FileSource.rest c.args.source.now) (g.S.FileSource.rest c.read_behind.new.source)
+    (g.S.FileSource.rest c.args.source.now) (g.S.FileSource.rest c.read_after.new.source)
     c.args.self.now.bytes inside.buffer.items moved grown.items read inside.start inside.filled c.in_ok-count.count
     c.args.self.now.left (inside.left - c.in_ok-count.count) c.min-room.result
     (ap (λ held. held.bytes) (sym c.self.view_is))
@@ -48,8 +48,8 @@ returns-clause-room g c =
 pub returns-clause-bounded : goal.returns-clause-bounded
 returns-clause-bounded g c =
     let inside = c.self.inside in
-    takes_read (g.S.FileSource.rest c.args.source.now) (g.S.FileSource.rest c.read_behind.new.source)
-    c.read_behind.new.buffer
+    takes_read (g.S.FileSource.rest c.args.source.now) (g.S.FileSource.rest c.read_after.new.source)
+    c.read_after.new.buffer
     (inside.filled - inside.start) c.in_ok-count.count inside.left c.args.self.now.left c.min-room.result
     c.in_ok-count.ensures.piece c.in_ok-count.ensures.within c.in_ok-count.ensures.few c.min-room.ensures
     (ap (λ held. held.left) c.self.view_is)

@@ -34,7 +34,8 @@ returns-clause-ok c =
     (sym (text_in-row c.args.kind c.args.line.bytes.now c.args.row.now c.requires.row))
     ∙ omega (arith, c.in-Some.ensures.key, c.if-found-key.false) in
     let time : time_on c.args.kind c.args.line.bytes.now ≡ c.effective_time.result =
-    sym (c.effective_time.ensures ∙ time_in-on c.args.kind c.args.line.bytes.now c.args.row.now c.requires.row) in record {
+    sym (c.effective_time.ensures ∙ time_in-on c.args.kind c.args.line.bytes.now c.args.row.now c.requires.row) in
+    record {
       uuids = refl;
       repeated = c.in_ok-fits.ensures.repeated;
       left = refl;
@@ -42,5 +43,6 @@ returns-clause-ok c =
       fits = λ rows expected.
           let fits = c.in_ok-fits.ensures.conflict rows expected.taken (rw key at expected.kinds) in
           rw (key, time) (not-true _ (sym fits ∙ c.if-not-fits.false));
-      taken = λ rows expected. rw (key, time) (c.in_ok-fits.ensures.taken rows expected.taken (rw key at expected.kinds) c.if-not-fits.false);
+      taken = λ rows expected. rw (key, time)
+          (c.in_ok-fits.ensures.taken rows expected.taken (rw key at expected.kinds) c.if-not-fits.false);
     }

@@ -11,4 +11,5 @@ pub returns-in-Ok-clause-err : goal.returns-in-Ok-clause-err
 returns-in-Ok-clause-err c = if_err _ _ c.compare.result (λ fault said other.
     denied-line (compared_in c.args.self.now) c.args.file c.args.kind
     (line_text c.args.line) fault c.in-Some.first.now c.in-Some.left.now c.in-Some.ensures.cases.0
-    (grind (arith, nat_tests, c.if-is_empty.false, c.is_empty.ensures)) (rw (← c.is_repeated.ensures.same) (said other))) c.compare.ensures.err
+    (grind (arith, nat_tests, c.if-is_empty.false, c.is_empty.ensures))
+    (rw (← c.is_repeated.ensures.same) (said other))) c.compare.ensures.err

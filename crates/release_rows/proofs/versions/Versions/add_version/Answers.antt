@@ -9,8 +9,8 @@ use Rattle.release_rows.proofs.versions.Versions.add_version.Goals.{In_ok-push-2
 pub returns-clause-taken : goal.returns-clause-taken
 returns-clause-taken c = rw (← c.self.view_is) (λ rows before.
     taken_first (taken_in c.self.inside) c.self.invariant.rising rows before (noted c.args.row.now) c.args.code
-    (rw (← c.self.view_is) at c.requires.code) c.meet.new.self c.push-2.new.self c.push.new.self.items
-    (rw (← c.self.view_is) at c.requires.new) c.requires.accepted c.in_ok-meet.ensures.keys
+    (rw (← c.self.view_is) at c.requires.code) c.intern.new.self c.push-2.new.self c.push.new.self.items
+    (rw (← c.self.view_is) at c.requires.new) c.requires.accepted c.in_ok-intern.ensures.keys
     (rw (← c.self.inside.chosen.ok.0, ← c.len-place.ensures) c.in_ok-push-2.ensures.ok) c.in_ok-push.ensures.items)
 
 -- the table keeps to `AreKept` with the version that is added and at most one more code
@@ -31,12 +31,12 @@ kept c codes few =
 -- after the code is added, the table keeps to `AreKept`
 pub invariant_of-self-2 : goal.invariant_of-self-2
 invariant_of-self-2 c =
-    let codes : c.meet.new.self ≡ c.self.inside.seen ++ c.args.code ∷ [] =
-    rw (c.in_ok-meet.ensures.keys, (rw (← c.self.view_is) at c.requires.new)) refl in
-    kept (goal.at.invariant_of-self-2 c).In_ok-push-2 c.meet.new.self
+    let codes : c.intern.new.self ≡ c.self.inside.seen ++ c.args.code ∷ [] =
+    rw (c.in_ok-intern.ensures.keys, (rw (← c.self.view_is) at c.requires.new)) refl in
+    kept (goal.at.invariant_of-self-2 c).In_ok-push-2 c.intern.new.self
     (omega (arith, ap length codes, length_push c.self.inside.seen c.args.code))
 
 -- if the code cannot be added, the table keeps to `AreKept`
-pub invariant_of-self-in_err-meet : goal.invariant_of-self-in_err-meet
-invariant_of-self-in_err-meet c = kept (goal.at.invariant_of-self-in_err-meet c).In_ok-push-2 c.meet.new.self
-    (omega (arith, ap length c.in_err-meet.ensures.err))
+pub invariant_of-self-in_err-intern : goal.invariant_of-self-in_err-intern
+invariant_of-self-in_err-intern c = kept (goal.at.invariant_of-self-in_err-intern c).In_ok-push-2 c.intern.new.self
+    (omega (arith, ap length c.in_err-intern.ensures.err))

@@ -29,7 +29,8 @@ invariant_of-self-2 c =
     let texts = c.self.inside.texts.items in
     let grown = c.push_bytes.new.texts.items in
     let extends : Extends texts grown = (c.args.text.now, c.in_ok-span.ensures.grown) in
-    all-push (IsPlaced texts) (IsPlaced grown) (placed-extends texts grown extends) c.self.inside.values.items c.push.new.self.items (Other c.in_ok-span.span)
+    all-push (IsPlaced texts) (IsPlaced grown) (placed-extends texts grown extends) c.self.inside.values.items
+    c.push.new.self.items (Other c.in_ok-span.span)
     c.in_ok-push.ensures.items c.self.invariant c.in_ok-span.ensures.span.placed
 
 -- adding a text adds one value at the end
@@ -40,8 +41,10 @@ returns-clause-grown c =
     let extends : Extends texts grown = (c.args.text.now, c.in_ok-span.ensures.grown) in
     let added : List Concrete = a_text c.args.text.now ∷ [] in (
       added,
-      rows-push (concrete_in texts) (concrete_in grown) (IsPlaced texts) (concrete-extends texts grown extends) c.self.inside.values.items c.push.new.self.items
-          (Other c.in_ok-span.span) (a_text c.args.text.now) c.in_ok-push.ensures.items c.self.invariant (ap a_text c.in_ok-span.ensures.span.same)
+      rows-push (concrete_in texts) (concrete_in grown) (IsPlaced texts) (concrete-extends texts grown extends)
+          c.self.inside.values.items c.push.new.self.items
+          (Other c.in_ok-span.span) (a_text c.args.text.now) c.in_ok-push.ensures.items c.self.invariant
+          (ap a_text c.in_ok-span.ensures.span.same)
           ∙ ap (λ (values : List Concrete). values ++ added) c.self.view_is,
     )
 

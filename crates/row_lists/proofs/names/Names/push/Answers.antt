@@ -13,7 +13,8 @@ invariant_of-self-in_err-term c =
     All-weaker (IsPlaced (string_bytes c.self.inside.texts)) (IsPlaced (string_bytes c.push_text-2.new.texts))
     (placed-extends (string_bytes c.self.inside.texts) (string_bytes c.push_text-2.new.texts)
     (c.args.language.now, c.in_err-term.ensures.same ∙ c.in_ok-language.ensures.grown)
-    (IsUtf8-string_bytes c.self.inside.texts) (IsUtf8-string_bytes c.push_text-2.new.texts)) c.self.inside.rows.items c.self.invariant
+    (IsUtf8-string_bytes c.self.inside.texts) (IsUtf8-string_bytes c.push_text-2.new.texts)) c.self.inside.rows.items
+    c.self.invariant
 
 -- if the row cannot be added, the texts of the rows still stand in the longer buffer
 pub invariant_of-self-in_err-push : goal.invariant_of-self-in_err-push
@@ -35,10 +36,12 @@ invariant_of-self-2 c =
     let more : Extends spoken grown = (c.args.term.now, c.in_ok-term.ensures.grown) in
     let whole = IsUtf8-string_bytes c.push_text-2.new.texts in
     let extends = extends-both texts spoken grown (c.args.language.now, c.in_ok-language.ensures.grown) more in
-    all-push (IsPlaced texts) (IsPlaced grown) (placed-extends texts grown extends (IsUtf8-string_bytes c.self.inside.texts) whole)
+    all-push (IsPlaced texts) (IsPlaced grown)
+    (placed-extends texts grown extends (IsUtf8-string_bytes c.self.inside.texts) whole)
     c.self.inside.rows.items c.push.new.self.items _ c.in_ok-push.ensures.items c.self.invariant
     (record {
-      language = text_span-extends spoken grown more (IsUtf8-string_bytes c.push_text.new.texts) whole c.in_ok-language.language c.in_ok-language.ensures.text;
+      language = text_span-extends spoken grown more (IsUtf8-string_bytes c.push_text.new.texts) whole
+          c.in_ok-language.language c.in_ok-language.ensures.text;
       term = c.in_ok-term.ensures.text;
     })
 
@@ -59,4 +62,9 @@ returns c =
       c.in_ok-language.ensures.span.same,
       c.in_ok-term.ensures.span.same,
     ))
-    ∙ ap (λ names. names ++ record { id = c.args.id; concept = c.args.concept; language = c.args.language.now; term = c.args.term.now } ∷ []) c.self.view_is
+    ∙ ap (λ names. names ++ record {
+      id = c.args.id;
+      concept = c.args.concept;
+      language = c.args.language.now;
+      term = c.args.term.now;
+    } ∷ []) c.self.view_is

@@ -6,4 +6,5 @@ use Rattle.set_algebra.proofs.equal.ValueTestPartialEq.eq.Goals as goal
 -- `==` on a test returns what `same_test` says of the data
 pub returns-clause-test : goal.returns-clause-test
 returns-clause-test c =
-    same_from_decides _ _ c.same_value_test.ensures (decides_test (test_plan_of c.args.self.now) (test_plan_of c.args.other.now))
+    same_from_decides _ _ c.same_value_test.ensures
+    (decides_test (test_plan_of c.args.self.now) (test_plan_of c.args.other.now))

@@ -51,4 +51,5 @@ returns-clause-err c =
       (kind_count-is file_text c.args.files.now),
     ) in
     if_both _ _ _ c.load_places.result (λ fault said failed. grind
-    (arith, loaded, said, (no_device _ nothing_done fault (omega arith) failed))) c.load_places.ensures.err c.load_places.ensures.device
+    (arith, loaded, said, (no_device _ nothing_done fault (omega arith) failed))) c.load_places.ensures.err
+    c.load_places.ensures.device

@@ -1,4 +1,5 @@
-use Rattle.std.proofs.Common.{◌≡◌, ◌∙◌, Global, List, Ok, String, ap, map, false, inl, inr, string_bytes, subst, sym, IfErr, IfOk}
+use Rattle.std.proofs.Common.{◌≡◌, ◌∙◌, Global, List, Ok, String, ap, map, false, inl, inr, string_bytes, subst, sym}
+use Rattle.std.proofs.Common.{IfErr, IfOk}
 use Rattle.std.proofs.lemmas.Bool.{false≢true}
 use Rattle.release_rows.specs.DeviceFaults.{is_device}
 use Rattle.held_release.specs.Contents.{IsFaultOf}
@@ -18,7 +19,8 @@ returns-in-Ok-clause-ok g c = if_told _ (g.S.FileSource.files c.args.source.now)
 pub returns-in-Ok-clause-err : goal.returns-in-Ok-clause-err
 returns-in-Ok-clause-err g c = if_told _ (g.S.FileSource.files c.args.source.now) (λ known told.
     subst (λ (names : List (String Global)). IfErr c.load_named.result (λ fault.
-    is_device fault ≡ false → IsFaultOf fault (load_of c.args.limits c.args.lang.now (listed known (map string_bytes names)))))
+    is_device fault ≡ false → IsFaultOf fault
+    (load_of c.args.limits c.args.lang.now (listed known (map string_bytes names)))))
     c.as_slice.ensures.value (at_told _ _ known (c.in-Ok.ensures.files ∙ told) c.load_named.ensures.err))
 
 -- if the names cannot be listed and the answer is a failure of the device, it failed when it was to list them

@@ -19,7 +19,8 @@ load_places-requires-clause-some g c = some_name string_bytes c.args.names.now c
 
 -- if no name is that of a Concept file, the load of the files answers that fault
 pub returns-then-not-name_concept_file-clause-err : goal.returns-then-not-name_concept_file-clause-err
-returns-then-not-name_concept_file-clause-err g c = grind (arith, common_steps, nat_tests, if_told, load_of-none, names_concepts-listed, string_bytes)
+returns-then-not-name_concept_file-clause-err g c =
+    grind (arith, common_steps, nat_tests, if_told, load_of-none, names_concepts-listed, string_bytes)
 
 -- a snapshot that is answered is the load of the named files
 pub returns-clause-ok : goal.returns-clause-ok

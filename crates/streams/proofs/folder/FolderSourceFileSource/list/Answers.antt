@@ -1,6 +1,6 @@
 use Rattle.std.proofs.Common.{map, string_bytes}
-use Rattle.streams.specs.Walk.{AreFilesOf}
-use Rattle.streams.proofs.WalkLemmas.{given_ok}
+use Rattle.streams.specs.Traversal.{AreFilesOf}
+use Rattle.streams.proofs.TraversalLemmas.{given_ok}
 use Rattle.streams.proofs.folder.FolderSourceFileSource.list.Goals as goal
 
 -- the names that the source answers are those of the files of the folders

@@ -1,2 +1,0 @@
-pub mod FirstMet
-pub mod inside

@@ -1,0 +1,2 @@
+pub mod KeyInterner
+pub mod inside

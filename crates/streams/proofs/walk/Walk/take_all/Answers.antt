@@ -1,6 +1,0 @@
-use Rattle.std.proofs.Common.{◌∙◌}
-use Rattle.streams.proofs.walk.Walk.take_all.Goals as goal
-
--- if a name cannot be taken, the folders that were entered stay the same
-pub returns-in-Err-clause-entered : goal.returns-in-Err-clause-entered
-returns-in-Err-clause-entered g c = c.in-Err.ensures.entered ∙ c.loop-name.invariant.entered
