@@ -34,7 +34,7 @@ module _ (xs ys : List ℕ) (low high : ℕ) (xs_rise : IsRisingBelow low xs) (y
       both false false had = refl
 
   -- a sum over `xs`, whose items are all in `ys`, is no more than the sum over `ys`
-  sum_among : (f : ℕ → ℕ) → sum_by f xs ≤ sum_by f ys
+  pub sum_among : (f : ℕ → ℕ) → sum_by f xs ≤ sum_by f ys
   sum_among f =
       omega (
         arith,

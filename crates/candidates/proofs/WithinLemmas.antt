@@ -118,24 +118,6 @@ module _ {X : Type 0} (bound : ℕ) (test : X → ℕ → Bool) (parts : List X)
         next found_is next_is
         ∙ (λ i. numbers_where bound (λ n. one_more start n i))
 
-    -- a conjunction, a part that is already known: if all numbers in `start` pass part `k`, then those that pass the
-    -- first `k` parts are those that pass the first `k + 1`
-    pub all_again : (start : ℕ → Bool) (found : List ℕ)
-        → ((n : ℕ) → n < bound → start n ≡ true → test (get_or parts k d) n ≡ true)
-        → found ≡ numbers_where bound (λ n. start n && list_all (λ part. test part n) (take k parts))
-        → found ≡ numbers_where bound (λ n. start n && list_all (λ part. test part n) (take (k + 1) parts))
-    all_again start found had found_is =
-        found_is
-        ∙ numbers_where-agree bound (λ n. start n && list_all (λ part. test part n) (take k parts))
-        (λ n. start n && list_all (λ part. test part n) (take (k + 1) parts))
-        (λ n inside. kept (start n) (list_all (λ part. test part n) (take k parts)) (test (get_or parts k d) n)
-        (had n inside) ∙ one_more start n)
-      where
-        kept : (a b c : Bool) → (a ≡ true → c ≡ true) → (a && b) ≡ ((a && b) && c)
-        kept true true c had = sym (had refl)
-        kept true false c had = refl
-        kept false b c had = refl
-
     -- a disjunction, one part more: the union of the candidates that pass one of the first `k` parts and those that
     -- pass part `k` has those that pass one of the first `k + 1` parts
     pub some_within : (may : ℕ → Bool) (count : ℕ) → count ≡ bound → (found next joined : List ℕ)
@@ -167,27 +149,6 @@ pub some_of_none : (bound : ℕ) (may : ℕ → Bool) (found : List ℕ) → fou
     → found ≡ numbers_where bound (λ n. may n && false)
 some_of_none bound may found is =
     is ∙ sym (numbers_where-none bound) ∙ (λ i. numbers_where bound (λ n. sym (and-false (may n)) i))
-
--- a conjunction without parts finds all numbers in `start`
-pub all_of_none : (bound : ℕ) (start : ℕ → Bool) (found : List ℕ) → found ≡ numbers_where bound start
-    → found ≡ numbers_where bound (λ n. start n && true)
-all_of_none bound start found is = is ∙ (λ i. numbers_where bound (λ n. and_swap true (start n) i))
-
--- if `driving` is implied by all parts, then the candidates in `driving` that pass all parts are the candidates that
--- pass all parts
-pub all_done : (bound : ℕ) (may driving all : ℕ → Bool) (found : List ℕ)
-    → ((n : ℕ) → n < bound → all n ≡ true → driving n ≡ true)
-    → found ≡ numbers_where bound (λ n. (may n && driving n) && all n)
-    → found ≡ numbers_where bound (λ n. may n && all n)
-all_done bound may driving all found had found_is =
-    found_is ∙ numbers_where-agree bound (λ n. (may n && driving n) && all n) (λ n. may n && all n)
-    (λ n within. dropped (may n) (driving n) (all n) (had n within))
-  where
-    dropped : (a b c : Bool) → (c ≡ true → b ≡ true) → ((a && b) && c) ≡ (a && c)
-    dropped true true c had = refl
-    dropped true false true had = had refl
-    dropped true false false had = refl
-    dropped false b c had = refl
 
 -- ---- sets of concepts and of groups, restricted to candidates
 module _ (release : Release) (may : ℕ → Bool) where

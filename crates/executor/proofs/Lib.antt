@@ -1,3 +1,4 @@
+pub mod AlongLemmas
 pub mod CountingLemmas
 pub mod GroupNodeLemmas
 pub mod LeafWork
@@ -5,6 +6,7 @@ pub mod MemberWork
 pub mod NamedLemmas
 pub mod NodeLemmas
 pub mod NodeWork
+pub mod OrderLemmas
 pub mod PartWork
 pub mod Rules
 pub mod WalkWork

@@ -13,15 +13,14 @@ use Rattle.set_algebra.specs.declared.plan.ConceptPlan.TheVariants as concept_pl
 use Rattle.set_algebra.specs.declared.plan.UnitPlan.{UnitPlan}
 use Rattle.set_algebra.specs.declared.plan.ValueTest.{ValueTest}
 use Rattle.set_algebra.specs.declared.plan.ValueTest.TheVariants as value_test
-use Rattle.set_algebra.specs.Physical.{Physical, PhysicalTest, PhysicalGroups, Physicals, logical, physical_members}
+use Rattle.set_algebra.specs.Physical.{Physical, PhysicalTest, PhysicalGroups, logical, physical_members}
 use Rattle.set_algebra.specs.Physical.{physical_of}
-use Rattle.set_algebra.specs.Physical.{physical_outside, physical_test_of, physical_groups_list_of, physical_values}
+use Rattle.set_algebra.specs.Physical.{physical_outside, physical_test_of, physical_groups_list_of}
 use Rattle.set_algebra.specs.Physical.{physical_walk}
 use Rattle.set_algebra.specs.Physical.{physical_within, physicals_of}
 use Rattle.set_algebra.specs.Plan.{outside_plan, within_plan}
-use Rattle.plan_bounds.specs.Bounds.{own_number, values_bound}
+use Rattle.plan_bounds.specs.Bounds.{own_number}
 use Rattle.plan_bounds.specs.Floors.{floor_number}
-use Rattle.plan_bounds.specs.Leaves.{plan_count}
 use Rattle.plan_bounds.specs.Nodes.{groups_sum, node_sum, plans_sum, test_sum}
 use Rattle.plan_bounds.specs.Sizes.{size}
 use Rattle.rf2_rows.specs.Release.{Release}
@@ -31,9 +30,8 @@ use Rattle.reading.specs.declared.counter.Counter.{Counter}
 use Rattle.pair_sets.specs.declared.tested.Tested.TheVariants as tests
 use Rattle.executor.proofs.LeafWork.{values_read}
 use Rattle.executor.proofs.NodeLemmas.{outside_passes, within_passes}
-use Rattle.executor.proofs.WorkLemmas.{along_from}
 use Rattle.reading.specs.Counted.{CountsWithin, HandsOut, IsFound}
-use Rattle.reading.proofs.CountLemmas.{counted_both, counted_thrice}
+use Rattle.reading.proofs.CountLemmas.{counted_thrice}
 use Rattle.executor.specs.inside.Executed.{AnswersAll, AnswersPlan, AnswersTest, AnswersGroups, CountsPlan, CountsTest}
 use Rattle.executor.specs.inside.Executed.{CountsWithRoom, CountsGroups}
 
@@ -184,15 +182,6 @@ module _ (indexed : Indexed) (types : Physical) (test : PhysicalTest) where
       → min (before + (own + (node_sum (floor_number indexed) types + test_sum (floor_number indexed) test)))
       (2 ^ 64 - 1) ≤ after
   leaf_floor before one other same read = omega (arith, one, other, same, read)
-
--- ---- dotted attributes read their start, and then the values along their names
--- dotted attributes count at most the bound of their start, of their names and of the values along them
-pub driven_reads : (indexed : Indexed) (start : Physical) (names : Physicals) {found : ℕ} {early between late : Counter}
-    → CountsPlan indexed start early between
-    → CountsWithin (values_bound indexed (plan_count names) found + plans_sum (own_number indexed) names) between late
-    → found ≤ size indexed start → CountsPlan indexed (physical_values start names) early late
-driven_reads indexed start names {found = found} first along few =
-    counted_both first along (omega (arith, along_from indexed (plan_count names) found (size indexed start) few))
 
 -- a difference counts at most the bounds of both parts and its own bound, which has room for what both found
 pub counted_minus : {first second left right most own all : ℕ} {early one two three late : Counter}

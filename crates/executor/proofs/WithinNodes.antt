@@ -1,11 +1,10 @@
 -- What plans mean among candidates, from what they mean.
-use Rattle.std.proofs.Common.{ℕ, zero, suc, ◌≡◌, ◌<◌, ◌≤◌, ◌∙◌, ◌∷◌, [], Bool, true, false, not, ◌&&◌, List}
-use Rattle.std.proofs.Common.{Option, None, Some, length, get_or, take, refl, sym, ap, subst, arith, inl, inr, ◌+◌}
+use Rattle.std.proofs.Common.{ℕ, ◌≡◌, ◌<◌, ◌∙◌, ◌∷◌, [], Bool, true, false, not, ◌&&◌, List}
+use Rattle.std.proofs.Common.{Option, None, Some, length, get_or, refl, sym, ap, subst, inl, inr}
 use Rattle.std.specs.Prelude.{IfOk, Result, filter, slice_get}
 use Rattle.std.proofs.lemmas.Result.{IfOk-weaker}
-use Rattle.std.specs.List.{list_all, list_any, range_with_len}
-use Rattle.std.proofs.lemmas.Bool.{and_parts, cases_lt}
-use Rattle.std.proofs.lemmas.Option.{slice_get_cases, slice_get_past}
+use Rattle.std.specs.List.{list_all, list_any}
+use Rattle.std.proofs.lemmas.Bool.{cases_lt}
 use Rattle.rf2_rows.specs.Pairs.{Pair}
 use Rattle.rf2_rows.specs.Release.{Release}
 use Rattle.constraint_tree.specs.declared.operator.Cardinality.{Cardinality}
@@ -14,7 +13,6 @@ use Rattle.number_lists.specs.Rising.{IsRisingBelow, numbers_where}
 use Rattle.number_lists.specs.Members.{has}
 use Rattle.idset.specs.Sets.{other_items}
 use Rattle.number_lists.proofs.WhereLemmas.{has-numbers_where, has-numbers_where_past, numbers_where-agree}
-use Rattle.number_lists.proofs.WhereLemmas.{numbers_where-all}
 use Rattle.number_lists.proofs.RisingLemmas.{numbers_where-rising}
 use Rattle.ancestor_index.specs.HierarchyLists.{Hierarchy, hierarchy_of}
 use Rattle.postings.specs.Groups.{ConceptGroup, all_groups}
@@ -29,23 +27,22 @@ use Rattle.candidates.specs.Numbers.{numbers_in}
 use Rattle.walks.specs.Asked.{AreEnough, asked_lists}
 use Rattle.walks.specs.Related.{related_to}
 use Rattle.executor.specs.inside.Logical.{logical_of, logical_groups_list_of, logical_groups_of, logicals_of}
-use Rattle.executor.specs.inside.DrivingPart.{leads_off, leads_off_groups}
 use Rattle.candidates.specs.Within.{groups_within, numbers_within}
 use Rattle.walks.proofs.AskedLemmas.{related_from_part}
 use Rattle.executor.proofs.GroupNodeLemmas as groups
 use Rattle.executor.proofs.NodeLemmas.{and_node, or_node, groups_node, walk_node}
 use Rattle.pair_sets.proofs.LeafLemmas as leaf
-use Rattle.candidates.proofs.WithinLemmas.{all_again, all_done, kept_groups, minus_within, restricted_to, some_of_none}
+use Rattle.candidates.proofs.WithinLemmas.{minus_within, restricted_to, some_of_none}
 
--- a test that all items of a list pass is passed by the item at `k`
-pub passed_by : {X : Type 0} (test : X → Bool) (xs : List X) (k : ℕ) (x : X) → list_all test xs ≡ true → slice_get xs k
-    ≡ Some x → test x ≡ true
-passed_by test [] k x all at = absurd cc
-passed_by test (y ∷ ys) zero x all at =
-    let same : y ≡ x = cc in
-    let here : test y ≡ true = (and_parts (test y) (list_all test ys) all).0 in
-    ap test (sym same) ∙ here
-passed_by test (y ∷ ys) (suc k) x all at = passed_by test ys k x (and_parts (test y) (list_all test ys) all).1 at
+-- ---- what a part means, by the number of a concept or of a group
+-- whether a part of concepts means the concept with a number
+abbrev pub means_concept : Release → ConceptPlan → ℕ → Bool
+means_concept release part n = means release (logical_of part) (get_or release.concepts n 0)
+
+-- whether a part of groups means the group with a number
+abbrev pub means_group : Release → UnitPlan → ℕ → Bool
+means_group release part n = some_group_in release (group_means release (logical_groups_of part))
+    (slice_get (all_groups release) n)
 
 -- what a call finds meets a statement if the statement follows from the one that the call promises
 pub found_for : {T E : Type 0} (items_of : T → List ℕ) (result : Result T E) {own other : List ℕ → Type 0}
@@ -97,58 +94,6 @@ module _ (release : Release) (may : ℕ → Bool) where
       minus_within (length release.concepts) may (by_number (means release first)) (by_number (means release second))
       left right found left_is right_is found_is
       ∙ meant_within plan (minus_plan first second) is
-
-  -- the candidates that the driving part and all parts mean are the candidates that all parts mean
-  pub driven_all : (parts : List ConceptPlan) (driving : ℕ) (found : List ℕ)
-      → found ≡ numbers_where (length release.concepts)
-      (λ n. (may n && leads_off release (slice_get parts driving) (get_or release.concepts n 0))
-      && list_all (λ part. means release (logical_of part) (get_or release.concepts n 0)) parts)
-      → found ≡ numbers_within release may (λ concept. list_all (λ part. means release (logical_of part) concept) parts)
-  driven_all parts driving found found_is =
-      all_done (length release.concepts) may
-      (λ n. leads_off release (slice_get parts driving) (get_or release.concepts n 0))
-      (λ n. list_all (λ part. means release (logical_of part) (get_or release.concepts n 0)) parts)
-      found (λ n within all. had (get_or release.concepts n 0) (slice_get parts driving) refl all) found_is
-    where
-      had : (concept : ℕ) (at : Option ConceptPlan) → slice_get parts driving ≡ at
-          → list_all (λ part. means release (logical_of part) concept) parts ≡ true → leads_off release at concept
-          ≡ true
-      had concept None is all = refl
-      had concept (Some part) is all = passed_by (λ p. means release (logical_of p) concept) parts driving part all is
-
-  -- if there is no driving part, restricting all concepts to candidates gives what the driving part means among them
-  pub driven_none : (parts : List ConceptPlan) (driving : ℕ) (every found : List ℕ) → length parts ≤ driving
-      → every ≡ range_with_len 0 (length release.concepts) → found ≡ filter may every
-      → found ≡ numbers_within release may (leads_off release (slice_get parts driving))
-  driven_none parts driving every found past every_is found_is =
-      restricted_to (length release.concepts) may (λ n. true) every found (every_is ∙ each) found_is
-      ∙ ap (λ (at : Option ConceptPlan). numbers_within release may (leads_off release at))
-      (sym (slice_get_past parts driving past))
-    where
-      each : range_with_len 0 (length release.concepts) ≡ numbers_where (length release.concepts) (λ n. true)
-      each = sym (numbers_where-all (length release.concepts))
-
-  -- a turn at the driving part changes nothing, because it was executed first
-  pub driven_again : (parts : List ConceptPlan) (driving k : ℕ) → k ≡ driving → k < length parts → (found : List ℕ)
-      → found ≡ numbers_where (length release.concepts)
-      (λ n. (may n && leads_off release (slice_get parts driving) (get_or release.concepts n 0))
-      && list_all (λ part. means release (logical_of part) (get_or release.concepts n 0)) (take k parts))
-      → found ≡ numbers_where (length release.concepts)
-      (λ n. (may n && leads_off release (slice_get parts driving) (get_or release.concepts n 0))
-      && list_all (λ part. means release (logical_of part) (get_or release.concepts n 0)) (take (k + 1) parts))
-  driven_again parts driving k here within found found_is = elim (slice_get_cases parts k).1 [
-    | inl (x, inside, at, is) ↦
-        all_again (length release.concepts) (λ (part : ConceptPlan) n. means release (logical_of part)
-        (get_or release.concepts n 0)) parts k x within
-        (λ n. may n && leads_off release (slice_get parts driving) (get_or release.concepts n 0)) found
-        (λ n below holds.
-        ap (λ (part : ConceptPlan). means release (logical_of part) (get_or release.concepts n 0)) is
-        ∙ ap (λ (found : Option ConceptPlan). leads_off release found (get_or release.concepts n 0)) (sym at
-        ∙ ap (slice_get parts) here)
-        ∙ (and_parts (may n) _ holds).1)
-        found_is
-    | inr (past, at) ↦ absurd (omega (arith, past, within))
-  ]
 
 -- ---- groups
 module _ (release : Release) (may : ℕ → Bool) where
@@ -210,12 +155,6 @@ module _ (release : Release) (may : ℕ → Bool) where
       (slice_get all n) i))
       ∙ groups_meant plan (minus_group_plan first second) is
 
-  -- each group below the number of groups has its pairs in a set that contains all
-  there : (n : ℕ) → n < length all → (at : Option ConceptGroup) → slice_get all n ≡ at → (set : List Pair → Bool)
-      → ((pairs : List Pair) → set pairs ≡ true) → some_group_in release set at ≡ true
-  there n within None is set each = absurd (leaf.none_within all n within is)
-  there n within (Some group) is set each = each _
-
   -- the pairs of a group are in the sets of all parts exactly if they are in their intersection
   all_in : (parts : List UnitPlan) (n : ℕ) → n < length all → (at : Option ConceptGroup) → slice_get all n ≡ at
       → list_all (λ part. some_group_in release (group_means release (logical_groups_of part)) at) parts
@@ -231,72 +170,21 @@ module _ (release : Release) (may : ℕ → Bool) where
   any_in (part ∷ parts) None = any_in parts None
   any_in parts (Some group) = refl
 
-  -- the candidate groups that the driving part and all parts mean are the candidate groups that all parts mean
-  pub groups_driven_all : (parts : List UnitPlan) (driving : ℕ) (found : List ℕ)
-      → found ≡ numbers_where (length all)
-      (λ n. (may n && some_group_in release (leads_off_groups release (slice_get parts driving)) (slice_get all n))
-      && list_all (λ part. some_group_in release (group_means release (logical_groups_of part)) (slice_get all n))
-      parts)
+  -- the candidate groups that all parts mean, by their numbers, are those by their pairs
+  pub all_done : (parts : List UnitPlan) (found : List ℕ)
+      → found ≡ numbers_where (length all) (λ n. may n && list_all
+      (λ part. some_group_in release (group_means release (logical_groups_of part)) (slice_get all n)) parts)
       → found ≡ groups_within release may
       (λ pairs. list_all (λ part. group_means release (logical_groups_of part) pairs)
       parts)
-  groups_driven_all parts driving found found_is =
-      all_done (length all) may (λ n. some_group_in release (leads_off_groups release (slice_get parts driving))
-      (slice_get all n))
-      (λ n. list_all (λ part. some_group_in release (group_means release (logical_groups_of part)) (slice_get all n))
-      parts)
-      found (λ n within each. had n within (slice_get parts driving) refl each) found_is
+  all_done parts found found_is =
+      found_is
       ∙ numbers_where-agree (length all) (λ n. may n && list_all
       (λ part. some_group_in release (group_means release (logical_groups_of part)) (slice_get all n)) parts)
       (λ n. may n && some_group_in release (λ pairs. list_all
       (λ part. group_means release (logical_groups_of part) pairs)
       parts) (slice_get all n))
       (λ n within. ap (λ (b : Bool). may n && b) (all_in parts n within (slice_get all n) refl))
-    where
-      had : (n : ℕ) → n < length all → (at : Option UnitPlan) → slice_get parts driving ≡ at
-          → list_all (λ part. some_group_in release (group_means release (logical_groups_of part)) (slice_get all n))
-          parts ≡ true
-          → some_group_in release (leads_off_groups release at) (slice_get all n) ≡ true
-      had n within None is each = there n within (slice_get all n) refl (λ pairs. true) (λ pairs. refl)
-      had n within (Some part) is each =
-          passed_by (λ p. some_group_in release (group_means release (logical_groups_of p))
-          (slice_get all n)) parts driving part each is
-
-  -- a turn at the driving part of groups changes nothing, because it was executed first
-  pub groups_driven_again : (parts : List UnitPlan) (driving k : ℕ) → k ≡ driving → k < length parts → (found : List ℕ)
-      → found ≡ numbers_where (length all) (λ n. (may n && some_group_in release
-      (leads_off_groups release (slice_get parts driving)) (slice_get all n))
-      && list_all (λ part. some_group_in release (group_means release (logical_groups_of part)) (slice_get all n))
-      (take k parts))
-      → found ≡ numbers_where (length all) (λ n. (may n && some_group_in release
-      (leads_off_groups release (slice_get parts driving)) (slice_get all n))
-      && list_all (λ part. some_group_in release (group_means release (logical_groups_of part)) (slice_get all n))
-      (take (k + 1) parts))
-  groups_driven_again parts driving k here within found found_is = elim (slice_get_cases parts k).1 [
-    | inl (x, inside, at, is) ↦
-        all_again (length all)
-        (λ (part : UnitPlan) n. some_group_in release (group_means release (logical_groups_of part)) (slice_get all n))
-        parts k x within
-        (λ n. may n && some_group_in release (leads_off_groups release (slice_get parts driving)) (slice_get all n))
-        found
-        (λ n below holds.
-        ap (λ (part : UnitPlan). some_group_in release (group_means release (logical_groups_of part)) (slice_get all n))
-        is
-        ∙ ap (λ (found : Option UnitPlan). some_group_in release (leads_off_groups release found) (slice_get all n))
-        (sym at ∙ ap (slice_get parts) here)
-        ∙ (and_parts (may n) _ holds).1)
-        found_is
-    | inr (past, at) ↦ absurd (omega (arith, past, within))
-  ]
-
-  -- if there is no driving part, restricting all groups to candidates gives what the driving part means among them
-  pub groups_driven_none : (parts : List UnitPlan) (driving : ℕ) (every found : List ℕ) → length parts ≤ driving
-      → every ≡ groups_where release (λ pairs. true) → found ≡ filter may every
-      → found ≡ groups_within release may (leads_off_groups release (slice_get parts driving))
-  groups_driven_none parts driving every found past every_is found_is =
-      kept_groups release may (λ pairs. true) every found every_is found_is
-      ∙ ap (λ (at : Option UnitPlan). groups_within release may (leads_off_groups release at))
-      (sym (slice_get_past parts driving past))
 
   -- the candidate groups that at least one part means, by their numbers, are those by their pairs
   pub any_done : (parts : List UnitPlan) (found : List ℕ)

@@ -1,16 +1,18 @@
 //! Estimates how many concepts or groups a plan means.
 //!
-//! An estimate reads the lengths of a few lists. It decides which of several parts is executed
-//! first, so a bad one costs time, and no answer depends on it.
-ghost use Rattle.std.specs.Prelude.{◌≡◌, IsSome};
+//! An estimate reads the lengths of a few lists. It decides in which order the parts of a node are
+//! executed, so a bad one costs time, and no answer depends on it.
+ghost use Rattle.std.specs.Prelude.{◌≡◌, ◌<◌, IfOk, IsSome, length};
 ghost use Rattle.set_algebra.specs.Physical.{physical_of};
 ghost use Rattle.plan_bounds.specs.Counts.{one_of};
+ghost use Rattle.executor.specs.inside.PartOrder.{IsOrderOf, IsPlaceAt};
 
 use constraint_tree::{Cardinality, Compare, Operator};
 use plan_bounds::{list_length, member_count, value_row_count};
 use postings::Lengths;
 use rf2_rows::Decimal;
 use set_algebra::{ConceptPlan, UnitPlan, ValueTest};
+use std::alloc::{AllocError, Global};
 
 // How deep below a part its own parts are looked at. A deeper part counts as all concepts or
 // groups, so that each node of a plan is looked at only a few times.
@@ -18,6 +20,9 @@ const DEPTH: u32 = 3;
 
 // Estimated number of rows that have a given value, if that value is not looked up.
 const ROWS_OF_VALUE: u64 = 16;
+
+// Estimated number of rows that have a given decimal, on the high side.
+const ROWS_OF_DECIMAL: u64 = 64;
 
 // Estimated number of rows that have a given concept as their source, on the high side.
 const ROWS_OF_SOURCE: u64 = 8;
@@ -31,32 +36,92 @@ const CHILDREN: u64 = 4;
 // Estimated number of ancestors of a concept, on the high side.
 const ANCESTORS: u64 = 16;
 
-/// Returns the place of the plan of concepts with the smallest estimate: the one to execute first.
-pub fn driving_part_of(parts: &[ConceptPlan], lengths: Lengths<'_>) -> usize {
-    let mut driving = 0;
-    let mut least = u64::MAX;
+/// Returns the order in which parts of concepts are executed: the place of each part with its
+/// estimate, by rising estimate. The estimate adds to what a part finds what is read to prepare it,
+/// which is spared if the parts before it find nothing. Parts with equal estimates stay in their
+/// order.
+pub fn concept_order(
+    alloc: Global,
+    parts: &[ConceptPlan],
+    lengths: Lengths<'_>,
+) -> Result<Vec<(u64, usize)>, AllocError>
+    ensures { IfOk result (λ order. IsOrderOf (length parts.now) order.items) }
+{
+    let mut order: Vec<(u64, usize)> = Vec::new(alloc);
     for place in 0..parts.len() {
         let size = estimate(&parts[place], lengths, DEPTH);
-        if size < least {
-            least = size;
-            driving = place;
-        }
+        let prepared = preparation(&parts[place], lengths);
+        order.push((size.saturating_add(prepared), place))?;
     }
-    driving
+    order.sort_unstable();
+    Ok(order)
 }
 
-/// Returns the place of the plan of groups with the smallest estimate: the one to execute first.
-pub fn driving_group_part_of(parts: &[UnitPlan], lengths: Lengths<'_>) -> usize {
-    let mut driving = 0;
-    let mut least = u64::MAX;
+/// Returns the order in which parts of groups are executed: the place of each part with its
+/// estimate, by rising estimate, as `concept_order` does for parts of concepts.
+pub fn group_order(
+    alloc: Global,
+    parts: &[UnitPlan],
+    lengths: Lengths<'_>,
+) -> Result<Vec<(u64, usize)>, AllocError>
+    ensures { IfOk result (λ order. IsOrderOf (length parts.now) order.items) }
+{
+    let mut order: Vec<(u64, usize)> = Vec::new(alloc);
     for place in 0..parts.len() {
         let size = group_estimate(&parts[place], lengths, DEPTH);
-        if size < least {
-            least = size;
-            driving = place;
-        }
+        let prepared = group_preparation(&parts[place], lengths);
+        order.push((size.saturating_add(prepared), place))?;
     }
-    driving
+    order.sort_unstable();
+    Ok(order)
+}
+
+// Estimates how many items are read to prepare a part of concepts, whatever its candidates are: for
+// a leaf, what its types and its test find.
+fn preparation(plan: &ConceptPlan, lengths: Lengths<'_>) -> u64 {
+    match plan {
+        ConceptPlan::Pairs { types, test, .. } => leaf_preparation(types, test, lengths),
+        ConceptPlan::Units { units, .. } => group_preparation(units, lengths),
+        _ => 0,
+    }
+}
+
+// Estimates how many items are read to prepare a part of groups, whatever its candidates are.
+fn group_preparation(plan: &UnitPlan, lengths: Lengths<'_>) -> u64 {
+    match plan {
+        UnitPlan::Pairs { types, test, .. } => leaf_preparation(types, test, lengths),
+        _ => 0,
+    }
+}
+
+// Estimates how many items are read to prepare a leaf with these types and this test.
+fn leaf_preparation(types: &ConceptPlan, test: &ValueTest, lengths: Lengths<'_>) -> u64 {
+    let named = listed(types, lengths);
+    match test {
+        ValueTest::Within(operand) | ValueTest::Outside(operand) => {
+            named.saturating_add(listed(operand, lengths))
+        }
+        ValueTest::Number(_, _) => named,
+    }
+}
+
+// Estimates how many concepts are listed to know what a plan means; to know all concepts, or a
+// single one, none is.
+fn listed(plan: &ConceptPlan, lengths: Lengths<'_>) -> u64 {
+    match plan {
+        ConceptPlan::Empty | ConceptPlan::All | ConceptPlan::One(_) => 0,
+        _ => estimate(plan, lengths, DEPTH),
+    }
+}
+
+/// Returns the place of the part that is executed at `turn`; there are `count` parts.
+pub fn place_at(order: &[(u64, usize)], turn: usize, count: usize) -> usize
+    requires order { IsOrderOf count order.now }
+    requires turn { turn < length order.now }
+    ensures at { IsPlaceAt count order.now turn result }
+    ensures inside { result < count }
+{
+    order[turn].1
 }
 
 /// Estimates how many groups a plan means.
@@ -170,8 +235,10 @@ fn estimate_of_rows(
         }
         // the source of a row is no number
         ValueTest::Number(_, _) if back => 0,
-        ValueTest::Number(compare, number) if !may_compare(lengths, *compare, *number) => 0,
-        ValueTest::Number(_, _) | ValueTest::Outside(_) => by_type,
+        ValueTest::Number(compare, number) => {
+            by_type.min(rows_that_compare(lengths, *compare, *number))
+        }
+        ValueTest::Outside(_) => by_type,
     }
 }
 
@@ -310,23 +377,38 @@ fn estimate_of_members(operand: &ConceptPlan, from: u64, lengths: Lengths<'_>) -
     }
 }
 
-// Tests whether a decimal of any row may stand in the relation `compare` to `number`. It looks at
-// the least and the greatest of all decimals.
-fn may_compare(lengths: Lengths<'_>, compare: Compare, number: Decimal) -> bool {
-    let count = lengths.decimal_count();
-    if count == 0 {
-        return false;
+// Estimates how many rows have a decimal that stands in the relation `compare` to `number`, by how
+// many different decimals do: none exactly if no row has such a decimal.
+fn rows_that_compare(lengths: Lengths<'_>, compare: Compare, number: Decimal) -> u64 {
+    let all = lengths.decimal_count();
+    let less = decimals_before(lengths, number, false);
+    let up_to = decimals_before(lengths, number, true);
+    let decimals = match compare {
+        Compare::Equal => up_to.saturating_sub(less),
+        Compare::NotEqual => all.saturating_sub(up_to.saturating_sub(less)),
+        Compare::Less => less,
+        Compare::LessOrEqual => up_to,
+        Compare::Greater => all.saturating_sub(up_to),
+        Compare::GreaterOrEqual => all.saturating_sub(less),
+    };
+    u64::from(decimals).saturating_mul(ROWS_OF_DECIMAL)
+}
+
+// Returns how many of the different decimals of all rows are less than `number`, or, if `or_equal`,
+// equal to it or less, by a binary search.
+fn decimals_before(lengths: Lengths<'_>, number: Decimal, or_equal: bool) -> u32 {
+    let mut low = 0;
+    let mut high = lengths.decimal_count();
+    while low < high {
+        let middle = low + (high - low) / 2;
+        let order = lengths.compare_decimal(middle, number);
+        if order.is_lt() || or_equal && order.is_eq() {
+            low = middle + 1;
+        } else {
+            high = middle;
+        }
     }
-    let least = lengths.compare_decimal(0, number);
-    let greatest = lengths.compare_decimal(count - 1, number);
-    match compare {
-        Compare::Equal => least.is_le() && greatest.is_ge(),
-        Compare::NotEqual => true,
-        Compare::Less => least.is_lt(),
-        Compare::LessOrEqual => least.is_le(),
-        Compare::Greater => greatest.is_gt(),
-        Compare::GreaterOrEqual => greatest.is_ge(),
-    }
+    low
 }
 
 /// Estimates how many rows have one of the types that a plan means.
@@ -355,35 +437,35 @@ pub fn rows_without(plan: &ConceptPlan, lengths: Lengths<'_>) -> u64
     }
 }
 
-/// Estimates how many rows the part of concepts reads that is executed next, at `place` or after
-/// it, if part `first` was executed first; 0 if no part is left.
-pub fn rows_after(parts: &[ConceptPlan], place: usize, first: usize, lengths: Lengths<'_>) -> u64 {
-    match parts.get(place_after(place, first)) {
-        Some(part) => rows_without(part, lengths),
-        None => 0,
-    }
-}
-
-/// Estimates how many rows the part of groups reads that is executed next, at `place` or after it,
-/// if part `first` was executed first; 0 if no part is left.
-pub fn group_rows_after(
-    parts: &[UnitPlan],
-    place: usize,
-    first: usize,
+/// Estimates how many rows the part of concepts reads that is executed at `turn`; 0 if no part is.
+pub fn rows_at(
+    parts: &[ConceptPlan],
+    order: &[(u64, usize)],
+    turn: usize,
     lengths: Lengths<'_>,
 ) -> u64 {
-    match parts.get(place_after(place, first)) {
-        Some(part) => group_rows_without(part, lengths),
+    match order.get(turn) {
+        Some((_, place)) => match parts.get(*place) {
+            Some(part) => rows_without(part, lengths),
+            None => 0,
+        },
         None => 0,
     }
 }
 
-// Returns `place`, or the place after it if the part at `place` was executed first.
-fn place_after(place: usize, first: usize) -> usize {
-    if place == first {
-        place.saturating_add(1)
-    } else {
-        place
+/// Estimates how many rows the part of groups reads that is executed at `turn`; 0 if no part is.
+pub fn group_rows_at(
+    parts: &[UnitPlan],
+    order: &[(u64, usize)],
+    turn: usize,
+    lengths: Lengths<'_>,
+) -> u64 {
+    match order.get(turn) {
+        Some((_, place)) => match parts.get(*place) {
+            Some(part) => group_rows_without(part, lengths),
+            None => 0,
+        },
+        None => 0,
     }
 }
 

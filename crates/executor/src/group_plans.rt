@@ -10,9 +10,10 @@ ghost use Rattle.plan_bounds.specs.Sizes.{group_size};
 ghost use Rattle.candidates.specs.Within.{AreGroups};
 ghost use Rattle.reading.specs.Counted.{CountsWithin};
 ghost use Rattle.executor.specs.inside.Executed.{AnswersGroups, CountsGroups};
+ghost use Rattle.executor.specs.inside.PartOrder.{IsOrderOf};
 
 use crate::counting::leaf_limits_within;
-use crate::estimates::{driving_group_part_of, group_rows_after, rows_of_types};
+use crate::estimates::{group_order, group_rows_at, place_at, rows_of_types};
 use crate::nodes::{every_candidate_group, no_group};
 use crate::plans::{execute_within, tested_of};
 use crate::second_part::second_group_part;
@@ -166,7 +167,7 @@ fn groups_with_pairs<S: ConceptSet>(
 }
 
 // Executes an `And` node of groups: returns the candidates that all parts mean; without parts, each
-// candidate. It runs the driving part first, and each of the others for what is left.
+// candidate. It runs the parts by rising estimate.
 #[cycle(execute)]
 fn execute_group_and<S: ConceptSet>(
     reader: Reader<'_>,
@@ -182,24 +183,47 @@ fn execute_group_and<S: ConceptSet>(
         reader.entry.indexes.now candidates.now
         (physical_groups_and (physical_groups_list_of parts.now)) visits.old visits.new) }
 {
-    if parts.is_empty() {
+    let order = group_order(reader.alloc, parts, reader.lengths())?;
+    let groups = execute_groups_in_order(reader, parts, &order, candidates, visits)?;
+    Ok(groups)
+}
+
+// Executes the parts of an `And` node of groups in the given order: the first for the candidates,
+// and each of the others for what is left.
+#[cycle(execute)]
+fn execute_groups_in_order<S: ConceptSet>(
+    reader: Reader<'_>,
+    parts: &[UnitPlan],
+    order: &[(u64, usize)],
+    candidates: &Candidates<'_, S>,
+    visits: &mut Counter,
+) -> Result<Answer<S>, AllocError>
+    requires order { IsOrderOf (length parts.now) order.now }
+    requires candidates { AreGroups S.ConceptSet reader.snapshot.now.release reader.indexes.now
+        candidates.now }
+    ensures counted { CountsGroups reader.entry.indexes.now
+        (physical_groups_and (physical_groups_list_of parts.now)) visits.old visits.new }
+    ensures found { IfOk result (AnswersGroups S.ConceptSet reader.entry.snapshot.now.release
+        reader.entry.indexes.now candidates.now
+        (physical_groups_and (physical_groups_list_of parts.now)) visits.old visits.new) }
+{
+    if order.is_empty() {
         let every = every_candidate_group(reader, candidates)?;
         return Ok(every);
     }
     let lengths = reader.lengths();
-    let driving = driving_group_part_of(parts, lengths).min(parts.len() - 1);
-    let mut groups: Answer<S> = execute_groups(reader, &parts[driving], candidates, visits)?;
-    let rows = group_rows_after(parts, 0, driving, lengths);
+    let first = place_at(order, 0, parts.len());
+    let mut groups: Answer<S> = execute_groups(reader, &parts[first], candidates, visits)?;
+    let rows = group_rows_at(parts, order, 1, lengths);
     let mut stats = group_stats_of(reader, &groups, rows, visits)?;
-    for place in 0..parts.len() {
+    for turn in 1..order.len() {
+        let place = place_at(order, turn, parts.len());
         let part = &parts[place];
-        if place != driving {
-            let still = Candidates::Within(&groups, stats);
-            let next: Answer<S> = execute_groups(reader, part, &still, visits)?;
-            let rows = group_rows_after(parts, place + 1, driving, lengths);
-            stats = group_stats_of(reader, &next, rows, visits)?;
-            groups = next;
-        }
+        let still = Candidates::Within(&groups, stats);
+        let next: Answer<S> = execute_groups(reader, part, &still, visits)?;
+        let rows = group_rows_at(parts, order, turn + 1, lengths);
+        stats = group_stats_of(reader, &next, rows, visits)?;
+        groups = next;
     }
     Ok(groups)
 }

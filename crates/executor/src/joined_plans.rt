@@ -1,11 +1,12 @@
 //! Executes parts of a plan that are joined by AND or by OR.
-ghost use Rattle.std.specs.Prelude.{IfOk};
+ghost use Rattle.std.specs.Prelude.{IfOk, length};
 ghost use Rattle.set_algebra.specs.Physical.{physical_and, physical_or, physicals_of};
 ghost use Rattle.candidates.specs.RowEstimates.{Adds};
 ghost use Rattle.candidates.specs.Within.{AreConcepts};
 ghost use Rattle.executor.specs.inside.Executed.{AnswersPlan, CountsPlan};
+ghost use Rattle.executor.specs.inside.PartOrder.{IsOrderOf};
 
-use crate::estimates::{driving_part_of, rows_after};
+use crate::estimates::{concept_order, place_at, rows_at};
 use crate::nodes::{every_candidate, no_concept};
 use crate::plans::{execute_estimated, execute_within};
 use candidates::{Candidates, RowEstimate, stats_of};
@@ -15,8 +16,7 @@ use set_algebra::ConceptPlan;
 use std::alloc::AllocError;
 
 /// Executes an `And` node: returns the candidates that all parts mean; without parts, each
-/// candidate. It runs the driving part first, and each of the others for what is left. It reads
-/// what each part has found once more, to measure it.
+/// candidate. It runs the parts by rising estimate.
 #[cycle(execute)]
 pub fn execute_and<S: ConceptSet>(
     reader: Reader<'_>,
@@ -32,24 +32,47 @@ pub fn execute_and<S: ConceptSet>(
         reader.entry.indexes.now candidates.now (physical_and (physicals_of parts.now)) visits.old
         visits.new) }
 {
-    if parts.is_empty() {
+    let order = concept_order(reader.alloc, parts, reader.lengths())?;
+    let found = execute_in_order(reader, parts, &order, candidates, visits)?;
+    Ok(found)
+}
+
+// Executes the parts of an `And` node in the given order: the first for the candidates, and each of
+// the others for what is left. It reads what each part has found once more, to measure it.
+#[cycle(execute)]
+fn execute_in_order<S: ConceptSet>(
+    reader: Reader<'_>,
+    parts: &[ConceptPlan],
+    order: &[(u64, usize)],
+    candidates: &Candidates<'_, S>,
+    visits: &mut Counter,
+) -> Result<Answer<S>, AllocError>
+    requires order { IsOrderOf (length parts.now) order.now }
+    requires candidates { AreConcepts S.ConceptSet reader.snapshot.now.release reader.indexes.now
+        candidates.now }
+    ensures counted { CountsPlan reader.entry.indexes.now (physical_and (physicals_of parts.now))
+        visits.old visits.new }
+    ensures found { IfOk result (AnswersPlan S.ConceptSet reader.entry.snapshot.now.release
+        reader.entry.indexes.now candidates.now (physical_and (physicals_of parts.now)) visits.old
+        visits.new) }
+{
+    if order.is_empty() {
         let every = every_candidate(reader, candidates)?;
         return Ok(every);
     }
     let lengths = reader.lengths();
-    let driving = driving_part_of(parts, lengths).min(parts.len() - 1);
-    let mut found: Answer<S> = execute_within(reader, &parts[driving], candidates, visits)?;
-    let rows = rows_after(parts, 0, driving, lengths);
+    let first = place_at(order, 0, parts.len());
+    let mut found: Answer<S> = execute_within(reader, &parts[first], candidates, visits)?;
+    let rows = rows_at(parts, order, 1, lengths);
     let mut stats = stats_of(reader, &found, rows, visits)?;
-    for place in 0..parts.len() {
+    for turn in 1..order.len() {
+        let place = place_at(order, turn, parts.len());
         let part = &parts[place];
-        if place != driving {
-            let still = Candidates::Within(&found, stats);
-            let next: Answer<S> = execute_within(reader, part, &still, visits)?;
-            let rows = rows_after(parts, place + 1, driving, lengths);
-            stats = stats_of(reader, &next, rows, visits)?;
-            found = next;
-        }
+        let still = Candidates::Within(&found, stats);
+        let next: Answer<S> = execute_within(reader, part, &still, visits)?;
+        let rows = rows_at(parts, order, turn + 1, lengths);
+        stats = stats_of(reader, &next, rows, visits)?;
+        found = next;
     }
     Ok(found)
 }

@@ -7,6 +7,7 @@ pub mod ListLemmas
 pub mod OwnedLemmas
 pub mod PassingLemmas
 pub mod RoomLemmas
+pub mod SourceLemmas
 pub mod TimesLemmas
 pub mod TypeLemmas
 pub mod GroupNumberLemmas

@@ -57,7 +57,7 @@ type_rows_few indexed one =
 
 -- ---- rows by keys, of which each row has at most one
 -- if each row has at most one of the keys, the keys have together no more rows than there are
-rows_once : {X : Type 0} (has_key : X → ℕ → Bool) (keys : List ℕ) → ((x : X) → count_by (has_key x) keys ≤ 1)
+pub rows_once : {X : Type 0} (has_key : X → ℕ → Bool) (keys : List ℕ) → ((x : X) → count_by (has_key x) keys ≤ 1)
     → (xs : List X) → sum_by (λ key. length (filter (λ x. has_key x key) xs)) keys ≤ length xs
 rows_once has_key keys once [] = omega (arith, no_sum keys)
 rows_once has_key keys once (x ∷ xs) =
@@ -121,7 +121,7 @@ module _ (count : ℕ) (test : ℕ → Bool)
           )
 
 -- an identifier is that of at most one of rising numbers of concepts
-one_number : (concepts : List ℕ) → IsStrictlyIncreasing concepts → (id lowest : ℕ) (numbers : List ℕ)
+pub one_number : (concepts : List ℕ) → IsStrictlyIncreasing concepts → (id lowest : ℕ) (numbers : List ℕ)
     → rises_within lowest (length concepts) numbers ≡ true → count_by (λ n. id == get_or concepts n 0) numbers ≤ 1
 one_number concepts rising id =
     one_passes (length concepts) (λ n. id == get_or concepts n 0)

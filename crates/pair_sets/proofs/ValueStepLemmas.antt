@@ -18,7 +18,7 @@ use Rattle.number_lists.proofs.BlockLemmas.{any-filter, any-map}
 use Rattle.candidates.proofs.Normal.{in_force_kept, numbers_in-agree}
 
 -- at least one item is counted exactly if some item passes
-count_any : {X : Type 0} (test : X → Bool) (xs : List X) → nat_le 1 (count_by test xs) ≡ list_any test xs
+pub count_any : {X : Type 0} (test : X → Bool) (xs : List X) → nat_le 1 (count_by test xs) ≡ list_any test xs
 count_any test [] = refl
 count_any test (x ∷ xs) =
     ap (nat_le 1) (count-cons test x xs)
@@ -28,7 +28,8 @@ count_any test (x ∷ xs) =
     ]
 
 -- a distinct item passes exactly if an item passes
-any_distinct : (test : Pair → Bool) (pairs : List Pair) → list_any test (distinct pair_eq pairs) ≡ list_any test pairs
+pub any_distinct : (test : Pair → Bool) (pairs : List Pair) → list_any test (distinct pair_eq pairs)
+    ≡ list_any test pairs
 any_distinct test pairs = both_ways (list_any test (distinct pair_eq pairs)) (list_any test pairs)
     (λ told. let found = passing_item test (distinct pair_eq pairs) told in
     some_item_passes test pairs found.0 (((keeps_each_pair_once pairs).1 found.0).0 found.1) found.2)
@@ -47,7 +48,7 @@ shuffled false false true = refl
 shuffled false false false = refl
 
 -- a conjunction with true is its other part
-with_true : (b : Bool) → (b && true) ≡ b
+pub with_true : (b : Bool) → (b && true) ≡ b
 with_true true = refl
 with_true false = refl
 

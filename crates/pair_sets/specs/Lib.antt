@@ -1,4 +1,5 @@
 pub mod Room
 pub mod inside
 pub mod Owned
+pub mod Sources
 pub mod Tested

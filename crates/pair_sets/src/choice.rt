@@ -2,7 +2,7 @@
 //!
 //! Finding the path reads items, which are counted. It reads them only if the bound of the leaf
 //! allows for them and for the rows that are read afterwards.
-ghost use Rattle.std.specs.Prelude.{ℕ, true, ◌≡◌, ◌≤◌, ◌+◌, ◌<◌, All, Bool, IfOk, IfSome, Some, length};
+ghost use Rattle.std.specs.Prelude.{ℕ, true, ◌≡◌, ◌≤◌, ◌+◌, ◌<◌, All, Bool, IfOk, IfSome, Some, filter, length};
 ghost use Rattle.std.specs.List.{sum_by};
 ghost use Rattle.postings.specs.Indexed.{types_of};
 ghost use Rattle.postings.specs.Stats.{type_row_count};
@@ -341,18 +341,29 @@ pub fn values_path<S: ConceptSet>(
 fn have_few_rows<S: ConceptSet>(reader: Reader<'_>, sources: u64, types: &Answer<S>) -> bool
     requires { S.bound_of types.now ≡ length reader.indexes.now.concepts }
 {
-    let type_count = reader.type_count();
-    if u64::from(type_count) > sources {
+    if u64::from(reader.type_count()) > sources {
         return false;
     }
+    let rows = rows_typed(reader, types);
+    let own = u64::from(reader.row_count()) / u64::from(reader.concept_count()).max(1);
+    look_ups(sources.saturating_mul(own + 2)) < rows
+}
+
+/// Returns how many rows have a type in `types`; `u64::MAX` if there are more. It reads none of
+/// them, but tests each type of rows against `types`.
+pub fn rows_typed<S: ConceptSet>(reader: Reader<'_>, types: &Answer<S>) -> u64
+    requires { S.bound_of types.now ≡ length reader.indexes.now.concepts }
+    ensures { result ≡ full_sum (type_row_count reader.entry.indexes.now)
+        (filter (is_one_of reader.entry.indexes.now.concepts (S.items_of types.now))
+        (types_of reader.entry.indexes.now.rows)) }
+{
     let mut rows = 0u64;
-    for place in 0..type_count {
+    for place in 0..reader.type_count() {
         if is_typed(reader, types, place) {
             rows = rows.saturating_add(reader.type_row_count(reader.type_at(place).number()));
         }
     }
-    let own = u64::from(reader.row_count()) / u64::from(reader.concept_count()).max(1);
-    look_ups(sources.saturating_mul(own + 2)) < rows
+    rows
 }
 
 // Lists the set `concepts`, and counts its items. Also returns how many items are read by these

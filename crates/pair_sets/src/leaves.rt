@@ -1,6 +1,6 @@
 //! Finds the concepts and the groups whose number of matching pairs lies in a cardinality: executes
 //! one leaf of a plan.
-ghost use Rattle.std.specs.Prelude.{ℕ, false, true, ◌≡◌, ◌≤◌, ◌+◌, Bool, IfOk, filter, length};
+ghost use Rattle.std.specs.Prelude.{ℕ, false, true, ◌≡◌, ◌≤◌, ◌+◌, Bool, IfOk, IfSome, None, filter, length};
 ghost use Rattle.std.specs.List.{sum_by};
 ghost use Rattle.postings.specs.Stats.{type_row_count};
 ghost use Rattle.candidates.specs.RowCounts.{row_count_of};
@@ -11,7 +11,8 @@ ghost use Rattle.postings.specs.Indexed.{types_of};
 ghost use Rattle.set_algebra.specs.Meaning.{has_pairs, pairs_of};
 ghost use Rattle.candidates.specs.Numbers.{is_one_of, numbers_in};
 ghost use Rattle.reading.specs.Counted.{CountsWithin, IsFound, full};
-ghost use Rattle.pair_sets.specs.Room.{AreTold, leaf_items};
+ghost use Rattle.pair_sets.specs.Room.{AreTold, leaf_items, type_items};
+ghost use Rattle.pair_sets.specs.Sources.{is_source};
 ghost use Rattle.pair_sets.specs.Tested.{IsTestBelow, passes_of};
 ghost use Rattle.pair_sets.specs.inside.AccessPaths.{HasTypes, IsValuesPath, IsPathBelow, passes_by, rest_items, values_rest};
 ghost use Rattle.candidates.specs.Within.{AreConcepts, AreGroups, stats_told, groups_within, may_be, numbers_within};
@@ -21,8 +22,9 @@ use crate::by_rows::{
     groups_with_pairs_among, groups_with_pairs_by_type, groups_with_pairs_by_value,
     with_pairs_among, with_pairs_by_type, with_pairs_by_value,
 };
-use crate::choice::{ValuesPath, leaf_path, values_path};
+use crate::choice::{ValuesPath, leaf_path, rows_typed, values_path};
 use crate::tested::Tested;
+use crate::types::{types_in, types_to_read};
 use candidates::{Candidates, restricted};
 use constraint_tree::Cardinality;
 use idset::ConceptSet;
@@ -141,6 +143,67 @@ pub fn values_along<S: ConceptSet>(
 {
     let path = values_path(reader, &sources, types, visits)?;
     let found = values_by(reader, path, sources, types, visits)?;
+    Ok(found)
+}
+
+/// Finds the concepts that have an attribute whose type is in `types` and whose value is a concept:
+/// the sources from which a dotted attribute leads to a value (Expression Constraint Language,
+/// "Refinements", dotted attributes). It reads the types and their rows. If these are more than
+/// `room` items, it reads none of them and returns `None`. So at most `room` concepts are found.
+pub fn sources_within<S: ConceptSet>(
+    reader: Reader<'_>,
+    types: &Answer<S>,
+    room: u64,
+    visits: &mut Counter,
+) -> Result<Option<Answer<S>>, AllocError>
+    requires { S.bound_of types.now ≡ length reader.indexes.now.concepts }
+    ensures counted { CountsWithin room visits.old visits.new }
+    ensures none { IfOk result (λ some. some ≡ None → visits.new.count ≡ visits.old.count) }
+    ensures found { IfOk result (λ some. IfSome some (IsFound S.ConceptSet
+        (length reader.entry.snapshot.now.release.concepts)
+        (numbers_in reader.entry.snapshot.now.release (is_source reader.entry.snapshot.now.release
+        (is_one_of reader.entry.indexes.now.concepts (S.items_of types.now)))) 0 visits.old
+        visits.new)) }
+    ensures few { IfOk result (λ some. IfSome some (λ found. length (S.items_of found) ≤ room)) }
+{
+    // 64 bits hold how many types there are, and their rows. These calls tell the prover.
+    reader.type_count();
+    reader.row_count();
+    let typed = types_to_read(reader, types);
+    if typed > room || typed.saturating_add(rows_typed(reader, types)) > room {
+        return Ok(None);
+    }
+    let found = sources_along(reader, types, visits)?;
+    Ok(Some(found))
+}
+
+// Finds the concepts that have an attribute whose type is in `types` and whose value is a concept.
+// There are no more of them than rows with such a type.
+fn sources_along<S: ConceptSet>(
+    reader: Reader<'_>,
+    types: &Answer<S>,
+    visits: &mut Counter,
+) -> Result<Answer<S>, AllocError>
+    requires { S.bound_of types.now ≡ length reader.indexes.now.concepts }
+    ensures counted { CountsWithin (type_items reader.entry.indexes.now (S.items_of types.now))
+        visits.old visits.new }
+    ensures items { IfOk result (λ found. S.items_of found ≡ numbers_in
+        reader.entry.snapshot.now.release (is_source reader.entry.snapshot.now.release
+        (is_one_of reader.entry.indexes.now.concepts (S.items_of types.now)))) }
+    ensures bound { IfOk result (λ found. S.bound_of found
+        ≡ length reader.entry.snapshot.now.release.concepts) }
+    ensures few { IfOk result (λ found. length (S.items_of found)
+        ≤ sum_by (type_row_count reader.entry.indexes.now)
+        (filter (is_one_of reader.entry.indexes.now.concepts (S.items_of types.now))
+        (types_of reader.entry.indexes.now.rows))) }
+{
+    // the concepts rise
+    let count = reader.concept_count();
+    let some = Cardinality { min: 1, max: None };
+    let ids = types_in(reader, types, visits)?;
+    let none = Answer::from_items(reader.alloc, &[], count)?;
+    let any = Tested::Outside(none);
+    let found = with_pairs_by_type(reader, false, some, ids.as_slice(), &any, visits)?;
     Ok(found)
 }
 

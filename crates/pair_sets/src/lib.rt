@@ -19,6 +19,8 @@ mod types;
 mod units;
 
 pub use crate::access_paths::LeafRequest;
-pub use crate::leaves::{groups_with_pairs_within, values_along, with_pairs_within};
+pub use crate::leaves::{
+    groups_with_pairs_within, sources_within, values_along, with_pairs_within,
+};
 pub use crate::tested::{Tested, count_of_test};
 pub use crate::units::{groups_of, with_groups};

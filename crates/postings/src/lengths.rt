@@ -5,7 +5,8 @@ ghost use Rattle.std.specs.List.Sorted.{IsStrictlyIncreasing};
 ghost use Rattle.number_lists.specs.KeyedLists.{list_of};
 ghost use Rattle.held_release.specs.Numbering.{concept_number};
 ghost use Rattle.postings.specs.Groups.{groups_in};
-ghost use Rattle.postings.specs.Indexed.{HasListsFor, rows_by_source, rows_by_type, rows_by_value};
+ghost use Rattle.postings.specs.Indexed.{HasListsFor, reference_sets_of, rows_by_source};
+ghost use Rattle.postings.specs.Indexed.{rows_by_type, rows_by_value};
 ghost use Rattle.postings.specs.Stats.{stats_in};
 ghost use Rattle.std.proofs.Props.{props};
 
@@ -114,6 +115,14 @@ impl<'a> Lengths<'a> {
         ensures few { result < 2 ^ 63 }
     {
         self.indexes.members(concept).len() as u64
+    }
+
+    /// How many concepts are the reference set of some member row.
+    pub fn reference_set_count(self) -> u64
+        ensures count { result ≡ length (reference_sets_of self.entry.indexes.now) }
+        ensures few { result < 2 ^ 63 }
+    {
+        self.indexes.reference_sets().len() as u64
     }
 
     /// Returns how many ancestors the concept with the number `concept` has.

@@ -11,7 +11,8 @@ ghost use Rattle.held_release.specs.AttributesBySource.{attributes_by_source};
 ghost use Rattle.held_release.specs.Numbering.{concept_number};
 ghost use Rattle.postings.specs.Entries.{entries_of};
 ghost use Rattle.postings.specs.Groups.{groups_before, groups_in, rows_of_group};
-ghost use Rattle.postings.specs.Indexed.{concept_of_type, rows_by_source, rows_by_type, rows_by_value, types_of};
+ghost use Rattle.postings.specs.Indexed.{concept_of_type, reference_sets_of, rows_by_source};
+ghost use Rattle.postings.specs.Indexed.{rows_by_type, rows_by_value, types_of};
 ghost use Rattle.postings.specs.RowColumns.{AreRowCells};
 
 use crate::reader::Reader;
@@ -255,6 +256,13 @@ impl<'a> Reader<'a> {
         ensures { result ≡ length (list_of self.entry.indexes.now.members concept) }
     {
         self.lengths().member_count(concept)
+    }
+
+    /// How many concepts are the reference set of some member row.
+    pub fn reference_set_count(self) -> u64
+        ensures { result ≡ length (reference_sets_of self.entry.indexes.now) }
+    {
+        self.lengths().reference_set_count()
     }
 
     /// Returns how many ancestors the concept with the number `concept` has.

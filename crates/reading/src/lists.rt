@@ -4,7 +4,7 @@ ghost use Rattle.std.specs.List.{concat};
 ghost use Rattle.number_lists.specs.KeyedLists.{list_of};
 ghost use Rattle.ancestor_index.specs.Wide.{AreWordsOf, IsWide};
 ghost use Rattle.postings.specs.Groups.{groups_in, rows_of_group};
-ghost use Rattle.postings.specs.Indexed.{rows_by_source, rows_by_type, rows_by_value, types_of};
+ghost use Rattle.postings.specs.Indexed.{reference_sets_of, rows_by_source, rows_by_type, rows_by_value, types_of};
 ghost use Rattle.postings.specs.RowColumns.{AreTypeColumns, AreValueColumns};
 ghost use Rattle.reading.specs.Counted.{HandsOut};
 ghost use Rattle.reading.specs.Orders.{IsOrderOf};
@@ -115,6 +115,16 @@ impl<'a> Reader<'a> {
             visits.old visits.new }
     {
         handed_out(self.indexes.members(concept), visits)
+    }
+
+    /// Hands out the concepts that are the reference set of some member row, in rising order, and
+    /// counts them.
+    pub fn reference_sets(self, visits: &mut Counter) -> &'a [u32]
+        ensures items { result.now ≡ reference_sets_of self.entry.indexes.now }
+        ensures counted { HandsOut (length (reference_sets_of self.entry.indexes.now)) visits.old
+            visits.new }
+    {
+        handed_out(self.indexes.reference_sets(), visits)
     }
 
     /// Hands out the numbers of the rows whose source is `concept`, and counts the rows.

@@ -4,7 +4,7 @@ use Rattle.std.proofs.Common.{ℕ, Bool, ◌≡◌, ◌<◌, ◌∙◌, ◌==◌
 use Rattle.std.proofs.Common.{◌∷◌, get_or, refl, sym, ap, subst, arith}
 use Rattle.std.specs.Prelude.{All, filter}
 use Rattle.std.specs.List.{flat_map, list_any, range_with_len}
-use Rattle.std.proofs.lemmas.Bool.{eq-eqb, eqb-true, false≢true, or_cases, or_left, or_right}
+use Rattle.std.proofs.lemmas.Bool.{eq-eqb, eqb-true, false≢true, ne_eqb, or_cases, or_left, or_right}
 use Rattle.std.proofs.lemmas.List.{get_or_default, nil_from_length}
 use Rattle.std.proofs.lemmas.List.Filters.{length-filter_both}
 use Rattle.std.proofs.lemmas.List.FromFn.{length-range_with_len}
@@ -26,6 +26,10 @@ use Rattle.ancestor_index.specs.HierarchyLists.{Hierarchy}
 use Rattle.number_lists.proofs.MemberLemmas.{contains_had, had_contained}
 use Rattle.walks.specs.Asked.{AreEnough, asked_lists}
 use Rattle.walks.specs.inside.Joined.{opposite_of}
+use Rattle.walks.specs.inside.Steps.{asked_by, asked_of, has_length, keeps_apart, leads_to_self, stepped}
+use Rattle.walks.specs.declared.family.Reach.{Reach}
+use Rattle.walks.specs.declared.family.Step.{Step}
+use Rattle.std.specs.Bool.{beq}
 use Rattle.walks.specs.Related.{IsOver, apart, joined, related_to}
 use Rattle.walks.specs.Families.{lists_of}
 use Rattle.walks.specs.declared.family.Family.{Family}
@@ -58,6 +62,12 @@ below_joined count each [] below = All-nil (λ n. n < count)
 below_joined count each (concept ∷ rest) below =
     All-append (λ n. n < count) (each concept) (flat_map each rest) (below 0 concept (omega arith))
     (below_joined count each rest (All-tail (λ c. All (λ n. n < count) (each c)) concept rest below))
+
+-- a step that leads to the concepts from which it starts and to others has the reach `ListedOrSelf`
+pub leads_to_self_is : (reach : Reach) → leads_to_self reach ≡ true → reach ≡ ListedOrSelf
+leads_to_self_is Listed leads = absurd (false≢true leads)
+leads_to_self_is ListedOrSelf leads = refl
+leads_to_self_is Apart leads = absurd (false≢true leads)
 
 module _ (count : ℕ) (hierarchy : Hierarchy) (over : IsOver count hierarchy) where
   -- the concepts, each followed by its list, are all below the number of concepts
@@ -145,22 +155,60 @@ module _ (count : ℕ) (hierarchy : Hierarchy) (over : IsOver count hierarchy) w
       (λ n inside. (λ i. each_there items rises full n inside i || has others n))
       ∙ numbers_where-all count
 
-  -- if `items` has all numbers below `count`, it contains everything that an operator leads to
-  pub related_from_all : (operator : Operator) (items : List ℕ) → IsRisingBelow count items → length items ≡ count
-      → filter (has items) (related_to hierarchy count operator items) ≡ related_to hierarchy count operator items
-  related_from_all operator items rises full =
-      ap (filter (has items)) (rising_is_numbers_where count related (operator_rises operator items rises))
-      ∙ filter-numbers_where count (has related) (has items)
-      ∙ numbers_where-agree count _ _ (λ n inside. with_all (has related n) (has items n)
-      (each_there items rises full n inside))
-      ∙ sym (rising_is_numbers_where count related (operator_rises operator items rises))
+  -- if a set has all numbers below `count`, a step that does not lead to the concepts of the set themselves leads to
+  -- the concepts whose list, by which they are tested, has an item, or is empty if the step keeps concepts apart
+  pub reached_from_all : (step : Step) (items : List ℕ) → IsRisingBelow count items → length items ≡ count
+      → leads_to_self step.reach ≡ false
+      → stepped (lists_of hierarchy step.family) count step.reach items
+      ≡ numbers_where count (has_length (lists_of hierarchy (asked_of step)) (keeps_apart step.reach))
+  reached_from_all step items rises full others =
+      rising_is_numbers_where count related (related_rises count hierarchy over items rises lists step.reach)
+      ∙ numbers_where-agree count (has related)
+      (has_length (lists_of hierarchy (asked_of step)) (keeps_apart step.reach))
+      (λ n inside. by_reach n inside step.reach others)
     where
-      related : List ℕ
-      related = related_to hierarchy count operator items
+      lists : List (List ℕ)
+      lists = lists_of hierarchy step.family
 
-      with_all : (b other : Bool) → other ≡ true → (b && other) ≡ b
-      with_all true other there = there
-      with_all false other there = refl
+      related : List ℕ
+      related = stepped lists count step.reach items
+
+      any_item : (f : Family) (n : ℕ) → n < count
+          → list_any (has items) (list_of (lists_of hierarchy f) n)
+          ≡ not (length (list_of (lists_of hierarchy f) n) == 0)
+      any_item f n inside =
+          some_item (list_of (lists_of hierarchy f) n)
+          (all_below count (list_of (lists_of hierarchy f) n)
+          (subst (IsRisingBelow count) (sym (over_list count hierarchy over f n inside))
+          (numbers_where-rising count (stands over.release f n))))
+        where
+          some_item : (list : List ℕ) → All (λ item. item < count) list
+              → list_any (has items) list ≡ not (length list == 0)
+          some_item [] below = refl
+          some_item (first ∷ rest) below =
+              (λ i. each_there items rises full first (below 0 first (omega arith)) i || list_any (has items) rest)
+              ∙ sym (ap not (ne_eqb (length (first ∷ rest)) 0 (λ none. absurd (omega (arith, none)))))
+
+      not_false : (b : Bool) → not b ≡ beq b false
+      not_false true = refl
+      not_false false = refl
+
+      is_true : (b : Bool) → not (not b) ≡ beq b true
+      is_true true = refl
+      is_true false = refl
+
+      by_reach : (n : ℕ) → n < count → (reach : Reach) → leads_to_self reach ≡ false
+          → has (stepped lists count reach items) n
+          ≡ has_length (lists_of hierarchy (asked_by step.family reach)) (keeps_apart reach) n
+      by_reach n inside Listed others =
+          sym (asked_opposite count hierarchy over items rises step.family n inside)
+          ∙ any_item (opposite_of step.family) n inside
+          ∙ not_false (length (list_of (lists_of hierarchy (opposite_of step.family)) n) == 0)
+      by_reach n inside ListedOrSelf others = absurd (false≢true (sym others))
+      by_reach n inside Apart others =
+          sym (asked_apart count hierarchy over items rises step.family n inside)
+          ∙ (λ i. each_there items rises full n inside i && not (any_item step.family n inside i))
+          ∙ is_true (length (list_of lists n) == 0)
 
   -- two sets, `part` and `set`, that agree on the numbers in `enough`
   module _ (set part : List ℕ) (set_rises : IsRisingBelow count set) (part_rises : IsRisingBelow count part) (enough : ℕ

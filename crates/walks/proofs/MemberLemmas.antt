@@ -1,9 +1,9 @@
 -- The components of reference sets, by the numbers of concepts and by the member rows.
 use Rattle.std.proofs.Common.{ℕ, ◌≡◌, ◌<◌, ◌∙◌, ◌∷◌, [], ◌==◌, ◌&&◌, ◌||◌, Bool, true, false, List, length, get_or}
-use Rattle.std.proofs.Common.{refl, sym, ap, subst, arith}
+use Rattle.std.proofs.Common.{refl, sym, ap, subst, arith, not}
 use Rattle.std.specs.Prelude.{All, Contains, filter}
 use Rattle.std.specs.List.{flat_map, list_any}
-use Rattle.std.proofs.lemmas.Bool.{eq-eqb, eqb-true}
+use Rattle.std.proofs.lemmas.Bool.{and_parts, eq-eqb, eqb-true, false≢true, ne_eqb}
 use Rattle.std.proofs.lemmas.List.{get_or_default}
 use Rattle.std.proofs.lemmas.List.Elements.{All-append, All-nil, All-tail}
 use Rattle.rf2_rows.specs.Release.{Release}
@@ -15,14 +15,18 @@ use Rattle.number_lists.specs.Rising.{IsRisingBelow, listed_numbers, numbers_whe
 use Rattle.number_lists.specs.Members.{has}
 use Rattle.number_lists.proofs.WhereLemmas.{filter-numbers_where, has-numbers_where, numbers_where-agree, there_where}
 use Rattle.number_lists.proofs.WhereLemmas.{where_there}
-use Rattle.number_lists.proofs.RisingLemmas.{rising_is_numbers_where, all_below}
+use Rattle.number_lists.proofs.RisingLemmas.{rising_is_numbers_where, all_below, numbers_where-rising, rises_within-filter}
 use Rattle.number_lists.specs.KeyedLists.{list_of}
 use Rattle.ancestor_index.specs.HierarchyLists.{is_child}
-use Rattle.ancestor_index.proofs.ClosureLemmas.{list_of-where}
+use Rattle.ancestor_index.proofs.ClosureLemmas.{length-where, list_of-where}
 use Rattle.postings.specs.Indexed.{members_of}
 use Rattle.walks.specs.Components.{components_of}
-use Rattle.walks.specs.inside.Components.{is_in_one_of}
-use Rattle.candidates.proofs.WithinLemmas.{restricted_to}
+use Rattle.walks.specs.inside.Components.{HaveComponentsOf, is_in_one_of}
+use Rattle.candidates.proofs.StatsLemmas.{sum_among}
+use Rattle.std.proofs.lemmas.List.Elements.{All-contains, filter_passes}
+use Rattle.number_lists.proofs.MemberLemmas.{contains_had, had_contained}
+use Rattle.postings.specs.Indexed.{has_members, with_members}
+use Rattle.candidates.proofs.WithinLemmas.{has_kept, restricted_to}
 use Rattle.candidates.specs.Numbers.{is_one_of, numbers_in}
 use Rattle.std.proofs.lemmas.List.Folds.{list_any-append}
 use Rattle.candidates.proofs.Normal.{in_force_kept, numbers_in-agree}
@@ -120,6 +124,95 @@ pub members_listed : (release : Release) (items : List ℕ) → All (λ item. it
 members_listed release items below =
     numbers_where-agree (length release.concepts) _ _
     (λ n inside. item_joined (members_of release) items n ∙ component_told release items below n inside)
+
+-- two lists of reference sets have the same components if a number is in the list of one of the first exactly if it is
+-- in the list of one of the second
+components_agree : (release : Release) (one other : List ℕ) → All (λ item. item < length release.concepts) one
+    → All (λ item. item < length release.concepts) other
+    → ((n : ℕ) → is_in_one_of (members_of release) one n ≡ is_in_one_of (members_of release) other n)
+    → components_of release one ≡ components_of release other
+components_agree release one other below also same =
+    numbers_where-agree (length release.concepts) _ _
+    (λ n inside. sym (component_told release one below n inside) ∙ same n
+    ∙ component_told release other also n inside)
+
+-- a reference set whose list has a number has members
+has_members_if : (lists : List (List ℕ)) (refset n : ℕ) → has (list_of lists refset) n ≡ true
+    → has_members lists refset ≡ true
+has_members_if lists refset n there = not_empty (list_of lists refset) there
+  where
+    not_empty : (list : List ℕ) → has list n ≡ true → not (length list == 0) ≡ true
+    not_empty [] there = absurd (false≢true there)
+    not_empty (x ∷ list) there = ap not (ne_eqb (length (x ∷ list)) 0 (λ none. absurd (omega (arith, none))))
+
+-- concepts have all components that they have themselves
+pub own_components : (release : Release) (items : List ℕ) → IsRisingBelow (length release.concepts) items
+    → HaveComponentsOf release items items
+own_components release items rises = record {
+  below = all_below (length release.concepts) items rises;
+  components = refl;
+  few = omega arith;
+}
+
+-- the concepts with members in a set have all components that the set has
+pub with_members_enough : (release : Release) (items : List ℕ) → IsRisingBelow (length release.concepts) items
+    → HaveComponentsOf release items (filter (has items) (with_members (members_of release)))
+with_members_enough release items rises = record {
+  below = kept_below;
+  components = components_agree release kept items kept_below items_below same;
+  few = sum_among kept items count count kept_rise rises (filter_passes (has items) (with_members lists))
+      (λ refset. length (list_of lists refset));
+}
+  where
+    count : ℕ
+    count = length release.concepts
+
+    lists : List (List ℕ)
+    lists = members_of release
+
+    kept : List ℕ
+    kept = filter (has items) (with_members lists)
+
+    long : length lists ≡ count
+    long = length-where count _
+
+    kept_rise : IsRisingBelow count kept
+    kept_rise = rises_within-filter 0 count (has items) (with_members lists)
+        (subst (λ (bound : ℕ). IsRisingBelow bound (with_members lists)) long
+        (numbers_where-rising (length lists) (has_members lists)))
+
+    kept_below : All (λ refset. refset < count) kept
+    kept_below = all_below count kept kept_rise
+
+    items_below : All (λ item. item < count) items
+    items_below = all_below count items rises
+
+    same : (n : ℕ) → is_in_one_of lists kept n ≡ is_in_one_of lists items n
+    same n = both_ways (is_in_one_of lists kept n) (is_in_one_of lists items n) forth back
+      where
+        test : ℕ → Bool
+        test refset = has (list_of lists refset) n
+
+        forth : is_in_one_of lists kept n ≡ true → is_in_one_of lists items n ≡ true
+        forth told =
+            let found = passing_item test kept told in
+            let there = and_parts (has (with_members lists) found.0) (has items found.0)
+            (sym (has_kept (has items) (with_members lists) found.0) ∙ had_contained kept found.0 found.1) in
+            some_item_passes test items found.0 (contains_had items found.0 there.1) found.2
+
+        back : is_in_one_of lists items n ≡ true → is_in_one_of lists kept n ≡ true
+        back told =
+            let found = passing_item test items told in
+            let had : has items found.0 ≡ true = had_contained items found.0 found.1 in
+            let inside : found.0 < length lists =
+            subst (λ (bound : ℕ). found.0 < bound) (sym long) (All-contains (λ item. item < count) items found.0
+            items_below found.1) in
+            let listed : has (with_members lists) found.0 ≡ true =
+            has-numbers_where (length lists) (has_members lists) found.0 inside
+            ∙ has_members_if lists found.0 n found.2 in
+            some_item_passes test kept found.0
+            (contains_had kept found.0 (has_kept (has items) (with_members lists) found.0
+            ∙ (λ i. listed i && had i))) found.2
 
 -- the numbers in `wanted` that are in the list of one of the reference sets are the components of these that are in
 -- `wanted`

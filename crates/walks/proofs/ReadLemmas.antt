@@ -162,46 +162,6 @@ asked_within indexed operator f concepts stats is asked =
       ap (λ (lists : List (List ℕ)). items_in lists concepts) asked,
     )
 
--- the lists by which rising `concepts` are tested have together at most as many items as all lists of the operator's
--- family
-pub asked_of_all : (count : ℕ) (hierarchy : Hierarchy) → IsOver count hierarchy
-    → (operator : Operator) (concepts : List ℕ)
-    → IsRisingBelow count concepts
-    → items_in (asked_lists hierarchy operator) concepts ≤ all_items_of hierarchy (family_of operator)
-asked_of_all count hierarchy over Descendants concepts rising =
-    set_items count hierarchy over family.Ancestors concepts rising
-asked_of_all count hierarchy over DescendantsOrSelf concepts rising =
-    set_items count hierarchy over family.Ancestors concepts rising
-asked_of_all count hierarchy over Children concepts rising =
-    set_items count hierarchy over family.Parents concepts rising
-asked_of_all count hierarchy over ChildrenOrSelf concepts rising =
-    set_items count hierarchy over family.Parents concepts rising
-asked_of_all count hierarchy over Ancestors concepts rising =
-    set_items count hierarchy over family.Descendants concepts rising
-asked_of_all count hierarchy over AncestorsOrSelf concepts rising =
-    set_items count hierarchy over family.Descendants concepts rising
-asked_of_all count hierarchy over Parents concepts rising =
-    set_items count hierarchy over family.Children concepts rising
-asked_of_all count hierarchy over ParentsOrSelf concepts rising =
-    set_items count hierarchy over family.Children concepts rising
-asked_of_all count hierarchy over Top concepts rising = set_items count hierarchy over family.Ancestors concepts rising
-asked_of_all count hierarchy over Bottom concepts rising =
-    set_items count hierarchy over family.Descendants concepts rising
-
--- testing several concepts reads at most as many items as reading them and walking from them
-pub asked_from_many : (count : ℕ) (hierarchy : Hierarchy) → IsOver count hierarchy
-    → (operator : Operator) (concepts : List ℕ)
-    → IsRisingBelow count concepts → 1 < length concepts
-    → asked_items hierarchy operator concepts ≤ length concepts + walk_items hierarchy operator concepts
-asked_from_many count hierarchy over operator concepts rising many =
-    omega (
-      arith,
-      asked_of_all count hierarchy over operator concepts rising,
-      ap (λ (is : Bool). cond is (all_items_of hierarchy (family_of operator))
-          (items_in (lists_of hierarchy (family_of operator)) concepts))
-          (lt-ltb 1 (length concepts) many),
-    )
-
 -- the long lists and the short lists of `concepts` have together as many items as all lists of `concepts`
 pub long_and_others : (lists : List (List ℕ)) (concepts : List ℕ)
     → items_in lists (with_length lists true concepts) + items_in lists (with_length lists false concepts)

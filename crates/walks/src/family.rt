@@ -6,7 +6,7 @@ ghost use Rattle.idset.specs.Words.{MarkedBelow};
 ghost use Rattle.number_lists.specs.KeyedLists.{list_of};
 ghost use Rattle.walks.specs.inside.Joined.{opposite_of, is_whole as is_whole_of, direct_of, turn_of};
 ghost use Rattle.walks.specs.inside.Counts.{told_of};
-ghost use Rattle.walks.specs.inside.Steps.{HasWords, IsStepFor, asked_of};
+ghost use Rattle.walks.specs.inside.Steps.{HasWords, IsStepFor, asked_of, keeps_apart, leads_to_self};
 ghost use Rattle.walks.specs.Families.{lists_of};
 ghost use Rattle.reading.specs.Counted.{HandsOut};
 
@@ -227,7 +227,7 @@ impl Step {
 
     /// Returns whether this step also finds the concepts of the set.
     pub fn is_or_self(self) -> bool
-        ensures { result ≡ true → self.reach ≡ Reach.ListedOrSelf }
+        ensures { result ≡ leads_to_self self.reach }
     {
         match self.reach {
             Reach::ListedOrSelf => true,
@@ -236,7 +236,9 @@ impl Step {
     }
 
     /// Returns whether this step finds only concepts of the set.
-    pub fn is_apart(self) -> bool {
+    pub fn is_apart(self) -> bool
+        ensures { result ≡ keeps_apart self.reach }
+    {
         matches!(self.reach, Reach::Apart)
     }
 }

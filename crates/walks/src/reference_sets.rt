@@ -4,7 +4,7 @@ ghost use Rattle.std.specs.List.{flat_map};
 ghost use Rattle.number_lists.specs.KeyedLists.{list_of};
 ghost use Rattle.number_lists.specs.Members.{has};
 ghost use Rattle.walks.specs.Components.{components_of};
-ghost use Rattle.walks.specs.inside.Components.{is_in_one_of};
+ghost use Rattle.walks.specs.inside.Components.{HaveComponentsOf, is_in_one_of};
 ghost use Rattle.walks.specs.Families.{items_in};
 ghost use Rattle.reading.specs.Counted.{CountsWithin, HandsOut, IsFound, full};
 ghost use Rattle.candidates.specs.Within.{AreConcepts, may_be};
@@ -12,7 +12,7 @@ ghost use Rattle.candidates.specs.Within.{AreConcepts, may_be};
 use candidates::{Candidates, restricted};
 use idset::ConceptSet;
 use reading::{Answer, Counter, Reader};
-use std::alloc::AllocError;
+use std::alloc::{AllocError, Global};
 
 // To look up a candidate in a list takes about as long as to copy this many components.
 const LOOK_UP: u64 = 32;
@@ -39,7 +39,7 @@ pub fn members_within<S: ConceptSet>(
         (components_of reader.entry.snapshot.now.release (S.items_of from.now)))
         (length (S.items_of from.now)) visits.old visits.new) }
 {
-    let numbers = from.items(reader.alloc, visits)?;
+    let numbers = refsets_in(reader, from, visits)?;
     let refsets = numbers.as_slice();
     let components = component_count(reader, refsets);
     if let Candidates::Within(wanted, stats) = candidates {
@@ -51,6 +51,45 @@ pub fn members_within<S: ConceptSet>(
     let all: Answer<S> = members(reader, refsets, visits)?;
     let found = restricted(reader, all, candidates)?;
     Ok(found)
+}
+
+// Lists the concepts in `from`; or, if the release has fewer reference sets than `from` has concepts,
+// its reference sets in `from`, since no other concept has components. Counts each concept in `from`.
+fn refsets_in<S: ConceptSet>(
+    reader: Reader<'_>,
+    from: &Answer<S>,
+    visits: &mut Counter,
+) -> Result<Vec<u32>, AllocError>
+    requires { S.bound_of from.now ≡ length reader.snapshot.now.release.concepts }
+    ensures refsets { IfOk result (λ refsets. HaveComponentsOf reader.entry.snapshot.now.release
+        (S.items_of from.now) refsets.items) }
+    ensures counted { HandsOut (length (S.items_of from.now)) visits.old visits.new }
+{
+    let known = reader.reference_set_count();
+    let listed = u64::from(from.count());
+    if known < listed {
+        let refsets = reader.reference_sets(visits);
+        visits.add(listed - known);
+        return refsets_among(reader.alloc, refsets, from);
+    }
+    from.items(reader.alloc, visits)
+}
+
+// Keeps the reference sets that are in `from`.
+fn refsets_among<S: ConceptSet>(
+    alloc: Global,
+    refsets: &[u32],
+    from: &Answer<S>,
+) -> Result<Vec<u32>, AllocError>
+    ensures { IfOk result (λ kept. kept.items ≡ filter (has (S.items_of from.now)) refsets.now) }
+{
+    let mut kept = Vec::new(alloc);
+    for refset in refsets {
+        if from.has(*refset) {
+            kept.push(*refset)?;
+        }
+    }
+    Ok(kept)
 }
 
 // Returns about how many components can be copied in the time that it takes to look up `candidates`

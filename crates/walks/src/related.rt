@@ -4,10 +4,11 @@ ghost use Rattle.std.specs.List.{flat_map, range_with_len};
 ghost use Rattle.number_lists.specs.KeyedLists.{list_of};
 ghost use Rattle.idset.specs.Sets.{all_items};
 ghost use Rattle.number_lists.specs.Members.{has};
+ghost use Rattle.number_lists.specs.Rising.{numbers_where};
 ghost use Rattle.walks.specs.Asked.{AreEnough, asked_lists};
 ghost use Rattle.walks.specs.Related.{apart as apart_of, IsOf, IsOver, joined, related_to};
 ghost use Rattle.walks.specs.inside.Joined.{opposite_of};
-ghost use Rattle.walks.specs.inside.Steps.{asked_of, stepped};
+ghost use Rattle.walks.specs.inside.Steps.{asked_of, has_length, stepped};
 ghost use Rattle.walks.specs.Families.{items_in, lists_of};
 ghost use Rattle.reading.specs.Counted.{CountsWithin, IsFound};
 ghost use Rattle.candidates.specs.Extents.{IsStatsOf};
@@ -61,40 +62,59 @@ pub fn walk_within<S: ConceptSet>(
     }
     if from.bound() > 1 && from.count() == from.bound() {
         estimate.forget();
-        return walk_from_all(reader, operator, from, candidates, visits);
+        return walk_from_all(reader, operator, from, candidates);
     }
     walk_listed(reader, operator, from, candidates, visits, estimate)
 }
 
-// Finds the candidates that `operator` leads to if `from` has all concepts. An operator that also
-// finds the concepts of the set finds all. For any other, each concept is tested by its own list,
-// which together reads no more than all lists of the family.
+// Walks from all concepts. An operator that leads to the concepts themselves as well leads to all.
+// Any other leads to the concepts whose own list, by which they are tested, is not empty; `!!>` and
+// `!!<` lead to those whose list is empty. Only lengths of lists are asked for.
 fn walk_from_all<S: ConceptSet>(
     reader: Reader<'_>,
     operator: Operator,
     from: &Answer<S>,
     candidates: &Candidates<'_, S>,
-    visits: &mut Counter,
 ) -> Result<Answer<S>, AllocError>
     requires over { IsOver (S.bound_of from.now) reader.indexes.now.hierarchy }
     requires candidates { AreBelow S.bound_of (S.bound_of from.now) candidates.now }
-    requires many { 1 < length (S.items_of from.now) }
     requires all { length (S.items_of from.now) ≡ S.bound_of from.now }
-    ensures counted { CountsWithin (length (S.items_of from.now)
-        + walk_items reader.entry.indexes.now.hierarchy operator (S.items_of from.now)) visits.old
-        visits.new }
     ensures items { IfOk result (λ found. S.items_of found
         ≡ filter (may_be S.items_of candidates.now)
         (related_to reader.entry.indexes.now.hierarchy (S.bound_of from.now) operator
         (S.items_of from.now))) }
     ensures bound { IfOk result (λ found. S.bound_of found ≡ S.bound_of from.now) }
 {
-    if Step::of(operator).is_or_self() {
+    let step = Step::of(operator);
+    if step.is_or_self() {
         return all_below(reader, from.bound(), candidates);
     }
-    let related = related_among(reader, operator, from, from, visits)?;
+    let kept = with_empty_list(reader, step.asked(), step.is_apart(), from.bound())?;
+    let related = Answer::from_items(reader.alloc, kept.as_slice(), from.bound())?;
     let left = restricted(reader, related, candidates)?;
     Ok(left)
+}
+
+// Finds the concepts whose list in `family` is empty, or, if `empty` is false, those whose list has
+// an item. No list is read.
+fn with_empty_list(
+    reader: Reader<'_>,
+    family: Family,
+    empty: bool,
+    count: u32,
+) -> Result<Vec<u32>, AllocError>
+    requires { IsOver count reader.indexes.now.hierarchy }
+    ensures { IfOk result (λ kept. kept.items ≡ numbers_where count
+        (has_length (lists_of reader.entry.indexes.now.hierarchy family) empty)) }
+{
+    let mut kept = Vec::new(reader.alloc);
+    for concept in 0..count {
+        let is_empty = family.length(reader, concept) == 0;
+        if is_empty == empty {
+            kept.push(concept)?;
+        }
+    }
+    Ok(kept)
 }
 
 // Returns the candidates among all numbers below `bound`.

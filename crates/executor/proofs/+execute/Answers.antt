@@ -11,14 +11,11 @@ mod Walks
 use Rattle.std.proofs.Common.{subst, ℕ, ◌∙◌}
 use Rattle.std.proofs.Common.{length, sym, ap, arith, ◌-◌}
 use Rattle.set_algebra.specs.Physical.{physical_of}
-use Rattle.set_algebra.specs.Physical.{physicals_of}
-use Rattle.executor.specs.inside.Logical.{logical_of}
-use Rattle.candidates.specs.Within.{AreBelow}
 use Rattle.plan_bounds.proofs.PartLemmas.{minus_are, minus_group_plan_is, pairs_are, pairs_group_plan_is, and_are}
 use Rattle.plan_bounds.proofs.PartLemmas.{and_group_plan_is, or_are, or_group_plan_is}
 use Rattle.plan_bounds.proofs.PartLemmas.{group_plan_is, values_are}
 use Rattle.reading.proofs.CountLemmas.{counted_both, counted_in, counted_thrice}
-use Rattle.executor.proofs.NodeWork.{driven_reads, members_are}
+use Rattle.executor.proofs.NodeWork.{members_are}
 use Rattle.executor.proofs.NodeWork.{plan_answers, plan_counts, test_counts, test_outside}
 use Rattle.executor.proofs.NodeWork.{test_within, groups_answer, groups_count, walk_is}
 use Rattle.executor.proofs.+execute.Answers.All as all
@@ -132,99 +129,104 @@ pub plans::execute_units-returns-in_err-found-clause-counted :
     goal.plans::execute_units-returns-in_err-found-clause-counted
 plans::execute_units-returns-in_err-found-clause-counted = units.execute_units-returns-in_err-found-clause-counted
 
--- without parts, all candidates are what the conjunction means among them
-pub joined_plans::execute_and-returns-then-is_empty-clause-found :
-    goal.joined_plans::execute_and-returns-then-is_empty-clause-found
-joined_plans::execute_and-returns-then-is_empty-clause-found = all.execute_and-returns-then-is_empty-clause-found
+-- without turns there are no parts, so all candidates are what the conjunction means among them
+pub joined_plans::execute_in_order-returns-then-is_empty-clause-found :
+    goal.joined_plans::execute_in_order-returns-then-is_empty-clause-found
+joined_plans::execute_in_order-returns-then-is_empty-clause-found =
+    all.execute_in_order-returns-then-is_empty-clause-found
 
--- after the driving part has been executed, the invariant of the conjunction holds at the first place
-pub joined_plans::execute_and-loop-place-init : goal.joined_plans::execute_and-loop-place-init
-joined_plans::execute_and-loop-place-init = all.execute_and-loop-place-init
+-- after the first part has been executed, the invariant of the conjunction holds at turn 1
+pub joined_plans::execute_in_order-loop-turn-init : goal.joined_plans::execute_in_order-loop-turn-init
+joined_plans::execute_in_order-loop-turn-init = all.execute_in_order-loop-turn-init
 
--- a turn that executes a part for what is left, or passes over the driving part, keeps the invariant of the
--- conjunction
-pub joined_plans::execute_and-loop-place-preserved : goal.joined_plans::execute_and-loop-place-preserved
-joined_plans::execute_and-loop-place-preserved = all.execute_and-loop-place-preserved
+-- a turn that executes a part for what is left keeps the invariant of the conjunction
+pub joined_plans::execute_in_order-loop-turn-preserved : goal.joined_plans::execute_in_order-loop-turn-preserved
+joined_plans::execute_in_order-loop-turn-preserved = all.execute_in_order-loop-turn-preserved
 
 -- at the end what is left is what all parts mean among the candidates, and their floors are counted
-pub joined_plans::execute_and-returns-clause-found : goal.joined_plans::execute_and-returns-clause-found
-joined_plans::execute_and-returns-clause-found = all.execute_and-returns-clause-found
+pub joined_plans::execute_in_order-returns-clause-found : goal.joined_plans::execute_in_order-returns-clause-found
+joined_plans::execute_in_order-returns-clause-found = all.execute_in_order-returns-clause-found
 
 -- at the end the visits are within the bound of the conjunction
-pub joined_plans::execute_and-returns-clause-counted : goal.joined_plans::execute_and-returns-clause-counted
-joined_plans::execute_and-returns-clause-counted = all.execute_and-returns-clause-counted
+pub joined_plans::execute_in_order-returns-clause-counted : goal.joined_plans::execute_in_order-returns-clause-counted
+joined_plans::execute_in_order-returns-clause-counted = all.execute_in_order-returns-clause-counted
 
--- if memory is refused while the driving part is executed, the visits are within the bound of the conjunction
-pub joined_plans::execute_and-returns-in_err-found-clause-counted :
-    goal.joined_plans::execute_and-returns-in_err-found-clause-counted
-joined_plans::execute_and-returns-in_err-found-clause-counted = all.execute_and-returns-in_err-found-clause-counted
+-- if memory is refused while the first part is executed, the visits are within the bound of the conjunction
+pub joined_plans::execute_in_order-returns-in_err-found-clause-counted :
+    goal.joined_plans::execute_in_order-returns-in_err-found-clause-counted
+joined_plans::execute_in_order-returns-in_err-found-clause-counted =
+    all.execute_in_order-returns-in_err-found-clause-counted
 
--- if memory is refused while what the driving part has found is measured, the visits are within the bound of the
+-- if memory is refused while what the first part has found is measured, the visits are within the bound of the
 -- conjunction
-pub joined_plans::execute_and-returns-in_err-stats-clause-counted :
-    goal.joined_plans::execute_and-returns-in_err-stats-clause-counted
-joined_plans::execute_and-returns-in_err-stats-clause-counted = all.execute_and-returns-in_err-stats-clause-counted
+pub joined_plans::execute_in_order-returns-in_err-stats-clause-counted :
+    goal.joined_plans::execute_in_order-returns-in_err-stats-clause-counted
+joined_plans::execute_in_order-returns-in_err-stats-clause-counted =
+    all.execute_in_order-returns-in_err-stats-clause-counted
+
+-- if memory is refused while a later part is executed, the visits are within the bound of the conjunction
+pub joined_plans::execute_in_order-returns-in_err-next-clause-counted :
+    goal.joined_plans::execute_in_order-returns-in_err-next-clause-counted
+joined_plans::execute_in_order-returns-in_err-next-clause-counted =
+    all.execute_in_order-returns-in_err-next-clause-counted
 
 -- if memory is refused while what a later part has found is measured, the visits are within the bound of the
 -- conjunction
-pub joined_plans::execute_and-returns-in_err-stats-2-clause-counted :
-    goal.joined_plans::execute_and-returns-in_err-stats-2-clause-counted
-joined_plans::execute_and-returns-in_err-stats-2-clause-counted = all.execute_and-returns-in_err-stats-2-clause-counted
+pub joined_plans::execute_in_order-returns-in_err-stats-2-clause-counted :
+    goal.joined_plans::execute_in_order-returns-in_err-stats-2-clause-counted
+joined_plans::execute_in_order-returns-in_err-stats-2-clause-counted =
+    all.execute_in_order-returns-in_err-stats-2-clause-counted
 
--- if memory is refused while a later part is executed, the visits are within the bound of the conjunction
-pub joined_plans::execute_and-returns-in_err-next-clause-counted :
-    goal.joined_plans::execute_and-returns-in_err-next-clause-counted
-joined_plans::execute_and-returns-in_err-next-clause-counted = all.execute_and-returns-in_err-next-clause-counted
+-- without turns there are no parts, so all candidate groups are what the conjunction means among them
+pub group_plans::execute_groups_in_order-returns-then-is_empty-clause-found :
+    goal.group_plans::execute_groups_in_order-returns-then-is_empty-clause-found
+group_plans::execute_groups_in_order-returns-then-is_empty-clause-found =
+    all.execute_groups_in_order-returns-then-is_empty-clause-found
 
--- without parts, all candidate groups are what the conjunction means among them
-pub group_plans::execute_group_and-returns-then-is_empty-clause-found :
-    goal.group_plans::execute_group_and-returns-then-is_empty-clause-found
-group_plans::execute_group_and-returns-then-is_empty-clause-found =
-    all.execute_group_and-returns-then-is_empty-clause-found
+-- after the first part of groups has been executed, the invariant of the conjunction holds at turn 1
+pub group_plans::execute_groups_in_order-loop-turn-init : goal.group_plans::execute_groups_in_order-loop-turn-init
+group_plans::execute_groups_in_order-loop-turn-init = all.execute_groups_in_order-loop-turn-init
 
--- after the driving part of groups has been executed, the invariant of the conjunction holds at the first place
-pub group_plans::execute_group_and-loop-place-init : goal.group_plans::execute_group_and-loop-place-init
-group_plans::execute_group_and-loop-place-init = all.execute_group_and-loop-place-init
-
--- a turn that executes a part of groups for what is left, or passes over the driving part, keeps the invariant of the
--- conjunction
-pub group_plans::execute_group_and-loop-place-preserved : goal.group_plans::execute_group_and-loop-place-preserved
-group_plans::execute_group_and-loop-place-preserved = all.execute_group_and-loop-place-preserved
+-- a turn that executes a part of groups for what is left keeps the invariant of the conjunction
+pub group_plans::execute_groups_in_order-loop-turn-preserved :
+    goal.group_plans::execute_groups_in_order-loop-turn-preserved
+group_plans::execute_groups_in_order-loop-turn-preserved = all.execute_groups_in_order-loop-turn-preserved
 
 -- at the end what is left is what all parts of groups mean among the candidates, and their floors are counted
-pub group_plans::execute_group_and-returns-clause-found : goal.group_plans::execute_group_and-returns-clause-found
-group_plans::execute_group_and-returns-clause-found = all.execute_group_and-returns-clause-found
+pub group_plans::execute_groups_in_order-returns-clause-found :
+    goal.group_plans::execute_groups_in_order-returns-clause-found
+group_plans::execute_groups_in_order-returns-clause-found = all.execute_groups_in_order-returns-clause-found
 
 -- at the end the visits are within the bound of the conjunction of groups
-pub group_plans::execute_group_and-returns-clause-counted : goal.group_plans::execute_group_and-returns-clause-counted
-group_plans::execute_group_and-returns-clause-counted = all.execute_group_and-returns-clause-counted
+pub group_plans::execute_groups_in_order-returns-clause-counted :
+    goal.group_plans::execute_groups_in_order-returns-clause-counted
+group_plans::execute_groups_in_order-returns-clause-counted = all.execute_groups_in_order-returns-clause-counted
 
--- if memory is refused while the driving part of groups is executed, the visits are within the bound of the
--- conjunction
-pub group_plans::execute_group_and-returns-in_err-groups-clause-counted :
-    goal.group_plans::execute_group_and-returns-in_err-groups-clause-counted
-group_plans::execute_group_and-returns-in_err-groups-clause-counted =
-    all.execute_group_and-returns-in_err-groups-clause-counted
+-- if memory is refused while the first part of groups is executed, the visits are within the bound of the conjunction
+pub group_plans::execute_groups_in_order-returns-in_err-groups-clause-counted :
+    goal.group_plans::execute_groups_in_order-returns-in_err-groups-clause-counted
+group_plans::execute_groups_in_order-returns-in_err-groups-clause-counted =
+    all.execute_groups_in_order-returns-in_err-groups-clause-counted
 
--- if memory is refused while the groups that the driving part has found are measured, the visits are within the bound
--- of the conjunction
-pub group_plans::execute_group_and-returns-in_err-stats-clause-counted :
-    goal.group_plans::execute_group_and-returns-in_err-stats-clause-counted
-group_plans::execute_group_and-returns-in_err-stats-clause-counted =
-    all.execute_group_and-returns-in_err-stats-clause-counted
-
--- if memory is refused while the groups that a later part has found are measured, the visits are within the bound of
+-- if memory is refused while what the first part of groups has found is measured, the visits are within the bound of
 -- the conjunction
-pub group_plans::execute_group_and-returns-in_err-stats-2-clause-counted :
-    goal.group_plans::execute_group_and-returns-in_err-stats-2-clause-counted
-group_plans::execute_group_and-returns-in_err-stats-2-clause-counted =
-    all.execute_group_and-returns-in_err-stats-2-clause-counted
+pub group_plans::execute_groups_in_order-returns-in_err-stats-clause-counted :
+    goal.group_plans::execute_groups_in_order-returns-in_err-stats-clause-counted
+group_plans::execute_groups_in_order-returns-in_err-stats-clause-counted =
+    all.execute_groups_in_order-returns-in_err-stats-clause-counted
 
 -- if memory is refused while a later part of groups is executed, the visits are within the bound of the conjunction
-pub group_plans::execute_group_and-returns-in_err-next-clause-counted :
-    goal.group_plans::execute_group_and-returns-in_err-next-clause-counted
-group_plans::execute_group_and-returns-in_err-next-clause-counted =
-    all.execute_group_and-returns-in_err-next-clause-counted
+pub group_plans::execute_groups_in_order-returns-in_err-next-clause-counted :
+    goal.group_plans::execute_groups_in_order-returns-in_err-next-clause-counted
+group_plans::execute_groups_in_order-returns-in_err-next-clause-counted =
+    all.execute_groups_in_order-returns-in_err-next-clause-counted
+
+-- if memory is refused while what a later part of groups has found is measured, the visits are within the bound of the
+-- conjunction
+pub group_plans::execute_groups_in_order-returns-in_err-stats-2-clause-counted :
+    goal.group_plans::execute_groups_in_order-returns-in_err-stats-2-clause-counted
+group_plans::execute_groups_in_order-returns-in_err-stats-2-clause-counted =
+    all.execute_groups_in_order-returns-in_err-stats-2-clause-counted
 
 -- before the first part, the empty set meets the invariant of the disjunction
 pub joined_plans::execute_or-loop-part-init : goal.joined_plans::execute_or-loop-part-init
@@ -315,41 +317,72 @@ pub dotted_plans::execute_attributes-returns-clause-found : goal.dotted_plans::e
 dotted_plans::execute_attributes-returns-clause-found = dotted.execute_attributes-returns-clause-found
 
 -- if the name before is equal, its set is what the name means, and the floor of the name is counted
-pub dotted_plans::named_by-returns-then-eq-clause-found : goal.dotted_plans::named_by-returns-then-eq-clause-found
-dotted_plans::named_by-returns-then-eq-clause-found = dotted.named_by-returns-then-eq-clause-found
+pub dotted_plans::named_by-returns-then-eq-clause-found :
+    goal.dotted_plans::named_by-returns-then-eq-clause-found
+dotted_plans::named_by-returns-then-eq-clause-found =
+    dotted.named_by-returns-then-eq-clause-found
 
 -- if the name before is equal, the floor that is counted is within the bound of the name
-pub dotted_plans::named_by-returns-then-eq-clause-counted : goal.dotted_plans::named_by-returns-then-eq-clause-counted
-dotted_plans::named_by-returns-then-eq-clause-counted = dotted.named_by-returns-then-eq-clause-counted
+pub dotted_plans::named_by-returns-then-eq-clause-counted :
+    goal.dotted_plans::named_by-returns-then-eq-clause-counted
+dotted_plans::named_by-returns-then-eq-clause-counted =
+    dotted.named_by-returns-then-eq-clause-counted
 
--- what the names lead to from the start, restricted to the candidates, is what the plan of values means among them
-pub dotted_plans::execute_dotted-returns-clause-found : goal.dotted_plans::execute_dotted-returns-clause-found
-dotted_plans::execute_dotted-returns-clause-found = dotted.execute_dotted-returns-clause-found
+-- what the start has found among the sources of rows with the types has all values along these types
+pub dotted_plans::execute_from_few-returns-clause-found :
+    goal.dotted_plans::execute_from_few-returns-clause-found
+dotted_plans::execute_from_few-returns-clause-found =
+    dotted.execute_from_few-returns-clause-found
 
--- the visits of the start and of the names are within the bound of the plan of values
-pub dotted_plans::execute_dotted-returns-clause-counted : goal.dotted_plans::execute_dotted-returns-clause-counted
-dotted_plans::execute_dotted-returns-clause-counted g t c =
-    driven_reads c.args.reader.indexes.now (physical_of c.args.start.now) (physicals_of c.args.names.now)
-    c.execute_within.ensures.counted c.execute_attributes.ensures.counted
-    c.in_ok-from.ensures.size
+-- the sources are read once to measure them, and what the start has found among them are no more
+pub dotted_plans::execute_from_few-returns-clause-counted :
+    goal.dotted_plans::execute_from_few-returns-clause-counted
+dotted_plans::execute_from_few-returns-clause-counted =
+    dotted.execute_from_few-returns-clause-counted
 
--- if memory is refused while the values along the names are found, the visits are within the bound of the plan of
+-- if memory is refused while the values are found, the visits are within the same bound
+pub dotted_plans::execute_from_few-returns-in_err-found-clause-counted :
+    goal.dotted_plans::execute_from_few-returns-in_err-found-clause-counted
+dotted_plans::execute_from_few-returns-in_err-found-clause-counted =
+    dotted.execute_from_few-returns-in_err-found-clause-counted
+
+-- if the start is executed for all concepts, the values of what it has found are those of what it means
+pub dotted_plans::execute_start-returns-in_ok-found-in-None-clause-found :
+    goal.dotted_plans::execute_start-returns-in_ok-found-in-None-clause-found
+dotted_plans::execute_start-returns-in_ok-found-in-None-clause-found =
+    dotted.execute_start-returns-in_ok-found-in-None-clause-found
+
+-- the visits of the names and of the start are within the bound of the plan of values
+pub dotted_plans::execute_dotted-returns-in_ok-found-in-Some-clause-counted :
+    goal.dotted_plans::execute_dotted-returns-in_ok-found-in-Some-clause-counted
+dotted_plans::execute_dotted-returns-in_ok-found-in-Some-clause-counted =
+    dotted.execute_dotted-returns-in_ok-found-in-Some-clause-counted
+
+-- if memory is refused while the values along the other names are found, the visits are within the bound of the plan of
 -- values
-pub dotted_plans::execute_dotted-returns-in_err-driven-clause-counted :
-    goal.dotted_plans::execute_dotted-returns-in_err-driven-clause-counted
-dotted_plans::execute_dotted-returns-in_err-driven-clause-counted g t c =
-    driven_reads c.args.reader.indexes.now (physical_of c.args.start.now) (physicals_of c.args.names.now)
-    c.execute_within.ensures.counted c.execute_attributes.ensures.counted
-    c.in_ok-from.ensures.size
+pub dotted_plans::execute_dotted-returns-in_err-driven-in-Some-clause-counted :
+    goal.dotted_plans::execute_dotted-returns-in_err-driven-in-Some-clause-counted
+dotted_plans::execute_dotted-returns-in_err-driven-in-Some-clause-counted =
+    dotted.execute_dotted-returns-in_err-driven-in-Some-clause-counted
 
 -- if memory is refused while the values found are restricted to the candidates, the visits are within the bound of
 -- the plan of values
-pub dotted_plans::execute_dotted-returns-in_err-found-clause-counted :
-    goal.dotted_plans::execute_dotted-returns-in_err-found-clause-counted
-dotted_plans::execute_dotted-returns-in_err-found-clause-counted g t c =
-    driven_reads c.args.reader.indexes.now (physical_of c.args.start.now) (physicals_of c.args.names.now)
-    c.execute_within.ensures.counted c.execute_attributes.ensures.counted
-    c.in_ok-from.ensures.size
+pub dotted_plans::execute_dotted-returns-in_err-found-in-Some-clause-counted :
+    goal.dotted_plans::execute_dotted-returns-in_err-found-in-Some-clause-counted
+dotted_plans::execute_dotted-returns-in_err-found-in-Some-clause-counted =
+    dotted.execute_dotted-returns-in_err-found-in-Some-clause-counted
+
+-- what the names lead to from the start, restricted to the candidates, is what the plan of values means among them
+pub dotted_plans::execute_dotted-returns-in_ok-found-in-Some-clause-found :
+    goal.dotted_plans::execute_dotted-returns-in_ok-found-in-Some-clause-found
+dotted_plans::execute_dotted-returns-in_ok-found-in-Some-clause-found =
+    dotted.execute_dotted-returns-in_ok-found-in-Some-clause-found
+
+-- the candidates lie below the bound of the values found, as `restricted` requires
+pub dotted_plans::execute_dotted-restricted-requires :
+    goal.dotted_plans::execute_dotted-restricted-requires
+dotted_plans::execute_dotted-restricted-requires =
+    dotted.execute_dotted-restricted-requires
 
 -- the set that the plan has found makes the test that is within it
 pub plans::tested_of-returns-in_ok-set-in-Within-clause-tested :
@@ -683,15 +716,6 @@ pub group_plans::groups_with_pairs-groups_with_pairs_within-requires-clause-test
     goal.group_plans::groups_with_pairs-groups_with_pairs_within-requires-clause-tested
 group_plans::groups_with_pairs-groups_with_pairs_within-requires-clause-tested g t c =
     c.in_ok-tested.ensures.tested.bound
-
--- the candidates lie below the bound of the values found, as `restricted` requires
-pub dotted_plans::execute_dotted-restricted-requires : goal.dotted_plans::execute_dotted-restricted-requires
-dotted_plans::execute_dotted-restricted-requires g t c =
-    let driven = c.in_ok-driven.ensures.found (logical_of c.args.start.now) c.in_ok-from.ensures.found.items in
-    record {
-      bound = subst (λ (count : ℕ). AreBelow g.S.ConceptSet.bound_of count c.args.candidates.now) (sym driven.bound)
-          c.requires.candidates.below;
-    }
 
 -- the rows of the concept that the plan names are the rows of what the node finds
 pub plans::execute_node-returns-in-One-clause-adds : goal.plans::execute_node-returns-in-One-clause-adds

@@ -1,6 +1,6 @@
 use Rattle.std.proofs.Common.{◌≡◌, ◌≤◌, ◌<◌, ◌+◌, ◌*◌, ◌&&◌, ℕ, List, length, get_or, max, min, take}
-use Rattle.std.specs.Prelude.{IfSome, slice_get}
-use Rattle.std.specs.List.{list_all, list_any}
+use Rattle.std.specs.Prelude.{slice_get}
+use Rattle.std.specs.List.{list_any}
 use Rattle.number_lists.specs.Rising.{numbers_where}
 use Rattle.postings.specs.Groups.{all_groups}
 use Rattle.set_algebra.specs.Meaning.{group_means, leads, means}
@@ -16,12 +16,13 @@ use Rattle.plan_bounds.proofs.LoopLemmas.{concept_sum, group_plan_sum}
 use Rattle.candidates.specs.Extents.{IsStatsOf, IsGroupStatsOf}
 use Rattle.candidates.specs.Groups.{some_group_in}
 use Rattle.candidates.specs.Numbers.{numbers_in}
-use Rattle.executor.specs.inside.DrivingPart.{leads_off, leads_off_groups}
 use Rattle.executor.specs.inside.Named.{HasNamed}
 use Rattle.candidates.specs.RowEstimates.{Adds}
 use Rattle.candidates.specs.Within.{may_be}
 use Rattle.executor.proofs.PartWork.{concepts_read, groups_read}
-use Rattle.executor.proofs.WorkLemmas.{AllSoFar, SomeSoFar}
+use Rattle.executor.proofs.OrderLemmas.{TurnsSoFar, passed}
+use Rattle.executor.proofs.WithinNodes.{means_concept, means_group}
+use Rattle.executor.proofs.WorkLemmas.{SomeSoFar}
 use Rattle.set_algebra.proofs.plan.ConceptPlan.TheLaws as concept_plan
 use Rattle.set_algebra.proofs.plan.UnitPlan.TheLaws as group_plan
 use Rattle.set_algebra.proofs.plan.ValueTest.TheLaws as value_test
@@ -30,20 +31,16 @@ use Rattle.set_algebra.specs.declared.plan.UnitPlan.TheVariants.{the_data as gro
 use denote.Param.Weighed.{most}
 use Rattle.executor.proofs.+execute.Given as goal
 
--- what was found is what the driving part and the parts of concepts before `place` mean among the candidates
-abbrev pub invariant-joined_plans::execute_and-loop-place : goal.invariant-joined_plans::execute_and-loop-place
-invariant-joined_plans::execute_and-loop-place g l = record {
+-- what was found is what the parts of concepts of the first `turn` turns mean among the candidates
+abbrev pub invariant-joined_plans::execute_in_order-loop-turn :
+    goal.invariant-joined_plans::execute_in_order-loop-turn
+invariant-joined_plans::execute_in_order-loop-turn g l = record {
   items : g.S.ConceptSet.items_of l.found
-      ≡ numbers_where (length l.reader.snapshot.now.release.concepts)
-      (λ n. (may_be g.S.ConceptSet.items_of l.candidates n && leads_off l.reader.snapshot.now.release
-      (slice_get l.parts l.driving) (get_or l.reader.snapshot.now.release.concepts n 0))
-      && list_all (λ part. means l.reader.snapshot.now.release (logical_of part)
-      (get_or l.reader.snapshot.now.release.concepts n 0)) (take l.place l.parts));
+      ≡ passed (length l.reader.snapshot.now.release.concepts) (means_concept l.reader.snapshot.now.release)
+      l.parts l.order (may_be g.S.ConceptSet.items_of l.candidates) l.turn;
   bound : g.S.ConceptSet.bound_of l.found ≡ length l.reader.snapshot.now.release.concepts;
-  work : AllSoFar (concept_sum (floor_number l.reader.indexes.now)) (concepts_read l.reader.indexes.now) l.parts
-      l.driving
-      l.place
-      l.fn.visits.count l.visits.count;
+  work : TurnsSoFar (concept_sum (floor_number l.reader.indexes.now)) (concepts_read l.reader.indexes.now) l.parts
+      l.order l.turn l.fn.visits l.visits;
   stats : IsStatsOf l.reader.indexes.now (g.S.ConceptSet.items_of l.found) l.stats;
 }
 
@@ -62,23 +59,16 @@ invariant-joined_plans::execute_or-loop-part g l = record {
       l.fn.visits.count l.visits.count;
 }
 
--- the groups found are what the driving part and the parts of groups before `place` mean among the candidates
-abbrev pub invariant-group_plans::execute_group_and-loop-place :
-    goal.invariant-group_plans::execute_group_and-loop-place
-invariant-group_plans::execute_group_and-loop-place g l = record {
+-- the groups found are what the parts of groups of the first `turn` turns mean among the candidates
+abbrev pub invariant-group_plans::execute_groups_in_order-loop-turn :
+    goal.invariant-group_plans::execute_groups_in_order-loop-turn
+invariant-group_plans::execute_groups_in_order-loop-turn g l = record {
   items : g.S.ConceptSet.items_of l.groups
-      ≡ numbers_where (length (all_groups l.reader.snapshot.now.release))
-      (λ n. (may_be g.S.ConceptSet.items_of l.candidates n && some_group_in l.reader.snapshot.now.release
-      (leads_off_groups l.reader.snapshot.now.release (slice_get l.parts l.driving))
-      (slice_get (all_groups l.reader.snapshot.now.release) n))
-      && list_all (λ part. some_group_in l.reader.snapshot.now.release
-      (group_means l.reader.snapshot.now.release (logical_groups_of part))
-      (slice_get (all_groups l.reader.snapshot.now.release) n)) (take l.place l.parts));
+      ≡ passed (length (all_groups l.reader.snapshot.now.release)) (means_group l.reader.snapshot.now.release)
+      l.parts l.order (may_be g.S.ConceptSet.items_of l.candidates) l.turn;
   bound : g.S.ConceptSet.bound_of l.groups ≡ length (all_groups l.reader.snapshot.now.release);
-  work : AllSoFar (group_plan_sum (floor_number l.reader.indexes.now)) (groups_read l.reader.indexes.now) l.parts
-      l.driving
-      l.place
-      l.fn.visits.count l.visits.count;
+  work : TurnsSoFar (group_plan_sum (floor_number l.reader.indexes.now)) (groups_read l.reader.indexes.now) l.parts
+      l.order l.turn l.fn.visits l.visits;
   stats : IsGroupStatsOf l.reader.indexes.now (g.S.ConceptSet.items_of l.groups) l.stats;
 }
 
@@ -117,8 +107,8 @@ invariant-dotted_plans::execute_attributes-loop-name g l = record {
       (λ place. values_bound l.reader.indexes.now place (length (g.S.ConceptSet.items_of l.initial.found))) l.names
       l.name-index
       l.fn.visits.count l.visits.count;
-  known : IfSome l.known (λ known. HasNamed l.reader.snapshot.now.release (logical_of known.0.now)
-      (g.S.ConceptSet.items_of known.1) (g.S.ConceptSet.bound_of known.1));
+  known : HasNamed l.reader.snapshot.now.release (logical_of l.before.0.now)
+      (g.S.ConceptSet.items_of l.before.1) (g.S.ConceptSet.bound_of l.before.1);
 }
 
 -- ---- termination: each call goes down to less depth, or to a lower rank at one depth
@@ -159,6 +149,9 @@ decreases-plans::tested_of g l = 6 * (value_test.the_size l.test.now) + 0
 abbrev pub decreases-joined_plans::execute_and : goal.decreases-joined_plans::execute_and
 decreases-joined_plans::execute_and g l = 6 * (deepest l.parts.now) + 4
 
+abbrev pub decreases-joined_plans::execute_in_order : goal.decreases-joined_plans::execute_in_order
+decreases-joined_plans::execute_in_order g l = 6 * (deepest l.parts.now) + 3
+
 abbrev pub decreases-joined_plans::execute_or : goal.decreases-joined_plans::execute_or
 decreases-joined_plans::execute_or g l = 6 * (deepest l.parts.now) + 2
 
@@ -170,6 +163,12 @@ decreases-walk_plans::walk_to_few g l = 6 * (concept_plan.the_size l.walk.operan
 
 abbrev pub decreases-dotted_plans::execute_dotted : goal.decreases-dotted_plans::execute_dotted
 decreases-dotted_plans::execute_dotted g l = 6 * (max (concept_plan.the_size l.start.now) (deepest l.names.now)) + 5
+
+abbrev pub decreases-dotted_plans::execute_start : goal.decreases-dotted_plans::execute_start
+decreases-dotted_plans::execute_start g l = 6 * (concept_plan.the_size l.start.now) + 4
+
+abbrev pub decreases-dotted_plans::execute_from_few : goal.decreases-dotted_plans::execute_from_few
+decreases-dotted_plans::execute_from_few g l = 6 * (concept_plan.the_size l.start.now) + 3
 
 abbrev pub decreases-dotted_plans::execute_attributes : goal.decreases-dotted_plans::execute_attributes
 decreases-dotted_plans::execute_attributes g l = 6 * (deepest l.names.now) + 4
@@ -193,6 +192,9 @@ decreases-group_plans::groups_with_pairs g l = 6
 
 abbrev pub decreases-group_plans::execute_group_and : goal.decreases-group_plans::execute_group_and
 decreases-group_plans::execute_group_and g l = 6 * (deepest_groups l.parts.now) + 3
+
+abbrev pub decreases-group_plans::execute_groups_in_order : goal.decreases-group_plans::execute_groups_in_order
+decreases-group_plans::execute_groups_in_order g l = 6 * (deepest_groups l.parts.now) + 2
 
 abbrev pub decreases-group_plans::execute_group_or : goal.decreases-group_plans::execute_group_or
 decreases-group_plans::execute_group_or g l = 6 * (deepest_groups l.parts.now) + 2

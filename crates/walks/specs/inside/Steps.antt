@@ -1,5 +1,6 @@
 -- A step from a list of concepts along the lists of a family, and how it stands for an operator.
-use Rattle.std.specs.Prelude.{ℕ, ◌≡◌, true, List, length}
+use Rattle.std.specs.Prelude.{ℕ, ◌≡◌, ◌==◌, Bool, true, false, List, length}
+use Rattle.std.specs.Bool.{beq}
 use Rattle.constraint_tree.specs.declared.operator.Operator.{Operator}
 use Rattle.idset.specs.Sets.{all_items}
 use Rattle.number_lists.specs.KeyedLists.{list_of}
@@ -29,6 +30,22 @@ abbrev pub stepped : List (List ℕ) → ℕ → Reach → List ℕ → List ℕ
 stepped lists count Listed concepts = joined count lists concepts
 stepped lists count ListedOrSelf concepts = all_items count concepts (joined count lists concepts)
 stepped lists count Apart concepts = apart lists concepts
+
+-- whether a step leads to the concepts from which it starts and to others, as its reach says
+abbrev pub leads_to_self : Reach → Bool
+leads_to_self Listed = false
+leads_to_self ListedOrSelf = true
+leads_to_self Apart = false
+
+-- whether a step leads only to concepts from which it starts, as its reach says
+abbrev pub keeps_apart : Reach → Bool
+keeps_apart Listed = false
+keeps_apart ListedOrSelf = false
+keeps_apart Apart = true
+
+-- whether the list of `concept` is empty, or, if `empty` is false, whether it has an item
+abbrev pub has_length : List (List ℕ) → Bool → ℕ → Bool
+has_length lists empty concept = beq (length (list_of lists concept) == 0) empty
 
 -- the family whose lists tell whether a step along `family` finds a concept
 abbrev pub asked_by : Family → Reach → Family

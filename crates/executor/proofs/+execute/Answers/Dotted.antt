@@ -1,24 +1,25 @@
 -- Answers of the nodes of dotted attributes.
-use Rattle.std.proofs.Common.{subst, le_trans, ℕ, List, ◌+◌, ◌∙◌, Bool}
-use Rattle.std.proofs.Common.{length, ap, refl, arith, le_of_lt, Option, rules}
-use Rattle.std.specs.Prelude.{IfSome}
+use Rattle.std.proofs.Common.{subst, le_trans, ℕ, List, ◌≡◌, ◌+◌, ◌∷◌, ◌∙◌, Bool}
+use Rattle.std.proofs.Common.{length, get_or, ap, refl, sym, arith, le_of_lt}
 use Rattle.std.proofs.lemmas.List.{take_all}
 use Rattle.set_algebra.specs.declared.plan.ConceptPlan.{ConceptPlan}
+use Rattle.constraint_tree.specs.Denotation.{is_value}
 use Rattle.set_algebra.specs.Meaning.{leads, means}
 use Rattle.candidates.specs.Numbers.{is_one_of, numbers_in}
 use Rattle.set_algebra.specs.Plan.{Plan}
-use Rattle.set_algebra.specs.Plan.{values_plan}
+use Rattle.set_algebra.specs.Plan.{no_plans, plan_then, values_plan}
 use Rattle.set_algebra.specs.Physical.{physical_of}
 use Rattle.executor.specs.inside.Logical.{logical_of, logicals_of}
-use Rattle.candidates.specs.Within.{may_be}
+use Rattle.candidates.specs.Within.{AreBelow, may_be}
+use Rattle.reading.proofs.CountLemmas.{counted_thrice}
 use Rattle.executor.proofs.NamedLemmas.{named_again}
-use Rattle.executor.specs.inside.Named.{HasNamed}
 use Rattle.plan_bounds.specs.Bounds.{values_bound}
 use Rattle.plan_bounds.proofs.FloorLemmas.{floor-le-bound}
 use Rattle.plan_bounds.proofs.PartLemmas.{plan_count-parts}
 use Rattle.pair_sets.proofs.LeafLemmas.{sources_known}
-use Rattle.executor.proofs.NodeLemmas.{name_step, values_node}
-use Rattle.executor.proofs.PartWork.{few_values}
+use Rattle.executor.proofs.AlongLemmas.{dotted_counted, dotted_floor, first_along, values_of_few}
+use Rattle.executor.proofs.NodeLemmas.{name_step, one_meant, values_node}
+use Rattle.executor.proofs.PartWork.{few_of_candidates, few_values}
 use Rattle.executor.proofs.WithinNodes.{kept_node}
 use Rattle.executor.proofs.WorkLemmas.{along_le}
 use Rattle.executor.proofs.WorkLemmas.{along_more}
@@ -33,7 +34,7 @@ execute_attributes-loop-name-init g t c = record {
   few = λ some. absurd (omega (arith, some));
   start = λ none. refl;
   work = some_start c.args.visits.now.count;
-  known = tt;
+  known = c.requires.known;
 }
 
 -- a turn that goes along one attribute name keeps the invariant of the names
@@ -154,9 +155,8 @@ execute_attributes-returns-clause-found g t c =
 pub named_by-returns-then-eq-clause-found : goal.dotted_plans::named_by-returns-then-eq-clause-found
 named_by-returns-then-eq-clause-found g t c =
     let release = c.args.reader.snapshot.now.release in
-    let known = subst (λ (known : Option _). IfSome known (λ known. HasNamed release (logical_of known.0.now)
-    (g.S.ConceptSet.items_of known.1) (g.S.ConceptSet.bound_of known.1))) c.in-Some.is c.requires.known in
-    let named = named_again release c.in-Some.before.now c.args.name.now (c.eq.ensures.data.0 c.if-eq.true) known in
+    let named = named_again release c.args.known.0.now c.args.name.now (c.eq.ensures.data.0 c.if-eq.true)
+    c.requires.known in
     record {
       items = named.items_are;
       bound = named.bound_is;
@@ -175,23 +175,165 @@ named_by-returns-then-eq-clause-counted g t c = record {
   );
 }
 
--- what the names lead to from the start, restricted to the candidates, is what the plan of values means among them
-pub execute_dotted-returns-clause-found : goal.dotted_plans::execute_dotted-returns-clause-found
-execute_dotted-returns-clause-found g t c =
+-- what the start has found among the sources of rows with the types has all values along these types
+pub execute_from_few-returns-clause-found : goal.dotted_plans::execute_from_few-returns-clause-found
+execute_from_few-returns-clause-found g t c =
     let release = c.args.reader.snapshot.now.release in
-    let may : ℕ → Bool = may_be g.S.ConceptSet.items_of c.args.candidates.now in
-    let plan : Plan = values_plan (logical_of c.args.start.now) (logicals_of c.args.names.now) in
-    let driven = c.in_ok-driven.ensures.found (logical_of c.args.start.now) c.in_ok-from.ensures.found.items in
+    let concepts = c.args.reader.indexes.now.concepts in
+    let types : ℕ → Bool = is_one_of concepts (g.S.ConceptSet.items_of c.args.named.now) in
     record {
-      items = kept_node release may plan (g.S.ConceptSet.items_of c.in_ok-driven.driven)
-          (g.S.ConceptSet.items_of c.in_ok-found.found)
-          (values_node release plan (g.S.ConceptSet.items_of c.in_ok-driven.driven) (logical_of c.args.start.now)
-          c.args.names.now refl driven.items)
-          c.in_ok-found.ensures.items;
-      bound = search rules;
+      items = values_of_few release (logical_of c.args.start.now) types concepts
+          (g.S.ConceptSet.items_of c.args.sources.now)
+          (g.S.ConceptSet.items_of c.in_ok-from.from)
+          (g.S.ConceptSet.items_of c.in_ok-found.found) c.args.reader.index.concepts c.requires.sources
+          c.in_ok-from.ensures.found.items c.in_ok-found.ensures.found.items;
+      bound = c.in_ok-found.ensures.found.bound;
       floor = omega (
         arith,
+        c.stats_of.ensures.counted.grows,
         c.in_ok-from.ensures.found.floor,
-        driven.floor,
+        c.values_along.ensures.counted.grows,
       );
+    }
+
+-- the sources are read once to measure them, and what the start has found among them are no more
+pub execute_from_few-returns-clause-counted : goal.dotted_plans::execute_from_few-returns-clause-counted
+execute_from_few-returns-clause-counted g t c =
+    counted_thrice c.stats_of.ensures.counted c.execute_within.ensures.counted c.values_along.ensures.counted
+    (omega (
+      arith,
+      few_of_candidates (length c.args.reader.snapshot.now.release.concepts)
+          (g.S.ConceptSet.items_of c.args.sources.now)
+          (λ n. means c.args.reader.snapshot.now.release (logical_of c.args.start.now)
+          (get_or c.args.reader.snapshot.now.release.concepts n 0))
+          (g.S.ConceptSet.items_of c.in_ok-from.from) c.in_ok-from.ensures.found.items,
+    ))
+
+-- if memory is refused while the values are found, the visits are within the same bound
+pub execute_from_few-returns-in_err-found-clause-counted :
+    goal.dotted_plans::execute_from_few-returns-in_err-found-clause-counted
+execute_from_few-returns-in_err-found-clause-counted g t c =
+    counted_thrice c.stats_of.ensures.counted c.execute_within.ensures.counted c.values_along.ensures.counted
+    (omega (
+      arith,
+      few_of_candidates (length c.args.reader.snapshot.now.release.concepts)
+          (g.S.ConceptSet.items_of c.args.sources.now)
+          (λ n. means c.args.reader.snapshot.now.release (logical_of c.args.start.now)
+          (get_or c.args.reader.snapshot.now.release.concepts n 0))
+          (g.S.ConceptSet.items_of c.in_ok-from.from) c.in_ok-from.ensures.found.items,
+    ))
+
+-- if the start is executed for all concepts, the values of what it has found are those of what it means
+pub execute_start-returns-in_ok-found-in-None-clause-found :
+    goal.dotted_plans::execute_start-returns-in_ok-found-in-None-clause-found
+execute_start-returns-in_ok-found-in-None-clause-found g t c =
+    let release = c.args.reader.snapshot.now.release in
+    let concepts = c.args.reader.indexes.now.concepts in
+    let types : ℕ → Bool = is_one_of concepts (g.S.ConceptSet.items_of c.args.named.now) in
+    record {
+      items = c.in_ok-found-in-None.ensures.found.items
+          ∙ ap (λ (set : ℕ → Bool). numbers_in release (is_value release set types))
+          (one_meant release (logical_of c.args.start.now) concepts
+          (g.S.ConceptSet.items_of c.in_ok-from-in-None.from)
+          c.args.reader.index.concepts c.in_ok-from-in-None.ensures.found.items);
+      bound = c.in_ok-found-in-None.ensures.found.bound;
+      floor = omega (
+        arith,
+        c.sources_within.ensures.counted.grows,
+        c.in_ok-from-in-None.ensures.found.floor,
+        c.values_along.ensures.counted.grows,
+      );
+    }
+
+-- the values along the first name are no more than the concepts and the rows, so those along the other names fit
+-- beside them
+pub execute_dotted-returns-in_ok-found-in-Some-clause-counted :
+    goal.dotted_plans::execute_dotted-returns-in_ok-found-in-Some-clause-counted
+execute_dotted-returns-in_ok-found-in-Some-clause-counted g t c =
+    let release = c.args.reader.snapshot.now.release in
+    let indexed = c.args.reader.indexes.now in
+    dotted_counted indexed (physical_of c.args.start.now) c.in-Some.ensures.cases.0
+    (few_values release indexed c.args.reader.index c.concept_count.ensures.rising
+    (sources_known release c.concept_count.ensures.rising c.attribute_count.ensures.by_source)
+    (means release (logical_of c.args.start.now))
+    (is_one_of indexed.concepts (g.S.ConceptSet.items_of c.in_ok-named-in-Some.named))
+    (g.S.ConceptSet.items_of c.in_ok-along-in-Some.along) c.in_ok-along-in-Some.ensures.found.items)
+    c.execute_within-in-Some.ensures.counted c.execute_start.ensures.counted c.execute_attributes.ensures.counted
+
+-- if memory is refused while the values along the other names are found, the visits are within the bound of the plan
+-- of values
+pub execute_dotted-returns-in_err-driven-in-Some-clause-counted :
+    goal.dotted_plans::execute_dotted-returns-in_err-driven-in-Some-clause-counted
+execute_dotted-returns-in_err-driven-in-Some-clause-counted g t c =
+    let release = c.args.reader.snapshot.now.release in
+    let indexed = c.args.reader.indexes.now in
+    dotted_counted indexed (physical_of c.args.start.now) c.in-Some.ensures.cases.0
+    (few_values release indexed c.args.reader.index c.concept_count.ensures.rising
+    (sources_known release c.concept_count.ensures.rising c.attribute_count.ensures.by_source)
+    (means release (logical_of c.args.start.now))
+    (is_one_of indexed.concepts (g.S.ConceptSet.items_of c.in_ok-named-in-Some.named))
+    (g.S.ConceptSet.items_of c.in_ok-along-in-Some.along) c.in_ok-along-in-Some.ensures.found.items)
+    c.execute_within-in-Some.ensures.counted c.execute_start.ensures.counted c.execute_attributes.ensures.counted
+
+-- if memory is refused while the values found are restricted to the candidates, the visits are within the bound of
+-- the plan of values
+pub execute_dotted-returns-in_err-found-in-Some-clause-counted :
+    goal.dotted_plans::execute_dotted-returns-in_err-found-in-Some-clause-counted
+execute_dotted-returns-in_err-found-in-Some-clause-counted g t c =
+    let release = c.args.reader.snapshot.now.release in
+    let indexed = c.args.reader.indexes.now in
+    dotted_counted indexed (physical_of c.args.start.now) c.in-Some.ensures.cases.0
+    (few_values release indexed c.args.reader.index c.concept_count.ensures.rising
+    (sources_known release c.concept_count.ensures.rising c.attribute_count.ensures.by_source)
+    (means release (logical_of c.args.start.now))
+    (is_one_of indexed.concepts (g.S.ConceptSet.items_of c.in_ok-named-in-Some.named))
+    (g.S.ConceptSet.items_of c.in_ok-along-in-Some.along) c.in_ok-along-in-Some.ensures.found.items)
+    c.execute_within-in-Some.ensures.counted c.execute_start.ensures.counted c.execute_attributes.ensures.counted
+
+-- what the names lead to from the start, restricted to the candidates, is what the plan of values means among them
+pub execute_dotted-returns-in_ok-found-in-Some-clause-found :
+    goal.dotted_plans::execute_dotted-returns-in_ok-found-in-Some-clause-found
+execute_dotted-returns-in_ok-found-in-Some-clause-found g t c =
+    let release = c.args.reader.snapshot.now.release in
+    let indexed = c.args.reader.indexes.now in
+    let may : ℕ → Bool = may_be g.S.ConceptSet.items_of c.args.candidates.now in
+    let start : Plan = logical_of c.args.start.now in
+    let first : Plan = logical_of c.in-Some.first.now in
+    let are : c.args.names.now ≡ c.in-Some.first.now ∷ c.in-Some.others.now = c.in-Some.ensures.cases.0 in
+    let plan : Plan = values_plan start (logicals_of c.args.names.now) in
+    let along : g.S.ConceptSet.items_of c.in_ok-along-in-Some.along
+    ≡ numbers_in release (is_value release (means release start) (means release first)) =
+    first_along release start first indexed.concepts (g.S.ConceptSet.items_of c.in_ok-named-in-Some.named)
+    (g.S.ConceptSet.items_of c.in_ok-along-in-Some.along) c.args.reader.index.concepts
+    c.in_ok-named-in-Some.ensures.found.items c.in_ok-along-in-Some.ensures.found.items in
+    let driven = c.in_ok-driven-in-Some.ensures.found (values_plan start (plan_then first no_plans)) along in
+    record {
+      items = kept_node release may plan (g.S.ConceptSet.items_of c.in_ok-driven-in-Some.driven)
+          (g.S.ConceptSet.items_of c.in_ok-found-in-Some.found)
+          (values_node release plan (g.S.ConceptSet.items_of c.in_ok-driven-in-Some.driven) start c.args.names.now refl
+          (driven.items ∙ ap (λ (names : List ConceptPlan). numbers_in release
+          (leads release (means release start) (logicals_of names))) (sym are)))
+          c.in_ok-found-in-Some.ensures.items;
+      bound = c.in_ok-found-in-Some.ensures.bound ∙ driven.bound;
+      floor = dotted_floor indexed (physical_of c.args.start.now) are c.args.visits.now.count
+          c.in_ok-named-in-Some.ensures.found.floor
+          c.in_ok-along-in-Some.ensures.found.floor driven.floor;
+    }
+
+-- the candidates lie below the bound of the values found, as `restricted` requires
+pub execute_dotted-restricted-requires : goal.dotted_plans::execute_dotted-restricted-requires
+execute_dotted-restricted-requires g t c =
+    let release = c.args.reader.snapshot.now.release in
+    let start : Plan = logical_of c.args.start.now in
+    let first : Plan = logical_of c.in-Some.first.now in
+    let along : g.S.ConceptSet.items_of c.in_ok-along-in-Some.along
+    ≡ numbers_in release (is_value release (means release start) (means release first)) =
+    first_along release start first c.args.reader.indexes.now.concepts
+    (g.S.ConceptSet.items_of c.in_ok-named-in-Some.named)
+    (g.S.ConceptSet.items_of c.in_ok-along-in-Some.along) c.args.reader.index.concepts
+    c.in_ok-named-in-Some.ensures.found.items c.in_ok-along-in-Some.ensures.found.items in
+    let driven = c.in_ok-driven-in-Some.ensures.found (values_plan start (plan_then first no_plans)) along in
+    record {
+      bound = subst (λ (count : ℕ). AreBelow g.S.ConceptSet.bound_of count c.args.candidates.now) (sym driven.bound)
+          c.requires.candidates.below;
     }
