@@ -94,7 +94,8 @@ pub record WritesDigits (number : ℕ) : Type 0 where
   -- the digits have no leading zero
   pub plain : is_plain (decimal number) ≡ true
 
--- if `number` has `least` to 18 decimal digits, with `least` above 0, its digits can be read as digits of a text
+-- if `number` has `least` to 18 decimal digits, with `least` above 0, its decimal text is 1 to 18 digits without a
+-- leading zero
 pub digits_written : (least number : ℕ) → 0 < least → HasDigits least 18 number → WritesDigits number
 digits_written least number some written =
     let tests = and_parts (nat_le least (length (decimal number)) && nat_le (length (decimal number)) 18)

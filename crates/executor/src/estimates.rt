@@ -21,6 +21,9 @@ const DEPTH: u32 = 3;
 // Estimated number of rows that have a given value, if that value is not looked up.
 const ROWS_OF_VALUE: u64 = 16;
 
+// Estimated number of rows that have a given type, if that type is not looked up, on the high side.
+const ROWS_OF_TYPE: u64 = 8_192;
+
 // Estimated number of rows that have a given decimal, on the high side.
 const ROWS_OF_DECIMAL: u64 = 64;
 
@@ -208,13 +211,22 @@ fn estimate_of_values(
 }
 
 // Estimates how many rows have one of the types that a plan means: the exact number for one type,
-// none if the plan is estimated at no types, else all rows.
+// none if the plan is estimated at no types. For the types that an operator leads to from one
+// concept, each but that concept counts `ROWS_OF_TYPE` rows. For any other plan it answers all rows.
 #[cycle(estimate)]
 fn rows_with_types(types: &ConceptPlan, lengths: Lengths<'_>, depth: u32) -> u64 {
+    let all = rows_unless_none(estimate(types, lengths, depth), lengths);
     match types {
         ConceptPlan::One(id) => lengths.type_row_count(*id),
-        _ if estimate(types, lengths, depth) == 0 => 0,
-        _ => u64::from(lengths.row_count()),
+        ConceptPlan::Walk(operator, from) => match &**from {
+            ConceptPlan::One(id) => {
+                let others = list_length(lengths, *operator, *id);
+                let own = lengths.type_row_count(*id);
+                all.min(own.saturating_add(others.saturating_mul(ROWS_OF_TYPE)))
+            }
+            _ => all,
+        },
+        _ => all,
     }
 }
 
@@ -238,7 +250,11 @@ fn estimate_of_rows(
         ValueTest::Number(compare, number) => {
             by_type.min(rows_that_compare(lengths, *compare, *number))
         }
-        ValueTest::Outside(_) => by_type,
+        // no concept is outside all concepts
+        ValueTest::Outside(operand) => match &**operand {
+            ConceptPlan::All => 0,
+            _ => by_type,
+        },
     }
 }
 
@@ -312,10 +328,14 @@ fn sum_of_group_estimates(parts: &[UnitPlan], lengths: Lengths<'_>, depth: u32) 
     sum
 }
 
-// Returns `all` if the minimum of `count` is 0, because then a concept or group without a pair is
-// found; else `some`.
+// Returns one more than `all` if the minimum of `count` is 0, because then each concept or group
+// without a pair is found, so that such a part comes last; else `some`, or `all` if that is less.
 fn unless_none_is_asked(count: Cardinality, all: u64, some: u64) -> u64 {
-    if count.min == 0 { all } else { some }
+    if count.min == 0 {
+        all.saturating_add(1)
+    } else {
+        some.min(all)
+    }
 }
 
 // Returns 0 if `values` is 0, else the number of all rows.

@@ -2,11 +2,11 @@
 use Rattle.std.specs.Prelude.{ℕ, ◌≡◌, ◌<◌, List, IsPermutation, length, map, slice_index_or}
 use Rattle.std.specs.List.{range_with_len}
 
--- `order` has each place of `count` parts once, beside the estimate of the part there
+-- `order` has each place of `count` parts once, next to the estimate of the part there
 abbrev pub IsOrderOf : ℕ → List (ℕ × ℕ) → Type 0
 IsOrderOf count order = IsPermutation (range_with_len 0 count) (map (λ item. item.1) order)
 
--- of `count` parts, the one at `place` is executed at `turn`
+-- the part at `place`, one of `count` parts, is executed at `turn`
 pub record IsPlaceAt (count : ℕ) (order : List (ℕ × ℕ)) (turn place : ℕ) : Type 0 where
   -- `turn` is one of the turns
   pub within : turn < length order
