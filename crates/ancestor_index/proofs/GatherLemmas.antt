@@ -41,15 +41,15 @@ pub gathered_list : (all list own : List ℕ) (number : ℕ) (joined : Bool) →
     → has (all ++ own) number ≡ (has (list ++ own) number || joined)
 gathered_list all list own number joined before = grind (arith, common_steps, nat_tests, list_any-append)
 
--- if `list` and the set together have exactly the numbers of `all`, this stays so if `concept` is added to `all`
--- and to `list`
+-- if `list` and the set together have exactly the numbers of `all`, this stays so if `concept` is added to both
+-- `all` and `list`
 pub gathered_item : (all list : List ℕ) (concept number : ℕ) (joined : Bool)
     → has all number ≡ (has list number || joined)
     → has (all ++ concept ∷ []) number ≡ (has (list ++ concept ∷ []) number || joined)
 gathered_item all list concept number joined before = grind (arith, common_steps, nat_tests, list_any-append)
 
--- what is gathered for the first `i + 1` concepts is what is gathered for the first `i`, followed by concept `i`
--- and its list
+-- what is gathered for the first `i + 1` concepts is what is gathered for the first `i`, followed by concept
+-- `i` and its list
 pub gathered_more : (places : List ℕ) (lists : List (List ℕ)) (concepts : List ℕ) (i : ℕ) → i < length concepts
     → gathered_by places lists (take (i + 1) concepts)
     ≡ (gathered_by places lists (take i concepts) ++ get_or concepts i 0 ∷ [])

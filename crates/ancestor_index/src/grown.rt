@@ -4,9 +4,9 @@ ghost use Rattle.std.specs.Prelude.{◌≡◌, ◌++◌, ◌∷◌, [], IfOk};
 use number_lists::{KeyedLists, PushFault};
 use std::alloc::{AllocError, Global};
 
-/// Returns `lists` with `list` added as the last one. Fails with `AllocError` if memory is refused,
-/// and also if all lists together would have 2^32 items or more. A hierarchy of that size would
-/// take 16 GiB and more in each direction.
+/// Returns `lists` with `list` added as the last one. Fails with `AllocError` if memory is refused
+/// or if all lists together would have 2^32 items or more. A hierarchy of that size would take
+/// 16 GiB and more in each direction.
 pub fn with_list(lists: KeyedLists, list: &[u32]) -> Result<KeyedLists, AllocError>
     ensures { IfOk result (λ grown. grown ≡ lists ++ list.now ∷ []) }
 {

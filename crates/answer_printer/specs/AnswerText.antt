@@ -44,8 +44,8 @@ answer_in form name concepts =
     ++ flat_map (concept_line (shown_names form.names name))
     (shown_of form.offset form.first concepts)
 
--- the line that refuses a constraint whose plan may visit more items than the limit: `ERR bound`
--- and the plan's bound `most`
+-- the line that refuses a constraint whose plan may visit more items than the limit: `ERR bound`,
+-- then the plan's bound `most`
 abbrev pub bound_refusal : ℕ → List ℕ
 bound_refusal most = codes "ERR bound " ++ number_line most
 

@@ -3,8 +3,8 @@ use Rattle.std.specs.Prelude.{ℕ, ◌++◌, List, codes}
 use Rattle.held_release.specs.declared.report.Report.{Report}
 use Rattle.answer_printer.specs.AnswerText.{number_line}
 
--- the report, one number a line: the files of a known kind, the rows in force of the five lists,
--- and the rows in none of these lists
+-- the report, one number a line: the files of a known kind, the rows in force of the five lists, the
+-- rows in none of these lists
 abbrev pub report_text : Report → List ℕ
 report_text report =
     (codes "FILES " ++ number_line report.files)

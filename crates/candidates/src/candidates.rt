@@ -165,8 +165,8 @@ pub fn restricted<S: ConceptSet>(
 
 /// Returns the statistics of the set `concepts`. `rows` is how many rows a node reads that does not
 /// use them. The concepts' own rows are counted only if this is cheap: if there are at most
-/// `LISTED` concepts, or few compared with `rows`. To count them visits each item of the set once,
-/// and no list.
+/// `LISTED` concepts, or few compared with `rows`. To count them visits each item of the set once;
+/// no list is read.
 pub fn stats_of<S: ConceptSet>(
     reader: Reader<'_>,
     concepts: &Answer<S>,
