@@ -1,10 +1,11 @@
 -- What is counted of a node, and what it finds, from what is counted and found of its parts. What the code borrows
 -- from a plan tells which kind of node the plan is.
-use Rattle.std.proofs.Common.{Err, Ok, Box, ℕ, ◌+◌, ◌-◌, ◌^◌, ◌≡◌, ◌≤◌, ◌∙◌, [], List, length, min, refl, sym, ap}
-use Rattle.std.proofs.Common.{subst, arith}
-use Rattle.std.specs.Prelude.{IfOk, Result}
+use Rattle.std.proofs.Common.{Err, Ok, Bool, Box, ℕ, ◌+◌, ◌-◌, ◌^◌, ◌≡◌, ◌≤◌, ◌∙◌, [], List, length, min, refl, sym}
+use Rattle.std.proofs.Common.{ap, subst, arith, inl, inr, ⊎_elim}
+use Rattle.std.specs.Prelude.{IfOk, Result, ◌⊎◌, sum_by}
 use Rattle.std.specs.List.Sorted.{IsStrictlyIncreasing}
 use Rattle.std.specs.declared.alloc.Global.{Global}
+use Rattle.constraint_tree.specs.declared.operator.Cardinality.{Cardinality}
 use Rattle.constraint_tree.specs.declared.operator.Operator.{Operator}
 use Rattle.number_lists.specs.Rising.{IsRisingBelow}
 use Rattle.postings.specs.Indexed.{Indexed, IsIndexOf}
@@ -13,6 +14,7 @@ use Rattle.set_algebra.specs.declared.plan.ConceptPlan.TheVariants as concept_pl
 use Rattle.set_algebra.specs.declared.plan.UnitPlan.{UnitPlan}
 use Rattle.set_algebra.specs.declared.plan.ValueTest.{ValueTest}
 use Rattle.set_algebra.specs.declared.plan.ValueTest.TheVariants as value_test
+use Rattle.set_algebra.specs.Meaning.{has_pairs}
 use Rattle.set_algebra.specs.Physical.{Physical, PhysicalTest, PhysicalGroups, logical, physical_members}
 use Rattle.set_algebra.specs.Physical.{physical_of}
 use Rattle.set_algebra.specs.Physical.{physical_outside, physical_test_of, physical_groups_list_of}
@@ -20,10 +22,14 @@ use Rattle.set_algebra.specs.Physical.{physical_walk}
 use Rattle.set_algebra.specs.Physical.{physical_within, physicals_of}
 use Rattle.set_algebra.specs.Plan.{outside_plan, within_plan}
 use Rattle.plan_bounds.specs.Bounds.{own_number}
+use Rattle.plan_bounds.specs.Counts.{value_rows}
 use Rattle.plan_bounds.specs.Floors.{floor_number}
 use Rattle.plan_bounds.specs.Nodes.{groups_sum, node_sum, plans_sum, test_sum}
 use Rattle.plan_bounds.specs.Sizes.{size}
-use Rattle.rf2_rows.specs.Release.{Release}
+use Rattle.rf2_rows.specs.Pairs.{Pair}
+use Rattle.rf2_rows.specs.Release.{Release, Value}
+use Rattle.candidates.specs.Numbers.{is_one_of}
+use Rattle.candidates.specs.RowCounts.{row_count_of}
 use Rattle.idset.specs.declared.concept_set.ConceptSet.{Ghosts}
 use Rattle.candidates.specs.declared.candidates.Candidates.{Candidates}
 use Rattle.reading.specs.declared.counter.Counter.{Counter}
@@ -32,8 +38,8 @@ use Rattle.executor.proofs.LeafWork.{values_read}
 use Rattle.executor.proofs.NodeLemmas.{outside_passes, within_passes}
 use Rattle.reading.specs.Counted.{CountsWithin, HandsOut, IsFound}
 use Rattle.reading.proofs.CountLemmas.{counted_thrice}
-use Rattle.executor.specs.inside.Executed.{AnswersAll, AnswersPlan, AnswersTest, AnswersGroups, CountsPlan, CountsTest}
-use Rattle.executor.specs.inside.Executed.{CountsWithRoom, CountsGroups}
+use Rattle.executor.specs.inside.Executed.{AnswersPlan, AnswersTest, AnswersGroups, CountsPlan, CountsTest}
+use Rattle.executor.specs.inside.Executed.{CountsWithRoom, CountsGroups, FindsOperand}
 
 -- ---- nodes of one part: which node a plan is
 -- a `Walk` node is the physical walk of its operator and operand
@@ -100,45 +106,61 @@ module _ {S E : Type 0} (sets : Ghosts S) (release : Release) (indexed : Indexed
 
 -- ---- what a test answers, by the set that its plan has found
 module _ {S : Type 0} (sets : Ghosts S) (release : Release) (indexed : Indexed) (index : IsIndexOf indexed release)
-    (rising : IsStrictlyIncreasing release.concepts) (plan : Physical)
+    (rising : IsStrictlyIncreasing release.concepts) (typed : List ℕ) (plan : Physical)
     {early late : Counter} {found : S}
-    (is : AnswersAll sets release indexed plan early late found)
-    (rises : IsRisingBelow (length release.concepts) (sets.items_of found))
-    (few : length (sets.items_of found) ≤ size indexed plan) {test : PhysicalTest} where
+    (is : FindsOperand sets release indexed typed plan early late found)
+    (rises : IsRisingBelow (length release.concepts) (sets.items_of found)) {test : PhysicalTest} where
   -- the set that a plan has found, as a test within it, answers the test within the plan
-  pub answers_within : test ≡ physical_within plan → AnswersTest sets release indexed test early late
+  pub answers_within : test ≡ physical_within plan → AnswersTest sets release indexed typed test early late
       (tests.Within found)
   answers_within test_is =
-      subst (λ (test : PhysicalTest). AnswersTest sets release indexed test early late (tests.Within found))
+      subst (λ (test : PhysicalTest). AnswersTest sets release indexed typed test early late (tests.Within found))
       (sym test_is)
       (record {
-        passes = within_passes release (logical plan) indexed.concepts (sets.items_of found)
+        passes = ⊎_elim
+            (λ items. inl (within_passes release (logical plan) indexed.concepts (sets.items_of found)
             (within_plan (logical plan)) refl
-            index.concepts is.items;
+            index.concepts items))
+            (λ none. inr none.0) is.items;
         bound = is.bound ∙ ap (λ (ids : List ℕ). length ids) (sym index.concepts);
         floor = is.floor;
-        size = few;
-        read = λ back.
-            let rows = values_read release indexed index rising (sets.items_of found) (size indexed plan) few back rises
-            plan is.items in
-            omega (arith, rows);
+        size = is.size;
+        read = λ back. ⊎_elim
+            (λ items. let rows = values_read release indexed index rising (sets.items_of found) (size indexed plan)
+            is.size back rises plan items in
+            omega (arith, rows))
+            (λ none. subst (λ (items : List ℕ). length items + sum_by (row_count_of indexed back) items
+            ≤ length items + value_rows indexed back (physical_within plan)) (sym none.1) (omega arith)) is.items;
       })
 
   -- the set that a plan has found, as a test outside it, answers the test outside the plan
-  pub answers_outside : test ≡ physical_outside plan → AnswersTest sets release indexed test early late
+  pub answers_outside : test ≡ physical_outside plan → AnswersTest sets release indexed typed test early late
       (tests.Outside found)
   answers_outside test_is =
-      subst (λ (test : PhysicalTest). AnswersTest sets release indexed test early late (tests.Outside found))
+      subst (λ (test : PhysicalTest). AnswersTest sets release indexed typed test early late (tests.Outside found))
       (sym test_is)
       (record {
-        passes = outside_passes release (logical plan) indexed.concepts (sets.items_of found)
+        passes = ⊎_elim
+            (λ items. inl (outside_passes release (logical plan) indexed.concepts (sets.items_of found)
             (outside_plan (logical plan)) refl
-            index.concepts is.items;
+            index.concepts items))
+            (λ none. inr none.0) is.items;
         bound = is.bound ∙ ap (λ (ids : List ℕ). length ids) (sym index.concepts);
         floor = is.floor;
-        size = few;
+        size = is.size;
         read = λ back. omega arith;
       })
+
+-- the pairs of a leaf with the types `typed` match by the test that was made for it as by the test of its plan;
+-- without a type none matches by either
+pub pairs_alike : (concepts typed : List ℕ) (count : Cardinality) (made passes : Value → Bool)
+    → ((value : Value) → made value ≡ passes value) ⊎ (typed ≡ []) → (pairs : List Pair)
+    → has_pairs count (is_one_of concepts typed) made pairs ≡ has_pairs count (is_one_of concepts typed) passes pairs
+pairs_alike concepts typed count made passes (inl same) pairs =
+    λ i. has_pairs count (is_one_of concepts typed) (λ value. same value i) pairs
+pairs_alike concepts typed count made passes (inr none) pairs =
+    (λ i. has_pairs count (is_one_of concepts (none i)) made pairs)
+    ∙ (λ i. has_pairs count (is_one_of concepts (sym none i)) passes pairs)
 
 -- a node without parts that counts nothing finds what its set has, if its floor is 0
 pub leaf_found : {S E : Type 0} (sets : Ghosts S) (visits : Counter) (result : Result S E) (below : ℕ)

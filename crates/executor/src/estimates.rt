@@ -52,9 +52,8 @@ pub fn concept_order(
 {
     let mut order: Vec<(u64, usize)> = Vec::new(alloc);
     for place in 0..parts.len() {
-        let size = estimate(&parts[place], lengths, DEPTH);
-        let prepared = preparation(&parts[place], lengths);
-        order.push((size.saturating_add(prepared), place))?;
+        let key = concept_key(&parts[place], lengths, DEPTH);
+        order.push((key, place))?;
     }
     order.sort_unstable();
     Ok(order)
@@ -71,30 +70,73 @@ pub fn group_order(
 {
     let mut order: Vec<(u64, usize)> = Vec::new(alloc);
     for place in 0..parts.len() {
-        let size = group_estimate(&parts[place], lengths, DEPTH);
-        let prepared = group_preparation(&parts[place], lengths);
-        order.push((size.saturating_add(prepared), place))?;
+        let key = group_key(&parts[place], lengths, DEPTH);
+        order.push((key, place))?;
     }
     order.sort_unstable();
     Ok(order)
 }
 
+// Returns the key by which a part of concepts is ordered: the estimate of what it finds and of what
+// is read to prepare it.
+#[cycle(preparation)]
+fn concept_key(plan: &ConceptPlan, lengths: Lengths<'_>, depth: u32) -> u64 {
+    let size = estimate(plan, lengths, depth);
+    size.saturating_add(preparation(plan, lengths, depth))
+}
+
 // Estimates how many items are read to prepare a part of concepts, whatever its candidates are: for
-// a leaf, what its types and its test find.
-fn preparation(plan: &ConceptPlan, lengths: Lengths<'_>) -> u64 {
+// a leaf, what its types and its test find. An AND first executes its part of least key, and spares
+// the others if that finds nothing. At `depth` 0 the parts of an AND are not looked at.
+#[cycle(preparation)]
+fn preparation(plan: &ConceptPlan, lengths: Lengths<'_>, depth: u32) -> u64 {
     match plan {
         ConceptPlan::Pairs { types, test, .. } => leaf_preparation(types, test, lengths),
-        ConceptPlan::Units { units, .. } => group_preparation(units, lengths),
+        ConceptPlan::Units { units, .. } => group_preparation(units, lengths, depth),
+        ConceptPlan::And(parts) if depth > 0 => least_key(parts, lengths, depth - 1),
         _ => 0,
     }
 }
 
-// Estimates how many items are read to prepare a part of groups, whatever its candidates are.
-fn group_preparation(plan: &UnitPlan, lengths: Lengths<'_>) -> u64 {
+// Returns the least key of sibling plans of concepts.
+#[cycle(preparation)]
+fn least_key(parts: &[ConceptPlan], lengths: Lengths<'_>, depth: u32) -> u64 {
+    let mut least = u64::from(lengths.concept_count());
+    for part in parts {
+        let key = concept_key(part, lengths, depth);
+        least = least.min(key);
+    }
+    least
+}
+
+// Returns the key by which a part of groups is ordered, as `concept_key` does for a part of
+// concepts.
+#[cycle(group_preparation)]
+fn group_key(plan: &UnitPlan, lengths: Lengths<'_>, depth: u32) -> u64 {
+    let size = group_estimate(plan, lengths, depth);
+    size.saturating_add(group_preparation(plan, lengths, depth))
+}
+
+// Estimates how many items are read to prepare a part of groups, whatever its candidates are. At
+// `depth` 0 the parts of an AND are not looked at.
+#[cycle(group_preparation)]
+fn group_preparation(plan: &UnitPlan, lengths: Lengths<'_>, depth: u32) -> u64 {
     match plan {
         UnitPlan::Pairs { types, test, .. } => leaf_preparation(types, test, lengths),
+        UnitPlan::And(parts) if depth > 0 => least_group_key(parts, lengths, depth - 1),
         _ => 0,
     }
+}
+
+// Returns the least key of sibling plans of groups.
+#[cycle(group_preparation)]
+fn least_group_key(parts: &[UnitPlan], lengths: Lengths<'_>, depth: u32) -> u64 {
+    let mut least = u64::from(lengths.group_count());
+    for part in parts {
+        let key = group_key(part, lengths, depth);
+        least = least.min(key);
+    }
+    least
 }
 
 // Estimates how many items are read to prepare a leaf with these types and this test.

@@ -153,7 +153,7 @@ fn groups_with_pairs<S: ConceptSet>(
     let lengths = reader.lengths();
     let others = rows_of_types(leaf.types, lengths);
     let mut estimate = RowEstimate::of(reader, leaf.choice, false, others, candidates);
-    let tested: Tested<S> = tested_of(reader, leaf.test, visits, &mut estimate)?;
+    let tested: Tested<S> = tested_of(reader, &typed, leaf.test, visits, &mut estimate)?;
     let groups = reader.group_count() as u64;
     let found = (typed.count(), count_of_test(&tested));
     let request = LeafRequest {

@@ -13,7 +13,8 @@ ghost use Rattle.candidates.specs.Numbers.{numbers_in};
 ghost use Rattle.candidates.specs.RowEstimates.{Adds};
 ghost use Rattle.candidates.specs.Within.{AreConcepts};
 ghost use Rattle.executor.specs.inside.Named.{AddsNamed};
-ghost use Rattle.executor.specs.inside.Executed.{AnswersPlan, AnswersTest, CountsPlan, CountsTest, set_items};
+ghost use Rattle.executor.specs.inside.Executed.{AnswersPlan, AnswersTest, CountsPlan, CountsTest, FindsOperand};
+ghost use Rattle.executor.specs.inside.Executed.{set_items};
 
 use crate::counting::leaf_limits_within;
 use crate::dotted_plans::execute_dotted;
@@ -260,7 +261,7 @@ fn pairs_within<S: ConceptSet>(
     let lengths = reader.lengths();
     let others = rows_of_types(leaf.types, lengths);
     let mut estimate = RowEstimate::of(reader, leaf.choice, back, others, candidates);
-    let tested: Tested<S> = tested_of(reader, leaf.test, visits, &mut estimate)?;
+    let tested: Tested<S> = tested_of(reader, &typed, leaf.test, visits, &mut estimate)?;
     let concepts = reader.concept_count() as u64;
     let found = (typed.count(), count_of_test(&tested));
     let request = LeafRequest {
@@ -333,11 +334,13 @@ fn execute_units<S: ConceptSet>(
 }
 
 /// Executes the plan of a leaf's test, if it has one, and returns the test with the set that was
-/// found. If the test is `Within` a set and `estimate` asks for rows, adds the rows of that set, or
-/// makes the estimate unknown.
+/// found. `typed` has the leaf's types; if there are none, no pair matches, and the plan is not
+/// executed. If the test is `Within` a set and `estimate` asks for rows, adds the rows of that set,
+/// or makes the estimate unknown.
 #[cycle(execute)]
 pub fn tested_of<S: ConceptSet>(
     reader: Reader<'_>,
+    typed: &Answer<S>,
     test: &ValueTest,
     visits: &mut Counter,
     estimate: &mut RowEstimate<'_>,
@@ -345,23 +348,52 @@ pub fn tested_of<S: ConceptSet>(
     ensures counted { CountsTest reader.entry.indexes.now (physical_test_of test.now) visits.old
         visits.new }
     ensures tested { IfOk result (AnswersTest S.ConceptSet reader.entry.snapshot.now.release
-        reader.entry.indexes.now (physical_test_of test.now) visits.old visits.new) }
+        reader.entry.indexes.now (S.items_of typed.now) (physical_test_of test.now) visits.old
+        visits.new) }
     ensures adds { IfOk result (λ tested. Adds (set_items S.items_of tested) estimate.old
         estimate.new) }
 {
     // tells the prover that the concepts rise
     reader.concept_count();
-    let all = Candidates::All;
     match test {
         ValueTest::Within(operand) => {
-            let set: Answer<S> = execute_estimated(reader, operand, &all, visits, estimate)?;
+            let set: Answer<S> = execute_operand(reader, typed, operand, visits, estimate)?;
             Ok(Tested::Within(set))
         }
         ValueTest::Outside(operand) => {
             estimate.forget();
-            let set: Answer<S> = execute_estimated(reader, operand, &all, visits, estimate)?;
+            let set: Answer<S> = execute_operand(reader, typed, operand, visits, estimate)?;
             Ok(Tested::Outside(set))
         }
         ValueTest::Number(compare, number) => Ok(Tested::Number(*compare, *number)),
     }
+}
+
+// Executes the operand of a test for a leaf with the types `typed`. If there are none, it executes
+// nothing, counts the floor of the operand, and returns no concept. If `estimate` asks for rows,
+// adds the rows of what is found, or makes the estimate unknown.
+#[cycle(execute)]
+fn execute_operand<S: ConceptSet>(
+    reader: Reader<'_>,
+    typed: &Answer<S>,
+    operand: &ConceptPlan,
+    visits: &mut Counter,
+    estimate: &mut RowEstimate<'_>,
+) -> Result<Answer<S>, AllocError>
+    ensures counted { CountsPlan reader.entry.indexes.now (physical_of operand.now) visits.old
+        visits.new }
+    ensures found { IfOk result (FindsOperand S.ConceptSet reader.entry.snapshot.now.release
+        reader.entry.indexes.now (S.items_of typed.now) (physical_of operand.now) visits.old
+        visits.new) }
+    ensures adds { IfOk result (λ found. Adds (S.items_of found) estimate.old estimate.new) }
+{
+    let count = typed.count();
+    if count == 0 {
+        visits.add(plan_floor(operand, reader.lengths()));
+        let none = no_concept(reader)?;
+        return Ok(none);
+    }
+    let all = Candidates::All;
+    let found: Answer<S> = execute_estimated(reader, operand, &all, visits, estimate)?;
+    Ok(found)
 }

@@ -384,6 +384,31 @@ pub dotted_plans::execute_dotted-restricted-requires :
 dotted_plans::execute_dotted-restricted-requires =
     dotted.execute_dotted-restricted-requires
 
+-- without a type, no concept is found for the operand, and its floor is counted
+pub plans::execute_operand-returns-then-count-eq0-clause-found :
+    goal.plans::execute_operand-returns-then-count-eq0-clause-found
+plans::execute_operand-returns-then-count-eq0-clause-found = pairs.execute_operand-returns-then-count-eq0-clause-found
+
+-- without a type, the floor that is counted is within the bound of the operand
+pub plans::execute_operand-returns-then-count-eq0-clause-counted :
+    goal.plans::execute_operand-returns-then-count-eq0-clause-counted
+plans::execute_operand-returns-then-count-eq0-clause-counted = pairs.execute_operand-returns-then-count-eq0-clause-counted
+
+-- without a type, no concept adds no row
+pub plans::execute_operand-returns-then-count-eq0-clause-adds :
+    goal.plans::execute_operand-returns-then-count-eq0-clause-adds
+plans::execute_operand-returns-then-count-eq0-clause-adds = pairs.execute_operand-returns-then-count-eq0-clause-adds
+
+-- if memory is refused for the empty set, the floor that is counted is within the bound of the operand
+pub plans::execute_operand-returns-in_err-none-clause-counted :
+    goal.plans::execute_operand-returns-in_err-none-clause-counted
+plans::execute_operand-returns-in_err-none-clause-counted = pairs.execute_operand-returns-in_err-none-clause-counted
+
+-- with a type, the concepts that are found are those that the operand means
+pub plans::execute_operand-returns-clause-found :
+    goal.plans::execute_operand-returns-clause-found
+plans::execute_operand-returns-clause-found = pairs.execute_operand-returns-clause-found
+
 -- the set that the plan has found makes the test that is within it
 pub plans::tested_of-returns-in_ok-set-in-Within-clause-tested :
     goal.plans::tested_of-returns-in_ok-set-in-Within-clause-tested
@@ -394,14 +419,14 @@ pub plans::tested_of-returns-in_ok-set-in-Within-clause-counted :
     goal.plans::tested_of-returns-in_ok-set-in-Within-clause-counted
 plans::tested_of-returns-in_ok-set-in-Within-clause-counted g t c =
     test_counts c.args.reader.indexes.now (test_within c.in-Within.operand c.in-Within.is c.deref.ensures)
-    c.execute_estimated.ensures.counted
+    c.execute_operand.ensures.counted
 
 -- if memory is refused while the plan of a test within it is executed, the visits are within the bound of that plan
 pub plans::tested_of-returns-in_err-set-in-Within-clause-counted :
     goal.plans::tested_of-returns-in_err-set-in-Within-clause-counted
 plans::tested_of-returns-in_err-set-in-Within-clause-counted g t c =
     test_counts c.args.reader.indexes.now (test_within c.in-Within.operand c.in-Within.is c.deref.ensures)
-    c.execute_estimated.ensures.counted
+    c.execute_operand.ensures.counted
 
 -- the set that the plan has found makes the test that is outside it
 pub plans::tested_of-returns-in_ok-set-in-Outside-clause-tested :
@@ -413,14 +438,14 @@ pub plans::tested_of-returns-in_ok-set-in-Outside-clause-counted :
     goal.plans::tested_of-returns-in_ok-set-in-Outside-clause-counted
 plans::tested_of-returns-in_ok-set-in-Outside-clause-counted g t c =
     test_counts c.args.reader.indexes.now (test_outside c.in-Outside.operand c.in-Outside.is c.deref-in-Outside.ensures)
-    c.execute_estimated-in-Outside.ensures.counted
+    c.execute_operand-in-Outside.ensures.counted
 
 -- if memory is refused while the plan of a test outside it is executed, the visits are within the bound of that plan
 pub plans::tested_of-returns-in_err-set-in-Outside-clause-counted :
     goal.plans::tested_of-returns-in_err-set-in-Outside-clause-counted
 plans::tested_of-returns-in_err-set-in-Outside-clause-counted g t c =
     test_counts c.args.reader.indexes.now (test_outside c.in-Outside.operand c.in-Outside.is c.deref-in-Outside.ensures)
-    c.execute_estimated-in-Outside.ensures.counted
+    c.execute_operand-in-Outside.ensures.counted
 
 -- the components of the reference sets that the operand has found, restricted to the candidates, are what the node
 -- means among them

@@ -146,6 +146,9 @@ decreases-plans::execute_units g l = 6 * (group_plan.the_size l.units.now) + 2
 abbrev pub decreases-plans::tested_of : goal.decreases-plans::tested_of
 decreases-plans::tested_of g l = 6 * (value_test.the_size l.test.now) + 0
 
+abbrev pub decreases-plans::execute_operand : goal.decreases-plans::execute_operand
+decreases-plans::execute_operand g l = 6 * (concept_plan.the_size l.operand.now) + 2
+
 abbrev pub decreases-joined_plans::execute_and : goal.decreases-joined_plans::execute_and
 decreases-joined_plans::execute_and g l = 6 * (deepest l.parts.now) + 4
 

@@ -1,6 +1,6 @@
 -- What executing a plan or a node promises: how much it counts, even if it fails, and what it
 -- finds.
-use Rattle.std.specs.Prelude.{ℕ, ◌≡◌, ◌≤◌, ◌+◌, ◌-◌, Bool, List, [], length, min}
+use Rattle.std.specs.Prelude.{ℕ, ◌≡◌, ◌≤◌, ◌+◌, ◌-◌, ◌⊎◌, Bool, List, [], length, min}
 use Rattle.rf2_rows.specs.Release.{Release, Value}
 use Rattle.idset.specs.declared.concept_set.ConceptSet.{Ghosts}
 use Rattle.postings.specs.Groups.{all_groups}
@@ -8,6 +8,7 @@ use Rattle.postings.specs.Indexed.{Indexed}
 use Rattle.set_algebra.specs.Meaning.{means, group_means, value_passes}
 use Rattle.set_algebra.specs.Physical.{Physical, PhysicalTest, PhysicalGroups, logical, logical_test, logical_groups}
 use Rattle.reading.specs.Counted.{CountsWithin, IsFound, full}
+use Rattle.candidates.specs.Numbers.{numbers_in}
 use Rattle.candidates.specs.Within.{groups_within, may_be, numbers_within}
 use Rattle.candidates.specs.declared.candidates.Candidates.{Candidates}
 use Rattle.candidates.specs.declared.candidates.Candidates.TheVariants as candidates
@@ -20,7 +21,7 @@ use Rattle.plan_bounds.specs.Bounds.{own_number}
 use Rattle.plan_bounds.specs.Counts.{value_rows}
 use Rattle.plan_bounds.specs.Floors.{floor_number}
 use Rattle.plan_bounds.specs.Nodes.{group_sum, node_sum, test_sum}
-use Rattle.plan_bounds.specs.Sizes.{test_size}
+use Rattle.plan_bounds.specs.Sizes.{size as size_of, test_size}
 
 -- ---- a plan of concepts
 -- executing a plan of concepts counts at most the bound of the plan
@@ -75,15 +76,33 @@ set_items items_of (tests.Number compare number) = []
 abbrev pub CountsTest : Indexed → PhysicalTest → Counter → Counter → Type 0
 CountsTest indexed test = CountsWithin (test_sum (own_number indexed) test)
 
--- executing the plan of a test makes the test `tested`, which passes the same values; sizes and
--- counts stay within those of the plan
+-- executing the operand of a test finds the concepts that it means. Of a leaf without types, whose
+-- types are `typed`, no pair matches, and then the operand may also find none.
+pub record FindsOperand {S : Type 0} (sets : Ghosts S) (release : Release) (indexed : Indexed)
+    (typed : List ℕ) (operand : Physical)
+    (early late : Counter)
+    (found : S) : Type 0 where
+  -- the concepts are those that the operand means; or there are no types, and none is found
+  pub items : (sets.items_of found ≡ numbers_in release (means release (logical operand)))
+      ⊎ ((typed ≡ []) × (sets.items_of found ≡ []))
+  -- the bound of the set is the number of concepts
+  pub bound : sets.bound_of found ≡ length release.concepts
+  -- at least the floor of the operand is counted, saturated at 2^64 - 1
+  pub floor : full (early.count + node_sum (floor_number indexed) operand) ≤ late.count
+  -- the set has at most as many concepts as the size of the operand
+  pub size : length (sets.items_of found) ≤ size_of indexed operand
+
+-- executing the plan of a test makes the test `tested` for a leaf with the types `typed`, which
+-- passes the same values, unless there are no types; sizes and counts stay within those of the plan
 pub record AnswersTest {S : Type 0} (sets : Ghosts S) (release : Release) (indexed : Indexed)
-    (test : PhysicalTest)
+    (typed : List ℕ) (test : PhysicalTest)
     (early late : Counter)
     (tested : Tested S) : Type 0 where
-  -- a value passes `tested` exactly if it passes the test of the plan
-  pub passes : (value : Value) → passes_of sets.items_of indexed.concepts tested value
-      ≡ value_passes release (logical_test test) value
+  -- a value passes `tested` exactly if it passes the test of the plan; or there are no types, and
+  -- no pair matches
+  pub passes : ((value : Value) → passes_of sets.items_of indexed.concepts tested value
+      ≡ value_passes release (logical_test test) value)
+      ⊎ (typed ≡ [])
   -- the bound of the test's set is the number of concepts
   pub bound : IsTestBelow sets.bound_of (length indexed.concepts) tested
   -- at least the floor of the test's plan is counted, saturated at 2^64 - 1

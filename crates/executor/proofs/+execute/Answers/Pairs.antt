@@ -1,6 +1,7 @@
 -- Answers of the leaves, which count pairs, and of their tests.
-use Rattle.std.proofs.Common.{subst, ℕ, List, ◌≤◌, ◌∙◌, Bool, false}
-use Rattle.std.proofs.Common.{refl, arith}
+use Rattle.std.proofs.Common.{subst, ℕ, List, ◌≡◌, ◌≤◌, ◌∙◌, Bool, false}
+use Rattle.std.proofs.Common.{ap, inl, inr, length, refl, sym, arith}
+use Rattle.std.proofs.lemmas.List.{nil_from_length}
 use Rattle.set_algebra.specs.Meaning.{group_means, has_pairs, means, pairs_of, value_passes}
 use Rattle.candidates.specs.Numbers.{is_one_of, numbers_in}
 use Rattle.set_algebra.specs.Plan.{Plan, PlanOfGroups, pairs_plan, pairs_group_plan}
@@ -11,16 +12,75 @@ use Rattle.candidates.specs.Groups.{groups_where}
 use Rattle.candidates.specs.Within.{groups_within, may_be, numbers_within}
 use Rattle.executor.proofs.LeafWork.{leaf_room}
 use Rattle.rf2_rows.specs.Pairs.{Pair}
+use Rattle.candidates.specs.RowEstimates.{Adds}
+use Rattle.candidates.proofs.AddsLemmas.{adds_none}
+use Rattle.pair_sets.specs.Tested.{passes_of}
 use Rattle.plan_bounds.specs.Bounds.{leaf_bound_at}
+use Rattle.plan_bounds.proofs.FloorLemmas.{floor-le-bound}
 use Rattle.executor.proofs.GroupNodeLemmas as groups
 use Rattle.executor.proofs.NodeLemmas.{pairs_node}
 use Rattle.executor.proofs.NodeWork.{answers_outside, answers_within}
-use Rattle.executor.proofs.NodeWork.{leaf_floor, leaf_reads}
+use Rattle.executor.proofs.NodeWork.{leaf_floor, leaf_reads, pairs_alike}
 use Rattle.executor.proofs.NodeWork.{test_outside}
 use Rattle.executor.proofs.NodeWork.{test_within}
 use Rattle.executor.proofs.WithinNodes.{groups_same}
 use Rattle.executor.proofs.WithinNodes.{within_same}
 use Rattle.executor.proofs.+execute.Goals as goal
+
+-- without a type, no concept is found for the operand, and its floor is counted
+pub execute_operand-returns-then-count-eq0-clause-found :
+    goal.plans::execute_operand-returns-then-count-eq0-clause-found
+execute_operand-returns-then-count-eq0-clause-found g t c = record {
+  items = inr (
+    nil_from_length (g.S.ConceptSet.items_of c.args.typed.now) (sym c.count-count.ensures ∙ c.if-count-eq0.true),
+    c.in_ok-none.ensures.items,
+  );
+  bound = c.in_ok-none.ensures.bound;
+  floor = omega (arith, (rw c.lengths.ensures at c.plan_floor.ensures), c.add.ensures.count);
+  size = omega (arith, ap (λ (items : List ℕ). length items) c.in_ok-none.ensures.items);
+}
+
+-- without a type, the floor that is counted is within the bound of the operand
+pub execute_operand-returns-then-count-eq0-clause-counted :
+    goal.plans::execute_operand-returns-then-count-eq0-clause-counted
+execute_operand-returns-then-count-eq0-clause-counted g t c = record {
+  grows = c.add.ensures.grows;
+  within = omega (
+    arith,
+    (rw c.lengths.ensures at c.plan_floor.ensures),
+    c.add.ensures.count,
+    floor-le-bound c.args.reader.indexes.now (physical_of c.args.operand.now),
+  );
+}
+
+-- without a type, no concept adds no row
+pub execute_operand-returns-then-count-eq0-clause-adds :
+    goal.plans::execute_operand-returns-then-count-eq0-clause-adds
+execute_operand-returns-then-count-eq0-clause-adds g t c =
+    subst (λ (items : List ℕ). Adds items c.args.estimate.now c.args.estimate.now) (sym c.in_ok-none.ensures.items)
+    (adds_none c.args.estimate.now)
+
+-- if memory is refused for the empty set, the floor that is counted is within the bound of the operand
+pub execute_operand-returns-in_err-none-clause-counted :
+    goal.plans::execute_operand-returns-in_err-none-clause-counted
+execute_operand-returns-in_err-none-clause-counted g t c = record {
+  grows = c.add.ensures.grows;
+  within = omega (
+    arith,
+    (rw c.lengths.ensures at c.plan_floor.ensures),
+    c.add.ensures.count,
+    floor-le-bound c.args.reader.indexes.now (physical_of c.args.operand.now),
+  );
+}
+
+-- with a type, the concepts that are found are those that the operand means
+pub execute_operand-returns-clause-found : goal.plans::execute_operand-returns-clause-found
+execute_operand-returns-clause-found g t c = record {
+  items = inl c.in_ok-found.ensures.found.items;
+  bound = c.in_ok-found.ensures.found.bound;
+  floor = c.in_ok-found.ensures.found.floor;
+  size = c.in_ok-found.ensures.size;
+}
 
 -- the set that the plan has found makes the test that is within it
 pub tested_of-returns-in_ok-set-in-Within-clause-tested :
@@ -29,11 +89,11 @@ tested_of-returns-in_ok-set-in-Within-clause-tested g t c =
     let found = c.in_ok-set-in-Within.set in
     let items = g.S.ConceptSet.items_of found in
     answers_within g.S.ConceptSet c.args.reader.snapshot.now.release c.args.reader.indexes.now c.args.reader.index
-    c.concept_count.ensures.rising
+    c.concept_count.ensures.rising (g.S.ConceptSet.items_of c.args.typed.now)
     (physical_of c.deref.result.now) c.in_ok-set-in-Within.ensures.found
     (subst (λ (bound : ℕ). IsRisingBelow bound items) c.in_ok-set-in-Within.ensures.found.bound
     (g.met.S.ConceptSet.rising found))
-    c.in_ok-set-in-Within.ensures.size (test_within c.in-Within.operand c.in-Within.is c.deref.ensures)
+    (test_within c.in-Within.operand c.in-Within.is c.deref.ensures)
 
 -- the set that the plan has found makes the test that is outside it
 pub tested_of-returns-in_ok-set-in-Outside-clause-tested :
@@ -42,11 +102,11 @@ tested_of-returns-in_ok-set-in-Outside-clause-tested g t c =
     let found = c.in_ok-set-in-Outside.set in
     let items = g.S.ConceptSet.items_of found in
     answers_outside g.S.ConceptSet c.args.reader.snapshot.now.release c.args.reader.indexes.now c.args.reader.index
-    c.concept_count.ensures.rising
+    c.concept_count.ensures.rising (g.S.ConceptSet.items_of c.args.typed.now)
     (physical_of c.deref-in-Outside.result.now) c.in_ok-set-in-Outside.ensures.found
     (subst (λ (bound : ℕ). IsRisingBelow bound items) c.in_ok-set-in-Outside.ensures.found.bound
     (g.met.S.ConceptSet.rising found))
-    c.in_ok-set-in-Outside.ensures.size (test_outside c.in-Outside.operand c.in-Outside.is c.deref-in-Outside.ensures)
+    (test_outside c.in-Outside.operand c.in-Outside.is c.deref-in-Outside.ensures)
 
 -- the candidates with a number of pairs in the cardinality are what the leaf of concepts means among them
 pub pairs_within-returns-clause-found : goal.plans::pairs_within-returns-clause-found
@@ -55,14 +115,18 @@ pairs_within-returns-clause-found g t c =
     let may : ℕ → Bool = may_be g.S.ConceptSet.items_of c.args.candidates.now in
     let passes = value_passes release (logical_test_of c.args.leaf.test.now) in
     let one : ℕ → Bool = is_one_of c.args.reader.indexes.now.concepts (g.S.ConceptSet.items_of c.in_ok-typed.typed) in
+    let alike : (pairs : List Pair) → has_pairs c.args.leaf.count one
+    (passes_of g.S.ConceptSet.items_of c.args.reader.indexes.now.concepts c.in_ok-tested.tested) pairs
+    ≡ has_pairs c.args.leaf.count one passes pairs =
+    pairs_alike c.args.reader.indexes.now.concepts (g.S.ConceptSet.items_of c.in_ok-typed.typed) c.args.leaf.count
+    (passes_of g.S.ConceptSet.items_of c.args.reader.indexes.now.concepts c.in_ok-tested.tested) passes
+    c.in_ok-tested.ensures.tested.passes in
     let some : ℕ → Bool = λ concept. has_pairs c.args.leaf.count one passes (pairs_of release c.args.back concept) in
     let plan : Plan = pairs_plan c.args.back c.args.leaf.count (logical_of c.args.leaf.types.now)
     (logical_test_of c.args.leaf.test.now) in
     record {
       items = c.in_ok-found.ensures.found.items
-          ∙ (λ i. numbers_within release may
-          (λ concept. has_pairs c.args.leaf.count one (λ value. c.in_ok-tested.ensures.tested.passes value i)
-          (pairs_of release c.args.back concept)))
+          ∙ (λ i. numbers_within release may (λ concept. alike (pairs_of release c.args.back concept) i))
           ∙ within_same release may some (means release plan) (pairs_node release plan (numbers_in release some)
           c.args.back c.args.leaf.count (logical_of c.args.leaf.types.now) (logical_test_of c.args.leaf.test.now)
           c.args.reader.indexes.now.concepts (g.S.ConceptSet.items_of c.in_ok-typed.typed) refl
@@ -107,13 +171,18 @@ groups_with_pairs-returns-clause-found g t c =
     let may : ℕ → Bool = may_be g.S.ConceptSet.items_of c.args.candidates.now in
     let passes = value_passes release (logical_test_of c.args.leaf.test.now) in
     let one : ℕ → Bool = is_one_of c.args.reader.indexes.now.concepts (g.S.ConceptSet.items_of c.in_ok-typed.typed) in
+    let alike : (pairs : List Pair) → has_pairs c.args.leaf.count one
+    (passes_of g.S.ConceptSet.items_of c.args.reader.indexes.now.concepts c.in_ok-tested.tested) pairs
+    ≡ has_pairs c.args.leaf.count one passes pairs =
+    pairs_alike c.args.reader.indexes.now.concepts (g.S.ConceptSet.items_of c.in_ok-typed.typed) c.args.leaf.count
+    (passes_of g.S.ConceptSet.items_of c.args.reader.indexes.now.concepts c.in_ok-tested.tested) passes
+    c.in_ok-tested.ensures.tested.passes in
     let some : List Pair → Bool = has_pairs c.args.leaf.count one passes in
     let plan : PlanOfGroups = pairs_group_plan c.args.leaf.count (logical_of c.args.leaf.types.now)
     (logical_test_of c.args.leaf.test.now) in
     record {
       items = c.in_ok-found.ensures.found.items
-          ∙ (λ i. groups_within release may
-          (has_pairs c.args.leaf.count one (λ value. c.in_ok-tested.ensures.tested.passes value i)))
+          ∙ (λ i. groups_within release may (λ pairs. alike pairs i))
           ∙ groups_same release may some (group_means release plan)
           (groups.pairs_node release plan (groups_where release some)
           c.args.leaf.count (logical_of c.args.leaf.types.now) (logical_test_of c.args.leaf.test.now)

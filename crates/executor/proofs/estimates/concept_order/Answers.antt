@@ -5,7 +5,7 @@ use Rattle.executor.proofs.estimates.concept_order.Goals as goal
 -- a turn appends its place next to the estimate of the part there
 pub loop-place-preserved : goal.loop-place-preserved
 loop-place-preserved c =
-    places_more c.loop-place.order.items _ c.saturating_add.result c.loop-place.place c.loop-place.invariant
+    places_more c.loop-place.order.items _ c.concept_key-key.result c.loop-place.place c.loop-place.invariant
     c.in_ok-push.ensures.items
 
 -- sorting moves the places, and drops none
