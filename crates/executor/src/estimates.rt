@@ -36,8 +36,11 @@ const PARENTS: u64 = 2;
 // Estimated number of children of a concept, on the high side.
 const CHILDREN: u64 = 4;
 
-// Estimated number of ancestors of a concept, on the high side.
+// Estimated number of ancestors of a concept.
 const ANCESTORS: u64 = 16;
+
+// Estimated number of descendants of a concept that is not named, on the high side.
+const DESCENDANTS: u64 = 256;
 
 /// Returns the order in which parts of concepts are executed: the place of each part with its
 /// estimate, by rising estimate. The estimate adds to what a part finds what is read to prepare it,
@@ -85,13 +88,18 @@ fn concept_key(plan: &ConceptPlan, lengths: Lengths<'_>, depth: u32) -> u64 {
     size.saturating_add(preparation(plan, lengths, depth))
 }
 
-// Estimates how many items are read to prepare a part of concepts, whatever its candidates are: for
-// a leaf, what its types and its test find. An AND first executes its part of least key, and spares
-// the others if that finds nothing. At `depth` 0 the parts of an AND are not looked at.
+// Estimates how many items are read to prepare a part of concepts: for a leaf, what its types and
+// its test find. An AND first executes its part of least key, and spares the others if that finds
+// nothing. At `depth` 0 the parts of an AND are not looked at.
 #[cycle(preparation)]
 fn preparation(plan: &ConceptPlan, lengths: Lengths<'_>, depth: u32) -> u64 {
     match plan {
-        ConceptPlan::Pairs { types, test, .. } => leaf_preparation(types, test, lengths),
+        ConceptPlan::Pairs {
+            back,
+            types,
+            test,
+            ..
+        } => leaf_preparation(*back, types, test, lengths),
         ConceptPlan::Units { units, .. } => group_preparation(units, lengths, depth),
         ConceptPlan::And(parts) if depth > 0 => least_key(parts, lengths, depth - 1),
         _ => 0,
@@ -117,12 +125,12 @@ fn group_key(plan: &UnitPlan, lengths: Lengths<'_>, depth: u32) -> u64 {
     size.saturating_add(group_preparation(plan, lengths, depth))
 }
 
-// Estimates how many items are read to prepare a part of groups, whatever its candidates are. At
-// `depth` 0 the parts of an AND are not looked at.
+// Estimates how many items are read to prepare a part of groups, as `preparation` does for a part
+// of concepts. At `depth` 0 the parts of an AND are not looked at.
 #[cycle(group_preparation)]
 fn group_preparation(plan: &UnitPlan, lengths: Lengths<'_>, depth: u32) -> u64 {
     match plan {
-        UnitPlan::Pairs { types, test, .. } => leaf_preparation(types, test, lengths),
+        UnitPlan::Pairs { types, test, .. } => leaf_preparation(false, types, test, lengths),
         UnitPlan::And(parts) if depth > 0 => least_group_key(parts, lengths, depth - 1),
         _ => 0,
     }
@@ -139,14 +147,23 @@ fn least_group_key(parts: &[UnitPlan], lengths: Lengths<'_>, depth: u32) -> u64 
     least
 }
 
-// Estimates how many items are read to prepare a leaf with these types and this test.
-fn leaf_preparation(types: &ConceptPlan, test: &ValueTest, lengths: Lengths<'_>) -> u64 {
+// Estimates how many items are read to prepare a leaf with these types and this test. A comparison
+// with a number counts the rows of the types, because it reads them all however few pass; it counts
+// none if no number passes.
+fn leaf_preparation(
+    back: bool,
+    types: &ConceptPlan,
+    test: &ValueTest,
+    lengths: Lengths<'_>,
+) -> u64 {
     let named = listed(types, lengths);
     match test {
         ValueTest::Within(operand) | ValueTest::Outside(operand) => {
             named.saturating_add(listed(operand, lengths))
         }
-        ValueTest::Number(_, _) => named,
+        ValueTest::Number(_, _) if estimate_of_rows(back, types, test, lengths, DEPTH) == 0 =>
+            named,
+        ValueTest::Number(_, _) => named.saturating_add(rows_of_types(types, lengths)),
     }
 }
 
@@ -253,8 +270,8 @@ fn estimate_of_values(
 }
 
 // Estimates how many rows have one of the types that a plan means: the exact number for one type,
-// none if the plan is estimated at no types. For the types that an operator leads to from one
-// concept, each but that concept counts `ROWS_OF_TYPE` rows. For any other plan it answers all rows.
+// none if the plan is estimated at no types. Of the types that an operator leads to from one
+// concept, each but that concept counts `ROWS_OF_TYPE` rows. Any other plan counts all rows.
 #[cycle(estimate)]
 fn rows_with_types(types: &ConceptPlan, lengths: Lengths<'_>, depth: u32) -> u64 {
     let all = rows_unless_none(estimate(types, lengths, depth), lengths);
@@ -409,7 +426,9 @@ fn estimate_of_walk(
         Operator::Parents | Operator::ParentsOrSelf => all.min(from.saturating_mul(PARENTS)),
         Operator::Children | Operator::ChildrenOrSelf => all.min(from.saturating_mul(CHILDREN)),
         Operator::Ancestors | Operator::AncestorsOrSelf => all.min(from.saturating_mul(ANCESTORS)),
-        Operator::Descendants | Operator::DescendantsOrSelf => all,
+        Operator::Descendants | Operator::DescendantsOrSelf => {
+            all.min(from.saturating_mul(DESCENDANTS))
+        }
     }
 }
 
