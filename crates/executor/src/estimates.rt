@@ -16,7 +16,7 @@ use std::alloc::{AllocError, Global};
 
 // How deep below a part its own parts are looked at. A deeper part counts as all concepts or
 // groups, so that each node of a plan is looked at only a few times.
-const DEPTH: u32 = 3;
+const DEPTH: u32 = 5;
 
 // Estimated number of rows that have a given value, if that value is not looked up.
 const ROWS_OF_VALUE: u64 = 16;
@@ -39,8 +39,8 @@ const CHILDREN: u64 = 4;
 // Estimated number of ancestors of a concept.
 const ANCESTORS: u64 = 16;
 
-// Estimated number of descendants of a concept that is not named, on the high side.
-const DESCENDANTS: u64 = 256;
+// Estimated number of descendants of a concept that is not named.
+const DESCENDANTS: u64 = 32;
 
 /// Returns the order in which parts of concepts are executed: the place of each part with its
 /// estimate, by rising estimate. The estimate adds to what a part finds what is read to prepare it,
@@ -202,10 +202,13 @@ fn estimate(plan: &ConceptPlan, lengths: Lengths<'_>, depth: u32) -> u64 {
         ConceptPlan::Empty => 0,
         ConceptPlan::All => all,
         ConceptPlan::One(_) => 1,
-        ConceptPlan::Walk(operator, operand) => {
-            let from = estimate(operand, lengths, depth - 1);
-            estimate_of_walk(*operator, operand, from, lengths)
-        }
+        ConceptPlan::Walk(operator, operand) => match &**operand {
+            ConceptPlan::Or(parts) => sum_of_walks(*operator, parts, lengths, depth - 1),
+            _ => {
+                let from = estimate(operand, lengths, depth - 1);
+                estimate_of_walk(*operator, operand, from, lengths)
+            }
+        },
         ConceptPlan::Members(operand) => {
             let from = estimate(operand, lengths, depth - 1);
             estimate_of_members(operand, from, lengths)
@@ -251,6 +254,22 @@ fn sum_of(parts: &[ConceptPlan], lengths: Lengths<'_>, depth: u32) -> u64 {
         sum = sum.saturating_add(size);
     }
     sum
+}
+
+// Returns the sum of the estimates of what an operator leads to from each of sibling plans.
+#[cycle(estimate)]
+fn sum_of_walks(
+    operator: Operator,
+    parts: &[ConceptPlan],
+    lengths: Lengths<'_>,
+    depth: u32,
+) -> u64 {
+    let mut sum = 0u64;
+    for part in parts {
+        let from = estimate(part, lengths, depth);
+        sum = sum.saturating_add(estimate_of_walk(operator, part, from, lengths));
+    }
+    sum.min(u64::from(lengths.concept_count()))
 }
 
 // Estimates how many concepts the dotted attributes `names` lead to from `start`.

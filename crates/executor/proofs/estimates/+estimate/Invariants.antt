@@ -21,6 +21,9 @@ decreases-least_of l = 3 * l.depth + 1
 abbrev pub decreases-sum_of : goal.decreases-sum_of
 decreases-sum_of l = 3 * l.depth + 1
 
+abbrev pub decreases-sum_of_walks : goal.decreases-sum_of_walks
+decreases-sum_of_walks l = 3 * l.depth + 1
+
 abbrev pub decreases-least_group_estimate : goal.decreases-least_group_estimate
 decreases-least_group_estimate l = 3 * l.depth + 1
 
@@ -48,3 +51,6 @@ invariant-sum_of-loop-part l = ⊤
 
 abbrev pub invariant-sum_of_group_estimates-loop-part : goal.invariant-sum_of_group_estimates-loop-part
 invariant-sum_of_group_estimates-loop-part l = ⊤
+
+abbrev pub invariant-sum_of_walks-loop-part : goal.invariant-sum_of_walks-loop-part
+invariant-sum_of_walks-loop-part l = ⊤
