@@ -73,7 +73,7 @@ pub fn group_order(
 {
     let mut order: Vec<(u64, usize)> = Vec::new(alloc);
     for place in 0..parts.len() {
-        let key = group_key(&parts[place], lengths, DEPTH);
+        let key = group_key(&parts[place], lengths);
         order.push((key, place))?;
     }
     order.sort_unstable();
@@ -81,11 +81,16 @@ pub fn group_order(
 }
 
 // Returns the key by which a part of concepts is ordered: the estimate of what it finds and of what
-// is read to prepare it.
+// is read to prepare it. The plan of all concepts comes last, because it leaves all candidates.
 #[cycle(preparation)]
 fn concept_key(plan: &ConceptPlan, lengths: Lengths<'_>, depth: u32) -> u64 {
-    let size = estimate(plan, lengths, depth);
-    size.saturating_add(preparation(plan, lengths, depth))
+    match plan {
+        ConceptPlan::All => u64::MAX,
+        _ => {
+            let size = estimate(plan, lengths, depth);
+            size.saturating_add(preparation(plan, lengths, depth))
+        }
+    }
 }
 
 // Estimates how many items are read to prepare a part of concepts: for a leaf, what its types and
@@ -100,7 +105,7 @@ fn preparation(plan: &ConceptPlan, lengths: Lengths<'_>, depth: u32) -> u64 {
             test,
             ..
         } => leaf_preparation(*back, types, test, lengths),
-        ConceptPlan::Units { units, .. } => group_preparation(units, lengths, depth),
+        ConceptPlan::Units { units, .. } => group_preparation(units, lengths),
         ConceptPlan::And(parts) if depth > 0 => least_key(parts, lengths, depth - 1),
         _ => 0,
     }
@@ -119,32 +124,23 @@ fn least_key(parts: &[ConceptPlan], lengths: Lengths<'_>, depth: u32) -> u64 {
 
 // Returns the key by which a part of groups is ordered, as `concept_key` does for a part of
 // concepts.
-#[cycle(group_preparation)]
-fn group_key(plan: &UnitPlan, lengths: Lengths<'_>, depth: u32) -> u64 {
-    let size = group_estimate(plan, lengths, depth);
-    size.saturating_add(group_preparation(plan, lengths, depth))
+fn group_key(plan: &UnitPlan, lengths: Lengths<'_>) -> u64 {
+    match plan {
+        UnitPlan::Every => u64::MAX,
+        _ => {
+            let size = group_estimate(plan, lengths, DEPTH);
+            size.saturating_add(group_preparation(plan, lengths))
+        }
+    }
 }
 
-// Estimates how many items are read to prepare a part of groups, as `preparation` does for a part
-// of concepts. At `depth` 0 the parts of an AND are not looked at.
-#[cycle(group_preparation)]
-fn group_preparation(plan: &UnitPlan, lengths: Lengths<'_>, depth: u32) -> u64 {
+// Estimates how many items are read to prepare a part of groups: for a leaf, what its types and its
+// test find.
+fn group_preparation(plan: &UnitPlan, lengths: Lengths<'_>) -> u64 {
     match plan {
         UnitPlan::Pairs { types, test, .. } => leaf_preparation(false, types, test, lengths),
-        UnitPlan::And(parts) if depth > 0 => least_group_key(parts, lengths, depth - 1),
         _ => 0,
     }
-}
-
-// Returns the least key of sibling plans of groups.
-#[cycle(group_preparation)]
-fn least_group_key(parts: &[UnitPlan], lengths: Lengths<'_>, depth: u32) -> u64 {
-    let mut least = u64::from(lengths.group_count());
-    for part in parts {
-        let key = group_key(part, lengths, depth);
-        least = least.min(key);
-    }
-    least
 }
 
 // Estimates how many items are read to prepare a leaf with these types and this test. A comparison
