@@ -76,8 +76,8 @@ set_items items_of (tests.Number compare number) = []
 abbrev pub CountsTest : Indexed → PhysicalTest → Counter → Counter → Type 0
 CountsTest indexed test = CountsWithin (test_sum (own_number indexed) test)
 
--- executing the operand of a test finds the concepts that it means. Of a leaf without types, whose
--- types are `typed`, no pair matches, and then the operand may also find none.
+-- executing the operand of a test finds the concepts that it means. `typed` has the types of the
+-- leaf; if there are none, no pair matches, and the operand may find none.
 pub record FindsOperand {S : Type 0} (sets : Ghosts S) (release : Release) (indexed : Indexed)
     (typed : List ℕ) (operand : Physical)
     (early late : Counter)
