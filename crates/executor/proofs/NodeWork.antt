@@ -1,6 +1,7 @@
 -- What is counted of a node, and what it finds, from what is counted and found of its parts. What the code borrows
 -- from a plan tells which kind of node the plan is.
-use Rattle.std.proofs.Common.{Err, Ok, Bool, Box, ℕ, ◌+◌, ◌-◌, ◌^◌, ◌≡◌, ◌≤◌, ◌∙◌, [], List, length, min, refl, sym}
+use Rattle.std.proofs.Common.{Err, Ok, Bool, Box, ℕ, ◌+◌, ◌-◌, ◌^◌, ◌≡◌, ◌≤◌}
+use Rattle.std.proofs.Common.{◌∙◌, [], List, length, min, refl, sym}
 use Rattle.std.proofs.Common.{ap, subst, arith, inl, inr, ⊎_elim}
 use Rattle.std.specs.Prelude.{IfOk, Result, ◌⊎◌, sum_by}
 use Rattle.std.specs.List.Sorted.{IsStrictlyIncreasing}
@@ -155,7 +156,8 @@ module _ {S : Type 0} (sets : Ghosts S) (release : Release) (indexed : Indexed) 
 -- without a type none matches by either
 pub pairs_alike : (concepts typed : List ℕ) (count : Cardinality) (made passes : Value → Bool)
     → ((value : Value) → made value ≡ passes value) ⊎ (typed ≡ []) → (pairs : List Pair)
-    → has_pairs count (is_one_of concepts typed) made pairs ≡ has_pairs count (is_one_of concepts typed) passes pairs
+    → has_pairs count (is_one_of concepts typed) made pairs
+    ≡ has_pairs count (is_one_of concepts typed) passes pairs
 pairs_alike concepts typed count made passes (inl same) pairs =
     λ i. has_pairs count (is_one_of concepts typed) (λ value. same value i) pairs
 pairs_alike concepts typed count made passes (inr none) pairs =

@@ -387,22 +387,26 @@ dotted_plans::execute_dotted-restricted-requires =
 -- without a type, no concept is found for the operand, and its floor is counted
 pub plans::execute_operand-returns-then-count-eq0-clause-found :
     goal.plans::execute_operand-returns-then-count-eq0-clause-found
-plans::execute_operand-returns-then-count-eq0-clause-found = pairs.execute_operand-returns-then-count-eq0-clause-found
+plans::execute_operand-returns-then-count-eq0-clause-found =
+    pairs.execute_operand-returns-then-count-eq0-clause-found
 
 -- without a type, the floor that is counted is within the bound of the operand
 pub plans::execute_operand-returns-then-count-eq0-clause-counted :
     goal.plans::execute_operand-returns-then-count-eq0-clause-counted
-plans::execute_operand-returns-then-count-eq0-clause-counted = pairs.execute_operand-returns-then-count-eq0-clause-counted
+plans::execute_operand-returns-then-count-eq0-clause-counted =
+    pairs.execute_operand-returns-then-count-eq0-clause-counted
 
 -- without a type, no concept adds no row
 pub plans::execute_operand-returns-then-count-eq0-clause-adds :
     goal.plans::execute_operand-returns-then-count-eq0-clause-adds
-plans::execute_operand-returns-then-count-eq0-clause-adds = pairs.execute_operand-returns-then-count-eq0-clause-adds
+plans::execute_operand-returns-then-count-eq0-clause-adds =
+    pairs.execute_operand-returns-then-count-eq0-clause-adds
 
 -- if memory is refused for the empty set, the floor that is counted is within the bound of the operand
 pub plans::execute_operand-returns-in_err-none-clause-counted :
     goal.plans::execute_operand-returns-in_err-none-clause-counted
-plans::execute_operand-returns-in_err-none-clause-counted = pairs.execute_operand-returns-in_err-none-clause-counted
+plans::execute_operand-returns-in_err-none-clause-counted =
+    pairs.execute_operand-returns-in_err-none-clause-counted
 
 -- with a type, the concepts that are found are those that the operand means
 pub plans::execute_operand-returns-clause-found :
