@@ -22,11 +22,12 @@ use Rattle.set_algebra.specs.Physical.{physical_outside, physical_test_of, physi
 use Rattle.set_algebra.specs.Physical.{physical_walk}
 use Rattle.set_algebra.specs.Physical.{physical_within, physicals_of}
 use Rattle.set_algebra.specs.Plan.{outside_plan, within_plan}
-use Rattle.plan_bounds.specs.Bounds.{own_number}
+use Rattle.plan_bounds.specs.Bounds.{capped, own_number}
 use Rattle.plan_bounds.specs.Counts.{value_rows}
 use Rattle.plan_bounds.specs.Floors.{floor_number}
 use Rattle.plan_bounds.specs.Nodes.{groups_sum, node_sum, plans_sum, test_sum}
 use Rattle.plan_bounds.specs.Sizes.{size}
+use Rattle.plan_bounds.proofs.FloorLemmas.{floor-le-bound}
 use Rattle.rf2_rows.specs.Pairs.{Pair}
 use Rattle.rf2_rows.specs.Release.{Release, Value}
 use Rattle.candidates.specs.Numbers.{is_one_of}
@@ -37,7 +38,7 @@ use Rattle.reading.specs.declared.counter.Counter.{Counter}
 use Rattle.pair_sets.specs.declared.tested.Tested.TheVariants as tests
 use Rattle.executor.proofs.LeafWork.{values_read}
 use Rattle.executor.proofs.NodeLemmas.{outside_passes, within_passes}
-use Rattle.reading.specs.Counted.{CountsWithin, HandsOut, IsFound}
+use Rattle.reading.specs.Counted.{CountsWithin, HandsOut, IsFound, full}
 use Rattle.reading.proofs.CountLemmas.{counted_thrice}
 use Rattle.executor.specs.inside.Executed.{AnswersPlan, AnswersTest, AnswersGroups, CountsPlan, CountsTest}
 use Rattle.executor.specs.inside.Executed.{CountsWithRoom, CountsGroups, FindsOperand}
@@ -87,6 +88,15 @@ module _ (indexed : Indexed) {early late : Counter} where
   pub test_counts : {test node : PhysicalTest} → test ≡ node → CountsTest indexed node early late → CountsTest indexed
       test early late
   test_counts is = subst (λ (test : PhysicalTest). CountsTest indexed test early late) (sym is)
+
+-- if the floor of a plan of concepts is all that is counted, it is within the bound of the plan
+pub floor_counted : (indexed : Indexed) (plan : Physical) {early late : Counter} {counted : ℕ}
+    → counted ≡ capped (node_sum (floor_number indexed) plan) → late.count ≡ full (early.count + counted)
+    → early.count ≤ late.count → CountsPlan indexed plan early late
+floor_counted indexed plan is adds grows = record {
+  grows = grows;
+  within = omega (arith, is, adds, floor-le-bound indexed plan);
+}
 
 module _ {S E : Type 0} (sets : Ghosts S) (release : Release) (indexed : Indexed) (candidates : Candidates S)
     (early late : Counter)

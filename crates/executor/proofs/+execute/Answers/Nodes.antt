@@ -19,13 +19,13 @@ use Rattle.executor.proofs.NamedLemmas.{named_adds}
 use Rattle.std.proofs.lemmas.Result.{IfOk-weaker}
 use Rattle.plan_bounds.specs.Floors.{floor_number}
 use Rattle.plan_bounds.specs.Nodes.{group_sum, node_sum}
-use Rattle.plan_bounds.proofs.FloorLemmas.{floor-le-bound, group_floor-le-bound}
+use Rattle.plan_bounds.proofs.FloorLemmas.{group_floor-le-bound}
 use Rattle.plan_bounds.proofs.PartLemmas.{minus_are, minus_group_plan_is}
 use Rattle.plan_bounds.proofs.PartLemmas.{values_are}
 use Rattle.executor.proofs.GroupNodeLemmas as groups
 use Rattle.pair_sets.proofs.LeafLemmas.{sources_known}
 use Rattle.executor.proofs.NodeLemmas.{all_node, one_node}
-use Rattle.executor.proofs.NodeWork.{leaf_found}
+use Rattle.executor.proofs.NodeWork.{floor_counted, leaf_found}
 use Rattle.executor.proofs.NodeWork.{plan_answers}
 use Rattle.executor.proofs.NodeWork.{groups_answer}
 use Rattle.executor.proofs.PartWork.{few_found}
@@ -53,28 +53,16 @@ execute_estimated-returns-then-none_left-clause-found g t c =
 -- without a candidate, the floor that is counted is within the bound of the plan
 pub execute_estimated-returns-then-none_left-clause-counted :
     goal.plans::execute_estimated-returns-then-none_left-clause-counted
-execute_estimated-returns-then-none_left-clause-counted g t c = record {
-  grows = c.add.ensures.grows;
-  within = omega (
-    arith,
-    (rw c.lengths.ensures at c.plan_floor.ensures),
-    c.add.ensures.count,
-    floor-le-bound c.args.reader.indexes.now (physical_of c.args.plan.now),
-  );
-}
+execute_estimated-returns-then-none_left-clause-counted g t c =
+    floor_counted c.args.reader.indexes.now (physical_of c.args.plan.now)
+    (rw c.lengths.ensures at c.plan_floor.ensures) c.add.ensures.count c.add.ensures.grows
 
 -- if memory is refused for the empty set, the floor that is counted is within the bound of the plan
 pub execute_estimated-returns-in_err-found-clause-counted :
     goal.plans::execute_estimated-returns-in_err-found-clause-counted
-execute_estimated-returns-in_err-found-clause-counted g t c = record {
-  grows = c.add.ensures.grows;
-  within = omega (
-    arith,
-    (rw c.lengths.ensures at c.plan_floor.ensures),
-    c.add.ensures.count,
-    floor-le-bound c.args.reader.indexes.now (physical_of c.args.plan.now),
-  );
-}
+execute_estimated-returns-in_err-found-clause-counted g t c =
+    floor_counted c.args.reader.indexes.now (physical_of c.args.plan.now)
+    (rw c.lengths.ensures at c.plan_floor.ensures) c.add.ensures.count c.add.ensures.grows
 
 -- a set that is prepared for the estimate keeps its items, so it answers the plan
 pub execute_estimated-returns-clause-found : goal.plans::execute_estimated-returns-clause-found

@@ -16,11 +16,10 @@ use Rattle.candidates.specs.RowEstimates.{Adds}
 use Rattle.candidates.proofs.AddsLemmas.{adds_none}
 use Rattle.pair_sets.specs.Tested.{passes_of}
 use Rattle.plan_bounds.specs.Bounds.{leaf_bound_at}
-use Rattle.plan_bounds.proofs.FloorLemmas.{floor-le-bound}
 use Rattle.executor.proofs.GroupNodeLemmas as groups
 use Rattle.executor.proofs.NodeLemmas.{pairs_node}
 use Rattle.executor.proofs.NodeWork.{answers_outside, answers_within}
-use Rattle.executor.proofs.NodeWork.{leaf_floor, leaf_reads, pairs_alike}
+use Rattle.executor.proofs.NodeWork.{floor_counted, leaf_floor, leaf_reads, pairs_alike}
 use Rattle.executor.proofs.NodeWork.{test_outside}
 use Rattle.executor.proofs.NodeWork.{test_within}
 use Rattle.executor.proofs.WithinNodes.{groups_same}
@@ -43,15 +42,9 @@ execute_operand-returns-then-count-eq0-clause-found g t c = record {
 -- without a type, the floor that is counted is within the bound of the operand
 pub execute_operand-returns-then-count-eq0-clause-counted :
     goal.plans::execute_operand-returns-then-count-eq0-clause-counted
-execute_operand-returns-then-count-eq0-clause-counted g t c = record {
-  grows = c.add.ensures.grows;
-  within = omega (
-    arith,
-    (rw c.lengths.ensures at c.plan_floor.ensures),
-    c.add.ensures.count,
-    floor-le-bound c.args.reader.indexes.now (physical_of c.args.operand.now),
-  );
-}
+execute_operand-returns-then-count-eq0-clause-counted g t c =
+    floor_counted c.args.reader.indexes.now (physical_of c.args.operand.now)
+    (rw c.lengths.ensures at c.plan_floor.ensures) c.add.ensures.count c.add.ensures.grows
 
 -- without a type, no concept adds no row
 pub execute_operand-returns-then-count-eq0-clause-adds :
@@ -63,15 +56,9 @@ execute_operand-returns-then-count-eq0-clause-adds g t c =
 -- if memory is refused for the empty set, the floor that is counted is within the bound of the operand
 pub execute_operand-returns-in_err-none-clause-counted :
     goal.plans::execute_operand-returns-in_err-none-clause-counted
-execute_operand-returns-in_err-none-clause-counted g t c = record {
-  grows = c.add.ensures.grows;
-  within = omega (
-    arith,
-    (rw c.lengths.ensures at c.plan_floor.ensures),
-    c.add.ensures.count,
-    floor-le-bound c.args.reader.indexes.now (physical_of c.args.operand.now),
-  );
-}
+execute_operand-returns-in_err-none-clause-counted g t c =
+    floor_counted c.args.reader.indexes.now (physical_of c.args.operand.now)
+    (rw c.lengths.ensures at c.plan_floor.ensures) c.add.ensures.count c.add.ensures.grows
 
 -- with a type, the concepts that are found are those that the operand means
 pub execute_operand-returns-clause-found : goal.plans::execute_operand-returns-clause-found
