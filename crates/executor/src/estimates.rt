@@ -95,7 +95,7 @@ fn concept_key(plan: &ConceptPlan, lengths: Lengths<'_>, depth: u32) -> u64 {
 
 // Estimates how many items are read to prepare a part of concepts: for a leaf, what its types and
 // its test find. An AND first executes its part of least key, and spares the others if that finds
-// nothing. At `depth` 0 the parts of an AND are not looked at.
+// nothing; an OR executes each of its parts. At `depth` 0 the parts of a node are not looked at.
 #[cycle(preparation)]
 fn preparation(plan: &ConceptPlan, lengths: Lengths<'_>, depth: u32) -> u64 {
     match plan {
@@ -105,10 +105,22 @@ fn preparation(plan: &ConceptPlan, lengths: Lengths<'_>, depth: u32) -> u64 {
             test,
             ..
         } => leaf_preparation(*back, types, test, lengths),
-        ConceptPlan::Units { units, .. } => group_preparation(units, lengths),
+        ConceptPlan::Units { units, .. } => group_preparation(units, lengths, depth),
         ConceptPlan::And(parts) if depth > 0 => least_key(parts, lengths, depth - 1),
+        ConceptPlan::Or(parts) if depth > 0 => sum_of_preparations(parts, lengths, depth - 1),
         _ => 0,
     }
+}
+
+// Returns the sum of the preparations of sibling plans of concepts.
+#[cycle(preparation)]
+fn sum_of_preparations(parts: &[ConceptPlan], lengths: Lengths<'_>, depth: u32) -> u64 {
+    let mut sum = 0u64;
+    for part in parts {
+        let own = preparation(part, lengths, depth);
+        sum = sum.saturating_add(own);
+    }
+    sum
 }
 
 // Returns the least key of sibling plans of concepts.
@@ -129,18 +141,35 @@ fn group_key(plan: &UnitPlan, lengths: Lengths<'_>) -> u64 {
         UnitPlan::Every => u64::MAX,
         _ => {
             let size = group_estimate(plan, lengths, DEPTH);
-            size.saturating_add(group_preparation(plan, lengths))
+            size.saturating_add(group_preparation(plan, lengths, DEPTH))
         }
     }
 }
 
 // Estimates how many items are read to prepare a part of groups: for a leaf, what its types and its
-// test find.
-fn group_preparation(plan: &UnitPlan, lengths: Lengths<'_>) -> u64 {
+// test find. An AND or an OR executes each of its parts, but an AND that is estimated to find
+// nothing spares them. At `depth` 0 the parts of a node are not looked at.
+#[cycle(group_preparation)]
+fn group_preparation(plan: &UnitPlan, lengths: Lengths<'_>, depth: u32) -> u64 {
     match plan {
         UnitPlan::Pairs { types, test, .. } => leaf_preparation(false, types, test, lengths),
+        UnitPlan::And(_) if group_estimate(plan, lengths, depth) == 0 => 0,
+        UnitPlan::And(parts) | UnitPlan::Or(parts) if depth > 0 => {
+            sum_of_group_preparations(parts, lengths, depth - 1)
+        }
         _ => 0,
     }
+}
+
+// Returns the sum of the preparations of sibling plans of groups.
+#[cycle(group_preparation)]
+fn sum_of_group_preparations(parts: &[UnitPlan], lengths: Lengths<'_>, depth: u32) -> u64 {
+    let mut sum = 0u64;
+    for part in parts {
+        let own = group_preparation(part, lengths, depth);
+        sum = sum.saturating_add(own);
+    }
+    sum
 }
 
 // Estimates how many items are read to prepare a leaf with these types and this test. A comparison

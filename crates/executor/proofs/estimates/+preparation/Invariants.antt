@@ -12,6 +12,12 @@ decreases-concept_key l = 3 * l.depth + 1
 abbrev pub decreases-least_key : goal.decreases-least_key
 decreases-least_key l = 3 * l.depth + 2
 
--- A key is any number, so the loop needs no invariant.
+abbrev pub decreases-sum_of_preparations : goal.decreases-sum_of_preparations
+decreases-sum_of_preparations l = 3 * l.depth + 1
+
+-- A key is any number, so no loop needs an invariant.
 abbrev pub invariant-least_key-loop-part : goal.invariant-least_key-loop-part
 invariant-least_key-loop-part l = ⊤
+
+abbrev pub invariant-sum_of_preparations-loop-part : goal.invariant-sum_of_preparations-loop-part
+invariant-sum_of_preparations-loop-part l = ⊤
