@@ -1,15 +1,15 @@
 -- From the faults that a request met to its status and its streams.
-use Rattle.std.proofs.Common.{◌+◌, ◌≤◌, max, ℕ, ◌≡◌, ◌≢◌, ◌<◌, ◌⊎◌, inl, inr, false, true, List, [], length, take}
-use Rattle.std.proofs.Common.{Option, None, Some, Result, Ok, Err, refl, sym, ap, subst, ◌∙◌}
-use Rattle.std.specs.Prelude.{IfSome}
-use Rattle.std.proofs.lemmas.Bool.{true≢false}
+use Rattle.std.proofs.Common.{ℕ, ◌≡◌, ◌≢◌, ◌<◌, inl, inr, false, true, List, [], length, take}
+use Rattle.std.proofs.Common.{Option, Result, Ok, Err, refl, sym, ap, subst, ◌∙◌}
+use Rattle.std.specs.Prelude.{IfErr}
+use Rattle.std.specs.Result.{IsErrAnd}
 use Rattle.std.specs.Io.KnownBytes.{Appends}
 use Rattle.held_release.specs.Contents.{Contents, IsFaultOf}
-use Rattle.snapshot.specs.Load.{load_of}
+use Rattle.held_release.specs.declared.report.Report.{Report}
+use Rattle.snapshot.specs.Loading.{IsLoadedFrom, told_of}
+use Rattle.snapshot.proofs.LoadingLemmas.{loads_on}
 use Rattle.release_files.specs.Source.{FileText, History}
-use Rattle.release_rows.specs.Limits.{limits_in_force, standard_limits}
-use Rattle.release_rows.specs.Pieces.{AreInOrder, IsUnlisted, listed}
-use Rattle.release_rows.specs.DeviceFaults.{is_device}
+use Rattle.release_rows.specs.Limits.{standard_limits}
 use Rattle.row_lists.specs.declared.fault.LoadFault.{LoadFault}
 use Rattle.row_lists.specs.declared.fault.LoadFault.TheVariants as load
 use Rattle.release_rows.specs.declared.limits.Limits.{Limits}
@@ -18,7 +18,7 @@ use Rattle.query_run.specs.Fault.{CountsTurns, EndsAt, HaveFailed}
 use Rattle.query_service.specs.ModeAnswer.{answers_in}
 use Rattle.query_service.specs.Report.{report_of}
 use Rattle.sample_release.specs.SampleContents.{sample_contents}
-use Rattle.query_service.specs.Serve.{EndsWith, IsAnswered, IsAskedFor, IsCut, IsLoadOf, IsLoadedFrom, IsServed}
+use Rattle.query_service.specs.Serve.{EndsWith, IsAnswered, IsAskedFor, IsCut, IsServed}
 use Rattle.query_service.specs.Serve.{IsReportCut, IsStopped, IsTask, ServesWith, Task, TellsLoadFault}
 use Rattle.query_service.specs.Serve.{fault_text, refusal_status_of, sample_task, status_of}
 use Rattle.query_service.specs.Streams.{IsTold, Streams, streams}
@@ -67,10 +67,11 @@ refuses_with r w e task fault MemoryRefused input output before after is told =
     inr (record { read = refl; written = refl; told = told })
 
 -- a mode other than `Sample` asks for the release of the source's files
-pub asked_of_files : {told : Option (List FileText)} {old new : History} {language : List ℕ} {task : Task} (mode : Mode)
-    → mode ≢ Sample → IsLoadedFrom told old new language task → IsAskedFor told old new language mode task
-asked_of_files Sample other loaded = absurd (other refl)
-asked_of_files mode other loaded = loaded
+pub asked_of_files : {told : Option (List FileText)} {old new : History} {language : List ℕ} (task : Task) (mode : Mode)
+    → mode ≢ Sample → IsLoadedFrom told old new standard_limits language task.names task.loaded
+    → IsAskedFor told old new language mode task
+asked_of_files task Sample other loaded = absurd (other refl)
+asked_of_files task mode other loaded = loaded
 
 -- a mode other than `Check` is served if all lines are answered
 pub served_in : {R W E : Type 0} (r : Input R) (w : Output W) (mode : Mode) (contents : Contents)
@@ -129,45 +130,49 @@ refuses_sample r w e fault ReleaseRefused input output before after said told =
 refuses_sample r w e fault MemoryRefused input output before after said told =
     inr (record { read = refl; written = refl; told = told })
 
--- if a source tells its files, and a load within the standard limits gives a release, then this is a result that
--- loading the files may have
-pub loaded_whole : (told : Option (List FileText)) (limits : Limits) (language : List ℕ) (names : List (List ℕ))
-    (contents : Contents) → limits ≡ standard_limits
-    → IfSome told (λ known. load_of limits language (listed known names) ≡ Ok contents)
-    → IfSome told (λ known. AreInOrder known names ⊎ ⊥)
-    → IfSome told (λ known. IsLoadOf known language names (Ok contents))
-loaded_whole None limits language names contents same loads ordered = tt
-loaded_whole (Some known) limits language names contents same loads (inl order) =
-    (order, ap (λ (l : Limits). load_of l language (listed known names)) (sym same) ∙ loads)
-loaded_whole (Some known) limits language names contents same loads (inr none) = absurd none
+-- a load within limits that are the standard ones is a load within the standard limits
+pub within_standard : (told : Option (List FileText)) (old new : History) (limits : Limits) (language : List ℕ)
+    (names : List (List ℕ)) (loaded : Result Contents LoadFault) → limits ≡ standard_limits
+    → IsLoadedFrom told old new limits language names loaded
+    → IsLoadedFrom told old new standard_limits language names loaded
+within_standard told old new limits language names loaded is =
+    subst (λ (one : Limits). IsLoadedFrom told old new one language names loaded) is
 
--- if a source tells its files, and a load within the standard limits gives a fault, then this is a result that
--- loading the files may have
-pub loaded_not : (told : Option (List FileText)) (limits : Limits) (language : List ℕ) (names : List (List ℕ))
-    (now : History) (fault : LoadFault) → limits ≡ standard_limits
-    → IfSome told (λ known. is_device fault ≡ false → IsFaultOf fault (load_of limits language (listed known names)))
-    → IfSome told (λ known. AreInOrder known names ⊎ IsUnlisted {X = Contents} (Err fault) names now)
-    → IfSome told (λ known. IsLoadOf known language names (Err fault))
-loaded_not None limits language names now fault same said ordered = tt
-loaded_not (Some known) limits language names now fault same said (inl order) =
-    λ other own. (order, ap (λ (l : Limits). load_of l language (listed known names)) (sym same) ∙ said own other)
-loaded_not (Some known) limits language names now fault same said (inr (none, unlisted, inl device)) =
-    λ other own. absurd (true≢false (ap is_device (sym device) ∙ own))
-loaded_not (Some known) limits language names now fault same said (inr (none, unlisted, inr memory)) =
-    λ other own. absurd (other memory)
+-- a report that a load told is that of the release that was loaded
+pub report_loaded : (told : Option (List FileText)) (old new : History) (limits : Limits) (language : List ℕ)
+    (names : List (List ℕ)) (loaded : Result Contents LoadFault) (report : Report)
+    → Ok report ≡ told_of report_of loaded → limits ≡ standard_limits
+    → IsLoadedFrom told old new limits language names loaded
+    → (contents : Contents) × (report ≡ report_of contents)
+    × IsLoadedFrom told old new standard_limits language names (Ok contents)
+report_loaded told old new limits language names (Ok contents) report tells is loads =
+    let same : Ok report ≡ Ok (report_of contents) = tells in
+    (contents, cc, within_standard told old new limits language names (Ok contents) is loads)
+report_loaded told old new limits language names (Err fault) report tells is loads =
+    absurd (let clash : Ok report ≡ Err fault = tells in (cc))
 
--- a load within the standard limits reads no file further than one byte beyond the limit
-pub within_standard : (limits : Limits) (before after : ℕ) → limits ≡ standard_limits
-    → after ≤ max before ((limits_in_force limits).bytes + 1) → after ≤ max before (standard_limits.bytes + 1)
-within_standard limits before after is within =
-    subst (λ (one : Limits). after ≤ max before ((limits_in_force one).bytes + 1)) is within
+-- a fault that a load told in place of a report is that of the load
+pub fault_loaded : (told : Option (List FileText)) (old new : History) (limits : Limits) (language : List ℕ)
+    (names : List (List ℕ)) (loaded : Result Contents LoadFault) (fault : LoadFault)
+    → Err fault ≡ told_of report_of loaded → limits ≡ standard_limits
+    → IsLoadedFrom told old new limits language names loaded
+    → IsLoadedFrom told old new standard_limits language names (Err fault)
+fault_loaded told old new limits language names (Ok contents) fault tells is loads =
+    absurd (let clash : Err fault ≡ Ok (report_of contents) = tells in (cc))
+fault_loaded told old new limits language names (Err other) fault tells is loads =
+    let same : Err other ≡ Err fault = cc in
+    subst (IsLoadedFrom told old new standard_limits language names) same
+    (within_standard told old new limits language names (Err other) is loads)
 
--- the fault `Memory` is a result that loading any files may have
-pub loaded_no_more : (told : Option (List FileText)) (language : List ℕ) (names : List (List ℕ)) (fault : LoadFault)
-    → fault ≡ load.Memory
-    → IfSome told (λ known. IsLoadOf known language names (Err fault))
-loaded_no_more None language names fault memory = tt
-loaded_no_more (Some known) language names fault memory = λ other own. absurd (other memory)
+-- if memory for the text of the report of a loaded release was refused, that is a fault which the load may have
+pub text_refused : {X : Type 0} (told : Option (List FileText)) (old new : History) (language : List ℕ)
+    (names : List (List ℕ)) (contents : Contents) (text : Result X LoadFault)
+    → IsErrAnd text (λ fault. fault ≡ load.Memory)
+    → IsLoadedFrom told old new standard_limits language names (Ok contents)
+    → IfErr text (λ fault. IsLoadedFrom told old new standard_limits language names (Err fault))
+text_refused told old new language names contents (Ok text) memory loads = tt
+text_refused told old new language names contents (Err fault) memory loads =
+    loads_on told old new standard_limits language names contents (Err fault) loads tt memory
 
 -- a task for a mode and a language is also a task for an equal mode and an equal language
 pub asked_as : (told : Option (List FileText)) (old new : History) (lent language : List ℕ) (mode asked : Mode)

@@ -1,13 +1,11 @@
 -- How the program ends: its exit status, and for each status what was read, written and reported.
-use Rattle.std.specs.Prelude.{ℕ, ◌≡◌, ◌≢◌, ◌⊎◌, ◌+◌, ◌<◌, ◌≤◌, false, true, List, [], codes, length, max, take}
-use Rattle.std.specs.Prelude.{IfErr, IfSome, Option, Result, Ok, Err}
+use Rattle.std.specs.Prelude.{ℕ, ◌≡◌, ◌⊎◌, ◌<◌, false, List, [], codes, length, take}
+use Rattle.std.specs.Prelude.{IfSome, Option, Result, Ok, Err}
 use Rattle.std.specs.Io.KnownBytes.{Appends, IsAtEnd}
 use Rattle.held_release.specs.Contents.{Contents}
-use Rattle.snapshot.specs.Load.{load_of}
+use Rattle.snapshot.specs.Loading.{IsLoadedFrom}
 use Rattle.release_files.specs.Source.{FileText, History}
 use Rattle.release_rows.specs.Limits.{standard_limits}
-use Rattle.release_rows.specs.Pieces.{AreInOrder, FailsToList, IsUnlisted, listed}
-use Rattle.release_rows.specs.DeviceFaults.{FailsAtOneOf, RaisesOnlyAtDevice, is_device}
 use Rattle.row_lists.specs.declared.fault.LoadFault.{LoadFault}
 use Rattle.row_lists.specs.declared.fault.LoadFault.TheVariants as load
 use Rattle.answer_printer.specs.LoadRefusal.{load_refusal}
@@ -69,47 +67,12 @@ pub record Task : Type 0 where
   -- the names of the files, in the order in which they were loaded
   pub names : List (List ℕ)
 
--- the result that loading the `known` files may have, in the byte order of their names: their
--- release, or their first fault; or memory was refused, or the device failed
-abbrev pub IsLoadOf : List FileText → List ℕ → List (List ℕ) → Result Contents LoadFault → Type 0
-IsLoadOf known language names (Ok contents) =
-    AreInOrder known names × (load_of standard_limits language (listed known names) ≡ Ok contents)
-IsLoadOf known language names (Err fault) =
-    fault ≢ load.Memory → is_device fault ≡ false
-    → AreInOrder known names × (load_of standard_limits language (listed known names) ≡ Err fault)
-
--- the source has counted a failure if the load failed because of the device, and none otherwise;
--- `old` and `new` are its history before and after
-pub record CountsDevice (old new : History) (names : List (List ℕ))
-    (loaded : Result Contents LoadFault) : Type 0 where
-  -- if the load failed because of the device, the source failed to list the files or to read one of
-  -- them
-  pub failed : IfErr loaded (λ fault. is_device fault ≡ true
-      → FailsToList old new names fault ⊎ FailsAtOneOf names old new fault)
-  -- the source has counted no other failure
-  pub failure_is_device : RaisesOnlyAtDevice loaded old new
-
--- the files of a source were loaded; `told` are the files if the source tells them, and `old` and
--- `new` are its history before and after. Either it listed the names in byte order, or the listing
--- failed and there are no names
-pub record IsLoadedFrom (told : Option (List FileText)) (old new : History) (language : List ℕ)
-    (task : Task)
-    : Type 0 where
-  -- if the source tells its files, the result is one that loading them may have
-  pub loaded : IfSome told (λ known. IsLoadOf known language task.names task.loaded)
-  -- the names are those of the files in byte order, or the listing failed
-  pub named : IfSome told (λ known. AreInOrder known task.names
-      ⊎ IsUnlisted task.loaded task.names new)
-  -- the source has counted one failure if the device failed, otherwise none
-  pub device : CountsDevice old new task.names task.loaded
-  -- no file was read further than one byte beyond the limit
-  pub bounded : new.most ≤ max old.most (standard_limits.bytes + 1)
-
 -- the task has loaded the release that the mode asks for: the built-in one, or that of the source's
 -- files, with names in `language` preferred
 abbrev pub IsAskedFor : Option (List FileText) → History → History → List ℕ → Mode → Task → Type 0
 IsAskedFor told old new language Sample task = task.loaded ≡ Ok sample_contents
-IsAskedFor told old new language mode task = IsLoadedFrom told old new language task
+IsAskedFor told old new language mode task =
+    IsLoadedFrom told old new standard_limits language task.names task.loaded
 
 -- the task is that of a mode, over the files of a source, with names in `language` preferred
 pub record IsTask (told : Option (List FileText)) (old new : History) (language : List ℕ)

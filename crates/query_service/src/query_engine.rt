@@ -1,12 +1,9 @@
 //! The trait of an engine that the service needs.
-ghost use Rattle.std.specs.Prelude.{◌≡◌, ◌⊎◌, ◌+◌, ◌≤◌, ℕ, false, IfErr, IfOk, IfSome, List, Ok, OnOk, map, max};
-ghost use Rattle.std.specs.Prelude.{string_bytes};
+ghost use Rattle.std.specs.Prelude.{◌≡◌, ℕ, false, IfErr, IfOk, List, Ok, OnOk, Result, map, string_bytes};
 ghost use Rattle.release_files.specs.Source.{file_text};
 ghost use Rattle.held_release.specs.Contents.{Contents, IsFaultOf};
 ghost use Rattle.snapshot.specs.Load.{load_of};
-ghost use Rattle.release_rows.specs.Limits.{limits_in_force};
-ghost use Rattle.release_rows.specs.Pieces.{AreInOrder, FailsAtFiles, IsUnlisted, listed};
-ghost use Rattle.release_rows.specs.DeviceFaults.{RaisesOnlyAtDevice, is_device};
+ghost use Rattle.snapshot.specs.Loading.{IsLoadedFrom, told_of};
 ghost use Rattle.streams.specs.Waiting.{LeavesAnswer, Puts, is_write};
 ghost use Rattle.query_service.specs.ModeAnswer.{answers_in};
 ghost use Rattle.query_service.specs.Report.{report_of};
@@ -46,22 +43,8 @@ pub trait QueryEngine: Drop {
         lang: &str,
         limits: Limits,
     ) -> Result<Self, LoadFault>
-        ensures ok { IfSome (S.files source.old)
-            (λ known. IfOk result (λ engine. load_of limits lang.now
-            (listed known (map string_bytes names.new.items)) ≡ Ok (contents engine))) }
-        ensures err { IfSome (S.files source.old)
-            (λ known. IfErr result (λ fault. is_device fault ≡ false
-            → IsFaultOf fault (load_of limits lang.now
-            (listed known (map string_bytes names.new.items))))) }
-        ensures names { IfSome (S.files source.old)
-            (λ known. AreInOrder known (map string_bytes names.new.items)
-            ⊎ IsUnlisted result (map string_bytes names.new.items) (S.history source.new)) }
-        ensures device { FailsAtFiles string_bytes names.new.items result (S.history source.old)
-            (S.history source.new) }
-        ensures failure_is_device { RaisesOnlyAtDevice result (S.history source.old)
-            (S.history source.new) }
-        ensures bounded { (S.history source.new).most
-            ≤ max (S.history source.old).most ((limits_in_force limits).bytes + 1) };
+        ensures { IsLoadedFrom (S.files source.old) (S.history source.old) (S.history source.new)
+            limits lang.now (map string_bytes names.new.items) (told_of contents result) };
 
     /// Loads a release as `load_from` does, but returns only its row counts, so that no engine need
     /// be built.
@@ -72,23 +55,9 @@ pub trait QueryEngine: Drop {
         lang: &str,
         limits: Limits,
     ) -> Result<Report, LoadFault>
-        ensures ok { IfOk result (λ report. (loaded : Contents) × (report ≡ report_of loaded)
-            × IfSome (S.files source.old)
-            (λ known. load_of limits lang.now (listed known (map string_bytes names.new.items))
-            ≡ Ok loaded)) }
-        ensures err { IfSome (S.files source.old)
-            (λ known. IfErr result (λ fault. is_device fault ≡ false
-            → IsFaultOf fault (load_of limits lang.now
-            (listed known (map string_bytes names.new.items))))) }
-        ensures names { IfSome (S.files source.old)
-            (λ known. AreInOrder known (map string_bytes names.new.items)
-            ⊎ IsUnlisted result (map string_bytes names.new.items) (S.history source.new)) }
-        ensures device { FailsAtFiles string_bytes names.new.items result (S.history source.old)
-            (S.history source.new) }
-        ensures failure_is_device { RaisesOnlyAtDevice result (S.history source.old)
-            (S.history source.new) }
-        ensures bounded { (S.history source.new).most
-            ≤ max (S.history source.old).most ((limits_in_force limits).bytes + 1) };
+        ensures { (loaded : Result Contents LoadFault) × (result ≡ told_of report_of loaded)
+            × IsLoadedFrom (S.files source.old) (S.history source.old) (S.history source.new) limits
+            lang.now (map string_bytes names.new.items) loaded };
 
     /// Puts the answer to `line` in `mode` into `buffer`, which writes to `output` whenever it is
     /// full. If memory is refused, `buffer` and `output` are unchanged. If `output` fails, it has

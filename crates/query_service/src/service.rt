@@ -1,16 +1,14 @@
 //! Serving a request: load a release, answer the input, report faults.
-ghost use Rattle.std.specs.Prelude.{◌≡◌, ◌≢◌, ◌⊎◌, ◌+◌, ◌≤◌, false, Err, IfErr, IfOk, IfSome, Ok, map, max};
-ghost use Rattle.std.specs.Prelude.{string_bytes};
+ghost use Rattle.std.specs.Prelude.{◌≡◌, ◌≢◌, false, Err, IfErr, IfOk, Ok, map, string_bytes};
 ghost use Rattle.text_parts.specs.Parts.{texts_of};
 ghost use Rattle.held_release.specs.Contents.{Contents, IsFaultOf};
 ghost use Rattle.release_rows.specs.Limits.{standard_limits};
-ghost use Rattle.release_rows.specs.Pieces.{AreInOrder, FailsAtFiles, IsUnlisted};
-ghost use Rattle.release_rows.specs.DeviceFaults.{RaisesOnlyAtDevice};
+ghost use Rattle.snapshot.specs.Loading.{IsLoadedFrom};
 ghost use Rattle.sample_release.specs.SampleContents.{sample_contents};
 ghost use Rattle.answer_printer.specs.LoadRefusal.{load_refusal};
 ghost use Rattle.answer_printer.specs.ReportText.{report_text};
 ghost use Rattle.query_service.specs.Report.{report_of};
-ghost use Rattle.query_service.specs.Serve.{EndsWith, IsLoadOf, IsTask, ServesWith, Task, TellsLoadFault};
+ghost use Rattle.query_service.specs.Serve.{EndsWith, IsTask, ServesWith, Task, TellsLoadFault};
 ghost use Rattle.query_service.specs.Serve.{fault_text, memory_text, refusal_status_of, sample_task};
 ghost use Rattle.query_service.specs.Serve.{status_code, status_of};
 ghost use Rattle.query_service.specs.Streams.{IsTold, outputs, streams};
@@ -231,19 +229,11 @@ fn report<Q: QueryEngine, S: FileSource>(
 ) -> Result<Vec<u8>, LoadFault>
     ensures ok { IfOk result (λ text. (contents : Contents)
         × (text.items ≡ report_text (report_of contents))
-        × IfSome (S.files source.old)
-        (λ known. IsLoadOf known lang.now (map string_bytes names.new.items) (Ok contents))) }
-    ensures err { IfErr result (λ fault. IfSome (S.files source.old) (λ known.
-        IsLoadOf known lang.now (map string_bytes names.new.items) (Err fault))) }
-    ensures named { IfSome (S.files source.old)
-        (λ known. AreInOrder known (map string_bytes names.new.items)
-        ⊎ IsUnlisted result (map string_bytes names.new.items) (S.history source.new)) }
-    ensures device { FailsAtFiles string_bytes names.new.items result (S.history source.old)
-        (S.history source.new) }
-    ensures failure_is_device { RaisesOnlyAtDevice result (S.history source.old)
-        (S.history source.new) }
-    ensures bounded { (S.history source.new).most
-        ≤ max (S.history source.old).most (standard_limits.bytes + 1) }
+        × IsLoadedFrom (S.files source.old) (S.history source.old) (S.history source.new)
+        standard_limits lang.now (map string_bytes names.new.items) (Ok contents)) }
+    ensures err { IfErr result (λ fault. IsLoadedFrom (S.files source.old) (S.history source.old)
+        (S.history source.new) standard_limits lang.now (map string_bytes names.new.items)
+        (Err fault)) }
 {
     match Q::report_from(alloc, source, names, lang, Limits::standard()) {
         Ok(report) => Ok(printed(alloc, &report)?),

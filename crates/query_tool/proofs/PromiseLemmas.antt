@@ -34,7 +34,8 @@ use Rattle.command_line.specs.declared.words.Mode.{Mode}
 use Rattle.command_line.specs.declared.words.Mode.TheVariants.{Query, QueryWith}
 use Rattle.query_run.specs.Lines.{AreAnswers, AreWritten, query_lines}
 use Rattle.query_service.specs.Answer.{IsAnswer}
-use Rattle.query_service.specs.Serve.{EndsWith, IsAnswered, IsAskedFor, IsLoadOf, IsLoadedFrom, IsServed, IsTask, Task}
+use Rattle.snapshot.specs.Loading.{IsLoadOf, IsLoadedFrom}
+use Rattle.query_service.specs.Serve.{EndsWith, IsAnswered, IsAskedFor, IsServed, IsTask, Task}
 use Rattle.query_service.specs.ModeAnswer.{form_of}
 use Rattle.query_service.specs.Streams.{Streams}
 use Rattle.query_service.specs.declared.service.Status.TheVariants.{Done}
@@ -196,7 +197,8 @@ release_of files names language contents own order loads = record {
 kept_promise : {R W E : Type 0} → KeepsRising → (r : Input R) (w : Output W) (e : Output E)
     (before after : Streams R W E) (files : List FileText) (language bytes there : List ℕ) (old new : History)
     (task : Task) (mode : Mode) (answers said : Contents → List ℕ → List ℕ → Type 0)
-    → (IsAskedFor (Some files) old new language mode task → IsLoadedFrom (Some files) old new language task)
+    → (IsAskedFor (Some files) old new language mode task
+    → IsLoadedFrom (Some files) old new standard_limits language task.names task.loaded)
     → ((contents : Contents) → IsServed r w mode contents before after → IsAnswered r w (answers contents) before after)
     → ((contents : Contents) → IsStrictlyIncreasing contents.release.concepts → (line text : List ℕ)
     → answers contents line text → said contents line text)
@@ -211,8 +213,8 @@ kept_promise rises r w e before after files language bytes there old new task mo
     let contents = served.contents in
     let answers_from = λ (earlier : Option (List ℕ)) (known : List ℕ).
     AreWritten (answers contents) (query_lines known) earlier (w.written after.output) in
-    let loads : IsLoadOf files language task.names (Ok contents) =
-    subst (IsLoadOf files language task.names) served.loaded (from_files asked.loaded).loaded in
+    let loads : IsLoadOf files standard_limits language task.names (Ok contents) =
+    subst (IsLoadOf files standard_limits language task.names) served.loaded (from_files asked.loaded).loaded in
     let answered : IsAnswered r w (answers contents) before after =
     answered_lines contents
     (subst (λ (done : Mode). IsServed r w done contents before after) asked.mode_is served.ended.served) in

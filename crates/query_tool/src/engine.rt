@@ -8,10 +8,10 @@ ghost use Rattle.constraint_tree.specs.Denotation.{denotation};
 ghost use Rattle.constraint_tree.specs.Tree.{Tree};
 ghost use Rattle.held_release.specs.Contents.{IsFaultOf};
 ghost use Rattle.snapshot.specs.Load.{load_of};
+ghost use Rattle.snapshot.specs.Loading.{IsLoadedFrom};
 ghost use Rattle.release_rows.specs.Files.{name_concepts};
-ghost use Rattle.release_rows.specs.Limits.{limits_in_force};
-ghost use Rattle.release_rows.specs.Pieces.{AreInOrder, FailsAtFiles, IsUnlisted, has_kind_at, listed};
-ghost use Rattle.release_rows.specs.DeviceFaults.{FailsAtRead, FileIs, RaisesOnlyAtDevice, is_device};
+ghost use Rattle.release_rows.specs.Pieces.{IsUnlisted, has_kind_at};
+ghost use Rattle.release_rows.specs.DeviceFaults.{FailsAtRead, FileIs};
 ghost use Rattle.release_files.specs.Source.{file_text};
 ghost use Rattle.query_service.specs.Answer.{IsAnswer};
 ghost use Rattle.query_service.specs.Explanation.{IsExplanation};
@@ -85,6 +85,7 @@ impl Engine {
     /// Loads a release from the files that `source` lists, in the byte order of their names, as
     /// `Snapshot::load_from` does, and prefers names in the language `lang`. `names` gets the names
     /// of the listed files, also if the load fails after the listing.
+    #[tactic(auto, using(snapshot::proofs::LoadingLemmas::loads_on))]
     pub fn load_from<S: FileSource>(
         alloc: Global,
         source: &mut S,
@@ -92,22 +93,8 @@ impl Engine {
         lang: &str,
         limits: Limits,
     ) -> Result<Engine, LoadFault>
-        ensures ok { IfSome (S.files source.old)
-            (λ known. IfOk result (λ engine. load_of limits lang.now
-            (listed known (map string_bytes names.new.items)) ≡ Ok engine)) }
-        ensures err { IfSome (S.files source.old)
-            (λ known. IfErr result (λ fault. is_device fault ≡ false
-            → IsFaultOf fault (load_of limits lang.now
-            (listed known (map string_bytes names.new.items))))) }
-        ensures names { IfSome (S.files source.old)
-            (λ known. AreInOrder known (map string_bytes names.new.items)
-            ⊎ IsUnlisted result (map string_bytes names.new.items) (S.history source.new)) }
-        ensures device { FailsAtFiles string_bytes names.new.items result (S.history source.old)
-            (S.history source.new) }
-        ensures failure_is_device { RaisesOnlyAtDevice result (S.history source.old)
-            (S.history source.new) }
-        ensures bounded { (S.history source.new).most
-            ≤ max (S.history source.old).most ((limits_in_force limits).bytes + 1) }
+        ensures loads { IsLoadedFrom (S.files source.old) (S.history source.old)
+            (S.history source.new) limits lang.now (map string_bytes names.new.items) result }
         ensures kind { IfErr result (λ fault. FailsAtRead
             (has_kind_at (map string_bytes names.new.items)) fault) }
         ensures files { S.files source.new ≡ S.files source.old }

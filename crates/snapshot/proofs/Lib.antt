@@ -1,4 +1,5 @@
 pub mod FaultLemmas
 mod LimitLemmas
 pub mod LoadLemmas
+pub mod LoadingLemmas
 pub mod PassedLemmas

@@ -1,2 +1,3 @@
 pub mod Load
+pub mod Loading
 pub mod Passed

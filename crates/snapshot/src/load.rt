@@ -7,11 +7,12 @@ ghost use Rattle.std.specs.Ordering.{nat_cmp};
 ghost use Rattle.rf2_rows.specs.Files.{file_kind_of};
 ghost use Rattle.release_files.specs.Source.{file_text};
 ghost use Rattle.release_rows.specs.Files.{has_kind as has_kind_of, is_concept_file, is_concept_kind, name_concepts};
-ghost use Rattle.release_rows.specs.Pieces.{AreInOrder, FailsAtFiles, IsUnlisted, has_kind_at, listed};
+ghost use Rattle.release_rows.specs.Pieces.{IsUnlisted, has_kind_at, listed};
 ghost use Rattle.release_rows.specs.DeviceFaults.{FailsAtRead, FailsOnlyAt, FileIs, RaisesOnlyAtDevice, ReadsWithin, is_device};
 ghost use Rattle.release_rows.specs.Limits.{limits_in_force, row_total};
 ghost use Rattle.held_release.specs.Contents.{IsFaultOf};
 ghost use Rattle.snapshot.specs.Load.{load_of, loaded_from};
+ghost use Rattle.snapshot.specs.Loading.{IsLoadedFrom};
 
 use held_release::{Snapshot, finish};
 use release_files::{FileSource, NamedBytes};
@@ -64,23 +65,9 @@ pub trait LoadSnapshot {
         lang: &str,
         limits: Limits,
     ) -> Result<Snapshot, LoadFault>
-        ensures ok { IfSome (S.files source.old)
-            (λ known. IfOk result (λ snapshot. load_of limits lang.now
-            (listed known (map string_bytes names.new.items)) ≡ Ok snapshot)) }
-        ensures err { IfSome (S.files source.old)
-            (λ known. IfErr result (λ fault. is_device fault ≡ false
-            → IsFaultOf fault (load_of limits lang.now
-            (listed known (map string_bytes names.new.items))))) }
-        ensures names { IfSome (S.files source.old)
-            (λ known. AreInOrder known (map string_bytes names.new.items)
-            ⊎ IsUnlisted result (map string_bytes names.new.items) (S.history source.new)) }
-        ensures device { FailsAtFiles string_bytes names.new.items result (S.history source.old)
-            (S.history source.new) }
+        ensures loads { IsLoadedFrom (S.files source.old) (S.history source.old)
+            (S.history source.new) limits lang.now (map string_bytes names.new.items) result }
         ensures failures { (S.history source.old).failures ≤ (S.history source.new).failures }
-        ensures failure_is_device { RaisesOnlyAtDevice result (S.history source.old)
-            (S.history source.new) }
-        ensures bounded { (S.history source.new).most
-            ≤ max (S.history source.old).most ((limits_in_force limits).bytes + 1) }
         ensures kind { IfErr result (λ fault. FailsAtRead
             (has_kind_at (map string_bytes names.new.items)) fault) }
         ensures files { S.files source.new ≡ S.files source.old }

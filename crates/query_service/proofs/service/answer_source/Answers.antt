@@ -1,6 +1,6 @@
 use Rattle.std.proofs.Common.{Global, List, ℕ, Ok, Err, String, inl, map, refl, string_bytes, subst}
 use Rattle.query_service.specs.Serve.{Task, TellsLoadFault}
-use Rattle.query_service.proofs.ServeLemmas.{asked_of_files, loaded_not, loaded_whole, refuses_with, within_standard}
+use Rattle.query_service.proofs.ServeLemmas.{asked_of_files, refuses_with, within_standard}
 use Rattle.query_service.proofs.service.answer_source.Goals as goal
 
 -- the release of the files was loaded and served, so the request ends with the status of that
@@ -12,13 +12,9 @@ returns-in-Ok g c =
       task,
       record {
         mode_is = refl;
-        loaded = asked_of_files c.args.mode c.requires.files (record {
-          loaded = loaded_whole _ c.standard.result c.args.lang.now names contents c.standard.ensures c.in-Ok.ensures.ok
-              c.in-Ok.ensures.names;
-          named = c.in-Ok.ensures.names;
-          device = record { failed = tt; failure_is_device = c.in-Ok.ensures.failure_is_device };
-          bounded = within_standard c.standard.result _ _ c.standard.ensures c.in-Ok.ensures.bounded;
-        });
+        loaded = asked_of_files task c.args.mode c.requires.files
+            (within_standard _ _ _ c.standard.result c.args.lang.now names (Ok contents) c.standard.ensures
+            c.in-Ok.ensures);
       },
       inl (record { contents = contents; loaded = refl; ended = c.answer_lines.ensures }),
     )
@@ -31,14 +27,9 @@ returns g c =
       task,
       record {
         mode_is = refl;
-        loaded = asked_of_files c.args.mode c.requires.files (record {
-          loaded = loaded_not _ c.standard.result c.args.lang.now names
-              (g.S.FileSource.history c.load_from.new.source) c.in-Err.fault c.standard.ensures c.in-Err.ensures.err
-              c.in-Err.ensures.names;
-          named = c.in-Err.ensures.names;
-          device = record { failed = c.in-Err.ensures.device; failure_is_device = c.in-Err.ensures.failure_is_device };
-          bounded = within_standard c.standard.result _ _ c.standard.ensures c.in-Err.ensures.bounded;
-        });
+        loaded = asked_of_files task c.args.mode c.requires.files
+            (within_standard _ _ _ c.standard.result c.args.lang.now names (Err c.in-Err.fault) c.standard.ensures
+            c.in-Err.ensures);
       },
       refuses_with g.R.QueryInput g.W.AnswerOutput g.E.AnswerOutput task c.in-Err.fault c.refuse.result _ _ _ _ refl
           (subst (λ (texts : List (String Global)). TellsLoadFault g.E.AnswerOutput

@@ -17,12 +17,7 @@ returns-in-Ok-write_all g c =
       task,
       record {
         mode_is = refl;
-        loaded = record {
-          loaded = loads;
-          named = c.in-Ok.ensures.named;
-          device = record { failed = tt; failure_is_device = c.in-Ok.ensures.failure_is_device };
-          bounded = c.in-Ok.ensures.bounded;
-        };
+        loaded = loads;
       },
       ends_reported g.R.QueryInput g.W.AnswerOutput g.E.AnswerOutput task contents c.as_slice.result.now
           c.args.input.now
@@ -43,12 +38,7 @@ returns-in-Ok g c =
       task,
       record {
         mode_is = refl;
-        loaded = record {
-          loaded = loads;
-          named = c.in-Ok.ensures.named;
-          device = record { failed = tt; failure_is_device = c.in-Ok.ensures.failure_is_device };
-          bounded = c.in-Ok.ensures.bounded;
-        };
+        loaded = loads;
       },
       ends_cut g.R.QueryInput g.W.AnswerOutput g.E.AnswerOutput task contents c.as_slice.result.now c.args.input.now
           c.args.output.now c.write_all.new.output c.args.errors.now c.tell_fault.new.errors c.tell_fault.result refl
@@ -64,12 +54,7 @@ returns g c =
       task,
       record {
         mode_is = refl;
-        loaded = record {
-          loaded = c.in-Err.ensures.err;
-          named = c.in-Err.ensures.named;
-          device = record { failed = c.in-Err.ensures.device; failure_is_device = c.in-Err.ensures.failure_is_device };
-          bounded = c.in-Err.ensures.bounded;
-        };
+        loaded = c.in-Err.ensures.err;
       },
       refuses_with g.R.QueryInput g.W.AnswerOutput g.E.AnswerOutput task c.in-Err.fault c.refuse.result _ _ _ _ refl
           (subst (λ (texts : List (String Global)). TellsLoadFault g.E.AnswerOutput
