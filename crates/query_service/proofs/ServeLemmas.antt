@@ -67,8 +67,8 @@ refuses_with r w e task fault MemoryRefused input output before after is told =
     inr (record { read = refl; written = refl; told = told })
 
 -- a mode other than `Sample` asks for the release of the source's files
-pub asked_of_files : {told : Option (List FileText)} {old new : History} {language : List ℕ} (task : Task) (mode : Mode)
-    → mode ≢ Sample → IsLoadedFrom told old new standard_limits language task.names task.loaded
+pub asked_of_files : {told : Option (List FileText)} {old new : History} {language : List ℕ} (task : Task)
+    (mode : Mode) → mode ≢ Sample → IsLoadedFrom told old new standard_limits language task.names task.loaded
     → IsAskedFor told old new language mode task
 asked_of_files task Sample other loaded = absurd (other refl)
 asked_of_files task mode other loaded = loaded

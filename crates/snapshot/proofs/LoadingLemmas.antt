@@ -27,14 +27,15 @@ whole (Some known) limits language names contents order loads = (order, loads)
 -- if the names were listed in order, a fault of the named files is a result that the load may have
 faulty : (told : Option (List FileText)) (limits : Limits) (language : List ℕ) (names : List (List ℕ))
     (fault : LoadFault) → IfSome told (λ known. AreInOrder known names)
-    → IfSome told (λ known. is_device fault ≡ false → IsFaultOf fault (load_of limits language (listed known names)))
+    → IfSome told (λ known. is_device fault ≡ false
+    → IsFaultOf fault (load_of limits language (listed known names)))
     → IfSome told (λ known. IsLoadOf known limits language names (Err fault))
 faulty None limits language names fault order said = tt
 faulty (Some known) limits language names fault order said = λ other own. (order, said own other)
 
 -- if the names were listed in order, they are those of the files, or the listing failed
-in_order : (told : Option (List FileText)) (names : List (List ℕ)) (now : History) (loaded : Result Contents LoadFault)
-    → IfSome told (λ known. AreInOrder known names)
+in_order : (told : Option (List FileText)) (names : List (List ℕ)) (now : History)
+    (loaded : Result Contents LoadFault) → IfSome told (λ known. AreInOrder known names)
     → IfSome told (λ known. AreInOrder known names ⊎ IsUnlisted loaded names now)
 in_order None names now loaded order = tt
 in_order (Some known) names now loaded order = inl order

@@ -1,6 +1,7 @@
 -- The contract of a load: what loading the files of a source gives, and what it does with the source.
 use Rattle.std.specs.Prelude.{ℕ, ◌≡◌, ◌≢◌, ◌⊎◌, ◌+◌, ◌≤◌, true, false, List, max}
 use Rattle.std.specs.Prelude.{IfErr, IfSome, Option, Result, Ok, Err}
+use Rattle.std.specs.Result.{result_map_both}
 use Rattle.release_files.specs.Source.{FileText, History}
 use Rattle.row_lists.specs.declared.fault.LoadFault.{LoadFault}
 use Rattle.row_lists.specs.declared.fault.LoadFault.TheVariants.{Memory}
@@ -49,5 +50,4 @@ pub record IsLoadedFrom (told : Option (List FileText)) (old new : History) (lim
 
 -- the result of a load, with what `tells` tells of the release in place of the release
 abbrev pub told_of : {X Y : Type 0} → (X → Y) → Result X LoadFault → Result Y LoadFault
-told_of tells (Ok release) = Ok (tells release)
-told_of tells (Err fault) = Err fault
+told_of tells result = result_map_both tells (λ fault. fault) result

@@ -9,7 +9,8 @@ use Rattle.query_tool.proofs.serving.EngineQueryEngine.load_from.Goals as goal
 
 -- a load of an engine, whose contents are what it stands for, is a load of its contents
 loads_contents : (told : Option (List FileText)) (old new : History) (limits : Limits) (language : List ℕ)
-    (names : List (List ℕ)) (loaded : Result Contents LoadFault) → IsLoadedFrom told old new limits language names loaded
+    (names : List (List ℕ)) (loaded : Result Contents LoadFault)
+    → IsLoadedFrom told old new limits language names loaded
     → IsLoadedFrom told old new limits language names (told_of (λ release. release) loaded)
 loads_contents told old new limits language names loaded =
     subst (IsLoadedFrom told old new limits language names) (sym (told_same loaded))
