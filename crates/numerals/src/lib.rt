@@ -3,7 +3,9 @@
 #![tactic(auto)]
 
 mod decimals;
+mod eight;
 mod reading;
 
 pub use crate::decimals::Decimal;
+pub use crate::eight::{are_digits, eight_digits};
 pub use crate::reading::{decimal, digits};

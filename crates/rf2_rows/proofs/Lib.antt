@@ -2,9 +2,11 @@ pub mod Accepted
 pub mod Columns
 pub mod Examples
 pub mod Identifiers
+pub mod LowestBit
 pub mod PairLemmas
 pub mod TabBits
 pub mod Texts
 pub mod VersionLemmas
 pub mod RowLemmas
 pub mod RowTextLemmas
+pub mod Words

@@ -6,7 +6,7 @@ ghost use Rattle.numerals.specs.Numbers.{number_of};
 ghost use Rattle.rf2_rows.specs.Rows.{IsReading, IsReadingLent, column_fault, time_of, active_of, uuid_of};
 
 use crate::fault::{RowCause, RowFault};
-use numerals::digits;
+use numerals::{digits, eight_digits};
 use sctid::{IdFault, Part, SctId};
 use uuid::Uuid;
 
@@ -60,7 +60,10 @@ pub fn time(text: &[u8], column: u8) -> Result<Option<u32>, RowFault>
     if text.is_empty() {
         return Ok(None);
     }
-    match digits(text, 8, 8) {
+    let Some(block) = text.as_array::<8>() else {
+        return Err(fault(RowCause::Time, column));
+    };
+    match eight_digits(block) {
         Some(number) => Ok(Some(number as u32)),
         None => Err(fault(RowCause::Time, column)),
     }

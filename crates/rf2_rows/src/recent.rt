@@ -1,6 +1,6 @@
 //! A cache of the concepts that a column had last. Columns such as module, type and modifier repeat
 //! a few concepts, row after row.
-ghost use Rattle.std.specs.Prelude.{◌≡◌, true, None, IfSome, length};
+ghost use Rattle.std.specs.Prelude.{◌≡◌, ◌+◌, ◌≤◌, true, None, IfSome, drop, length, take};
 ghost use Rattle.rf2_rows.specs.Columns.{cause_of, id_format};
 ghost use Rattle.numerals.specs.Numbers.{number_of};
 ghost use Rattle.rf2_rows.specs.Rows.{IsReading, column_fault};
@@ -36,6 +36,7 @@ impl Recent {
 
     /// Reads `text` as the identifier of a concept. Returns what `identifier` returns for a
     /// concept.
+    #[inline(always)]
     pub fn read(&mut self, text: &[u8], column: u8) -> Result<SctId, RowFault>
         ensures { IsReading (column_fault column (cause_of (id_format Concept) text.now))
             (number_of text.now) result }
@@ -97,6 +98,7 @@ impl ReadConcept {
     }
 
     // Returns the kept concept, if `text` is its text.
+    #[inline(always)]
     fn concept_of(&self, text: &[u8]) -> Option<SctId>
         ensures { IfSome result (λ concept. (cause_of (id_format Concept) text.now ≡ None)
             × (concept ≡ number_of text.now)) }
@@ -108,28 +110,44 @@ impl ReadConcept {
     }
 }
 
-// Whether two texts are the same. Most have `METADATA_DIGITS` bytes, and those are compared as
-// arrays, which is faster.
+// Whether two texts are the same. Most have `METADATA_DIGITS` bytes, and those are compared word by
+// word, which is faster.
+#[inline(always)]
 fn is_same(one: &[u8], other: &[u8]) -> bool
     ensures { result ≡ true → one.now ≡ other.now }
 {
     if one.len() == METADATA_DIGITS && other.len() == METADATA_DIGITS {
-        return is_same_start(one, other);
+        return is_same_identifier(one, other);
     }
     one == other
 }
 
-// Whether two texts of `METADATA_DIGITS` bytes are the same.
-fn is_same_start(one: &[u8], other: &[u8]) -> bool
+// Whether two texts of `METADATA_DIGITS` bytes are the same. The last word begins within the one
+// before it, so that it ends with the text.
+#[inline(always)]
+fn is_same_identifier(one: &[u8], other: &[u8]) -> bool
     requires one { length one.now ≡ 18 }
     requires other { length other.now ≡ 18 }
     ensures { result ≡ true → one.now ≡ other.now }
 {
+    let first = is_same_word(one, other, 0);
+    let second = is_same_word(one, other, 8);
+    let last = is_same_word(one, other, 10);
+    first & second & last
+}
+
+// Whether two texts have the same eight bytes from index `place` on.
+#[inline(always)]
+fn is_same_word(one: &[u8], other: &[u8], place: usize) -> bool
+    requires one { place + 8 ≤ length one.now }
+    requires other { place + 8 ≤ length other.now }
+    ensures { result ≡ true → take 8 (drop place one.now) ≡ take 8 (drop place other.now) }
+{
     match (
-        one.first_chunk::<METADATA_DIGITS>(),
-        other.first_chunk::<METADATA_DIGITS>(),
+        one[place..].first_chunk::<8>(),
+        other[place..].first_chunk::<8>(),
     ) {
-        (Some(one), Some(other)) => one == other,
+        (Some(one), Some(other)) => u64::from_le_bytes(*one) == u64::from_le_bytes(*other),
         _ => false,
     }
 }

@@ -21,6 +21,7 @@ pub struct VersionColumns {
 
 /// Reads the second to the fourth of `fields`, which are at least four. `recent` keeps the modules
 /// that were read last.
+#[inline(always)]
 pub fn read_version_columns(
     recent: &mut Recent,
     fields: &[&[u8]],
@@ -50,6 +51,7 @@ pub struct RelationshipEnd {
 
 /// Reads the seventh to the tenth of `fields`, the ten fields of a row of a relationship file.
 /// `recent` keeps concepts that were read last.
+#[inline(always)]
 pub fn read_relationship_end(
     recent: &mut RecentConcepts,
     fields: &[&[u8]],

@@ -67,18 +67,16 @@ fn push_ended<'a>(
         × NoTab line.now next (from + 64)) }
 {
     let mut start = start;
-    let mut place = from;
+    // loses its lowest bit with each field
     let mut left = marks;
     while left != 0 {
-        let lane = left.trailing_zeros();
-        let end = place + lane as usize;
+        let end = from + left.trailing_zeros() as usize;
         match fields.try_push(&line[start..end]) {
             Ok(()) => {}
             Err(_) => return None,
         }
         start = end + 1;
-        place = start;
-        left = left >> lane >> 1;
+        left &= left - 1;
     }
     Some(start)
 }

@@ -9,6 +9,7 @@ ghost use Rattle.std.specs.Str.Parse.{digits_value};
 ghost use Rattle.sctid.specs.Identifier.{check_product};
 
 use crate::check::{pair_product, permuted, times};
+use numerals::are_digits;
 
 /// The number and the check product of a text of digits.
 #[derive(Clone, Copy)]
@@ -35,7 +36,7 @@ pub fn read_digits(text: &[u8]) -> Option<Digits>
     // The permutation repeats after eight places, so a block of eight digits does not change the
     // product of the digits in front of it.
     for block in blocks {
-        if !is_digits(block) {
+        if !are_digits(block) {
             return None;
         }
         let right = read_block(block);
@@ -72,18 +73,6 @@ fn read_front(text: &[u8]) -> Option<Digits>
         number,
         check_product: product,
     })
-}
-
-// Whether eight bytes are decimal digits. It tests every byte, even after one that is no digit, so
-// that it compiles to a few steps for all eight.
-fn is_digits(block: &[u8; 8]) -> bool
-    ensures { result ≡ list_all is_ascii_digit block.now }
-{
-    let mut all = true;
-    for byte in block {
-        all &= byte.is_ascii_digit();
-    }
-    all
 }
 
 // Reads eight digits as four numbers of two digits.

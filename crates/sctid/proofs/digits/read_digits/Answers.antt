@@ -27,13 +27,13 @@ loop-block-init c =
     }
 
 -- if a block is not digits, the text is not
-pub returns-then-not-is_digits-clause-digits : goal.returns-then-not-is_digits-clause-digits
-returns-then-not-is_digits-clause-digits c =
+pub returns-then-not-are_digits-clause-digits : goal.returns-then-not-are_digits-clause-digits
+returns-then-not-are_digits-clause-digits c =
     let text = c.args.text.now in
     let i = c.loop-block.block-index in
     let read = block_is text c.as_rchunks.result.1.now i (omega (arith, c.as_rchunks.ensures.back_len))
     c.as_rchunks.ensures.back in
-    let block = ap (list_all is_ascii_digit) (sym read) ∙ sym c.if-not-is_digits.ensures in
+    let block = ap (list_all is_ascii_digit) (sym read) ∙ sym c.if-not-are_digits.ensures in
     sym (not_digits text (length text % 8 + 8 * (i + 1)) (digits-block text i c.loop-block.invariant.digits ∙ block))
 
 -- the number so far times 10^8 fits into 64 bits
@@ -54,7 +54,7 @@ overflow_add-read c =
     let i = c.loop-block.block-index in
     let within : i < length text / 8 = omega (arith, c.as_rchunks.ensures.back_len) in
     let read = block_is text c.as_rchunks.result.1.now i within c.as_rchunks.ensures.back in
-    let block = ap (list_all is_ascii_digit) (sym read) ∙ sym c.if-not-is_digits.ensures in
+    let block = ap (list_all is_ascii_digit) (sym read) ∙ sym c.if-not-are_digits.ensures in
     let more = digits-block text i c.loop-block.invariant.digits ∙ block in
     let number = c.read_block-right.ensures.number ∙ ap (digits_value 10) read in
     omega (
@@ -74,7 +74,7 @@ times-requires c =
         arith,
         c.read_block-right.ensures.product,
         check_product-lt (get_or c.as_rchunks.result.1.now i [])
-            (sym c.if-not-is_digits.ensures),
+            (sym c.if-not-are_digits.ensures),
       );
       right = omega (arith, check_product-lt (so_far text i) c.loop-block.invariant.digits);
     }
@@ -86,7 +86,7 @@ loop-block-preserved c =
     let i = c.loop-block.block-index in
     let within : i < length text / 8 = omega (arith, c.as_rchunks.ensures.back_len) in
     let read = block_is text c.as_rchunks.result.1.now i within c.as_rchunks.ensures.back in
-    let block = ap (list_all is_ascii_digit) (sym read) ∙ sym c.if-not-is_digits.ensures in
+    let block = ap (list_all is_ascii_digit) (sym read) ∙ sym c.if-not-are_digits.ensures in
     let number = c.read_block-right.ensures.number ∙ ap (digits_value 10) read in
     let product = c.read_block-right.ensures.product ∙ ap check_product read in
     let value = value-block text i within block in

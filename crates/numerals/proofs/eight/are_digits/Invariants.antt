@@ -1,7 +1,7 @@
 use Rattle.std.proofs.Common.{◌≡◌, take}
 use Rattle.std.specs.Char.{is_ascii_digit}
 use Rattle.std.specs.List.{list_all}
-use Rattle.sctid.proofs.digits.is_digits.Given as goal
+use Rattle.numerals.proofs.eight.are_digits.Given as goal
 
 -- whether what was looked at are digits
 abbrev pub invariant-loop-byte : goal.invariant-loop-byte
