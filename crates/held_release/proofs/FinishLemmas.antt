@@ -1,8 +1,8 @@
 -- The result of `finished`, from the lists of the chosen rows.
 use Rattle.std.proofs.lemmas.Bool.Decides.{nat_tests}
 use Rattle.std.proofs.lemmas.Grind.{common_steps}
-use Rattle.std.proofs.Common.{ℕ, Bool, ◌≡◌, ◌≢◌, ◌≤◌, ◌+◌, ◌-◌, All, List, [], ◌∷◌, length, map, Option, None, Some}
-use Rattle.std.proofs.Common.{Result, Ok, Err, arith, false, true, cond, filter_map, refl}
+use Rattle.std.proofs.Common.{ℕ, ◌≡◌, ◌≤◌, ◌+◌, ◌-◌, All, List, [], ◌∷◌, length, map, None}
+use Rattle.std.proofs.Common.{Ok, arith, true, cond, filter_map}
 use Rattle.std.proofs.lemmas.List.{length-map}
 use Rattle.std.proofs.lemmas.Bool.{and_parts}
 use Rattle.std.proofs.lemmas.List.Elements.{All-weaker, filter_passes}
@@ -10,15 +10,14 @@ use Rattle.std.proofs.lemmas.List.Sums.{length-filter, count_by-le-length}
 use Rattle.std.specs.List.Sorted.{IsStrictlyIncreasing}
 use Rattle.held_release.specs.inside.LeastCycle.{IsLeastCycle}
 use Rattle.rf2_rows.specs.Release.{Attribute, Name}
-use Rattle.held_release.specs.Contents.{Contents, IsFaultOf, first_cyclic, least_cyclic, unless_cyclic}
+use Rattle.held_release.specs.Contents.{Contents, IsFaultOf, first_cyclic}
 use Rattle.row_lists.specs.InForce.{rows_among}
 use Rattle.number_lists.specs.RisingOrder.{put, rising}
-use Rattle.held_release.specs.Finished.{IsCycle, attributes_among, contents_from, finished, names_among, release_from}
+use Rattle.held_release.specs.Finished.{IsCycle, attributes_among, finished, names_among}
 use Rattle.held_release.specs.ValuesInForce.{is_value_among}
 use Rattle.row_lists.specs.ReleaseLists.{ReleaseLists}
 use Rattle.held_release.specs.Numbering.{numbered_row, row_of_numbers}
 use Rattle.row_lists.specs.declared.fault.LoadFault.{LoadFault}
-use Rattle.row_lists.specs.declared.fault.LoadFault.TheVariants.{Cycle, Memory}
 use Rattle.held_release.proofs.NumberingLemmas.{first_cyclic-Some, rows_of_numbers}
 
 -- `put` makes a list longer by one item at most

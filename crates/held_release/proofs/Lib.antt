@@ -1,4 +1,4 @@
-pub mod BucketLemmas
+pub mod BlockLemmas
 pub mod FinishLemmas
 pub mod FirstRowLemmas
 pub mod KeptNameLemmas

@@ -1,5 +1,5 @@
 -- Definitions that private functions alone need: no contract of a public call names one.
-pub mod Buckets
+pub mod Blocks
 pub mod ConceptsInside
 pub mod FirstRows
 pub mod LeastCycle

@@ -1,7 +1,7 @@
 //! The concepts in force, and the lookup of a concept's number by its identifier.
-ghost use Rattle.std.specs.Prelude.{ℕ, ◌≡◌, ◌≤◌, ◌<◌, ◌^◌, IfOk, length, slice_index};
+ghost use Rattle.std.specs.Prelude.{ℕ, ◌≡◌, ◌≤◌, ◌<◌, ◌+◌, ◌^◌, IfOk, IfSome, length, slice_index};
 ghost use Rattle.std.specs.List.Sorted.{IsStrictlyIncreasing};
-ghost use Rattle.held_release.specs.inside.Buckets.{AreBucketStarts, IsBucketStart, bucket_count, bucket_of};
+ghost use Rattle.held_release.specs.inside.Blocks.{AreBlockWords, IsBlockStart, IsCountedBlock, block_of, start_in};
 ghost use Rattle.held_release.specs.Numbering.{concept_number};
 
 use row_lists::KnownConcepts;
@@ -9,15 +9,26 @@ use sctid::SctId;
 use std::alloc::{AllocError, Global};
 use std::marker::Model;
 
-// How many successive identifiers share a bucket. The last three digits of a concept's identifier
-// in the short form follow from those before them, so a bucket holds five concepts at most.
-const BUCKET_IDS: u64 = 4096;
+// How many successive identifiers make a block. The last three digits of a concept's identifier in
+// the short form follow from those before them, so a block has one such concept at most.
+const BLOCK_IDS: u64 = 1000;
 
-// The last bucket, which all larger identifiers share. Identifiers of extensions have at least 11
-// digits and so are in it.
-const LAST_BUCKET: u64 = 524_287;
+// How many blocks a word counts.
+const WORD_BLOCKS: u64 = 64;
 
-const BUCKETS: usize = LAST_BUCKET as usize + 1;
+// How many words there are at most. Identifiers of extensions have at least 11 digits and so are
+// after the last block.
+const MOST_WORDS: usize = 32_768;
+
+/// Which of 64 successive blocks of identifiers have a concept, and how many concepts are before
+/// them.
+#[derive(Clone, Copy)]
+struct BlockWord {
+    // a bit for each block, the first block's the lowest: 1 if the block has a concept
+    bits: u64,
+    // how many concepts are in the blocks before the first of these
+    before: u32,
+}
 
 /// The concepts in force: fewer than 2^31. The number of a concept is its index, from 0, in the
 /// rising list of the identifiers. Contracts name this type as that list.
@@ -25,9 +36,10 @@ const BUCKETS: usize = LAST_BUCKET as usize + 1;
 pub struct Concepts {
     // the identifiers in rising order
     ids: Vec<SctId>,
-    // for each bucket, how many identifiers are in the buckets before it; one more entry has the
-    // number of all identifiers
-    starts: Vec<u32>,
+    // the words of the first blocks, none of which has two concepts
+    words: Vec<BlockWord>,
+    // how many identifiers are in these blocks
+    counted: usize,
 }
 
 impl Model for Concepts {
@@ -35,23 +47,27 @@ impl Model for Concepts {
 
     ghost Value = { List ℕ };
 
-    ghost use Rattle.held_release.specs.inside.ConceptsInside.{AreInBuckets, ids_in};
+    ghost use Rattle.held_release.specs.inside.ConceptsInside.{AreInBlocks, ids_in};
 
     ghost view = { ids_in };
 
-    ghost invariant = { AreInBuckets };
+    ghost invariant = { AreInBlocks };
 }
 
 impl Concepts {
     /// Creates the list of the concepts with the identifiers `ids`, which must rise strictly, and
-    /// the buckets for the lookup.
+    /// the words for the lookup.
     pub fn new(alloc: Global, ids: Vec<SctId>) -> Result<Concepts, AllocError>
         requires rising { IsStrictlyIncreasing ids.items }
         requires few { length ids.items < 2 ^ 31 }
         ensures { IfOk result (λ concepts. concepts ≡ ids.items) }
     {
-        let starts = bucket_starts(alloc, ids.as_slice())?;
-        Ok(Concepts { ids, starts })
+        let (words, counted) = block_words(alloc, ids.as_slice())?;
+        Ok(Concepts {
+            ids,
+            words,
+            counted,
+        })
     }
 
     /// Returns the number of concepts.
@@ -82,10 +98,15 @@ impl Concepts {
     pub fn index_of(&self, id: u64) -> Option<u32>
         ensures { result ≡ concept_number self.now id }
     {
-        let bucket = bucket_of(id);
-        let from = self.starts[bucket] as usize;
-        let to = self.starts[bucket + 1] as usize;
-        number_between(self.ids.as_slice(), from, to, id)
+        let ids = self.ids.as_slice();
+        let block = block_of(id);
+        match self.words.as_slice().get((block / WORD_BLOCKS) as usize) {
+            Some(word) => {
+                let from = word.start_of(block % WORD_BLOCKS);
+                number_between(ids, from, ids.len().min(from + 1), id)
+            }
+            None => number_between(ids, self.counted, ids.len(), id),
+        }
     }
 }
 
@@ -99,42 +120,85 @@ impl KnownConcepts for Concepts {
     }
 }
 
-// Returns the bucket of the identifier `id`.
+// Returns the block of the identifier `id`.
 #[inline]
-#[tactic(auto, unfolding(crate::specs::inside::Buckets::bucket_of))]
-fn bucket_of(id: u64) -> usize
-    ensures is { result ≡ bucket_of id }
-    ensures below { result < bucket_count }
+#[tactic(auto, unfolding(crate::specs::inside::Blocks::block_of))]
+fn block_of(id: u64) -> u64
+    ensures { result ≡ block_of id }
 {
-    (id / BUCKET_IDS).min(LAST_BUCKET) as usize
+    id / BLOCK_IDS
 }
 
-// Returns for each bucket how many of the rising `ids` are in the buckets before it, and in a last
-// entry how many there are in all.
-fn bucket_starts(alloc: Global, ids: &[SctId]) -> Result<Vec<u32>, AllocError>
+impl BlockWord {
+    // Returns how many concepts are in the blocks before the one with the bit `bit`.
+    #[inline]
+    fn start_of(self, bit: u64) -> usize
+        requires { bit < 64 }
+        ensures { result ≡ start_in self bit }
+    {
+        self.before as usize + (self.bits % (1 << bit)).count_ones() as usize
+    }
+}
+
+// Returns the words of the first blocks of the rising `ids`, and how many identifiers are in these
+// blocks. The words end with the identifiers, with the greatest number of words, or before a word
+// that has a block with two identifiers.
+fn block_words(alloc: Global, ids: &[SctId]) -> Result<(Vec<BlockWord>, usize), AllocError>
     requires rising { IsStrictlyIncreasing ids.now }
     requires few { length ids.now < 2 ^ 31 }
-    ensures { IfOk result (λ starts. AreBucketStarts ids.now starts.items) }
+    ensures { IfOk result (λ made. AreBlockWords ids.now made.0.items made.1) }
 {
-    let mut starts = Vec::with_capacity(alloc, BUCKETS + 1)?;
-    let mut start = 0;
-    for bucket in 0..BUCKETS + 1 {
-        start = bucket_start(ids, start, bucket);
-        starts.push(start as u32)?;
+    let mut words = Vec::new(alloc);
+    let mut counted = 0;
+    while words.len() < MOST_WORDS && counted < ids.len() {
+        let Some((word, next)) = block_word(ids, counted, words.len() as u64 * WORD_BLOCKS) else {
+            return Ok((words, counted));
+        };
+        words.push(word)?;
+        counted = next;
     }
-    Ok(starts)
+    Ok((words, counted))
 }
 
-// Returns the index in `ids` at which `bucket` starts. All identifiers before the index `from` are
-// in earlier buckets.
-fn bucket_start(ids: &[SctId], from: usize, bucket: usize) -> usize
+// Returns the word of the 64 blocks from the block `first` on, and how many identifiers are in the
+// blocks up to its last. `start` identifiers are in the blocks before `first`. Returns `None` if
+// one of its blocks has two identifiers.
+fn block_word(ids: &[SctId], start: usize, first: u64) -> Option<(BlockWord, usize)>
+    requires rising { IsStrictlyIncreasing ids.now }
+    requires few { length ids.now < 2 ^ 31 }
+    requires start { IsBlockStart ids.now first start }
+    requires first { first < 2 ^ 63 }
+    ensures word { IfSome result (λ made. (bit : ℕ) → bit < 64
+        → IsCountedBlock ids.now (first + bit) (start_in made.0 bit)) }
+    ensures next { IfSome result (λ made. IsBlockStart ids.now (first + 64) made.1) }
+{
+    let mut bits = 0u64;
+    let mut place = start;
+    for bit in 0..WORD_BLOCKS {
+        let next = block_start(ids, place, first + bit + 1);
+        if next - place > 1 {
+            return None;
+        }
+        if next > place {
+            bits += 1 << bit;
+        }
+        place = next;
+    }
+    let before = start as u32;
+    Some((BlockWord { bits, before }, place))
+}
+
+// Returns the index in `ids` at which `block` starts. All identifiers before the index `from` are
+// in earlier blocks.
+fn block_start(ids: &[SctId], from: usize, block: u64) -> usize
     requires rising { IsStrictlyIncreasing ids.now }
     requires from { from ≤ length ids.now }
-    requires earlier { (place : ℕ) → place < from → bucket_of (slice_index ids.now place) < bucket }
-    ensures { IsBucketStart ids.now bucket result }
+    requires earlier { (place : ℕ) → place < from → block_of (slice_index ids.now place) < block }
+    ensures start { IsBlockStart ids.now block result }
+    ensures onward { from ≤ result }
 {
     let mut start = from;
-    while start < ids.len() && bucket_of(ids[start].number()) < bucket {
+    while start < ids.len() && block_of(ids[start].number()) < block {
         start += 1;
     }
     start

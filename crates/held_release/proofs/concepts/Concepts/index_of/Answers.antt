@@ -1,24 +1,45 @@
-use Rattle.std.proofs.Common.{arith}
-use Rattle.std.proofs.lemmas.Grind.{common_steps}
-use Rattle.held_release.proofs.BucketLemmas.{greater_after, less_before}
+use Rattle.std.proofs.Common.{ℕ, ◌<◌, ◌/◌, ◌∙◌, List, length, get_or, refl, sym, subst, ap, arith}
+use Rattle.std.specs.List.{slice_get}
+use Rattle.held_release.specs.declared.concepts.BlockWord.{BlockWord}
+use Rattle.std.proofs.lemmas.Option.{slice_get_read}
+use Rattle.held_release.proofs.BlockLemmas.{counted_block, greater_after, less_before, less_when_counted}
 use Rattle.held_release.proofs.concepts.Concepts.index_of.Goals as goal
 
--- every identifier before the start of the bucket of `id` is less than `id`
+-- every identifier before the start of the block of `id` is less than `id`
 pub number_between-requires-clause-above : goal.number_between-requires-clause-above
 number_between-requires-clause-above c = λ place before.
-    grind (
-      arith,
-      common_steps,
-      less_before c.self.inside.ids.items c.self.inside.starts.items c.self.invariant.starts c.args.id
-          c.bucket_of-bucket.result c.bucket_of-bucket.ensures.is place,
-    )
+    let inside = c.self.inside in
+    let block : ℕ = c.block_of-block.result in
+    let lookup = c.in-Some.ensures.lookup in
+    let there = slice_get_read c.as_slice.result.now (length c.as_slice.result.now) (block / 64) c.in-Some.word.now
+    refl lookup.3.0 lookup.1 in
+    let counted = counted_block inside.ids.items inside.words.items inside.counted c.self.invariant.words block
+    c.in-Some.word.now (ap (λ words. slice_get words (block / 64)) (sym c.as_slice.ensures.value) ∙ there) in
+    subst (λ ids. get_or ids place 0 < c.args.id) (sym c.as_slice-ids.ensures.value)
+    (less_before inside.ids.items c.args.id block _ c.block_of-block.ensures counted.starts place
+    (omega (arith, before, c.start_of-from.ensures)))
 
--- every identifier from the start of the next bucket on is greater than `id`
+-- every identifier after the first one of the block of `id` is greater than `id`
 pub number_between-requires-clause-below : goal.number_between-requires-clause-below
-number_between-requires-clause-below c = λ place following inside.
-    grind (
-      arith,
-      common_steps,
-      greater_after c.self.inside.ids.items c.self.inside.starts.items c.self.invariant.starts c.args.id
-          c.bucket_of-bucket.result c.bucket_of-bucket.ensures.is place,
-    )
+number_between-requires-clause-below c = λ place following within.
+    let inside = c.self.inside in
+    let block : ℕ = c.block_of-block.result in
+    let lookup = c.in-Some.ensures.lookup in
+    let there = slice_get_read c.as_slice.result.now (length c.as_slice.result.now) (block / 64) c.in-Some.word.now
+    refl lookup.3.0 lookup.1 in
+    let counted = counted_block inside.ids.items inside.words.items inside.counted c.self.invariant.words block
+    c.in-Some.word.now (ap (λ words. slice_get words (block / 64)) (sym c.as_slice.ensures.value) ∙ there) in
+    let same = ap (λ (ids : List ℕ). length ids) c.as_slice-ids.ensures.value in
+    subst (λ ids. c.args.id < get_or ids place 0) (sym c.as_slice-ids.ensures.value)
+    (greater_after inside.ids.items c.args.id block _ c.block_of-block.ensures counted place
+    (omega (arith, following, within, c.min.ensures, c.start_of-from.ensures)) (omega (arith, within, same)))
+
+-- every identifier in the counted blocks is less than an `id` after them
+pub number_between-requires-in-None-clause-above : goal.number_between-requires-in-None-clause-above
+number_between-requires-in-None-clause-above c = λ place before.
+    let inside = c.self.inside in
+    let block : ℕ = c.block_of-block.result in
+    let same = ap (λ (words : List BlockWord). length words) c.as_slice.ensures.value in
+    subst (λ ids. get_or ids place 0 < c.args.id) (sym c.as_slice-ids.ensures.value)
+    (less_when_counted inside.ids.items inside.words.items inside.counted c.args.id block c.self.invariant.words
+    c.block_of-block.ensures (omega (arith, same, c.in-None.ensures.lookup.3)) place before)
