@@ -1,11 +1,12 @@
 -- Blocks of rising identifiers: identifiers in earlier blocks are less than those in later ones, and words of bits
 -- tell where blocks start.
-use Rattle.std.proofs.Common.{rules, ℕ, zero, suc, ◌+◌, ◌-◌, ◌*◌, ◌/◌, ◌%◌, ◌^◌, ◌≡◌, ◌≤◌, ◌<◌, List, Some}
-use Rattle.std.proofs.Common.{length, get_or, count_ones, sym, subst, inl, inr, ap, ◌∙◌, arith}
+use Rattle.std.proofs.Common.{rules, ℕ, zero, suc, ◌+◌, ◌-◌, ◌*◌, ◌/◌, ◌%◌, ◌^◌, ◌≡◌, ◌≤◌, ◌<◌, List}
+use Rattle.std.proofs.Common.{refl, length, get_or, count_ones, sym, subst, inl, inr, ap, ◌∙◌, arith}
 use Rattle.std.specs.List.Sorted.{IsStrictlyIncreasing}
 use Rattle.std.specs.Int.Count.{ones, ones_step}
 use Rattle.std.proofs.Math.Nat.{pow-suc}
 use Rattle.std.proofs.lemmas.Bool.{cases_lt}
+use Rattle.std.proofs.lemmas.Option.{slice_get_read}
 use Rattle.std.proofs.Math.Pow.{mod-mod-pow}
 use Rattle.held_release.specs.inside.Blocks.{AreBlockWords, IsBlockStart, IsCountedBlock, block_of, start_in}
 use Rattle.held_release.specs.declared.concepts.BlockWord.{BlockWord}
@@ -70,7 +71,8 @@ pub record AreCounted (ids : List ℕ) (first start bits place k : ℕ) : Type 0
   pub blocks : (bit : ℕ) → bit < k → IsCountedBlock ids (first + bit) (start + count_ones (bits % 2 ^ bit))
 
 -- with the start of one block more, one block more is counted
-pub counted_more : (ids : List ℕ) (first start bits place k more next : ℕ) → AreCounted ids first start bits place k
+pub counted_more : (ids : List ℕ) (first start bits place k more next : ℕ)
+    → AreCounted ids first start bits place k
     → more < 2 ^ (k + 1) → more % 2 ^ k ≡ bits → IsBlockStart ids (first + (k + 1)) next → next ≤ place + 1
     → next ≡ start + count_ones more → AreCounted ids first start more next (k + 1)
 counted_more ids first start bits place k more next so_far small low following near counted = record {
@@ -120,17 +122,20 @@ module _ (ids : List ℕ) (id block start : ℕ) (own : block ≡ block_of id) w
   greater_after here place after within =
       less_by_block id (get_or ids place 0) (omega (arith, own, here.alone place (omega arith) within))
 
--- a block that the words count starts where its word says, and has one identifier at most
-pub counted_block : (ids : List ℕ) (words : List BlockWord) (counted : ℕ) → AreBlockWords ids words counted
-    → (block : ℕ) (word : BlockWord) → slice_get words (block / 64) ≡ Some word
-    → IsCountedBlock ids block (start_in word (block % 64))
-counted_block ids words counted kept block word there =
+-- a block of which a copy of the words has a word starts where this word says, and has one identifier at most
+pub counted_block : (ids : List ℕ) (words copy : List BlockWord) (counted : ℕ) → AreBlockWords ids words counted
+    → copy ≡ words → (block : ℕ) (word : BlockWord) → block / 64 < length copy
+    → word ≡ get_or copy (block / 64) word → IsCountedBlock ids block (start_in word (block % 64))
+counted_block ids words copy counted kept same block word within read =
     let whole : block / 64 * 64 + block % 64 ≡ block = omega arith in
+    let there = slice_get_read copy (length copy) (block / 64) word refl within read in
     subst (λ n. IsCountedBlock ids n (start_in word (block % 64))) whole
-    (kept.blocks (block / 64) (block % 64) word (omega arith) there)
+    (kept.blocks (block / 64) (block % 64) word (omega arith)
+    (ap (λ all. slice_get all (block / 64)) (sym same) ∙ there))
 
 -- the identifiers in the counted blocks are less than an identifier in a later block
-pub less_when_counted : (ids : List ℕ) (words : List BlockWord) (counted id block : ℕ) → AreBlockWords ids words counted
-    → block ≡ block_of id → length words ≤ block / 64 → (place : ℕ) → place < counted → get_or ids place 0 < id
+pub less_when_counted : (ids : List ℕ) (words : List BlockWord) (counted id block : ℕ)
+    → AreBlockWords ids words counted → block ≡ block_of id → length words ≤ block / 64
+    → (place : ℕ) → place < counted → get_or ids place 0 < id
 less_when_counted ids words counted id block kept own behind place before =
     less_by_block (get_or ids place 0) id (omega (arith, own, kept.rest.before place before))

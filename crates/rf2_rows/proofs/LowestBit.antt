@@ -12,7 +12,8 @@ lowest_is c rest = (rest * 2 + 1) * 2 ^ c
 -- moved up by one bit, a number has its lowest set bit one bit higher
 pub lowest_doubled : (c rest : ℕ) → lowest_is (suc c) rest ≡ 2 * lowest_is c rest
 lowest_doubled c rest =
-    ap (λ n. (rest * 2 + 1) * n) (pow-suc 2 c) ∙ sym (mul_assoc (rest * 2 + 1) (2 ^ c) 2) ∙ mul_comm (lowest_is c rest) 2
+    ap (λ n. (rest * 2 + 1) * n) (pow-suc 2 c) ∙ sym (mul_assoc (rest * 2 + 1) (2 ^ c) 2)
+    ∙ mul_comm (lowest_is c rest) 2
 
 -- moved up by `k` bits, a number has its lowest set bit `k` bits higher
 pub lowest_moved : (c rest k : ℕ) → lowest_is c rest * 2 ^ k ≡ lowest_is (c + k) rest

@@ -252,7 +252,8 @@ module _ (line : List ℕ) (from start to : ℕ) (few : to ≤ from + 64) where
   zeros_left some =
       let tab = first_tab line (from + passed) to (omega arith) some in
       ap (count_trailing_zeros 64) (bits_split some)
-      ∙ trailing_lowest 64 (ahead + passed) (tabs_in line (from + passed + (ahead + 1)) to) (omega (arith, tab.before))
+      ∙ trailing_lowest 64 (ahead + passed) (tabs_in line (from + passed + (ahead + 1)) to)
+      (omega (arith, tab.before))
 
   -- without their lowest bit, the bits that are left are those of the tabs after the next one
   bits_after : 0 < left → bit_and (tabs_left line from start to) (tabs_left line from start to - 1)
@@ -290,10 +291,10 @@ lowest_tab line from start to few some =
 
 -- if there is no tab between `start` and `from`, the parts of a line from `start` on are the bytes up to the next
 -- tab that is left, followed by the parts after this tab
-pub next_field : (line : List ℕ) (start from to : ℕ) → NoTab line start (from + (start - from)) → to ≤ from + 64
-    → 0 < tabs_left line from start to
-    → take (next_left line from start to - start) (drop start line) ∷ parts_from line (next_left line from start to + 1)
-    ≡ parts_from line start
+pub next_field : (line : List ℕ) (start from to : ℕ) → NoTab line start (from + (start - from))
+    → to ≤ from + 64 → 0 < tabs_left line from start to
+    → take (next_left line from start to - start) (drop start line)
+    ∷ parts_from line (next_left line from start to + 1) ≡ parts_from line start
 next_field line start from to clear few some =
     let there = tabs_there line from start to few some in
     let place : ℕ = from + (start - from) in

@@ -29,11 +29,13 @@ loop-bit-preserved c =
     let twice = pow-add 2 k 1 in
     elim c.if-next-place.branch [
       | then-next-place w ↦
-          let power : 1 * 2 ^ k % 2 ^ 64 ≡ 2 ^ k = ap (λ n. n % 2 ^ 64) (one-mul (2 ^ k)) ∙ mod-eq_of_lt (pow-lt within) in
+          let power : 1 * 2 ^ k % 2 ^ 64 ≡ 2 ^ k =
+          ap (λ n. n % 2 ^ 64) (one-mul (2 ^ k)) ∙ mod-eq_of_lt (pow-lt within) in
           let more_is : more ≡ bits + 2 ^ k = w.bits-is ∙ ap (λ n. bits + n) power in
           let low : more % 2 ^ k ≡ bits =
           ap (λ n. n % 2 ^ k) more_is ∙ add-mod_right bits (2 ^ k) ∙ mod-eq_of_lt so_far.small in
-          let ones : count_ones more ≡ count_ones bits + 1 = ap count_ones more_is ∙ ones_more k bits so_far.small in
+          let ones : count_ones more ≡ count_ones bits + 1 =
+          ap count_ones more_is ∙ ones_more k bits so_far.small in
           counted_more ids c.args.first c.args.start bits place k more next so_far
           (omega (arith, more_is, twice, so_far.small)) low following near
           (omega (arith, ones, so_far.counted, w.if-next-place.true, near))
