@@ -32,6 +32,7 @@ pub fn are_digits(block: &[u8; 8]) -> bool
 
 // Returns the number that eight digits write. There is no test in the loop, so that it is unrolled.
 #[inline]
+#[tactic(auto, using(crate::proofs::DecimalLemmas::digit_steps, crate::proofs::DigitLemmas::digit_in))]
 fn value_of(block: &[u8; 8]) -> u64
     requires { list_all is_ascii_digit block.now ≡ true }
     ensures value { result ≡ digits_value 10 block.now }

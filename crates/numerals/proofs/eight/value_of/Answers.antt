@@ -1,22 +1,6 @@
-use Rattle.std.proofs.Common.{◌<◌, ◌^◌, length, get_or, arith}
-use Rattle.std.proofs.lemmas.Bool.{and_parts, leb-true}
+use Rattle.std.proofs.Common.{◌<◌, ◌^◌, length, arith}
 use Rattle.numerals.proofs.DigitLemmas.{digit_in, digits_more, front_small, value_more}
 use Rattle.numerals.proofs.eight.value_of.Goals as goal
-
--- ten times the number so far fits into 64 bits
-pub overflow_mul-number : goal.overflow_mul-number
-overflow_mul-number c =
-    let small = front_small c.args.block.now c.loop-byte.byte-index 8 (omega arith) c.loop-byte.invariant.digits in
-    omega arith
-
--- the number with the next digit fits into 64 bits
-pub overflow_add-number : goal.overflow_add-number
-overflow_add-number c =
-    let small = front_small c.args.block.now c.loop-byte.byte-index 8 (omega arith) c.loop-byte.invariant.digits in
-    let block = c.args.block.now in
-    let at = c.loop-byte.byte-index in
-    let digit = digit_in block at (omega arith) c.requires in
-    omega (arith, leb-true (get_or block at 0) 57 (and_parts _ _ digit).1)
 
 -- with one digit more, the digits and the number are those of the bytes so far
 pub loop-byte-preserved : goal.loop-byte-preserved
