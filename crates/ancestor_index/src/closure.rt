@@ -11,7 +11,7 @@ ghost use Rattle.ancestor_index.specs.inside.Gathered.{AreGathered, AreRisingBel
 ghost use Rattle.ancestor_index.specs.inside.Parents.{AreParentsBy};
 ghost use Rattle.ancestor_index.specs.Wide.{AreWide};
 
-use crate::grown::with_list;
+use crate::grown::push_list;
 use crate::wide::WideLists;
 use idset::{ConceptSet, WordSet, put_union};
 use number_lists::{KeyedLists, keep_rising};
@@ -100,7 +100,7 @@ fn ancestors_in_order(
             count,
         )?;
         wide.push(alloc, room.list.as_slice(), count)?;
-        lists = with_list(lists, room.list.as_slice())?;
+        push_list(&mut lists, room.list.as_slice())?;
     }
     Ok(lists)
 }
@@ -309,7 +309,7 @@ fn reordered(alloc: Global, lists: &KeyedLists, places: &[u32]) -> Result<KeyedL
 {
     let mut found = KeyedLists::with_capacity(alloc, places.len(), lists.item_count())?;
     for place in places {
-        found = with_list(found, lists.of(*place))?;
+        push_list(&mut found, lists.of(*place))?;
     }
     Ok(found)
 }

@@ -1,17 +1,17 @@
 //! Adding a list to a `KeyedLists`, with want of memory as the only fault.
-ghost use Rattle.std.specs.Prelude.{◌≡◌, ◌++◌, ◌∷◌, [], IfOk};
+ghost use Rattle.std.specs.Prelude.{◌≡◌, ◌++◌, ◌∷◌, [], OnOk};
 
 use number_lists::{KeyedLists, PushFault};
-use std::alloc::{AllocError, Global};
+use std::alloc::AllocError;
 
-/// Returns `lists` with `list` added as the last one. Fails with `AllocError` if memory is refused
-/// or if all lists together would have 2^32 items or more. A hierarchy of that size would take
-/// 16 GiB and more in each direction.
-pub fn with_list(lists: KeyedLists, list: &[u32]) -> Result<KeyedLists, AllocError>
-    ensures { IfOk result (λ grown. grown ≡ lists ++ list.now ∷ []) }
+/// Adds `list` to `lists` as the last one. Fails with `AllocError` if memory is refused or if all
+/// lists together would have 2^32 items or more. A hierarchy of that size would take 16 GiB and
+/// more in each direction.
+pub fn push_list(lists: &mut KeyedLists, list: &[u32]) -> Result<(), AllocError>
+    ensures { OnOk result (lists.new ≡ lists.old ++ list.now ∷ []) }
 {
     match lists.push(list) {
-        Ok(grown) => Ok(grown),
+        Ok(()) => Ok(()),
         Err(PushFault::TooManyItems | PushFault::Memory) => Err(AllocError),
     }
 }

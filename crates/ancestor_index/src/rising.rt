@@ -3,7 +3,7 @@ ghost use Rattle.std.specs.Prelude.{◌≡◌, ◌<◌, ◌^◌, IfOk, length, m
 ghost use Rattle.number_lists.specs.Rising.{listed_numbers};
 ghost use Rattle.number_lists.specs.KeyedLists.{AreItemsBelow};
 
-use crate::grown::with_list;
+use crate::grown::push_list;
 use number_lists::{KeyedLists, keep_rising};
 use std::alloc::{AllocError, Global};
 
@@ -20,7 +20,7 @@ pub fn rising_lists(alloc: Global, lists: &KeyedLists, bound: u32) -> Result<Key
         list.clear();
         list.extend_from_slice(lists.of(key))?;
         keep_rising(&mut list);
-        rising = with_list(rising, list.as_slice())?;
+        push_list(&mut rising, list.as_slice())?;
     }
     Ok(rising)
 }

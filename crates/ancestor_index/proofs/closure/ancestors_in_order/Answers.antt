@@ -115,17 +115,17 @@ loop-concept-preserved c =
           ∙ ap (λ (concepts : List ℕ). listed_numbers count
           (gathered_by c.args.places.now c.loop-concept.lists concepts)) own
           ∙ gathered_listed turn in
-          c.in_ok-lists-2.ensures
+          c.in_ok-push_list.ensures
           ∙ (λ i. c.loop-concept.invariant.known rows given i ++ made i ∷ [])
           ∙ sym (map_more (λ concept. numbers_where count (reaches rows concept)) order k 0 c.loop-concept-test.true);
-      rising = subst (AreRisingBelow count) (sym c.in_ok-lists-2.ensures)
+      rising = subst (AreRisingBelow count) (sym c.in_ok-push_list.ensures)
           (rising_more count c.loop-concept.lists list c.loop-concept.invariant.rising
           (subst (IsRisingBelow count) (sym (c.as_slice-in-loop-concept.ensures.value ∙ c.in_ok-join.ensures))
           (numbers_where-rising count _)));
-      items = subst (AreItemsBelow count) (sym c.in_ok-lists-2.ensures)
+      items = subst (AreItemsBelow count) (sym c.in_ok-push_list.ensures)
           (items_more count c.loop-concept.lists list c.loop-concept.invariant.items below);
       wide = subst (λ (lists : List (List ℕ)). AreWide count lists c.push.new.self.ends.items
-          c.push.new.self.words.items) (sym c.in_ok-lists-2.ensures)
+          c.push.new.self.words.items) (sym c.in_ok-push_list.ensures)
           (subst (λ (pushed : List ℕ). AreWide count (c.loop-concept.lists ++ pushed ∷ []) c.push.new.self.ends.items
           c.push.new.self.words.items) same
           (c.in_ok-push.ensures c.loop-concept.lists c.loop-concept.invariant.wide));

@@ -1,5 +1,5 @@
 -- After each place there is one list more, that of the place.
-use Rattle.std.proofs.Common.{◌≡◌, ◌∙◌, ◌++◌, ◌∷◌, [], List, ℕ, ap, get_or, map, sym, take, take_all}
+use Rattle.std.proofs.Common.{◌∙◌, ◌++◌, ◌∷◌, [], List, ℕ, ap, get_or, map, sym, take, take_all}
 use Rattle.std.proofs.lemmas.List.{map-append, take_more}
 use Rattle.number_lists.specs.KeyedLists.{list_of}
 use Rattle.ancestor_index.proofs.closure.reordered.Goals as goal
@@ -11,7 +11,7 @@ loop-place-preserved c =
     let places = c.args.places.now in
     let i = c.loop-place.place-index in
     let place = get_or places i 0 in
-    c.in_ok-found-2.ensures
+    c.in_ok-push_list.ensures
     ∙ ap (λ (own : List ℕ). c.loop-place.found ++ own ∷ []) c.of.ensures
     ∙ ap (λ (lists : List (List ℕ)). lists ++ list place ∷ []) c.loop-place.invariant
     ∙ sym (ap (map list) (take_more places i 0 c.loop-place-test.true) ∙ map-append list (take i places) (place ∷ []))

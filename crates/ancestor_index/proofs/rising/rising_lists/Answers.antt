@@ -18,6 +18,6 @@ loop-key-preserved c =
     c.as_slice.ensures.value
     ∙ c.keep_rising.ensures c.args.bound (subst (λ (xs : List ℕ). All (λ number. number < c.args.bound) xs)
     (sym gathered) below) ∙ ap (listed_numbers c.args.bound) gathered in
-    c.in_ok-rising-2.ensures
+    c.in_ok-push_list.ensures
     ∙ (λ i. c.loop-key.invariant i ++ made i ∷ [])
     ∙ sym (map_more (listed_numbers c.args.bound) lists key [] within)
