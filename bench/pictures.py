@@ -27,9 +27,8 @@ ROW: List[Tuple[str, str, str]] = [
     ("rf2_rows", "RelationshipRow", "source 101009, type 104001, destination 106004, group 1, active, inferred"),
     ("row_lists", "KeptRow", "the identifiers, if the row counts"),
     ("held_release", "NumberedRow", "source 1, group 1, type 104001, value 6"),
-    ("held_release", "SortedRow", "type place 0; rows stand by source"),
-    ("postings", "CodedRow", "source 1, type place 0, group 0 of all, value 6; first with its pair"),
-    ("postings", "columns", "by type: source, value, group; by value: source, type, group"),
+    ("held_release", "CodedRow", "source 1, type place 0, group 1, value 6; rows stand by source"),
+    ("postings", "columns", "by type: source, value, group 0 of all; by value: source, type, group"),
 ]
 
 

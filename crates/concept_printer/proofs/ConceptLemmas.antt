@@ -1,6 +1,6 @@
 -- Lemmas on concepts in force and their names.
 use Rattle.std.proofs.Common.{◌≡◌, ◌∙◌, ℕ, ◌<◌, ◌==◌, Bool, true, false, cond, List, [], ◌∷◌, ◌++◌, None, Some, decimal}
-use Rattle.std.proofs.Common.{length, get_or, append-nil, codes, sym, subst, ap}
+use Rattle.std.proofs.Common.{length, get_or, append-nil, codes, is_some, sym, subst, ap}
 use Rattle.std.proofs.lemmas.Bool.{eqb-true}
 use Rattle.std.proofs.lemmas.List.Elements.{Contains-get_or}
 use Rattle.std.proofs.lemmas.List.Quantifiers.{position-Some}
@@ -10,7 +10,7 @@ use Rattle.held_release.specs.Contents.{Contents}
 use Rattle.held_release.specs.Line.{concept_line, name_text}
 use Rattle.held_release.specs.Name.{name_of}
 use Rattle.held_release.specs.Numbering.{concept_number}
-use Rattle.held_release.proofs.NumberedLemmas.{concept_none}
+use Rattle.held_release.proofs.NumberingLemmas.{number_has}
 use Rattle.concept_printer.specs.ConceptText.{concept_text, concept_words, identifier_line, name_in_force, told_of}
 
 -- if `concepts` numbers the identifier `id` with `number`, then `number` is below the count of concepts, and the
@@ -43,12 +43,16 @@ line_by_number contents number below =
     ap (λ name. (decimal (get_or contents.release.concepts number 0) ++ name_text name) ++ 10 ∷ [])
     (name_by_number contents number below)
 
+-- an identifier without a number is not in `concepts`
+not_in_force : (concepts : List ℕ) (id : ℕ) → concept_number concepts id ≡ None → has concepts id ≡ false
+not_in_force concepts id none = sym (number_has concepts id) ∙ ap is_some none
+
 -- an identifier that has no number among the concepts is printed without a name
 pub words_without : (contents : Contents) (id : ℕ) → concept_number contents.release.concepts id ≡ None
     → concept_words (name_in_force contents) id ≡ decimal id
 words_without contents id none =
     (λ i. decimal id
-    ++ name_text (cond (concept_none contents.release.concepts id none i)
+    ++ name_text (cond (not_in_force contents.release.concepts id none i)
     (name_of contents.release contents.language id) None))
     ∙ append-nil (decimal id)
 
@@ -71,6 +75,6 @@ pub told_otherwise : (contents : Contents) (id : ℕ) (inactive : Bool)
     → has contents.inactive id ≡ inactive
     → cond inactive (identifier_line (codes "INACTIVE") id) (identifier_line (codes "UNKNOWN") id) ≡ told_of contents id
 told_otherwise contents id inactive none is =
-    sym ((λ i. cond (concept_none contents.release.concepts id none i) (concept_text contents id)
+    sym ((λ i. cond (not_in_force contents.release.concepts id none i) (concept_text contents id)
     (cond (has contents.inactive id) (identifier_line (codes "INACTIVE") id) (identifier_line (codes "UNKNOWN") id)))
     ∙ (λ i. cond (is i) (identifier_line (codes "INACTIVE") id) (identifier_line (codes "UNKNOWN") id)))

@@ -15,7 +15,7 @@ use Rattle.number_lists.specs.Rising.{IsRisingBelow}
 use Rattle.rf2_rows.specs.Pairs.{rows_of}
 use Rattle.rf2_rows.specs.Release.{Attribute, Release}
 use Rattle.held_release.specs.AttributesBySource.{attributes_by_source}
-use Rattle.ancestor_index.specs.HierarchyLists.{Hierarchy, hierarchy_of, is_child, lists_where}
+use Rattle.ancestor_index.specs.HierarchyLists.{Hierarchy, is_child, lists_where}
 use Rattle.ancestor_index.proofs.ClosureLemmas.{length-where, list_of-where}
 use Rattle.postings.specs.Indexed.{Indexed, IsIndexOf, has_members, rows_by_source, with_members}
 use Rattle.postings.specs.Places.{places_where}

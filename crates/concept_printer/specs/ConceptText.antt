@@ -1,7 +1,7 @@
 -- The text that describes one concept, as `describe` writes it (Release File Specification,
 -- "Concept file", "Relationship file", "Relationship concrete values file" and "Simple reference
 -- set"; the lines are this project's).
-use Rattle.std.specs.Prelude.{ℕ, ◌≡◌, ◌++◌, ◌==◌, if◌then◌else◌, nat_le, List, [], ◌∷◌, codes, decimal, filter, length}
+use Rattle.std.specs.Prelude.{ℕ, ◌++◌, if◌then◌else◌, nat_le, List, [], ◌∷◌, codes, decimal, filter, length}
 use Rattle.std.specs.Prelude.{Option, None, Some}
 use Rattle.std.specs.List.{flat_map}
 use Rattle.number_lists.specs.Members.{has}

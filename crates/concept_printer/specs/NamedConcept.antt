@@ -1,9 +1,9 @@
 -- The concept that a line of `describe` names: its identifier, with or without its term (Expression
 -- Constraint Language 2.2, 5.1 "Brief syntax", conceptReference; Release File Specification,
 -- "Component identifiers").
-use Rattle.std.specs.Prelude.{ℕ, ◌==◌, ◌||◌, Bool, false, not, if◌then◌else◌, List, [], ◌∷◌, codes, length, nat_lt}
+use Rattle.std.specs.Prelude.{ℕ, ◌==◌, ◌||◌, Bool, not, if◌then◌else◌, List, [], ◌∷◌, codes, length, nat_lt}
 use Rattle.std.specs.Prelude.{reverse, slice_index_or}
-use Rattle.std.specs.Prelude.{Option, None, Some, option_map}
+use Rattle.std.specs.Prelude.{Option, Some, option_map}
 use Rattle.std.specs.Str.{is_utf8}
 use Rattle.sctid.specs.declared.IdFault.{IdFault}
 use Rattle.sctid.specs.declared.IdFault.TheVariants as fault

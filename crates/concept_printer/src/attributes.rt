@@ -3,14 +3,15 @@ ghost use Rattle.std.specs.Prelude.{◌≡◌, ◌<◌, ◌%◌, ◌^◌, ◌++�
 ghost use Rattle.std.specs.List.{flat_map};
 ghost use Rattle.number_lists.specs.Rising.{IsRisingBelow};
 ghost use Rattle.number_lists.specs.RisingOrder.{rising as rising_of};
-ghost use Rattle.held_release.specs.AttributesBySource.{IsNumberBelow, numbered_lent, value_by_identifier};
+ghost use Rattle.rf2_rows.specs.Rows.{value_lent};
 ghost use Rattle.concept_printer.specs.ConceptText.{attribute_line, by_group, concept_words, headed, name_in_force};
 ghost use Rattle.concept_printer.specs.ConceptText.{value_words};
 ghost use Rattle.concept_printer.specs.inside.GroupKeys.{group_key, row_numbered, row_with_key};
 
 use crate::concept::{append_head, append_number, append_words};
 use constraint_tree::print_decimal;
-use held_release::{NumberedValue, Snapshot};
+use held_release::Snapshot;
+use rf2_rows::Value;
 use sctid::SctId;
 use std::alloc::{AllocError, Global};
 
@@ -72,7 +73,7 @@ fn key_of_row(snapshot: &Snapshot, row: u32) -> u64
     requires { row < length snapshot.now.release.attributes }
     ensures { result ≡ group_key snapshot.now.release row }
 {
-    let group = snapshot.attribute_numbers(row).group;
+    let group = snapshot.attribute_row(row).group;
     u64::from(group) * KEYS_OF_GROUP + u64::from(row)
 }
 
@@ -104,24 +105,24 @@ fn append_attribute(snapshot: &Snapshot, row: u32, text: &mut Vec<u8>) -> Result
     ensures { OnOk result (text.new.items ≡ text.old.items
         ++ attribute_line (name_in_force snapshot.now) (row_numbered snapshot.now.release row)) }
 {
-    let row = snapshot.attribute_numbers(row);
+    let row = snapshot.attribute_row(row);
     append_number(u64::from(row.group), text)?;
     text.push(b' ')?;
-    append_type(snapshot, row.type_id, text)?;
+    append_concept(snapshot, row.type_id, text)?;
     text.push(b' ')?;
-    append_value(snapshot, row.value, text)?;
+    append_value(snapshot, &row.value, text)?;
     text.push(b'\n')?;
     Ok(())
 }
 
-// Appends the identifier `type_id`, and its name if it is a concept in force that has one.
-fn append_type(snapshot: &Snapshot, type_id: SctId, text: &mut Vec<u8>) -> Result<(), AllocError>
+// Appends the identifier `id`, and its name if it is that of a concept in force that has one.
+fn append_concept(snapshot: &Snapshot, id: SctId, text: &mut Vec<u8>) -> Result<(), AllocError>
     ensures { OnOk result (text.new.items ≡ text.old.items
-        ++ concept_words (name_in_force snapshot.now) type_id) }
+        ++ concept_words (name_in_force snapshot.now) id) }
 {
-    match snapshot.index_of(type_id.number()) {
+    match snapshot.index_of(id.number()) {
         Some(concept) => append_words(snapshot, concept, text),
-        None => append_number(type_id.number(), text),
+        None => append_number(id.number(), text),
     }
 }
 
@@ -129,17 +130,15 @@ fn append_type(snapshot: &Snapshot, type_id: SctId, text: &mut Vec<u8>) -> Resul
 // the text of its file.
 fn append_value(
     snapshot: &Snapshot,
-    value: NumberedValue<'_>,
+    value: &Value<'_>,
     text: &mut Vec<u8>,
 ) -> Result<(), AllocError>
-    requires { IsNumberBelow (length snapshot.now.release.concepts) (numbered_lent value) }
     ensures { OnOk result (text.new.items ≡ text.old.items
-        ++ value_words (name_in_force snapshot.now)
-        (value_by_identifier snapshot.now.release.concepts (numbered_lent value.entry))) }
+        ++ value_words (name_in_force snapshot.now) (value_lent value.now)) }
 {
     match value {
-        NumberedValue::Concept(concept) => append_words(snapshot, concept, text),
-        NumberedValue::Decimal(decimal) => print_decimal(decimal, text),
-        NumberedValue::Other(other) => text.extend_from_slice(other),
+        Value::Concept(concept) => append_concept(snapshot, *concept, text),
+        Value::Decimal(decimal) => print_decimal(*decimal, text),
+        Value::Other(other) => text.extend_from_slice(other),
     }
 }

@@ -75,11 +75,6 @@ finished-Err language files count listed concepts fault rises cycle other = grin
 pub length-names_among : (concepts : List ℕ) (names : List Name) → length (names_among concepts names) ≤ length names
 length-names_among concepts names = grind (arith, common_steps, nat_tests, count_by-le-length, length-filter)
 
--- `attributes_among` keeps at most as many attributes as there are
-pub length-attributes_among : (concepts : List ℕ) (attributes : List Attribute)
-    → length (attributes_among concepts attributes) ≤ length attributes
-length-attributes_among concepts attributes = grind (arith, common_steps, nat_tests, count_by-le-length, length-filter)
-
 -- `attributes_among` keeps only attributes whose value is one of `concepts` or no concept
 pub attributes_among-values : (concepts : List ℕ) (attributes : List Attribute)
     → All (λ (row : Attribute). is_value_among concepts row.value ≡ true) (attributes_among concepts attributes)

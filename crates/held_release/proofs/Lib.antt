@@ -1,4 +1,6 @@
 pub mod BlockLemmas
+pub mod CodedRowLemmas
+pub mod DistinctPlaceLemmas
 pub mod FinishLemmas
 pub mod FirstRowLemmas
 pub mod KeptNameLemmas
@@ -10,4 +12,6 @@ pub mod NumberedLemmas
 pub mod NumberingLemmas
 pub mod SortedLemmas
 pub mod SortingLemmas
+pub mod TableLemmas
 pub mod TypeLemmas
+pub mod ValueLemmas

@@ -1,8 +1,10 @@
 pub mod AttributesBySource
+pub mod CodedRows
 pub mod Contents
 pub mod Finished
 pub mod inside
 pub mod Line
 pub mod Name
 pub mod Numbering
+pub mod RowValues
 pub mod ValuesInForce

@@ -9,5 +9,4 @@ pub mod NamesInLines
 pub mod NumberedInside
 pub mod SnapshotInside
 pub mod Sorted
-pub mod SortedInside
-pub mod ValueNumbers
+pub mod TextsInside

@@ -14,14 +14,15 @@ ghost use Rattle.held_release.specs.Line.{concept_line};
 ghost use Rattle.held_release.specs.Name.{name_among};
 ghost use Rattle.held_release.specs.Numbering.{numbered_row};
 ghost use Rattle.held_release.specs.inside.LeastCycle.{IsLeastCycle};
-ghost use Rattle.held_release.specs.inside.Sorted.{IsSortedBySource, in_file_order};
+ghost use Rattle.held_release.specs.CodedRows.{AreCodedRows};
+ghost use Rattle.held_release.specs.inside.Sorted.{IsSortedBySource, in_file_order, sorted_in};
 
+use crate::coded_rows::{CodedRows, code_rows};
 use crate::concepts::Concepts;
 use crate::held_release::Snapshot;
 use crate::lines::{ConceptLines, lines_among};
 use crate::numbered_attributes::number_attributes;
 use crate::numbering::number_rows;
-use crate::sorted_attributes::{SortedAttributes, sort_by_source};
 use hierarchy::{least_cyclic, parents_first};
 use key_interner::Seed;
 use row_lists::{Attributes, LoadFault, Names, ReadRows, RowLists};
@@ -80,7 +81,7 @@ pub fn finish(
             } = lists;
             let listed = u64::from(concepts.len())
                 + isa.len() as u64
-                + attributes.len() as u64
+                + attributes.rows.len() as u64
                 + members.len() as u64
                 + lines.name_count() as u64;
             Ok(Snapshot {
@@ -105,7 +106,7 @@ pub fn finish(
 #[derive(Drop)]
 struct Lists {
     lines: ConceptLines,
-    attributes: SortedAttributes,
+    attributes: CodedRows,
     members: Vec<(u32, u32)>,
 }
 
@@ -125,13 +126,16 @@ fn lists_among(
     ensures names { IfOk result (λ lists. lists.lines.names ≡ names_among concepts.now names) }
     ensures lines { IfOk result (λ lists. lists.lines.lines
         ≡ map (concept_line (name_among language.now lists.lines.names)) concepts.now) }
-    ensures attributes { IfOk result (λ lists. in_file_order concepts.now lists.attributes
-        ≡ attributes_among concepts.now attributes) }
-    ensures sorted { IfOk result (λ lists. IsSortedBySource concepts.now lists.attributes) }
+    ensures attributes { IfOk result (λ lists. in_file_order
+        (sorted_in concepts.now lists.attributes) ≡ attributes_among concepts.now attributes) }
+    ensures sorted { IfOk result (λ lists.
+        IsSortedBySource concepts.now (sorted_in concepts.now lists.attributes)) }
+    ensures coded { IfOk result (λ lists.
+        AreCodedRows concepts.now (sorted_in concepts.now lists.attributes).rows lists.attributes) }
     ensures members { IfOk result (λ lists. lists.members.items
         ≡ filter_map (numbered_row concepts.now) member_ends.now) }
 {
-    let attributes = sorted_among(alloc, concepts, attributes, seed)?;
+    let attributes = coded_among(alloc, concepts, attributes, seed)?;
     let members = number_rows(alloc, concepts, member_ends)?;
     let lines = lines_among(alloc, concepts, names, language)?;
     Ok(Lists {
@@ -141,22 +145,27 @@ fn lists_among(
     })
 }
 
-// Keeps the attribute rows that are in force, with the numbers of their concepts, and sorts them by
-// source. Frees `attributes` before it sorts, to save memory.
-fn sorted_among(
+// Keeps the attribute rows that are in force, as numbers and sorted by source. Frees `attributes`
+// before it sorts, to save memory.
+fn coded_among(
     alloc: Global,
     concepts: &Concepts,
     attributes: Attributes,
     seed: Seed,
-) -> Result<SortedAttributes, AllocError>
+) -> Result<CodedRows, AllocError>
     requires { length attributes < 2 ^ 31 }
-    ensures order { IfOk result (λ sorted. in_file_order concepts.now sorted
+    ensures order { IfOk result (λ coded. in_file_order (sorted_in concepts.now coded)
         ≡ attributes_among concepts.now attributes) }
-    ensures sorted { IfOk result (λ sorted. IsSortedBySource concepts.now sorted) }
+    ensures sorted { IfOk result (λ coded.
+        IsSortedBySource concepts.now (sorted_in concepts.now coded)) }
+    ensures coded { IfOk result (λ coded.
+        AreCodedRows concepts.now (sorted_in concepts.now coded).rows coded) }
 {
-    let numbered = number_attributes(alloc, concepts, &attributes)?;
-    drop(attributes);
-    sort_by_source(alloc, concepts, numbered, seed)
+    let (kept, concrete) = attributes.into_rows();
+    let rows = number_attributes(alloc, concepts, kept.as_slice())?;
+    drop(kept);
+    let coded = code_rows(alloc, concepts, rows.as_slice(), &concrete, seed)?;
+    Ok(coded)
 }
 
 // The is-a rows in force, as pairs of concept numbers, and a topological order of the concepts.

@@ -2,7 +2,8 @@
 ghost use Rattle.std.specs.Prelude.{◌≡◌, ◌<◌, ◌^◌, ℕ, List, None, Some, true, map, length, slice_index};
 ghost use Rattle.std.specs.List.{slice_get};
 ghost use Rattle.std.specs.List.Sorted.{IsStrictlyIncreasing};
-ghost use Rattle.held_release.specs.AttributesBySource.{IsNumberBelow, attribute_numbered, attribute_of, attributes_by_source, by_identifiers, numbered_lent, value_by_identifier, with_source};
+ghost use Rattle.held_release.specs.AttributesBySource.{attribute_of, attributes_by_source, with_source};
+ghost use Rattle.held_release.specs.CodedRows.{AreCodedRows};
 ghost use Rattle.held_release.specs.ValuesInForce.{AreValuesInForce, is_value_among};
 ghost use Rattle.held_release.specs.Line.{concept_line};
 ghost use Rattle.held_release.specs.Name.{name_of, text_lent};
@@ -12,14 +13,28 @@ ghost use Rattle.held_release.specs.Numbering.{concept_number, row_of_numbers};
 ghost use Rattle.rf2_rows.specs.Rows.{value_lent};
 ghost use Rattle.hierarchy.specs.ParentsFirst.{IsParentsFirst};
 
+use crate::coded_rows::CodedRows;
 use crate::concepts::Concepts;
 use crate::lines::ConceptLines;
 use crate::report::Report;
-use crate::sorted_attributes::{AttributeNumbers, AttributeRow, NumberedValue, SortedAttributes};
 use key_interner::Seed;
 use rf2_rows::Value;
 use sctid::SctId;
 use std::marker::Model;
+
+/// An attribute row in force (Release File Specification, "Relationship file" and "Relationship
+/// concrete values file").
+#[derive(Clone, Copy, Debug, PartialEq, Eq)]
+pub struct AttributeRow<'a> {
+    /// The number of the concept that has the attribute.
+    pub source: u32,
+    /// The type.
+    pub type_id: SctId,
+    /// The number of the group, 0 for none.
+    pub group: u32,
+    /// The value. If it is a text, this is borrowed from the snapshot.
+    pub value: Value<'a>,
+}
 
 /// A loaded release: its concepts and rows in force. The number of a concept is its index, from 0,
 /// in the rising list of the identifiers. Contracts name this type as the release, the inactive
@@ -34,8 +49,8 @@ pub struct Snapshot {
     pub(crate) isa: Vec<(u32, u32)>,
     // the numbers of all concepts, each after those of its parents
     pub(crate) order: Vec<u32>,
-    // the attribute rows, sorted by source
-    pub(crate) attributes: SortedAttributes,
+    // the attribute rows as numbers, sorted by source
+    pub(crate) attributes: CodedRows,
     // the reference set and the component of each member row, by number, in the order of the rows
     // in the files
     pub(crate) members: Vec<(u32, u32)>,
@@ -173,7 +188,7 @@ impl Snapshot {
             ≡ length self.now.release.attributes }
         ensures values { AreValuesInForce self.now.release }
     {
-        self.attributes.len() as u32
+        self.attributes.rows.len() as u32
     }
 
     /// Returns the attribute row in force with the number `n`, which must be below
@@ -187,26 +202,24 @@ impl Snapshot {
         ensures source { result.source < length self.now.release.concepts }
         ensures value { is_value_among self.now.release.concepts (value_lent result.value) ≡ true }
     {
-        let row = self.attribute_numbers(n);
+        let row = self.attributes.rows[n as usize];
         AttributeRow {
             source: row.source,
-            type_id: row.type_id,
+            type_id: self.attributes.types[row.type_place as usize],
             group: row.group,
-            value: identified_value(&self.concepts, row.value),
+            value: self
+                .attributes
+                .values
+                .value_at(self.concepts.ids(), row.value),
         }
     }
 
-    /// Returns the attribute row in force with the number `n`, like `attribute_row`. A value that
-    /// is a concept is returned as its number, which saves the lookup of its identifier.
-    pub fn attribute_numbers(&self, n: u32) -> AttributeNumbers<'_>
-        requires { n < length self.now.release.attributes }
-        ensures row { slice_get (attributes_by_source self.now.release) n
-            ≡ Some (by_identifiers self.now.release.concepts (attribute_numbered result)) }
-        ensures source { result.source < length self.now.release.concepts }
-        ensures value { IsNumberBelow (length self.now.release.concepts)
-            (numbered_lent result.value) }
+    /// Returns the attribute rows in force as numbers, in the order of their numbers.
+    pub fn coded_rows(&self) -> &CodedRows
+        ensures { AreCodedRows self.now.release.concepts (attributes_by_source self.now.release)
+            result.now }
     {
-        self.attributes.numbers(n as usize)
+        &self.attributes
     }
 
     /// Returns the counts of the files that the release was loaded from, of the rows in force, and
@@ -224,7 +237,7 @@ impl Snapshot {
             files: self.files,
             concepts: u64::from(self.concepts.len()),
             isa: self.isa.len() as u64,
-            attributes: self.attributes.len() as u64,
+            attributes: self.attributes.rows.len() as u64,
             members: self.members.len() as u64,
             names: self.lines.name_count() as u64,
             passed: self.passed,
@@ -244,18 +257,4 @@ fn is_among(id: u64, concepts: &[SctId]) -> bool
         { concept.number() },
     );
     place.is_ok()
-}
-
-// Returns `value` with the identifier of a concept instead of its number.
-fn identified_value<'a>(concepts: &Concepts, value: NumberedValue<'a>) -> Value<'a>
-    requires { IsNumberBelow (length concepts.now) (numbered_lent value) }
-    ensures value { value_lent result ≡ value_by_identifier concepts.now
-        (numbered_lent value.entry) }
-    ensures among { is_value_among concepts.now (value_lent result) ≡ true }
-{
-    match value {
-        NumberedValue::Concept(number) => Value::Concept(concepts.id_at(number)),
-        NumberedValue::Decimal(decimal) => Value::Decimal(decimal),
-        NumberedValue::Other(text) => Value::Other(text),
-    }
 }

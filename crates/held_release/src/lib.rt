@@ -3,6 +3,7 @@
 #![tactic(auto)]
 
 mod attribute_types;
+mod coded_rows;
 mod concepts;
 mod finishing;
 mod held_release;
@@ -13,12 +14,13 @@ mod naming;
 mod numbered_attributes;
 mod numbering;
 mod report;
-mod sorted_attributes;
-mod value_number;
+mod texts;
+mod values;
 
-pub use crate::attribute_types::{Types, near_types};
+pub use crate::coded_rows::{CodedRow, CodedRows};
 pub use crate::finishing::finish;
-pub use crate::held_release::Snapshot;
+pub use crate::held_release::{AttributeRow, Snapshot};
 pub use crate::laws::{cyclic_concept_is_the_least, naming_row_comes_first};
 pub use crate::report::Report;
-pub use crate::sorted_attributes::{AttributeNumbers, AttributeRow, NumberedValue};
+pub use crate::texts::Texts;
+pub use crate::values::Values;

@@ -20,7 +20,7 @@ use Rattle.postings.specs.Groups.{ConceptGroup, group_of, groups_in, is_in_group
 use Rattle.postings.specs.Indexed.{Indexed, types_of, value_at, values_of}
 use Rattle.postings.proofs.KeyLemmas.{IsTold, groups_once, groups_told_apart, in_one_group, in_own_group}
 use Rattle.number_lists.proofs.ListLemmas.{IsOnce, same_place}
-use Rattle.postings.proofs.ValueLemmas.{concept_at}
+use Rattle.held_release.proofs.ValueLemmas.{concept_at}
 use Rattle.number_lists.specs.Members.{times}
 use Rattle.pair_sets.specs.inside.Hits.{AreHits, TellsTypes, value_of, counts_for_group, counts_for_source}
 use Rattle.pair_sets.specs.inside.Hits.{counts_for_value}

@@ -18,7 +18,7 @@ use Rattle.constraint_tree.specs.Passing.{compares, is_number_that, is_outside, 
 use Rattle.rf2_rows.specs.Release.{Value, concept_value, number_value, text_value}
 use Rattle.held_release.specs.Numbering.{concept_number}
 use Rattle.postings.specs.Indexed.{Indexed, value_at, values_among, values_of}
-use Rattle.postings.proofs.ValueLemmas.{concept_at, decimal_at, value_after}
+use Rattle.held_release.proofs.ValueLemmas.{concept_at, decimal_at, value_after}
 use Rattle.pair_sets.specs.inside.Hits.{value_of}
 use Rattle.candidates.specs.Numbers.{is_one_of}
 use Rattle.pair_sets.specs.Tested.{meets}

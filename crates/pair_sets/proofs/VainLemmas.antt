@@ -14,7 +14,7 @@ use Rattle.constraint_tree.specs.Passing.{compares, is_number_that}
 use Rattle.postings.specs.Entries.{Entry, entries_after, entries_of, entries_with_type}
 use Rattle.postings.specs.Groups.{groups_in}
 use Rattle.postings.specs.Indexed.{Indexed, IsIndexOf}
-use Rattle.postings.specs.RowValues.{decimals_at, decimals_of}
+use Rattle.held_release.specs.RowValues.{decimals_at, decimals_of}
 use Rattle.pair_sets.specs.Tested.{meets}
 use Rattle.pair_sets.specs.declared.hits.Owner.{Owner}
 use Rattle.pair_sets.specs.declared.hits.Owner.TheVariants as owners

@@ -1,7 +1,7 @@
 //! Finds the concepts and the groups whose number of matching pairs lies in a cardinality, by one
 //! kind of rows: those of values, those of types, or those of candidates.
 ghost use Rattle.std.specs.Prelude.{ℕ, ◌≡◌, ◌<◌, All, Bool, IfOk, false, filter, length, not};
-ghost use Rattle.std.specs.List.{range_with_len, sum_by};
+ghost use Rattle.std.specs.List.{sum_by};
 ghost use Rattle.constraint_tree.specs.Passing.{is_within};
 ghost use Rattle.number_lists.specs.Rising.{IsRisingBelow};
 ghost use Rattle.number_lists.specs.Members.{has};
@@ -25,7 +25,7 @@ use crate::hits::{group_hits_by_type, group_hits_by_value, hits_by_type, hits_by
 use crate::tested::Tested;
 use candidates::Candidates;
 use constraint_tree::Cardinality;
-use idset::ConceptSet;
+use idset::{ConceptSet, every_number};
 use reading::{Answer, Counter, Reader};
 use std::alloc::{AllocError, Global};
 
@@ -223,7 +223,7 @@ fn numbers_asked<S: ConceptSet>(
 {
     match candidates {
         Candidates::All => {
-            let numbers = numbers_below(alloc, bound)?;
+            let numbers = every_number(alloc, bound)?;
             Ok(numbers)
         }
         Candidates::Within(set, _) => {
@@ -231,15 +231,4 @@ fn numbers_asked<S: ConceptSet>(
             Ok(numbers)
         }
     }
-}
-
-// Lists all numbers below `bound`.
-fn numbers_below(alloc: Global, bound: u32) -> Result<Vec<u32>, AllocError>
-    ensures { IfOk result (λ numbers. numbers.items ≡ range_with_len 0 bound) }
-{
-    let mut numbers = Vec::with_capacity(alloc, bound as usize)?;
-    for number in 0..bound {
-        numbers.push(number)?;
-    }
-    Ok(numbers)
 }

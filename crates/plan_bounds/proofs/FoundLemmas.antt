@@ -53,7 +53,7 @@ use Rattle.postings.proofs.EntryLemmas.{rows_of_entries}
 use Rattle.postings.proofs.KeyLemmas.{IsTold, group_with, groups_at, groups_once, groups_told_apart, in_one_group}
 use Rattle.postings.proofs.PlaceLemmas.{length-places_where}
 use Rattle.postings.proofs.StatsLemmas.{stats_told}
-use Rattle.postings.proofs.ValueLemmas.{from_map}
+use Rattle.held_release.proofs.ValueLemmas.{from_map}
 use Rattle.set_algebra.specs.declared.choice.Choice.{Choice}
 use Rattle.set_algebra.specs.declared.choice.Choice.TheVariants.{ByValue, ByType, Scan}
 use Rattle.plan_bounds.specs.Alternatives.{found_by, leaf_rows, leaf_size}

@@ -13,12 +13,12 @@ use Rattle.held_release.specs.Numbering.{row_of_numbers}
 use Rattle.ancestor_index.specs.HierarchyLists.{is_child, lists_where}
 use Rattle.ancestor_index.proofs.BuildLemmas.{lists_where-agree, same_child}
 use Rattle.ancestor_index.proofs.ClosureLemmas.{length-where}
-use Rattle.postings.specs.inside.Coded.{row_coded, rows_coded}
+use Rattle.held_release.specs.CodedRows.{row_coded, rows_coded}
 use Rattle.postings.specs.Indexed.{value_at}
 use Rattle.postings.specs.inside.KeptRows.{rows_kept}
 use Rattle.postings.specs.inside.RowIndexes.{AreRowIndexes}
 use Rattle.postings.specs.declared.row_indexes.RowIndexes.{RowIndexes}
-use Rattle.postings.specs.declared.rows.CodedRow.{CodedRow}
+use Rattle.held_release.specs.declared.coded_rows.CodedRow.{CodedRow}
 
 -- ---- a row by its numbers
 module _ (concepts types ids : List ℕ) (values : List Value) (coded : List CodedRow) (n : ℕ) (row : CodedRow)
@@ -52,14 +52,15 @@ module _ (concepts types ids : List ℕ) (values : List Value) (coded : List Cod
 -- decoding the rows that the indexes of `rows` keep gives `rows`
 pub rows_told : (concepts all : List ℕ) (rows : List Attribute) (indexes : RowIndexes) → all ≡ concepts
     → AreRowIndexes concepts rows indexes
-    → rows_coded all indexes.types indexes.values (rows_kept indexes) ≡ rows
+    → rows_coded all indexes.types.numbers indexes.values (rows_kept indexes) ≡ rows
 rows_told concepts all rows indexes same are =
-    ap (λ (ids : List ℕ). rows_coded ids indexes.types indexes.values (rows_kept indexes)) same ∙ are.coded.stand_for
+    ap (λ (ids : List ℕ). rows_coded ids indexes.types.numbers indexes.values (rows_kept indexes)) same
+    ∙ are.coded.stand_for
 
 -- indexes built from `rows` are also the indexes of the rows that they encode
 pub indexes_of_own : (concepts all : List ℕ) (rows : List Attribute) (indexes : RowIndexes) → all ≡ concepts
     → AreRowIndexes concepts rows indexes
-    → AreRowIndexes all (rows_coded all indexes.types indexes.values (rows_kept indexes)) indexes
+    → AreRowIndexes all (rows_coded all indexes.types.numbers indexes.values (rows_kept indexes)) indexes
 indexes_of_own concepts all rows indexes same are =
     subst (λ (found : List Attribute). AreRowIndexes all found indexes)
     (sym (rows_told concepts all rows indexes same are))

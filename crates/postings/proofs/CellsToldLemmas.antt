@@ -7,13 +7,13 @@ use Rattle.postings.specs.Columns.{Flagged}
 use Rattle.postings.specs.Entries.{Entry, entries_of}
 use Rattle.postings.specs.inside.IndexInside.{AreIndexed, indexed_in}
 use Rattle.postings.specs.Indexed.{Indexed, value_at}
-use Rattle.postings.specs.inside.Coded.{row_coded}
-use Rattle.postings.specs.inside.ValueTables.{values_in}
+use Rattle.held_release.specs.CodedRows.{row_coded}
+use Rattle.held_release.specs.CodedRows.{values_in}
 use Rattle.postings.specs.inside.KeptRows.{mark_at, row_kept}
 use Rattle.postings.specs.RowColumns.{AreRowCells}
 use Rattle.postings.specs.declared.index.Indexes.TheInside.{Inside}
 use Rattle.postings.specs.declared.index.RowCells.{RowCells}
-use Rattle.postings.specs.declared.rows.CodedRow.{CodedRow}
+use Rattle.held_release.specs.declared.coded_rows.CodedRow.{CodedRow}
 use Rattle.postings.proofs.EntryLemmas.{rows_of_entries}
 use Rattle.postings.proofs.IndexLemmas.{if_there}
 use Rattle.postings.proofs.GroupNumberLemmas.{near, row_at, row_coded_within, row_there}

@@ -12,10 +12,11 @@ use Rattle.rf2_rows.specs.Pairs.{pair_eq, pair_of, value_eq}
 use Rattle.rf2_rows.specs.Release.{Attribute, Value}
 use Rattle.rf2_rows.proofs.PairLemmas.{tells_same_value}
 use Rattle.number_lists.proofs.PlaceLemmas.{place_of, place_of-get_or}
-use Rattle.postings.specs.inside.Coded.{IsCoded, has_same_pair, row_coded}
+use Rattle.held_release.specs.CodedRows.{IsCoded, row_coded}
+use Rattle.postings.specs.inside.Coded.{has_same_pair}
 use Rattle.postings.specs.Entries.{is_alike, is_alike_in_group}
 use Rattle.postings.specs.Indexed.{value_at}
-use Rattle.postings.specs.declared.rows.CodedRow.{CodedRow}
+use Rattle.held_release.specs.declared.coded_rows.CodedRow.{CodedRow}
 
 -- in a strictly rising list, two concepts are equal exactly if their places `a` and `b` are
 pub same_concept : (concepts : List ℕ) → IsStrictlyIncreasing concepts → (a b : ℕ) → a < length concepts

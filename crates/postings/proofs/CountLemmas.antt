@@ -42,7 +42,7 @@ use Rattle.number_lists.proofs.BlockLemmas.{any-within, filter-map}
 use Rattle.number_lists.proofs.BlockLemmas.{filter-none, filter-twice, flat_map-within}
 use Rattle.postings.proofs.FirstLemmas.{firsts_give_distinct, pair_eq-flips}
 use Rattle.postings.proofs.KeyLemmas.{group_with, groups_at}
-use Rattle.postings.proofs.DistinctLemmas.{All-distinct}
+use Rattle.held_release.proofs.DistinctPlaceLemmas.{All-distinct}
 
 -- ---- counts of lists that have the same members, each once
 module _ {X : Type 0} (same : X → X → Bool) (laws : IsEquivalence same) (exact : (x y : X) → same x y ≡ true → x ≡ y)

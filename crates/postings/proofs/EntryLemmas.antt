@@ -5,7 +5,7 @@ use Rattle.rf2_rows.specs.Release.{Attribute}
 use Rattle.postings.specs.inside.Coded.{marks_after}
 use Rattle.postings.specs.Columns.{Flagged}
 use Rattle.postings.specs.Entries.{Entry, entries_after, is_alike, is_alike_in_group}
-use Rattle.postings.specs.declared.rows.CodedRow.{CodedRow}
+use Rattle.held_release.specs.declared.coded_rows.CodedRow.{CodedRow}
 use Rattle.postings.proofs.FlagLemmas.{flags_after}
 
 -- the rows of the entries of `rows` are `rows`

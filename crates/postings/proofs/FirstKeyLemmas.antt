@@ -5,7 +5,7 @@ use Rattle.std.proofs.Common.{refl, sym, ap, arith, append-nil, append_assoc}
 use Rattle.std.specs.List.{list_any, position_or_len}
 use Rattle.std.proofs.lemmas.List.Folds.{list_any-append}
 use Rattle.key_interner.specs.KeyInterner.{keys_after}
-use Rattle.postings.proofs.DistinctLemmas.{position_or_len-append_found}
+use Rattle.held_release.proofs.DistinctPlaceLemmas.{position_or_len-append_found}
 
 -- ---- the first item that passes a test
 module _ {X : Type 0} (test : X → Bool) where

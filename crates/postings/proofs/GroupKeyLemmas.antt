@@ -17,12 +17,13 @@ use Rattle.number_lists.specs.RisingOrder.{rising}
 use Rattle.number_lists.proofs.ListLemmas.{both_ways, some_item_passes}
 use Rattle.number_lists.proofs.MemberLemmas.{contains_had, had_contained}
 use Rattle.postings.specs.inside.Coded.{code_eq, group_codes, ungrouped_pairs, numbers_of_groups, pair_code}
-use Rattle.postings.specs.inside.Coded.{place_in_source, row_coded}
+use Rattle.held_release.specs.CodedRows.{row_coded}
+use Rattle.postings.specs.inside.Coded.{place_in_source}
 use Rattle.postings.specs.Groups.{GroupKey, key_of, numbered, ungrouped}
 use Rattle.postings.specs.Indexed.{value_at}
-use Rattle.postings.specs.declared.rows.CodedRow.{CodedRow}
+use Rattle.held_release.specs.declared.coded_rows.CodedRow.{CodedRow}
 use Rattle.number_lists.proofs.BlockLemmas.{Contains-filter, Contains-map}
-use Rattle.postings.proofs.DistinctLemmas.{All-distinct}
+use Rattle.held_release.proofs.DistinctPlaceLemmas.{All-distinct}
 use Rattle.postings.proofs.OnceLemmas.{distinct-keeps, position-within}
 use Rattle.postings.proofs.RisingLemmas.{rising_is_listed, some_bound}
 use Rattle.number_lists.proofs.RisingOrderLemmas.{has-rising}

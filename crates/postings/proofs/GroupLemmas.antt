@@ -18,8 +18,8 @@ use Rattle.idset.proofs.Places.{below_place, has-place, place_le}
 use Rattle.held_release.proofs.FinishLemmas.{length-rising}
 use Rattle.postings.specs.inside.Coded.{code_eq, group_codes, ungrouped_pairs, numbers_of_groups, pair_code}
 use Rattle.postings.specs.inside.Coded.{place_in_source}
-use Rattle.postings.specs.declared.rows.CodedRow.{CodedRow}
-use Rattle.postings.proofs.DistinctLemmas.{filter-map_agree, length-distinct, position-distinct}
+use Rattle.held_release.specs.declared.coded_rows.CodedRow.{CodedRow}
+use Rattle.held_release.proofs.DistinctPlaceLemmas.{filter-map_agree, length-distinct, position-distinct}
 use Rattle.postings.proofs.MarkLemmas.{code_eq_equiv}
 use Rattle.number_lists.proofs.RisingOrderLemmas.{has-rising}
 

@@ -7,16 +7,16 @@ use Rattle.std.proofs.lemmas.Bool.{and_parts, eqb-true}
 use Rattle.std.proofs.lemmas.List.{get_or_default, get_or-map, length-map}
 use Rattle.rf2_rows.specs.Release.{Attribute}
 use Rattle.number_lists.specs.KeyedLists.{list_of}
-use Rattle.postings.specs.inside.Coded.{IsCoded, row_coded}
+use Rattle.held_release.specs.CodedRows.{IsCoded, row_coded}
 use Rattle.postings.specs.Groups.{ConceptGroup, groups_in, group_of, has_key, is_in_group, numbered, rows_alone}
 use Rattle.postings.specs.Groups.{rows_of_group}
 use Rattle.postings.specs.inside.IndexInside.{AreIndexed, indexed_in}
 use Rattle.postings.specs.Indexed.{Indexed}
 use Rattle.postings.specs.inside.KeptRows.{IsKept, groups_kept, mark_at, row_kept, rows_kept, group_kept}
 use Rattle.postings.specs.Places.{places_where}
-use Rattle.postings.specs.inside.ValueTables.{values_in}
+use Rattle.held_release.specs.CodedRows.{values_in}
 use Rattle.postings.specs.declared.index.Indexes.TheInside.{Inside}
-use Rattle.postings.specs.declared.rows.CodedRow.{CodedRow}
+use Rattle.held_release.specs.declared.coded_rows.CodedRow.{CodedRow}
 use Rattle.postings.proofs.GroupRowLemmas.{first_passes, first_within, groups_have, some_place}
 use Rattle.postings.proofs.IndexLemmas.{group_at, if_there}
 use Rattle.postings.proofs.KeptLemmas.{kept_at, length-kept}

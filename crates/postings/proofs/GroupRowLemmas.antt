@@ -19,7 +19,7 @@ use Rattle.postings.specs.Places.{places_where}
 use Rattle.number_lists.proofs.BlockLemmas.{All-flat_map}
 use Rattle.postings.proofs.KeyLemmas.{group_with, groups_at}
 use Rattle.number_lists.proofs.ListLemmas.{some_item_passes}
-use Rattle.postings.proofs.DistinctLemmas.{All-distinct}
+use Rattle.held_release.proofs.DistinctPlaceLemmas.{All-distinct}
 use Rattle.postings.proofs.PlaceLemmas.{length-places_from, places_where-within, rows_at_places}
 
 -- ---- the groups of a concept

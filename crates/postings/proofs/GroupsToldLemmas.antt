@@ -19,10 +19,11 @@ use Rattle.number_lists.specs.Distinct.{distinct}
 use Rattle.rf2_rows.specs.Pairs.{pair_eq, pair_of, value_eq}
 use Rattle.rf2_rows.specs.Release.{Attribute, Value}
 use Rattle.number_lists.specs.RisingOrder.{rising}
-use Rattle.postings.specs.inside.Coded.{IsBySource, IsCoded, all_group_marks, code_eq, group_codes, group_marks}
+use Rattle.held_release.specs.CodedRows.{IsCoded}
+use Rattle.postings.specs.inside.Coded.{IsBySource, all_group_marks, code_eq, group_codes, group_marks}
 use Rattle.postings.specs.inside.Coded.{groups_ahead, has_same_in_group}
 use Rattle.postings.specs.inside.Coded.{has_same_pair, ungrouped_pairs, of_source, pair_code, place_in_source}
-use Rattle.postings.specs.inside.Coded.{row_coded}
+use Rattle.held_release.specs.CodedRows.{row_coded}
 use Rattle.postings.specs.Columns.{AreGroups, Flagged}
 use Rattle.postings.specs.Entries.{Entry, entries_of, is_alike_in_group}
 use Rattle.postings.specs.Groups.{ConceptGroup, GroupKey, all_groups, group_of, groups_among, is_in_group, key_of}
@@ -30,7 +31,7 @@ use Rattle.postings.specs.Groups.{keys_of, numbered}
 use Rattle.postings.specs.Groups.{rows_alone, ungrouped}
 use Rattle.postings.specs.Indexed.{value_at}
 use Rattle.postings.specs.Places.{places_from, places_where}
-use Rattle.postings.specs.declared.rows.CodedRow.{CodedRow}
+use Rattle.held_release.specs.declared.coded_rows.CodedRow.{CodedRow}
 use Rattle.number_lists.proofs.BlockLemmas.{All-range, blocks-long, blocks-same, blocks_before, filter-map}
 use Rattle.number_lists.proofs.BlockLemmas.{items_by_place, map-flat_map, map-within}
 use Rattle.postings.proofs.CodeLemmas.{alike_in_group_coded, same_type}
@@ -40,7 +41,7 @@ use Rattle.postings.proofs.GroupKeyLemmas.{key_at_place, keys_coded, length-keys
 use Rattle.postings.proofs.KeyLemmas.{IsTold, group_with, groups_at, groups_once, groups_told_apart, in_one_group}
 use Rattle.postings.proofs.KeyLemmas.{in_own_group}
 use Rattle.number_lists.proofs.ListLemmas.{IsOnce, same_place}
-use Rattle.postings.proofs.DistinctLemmas.{distinct-map}
+use Rattle.held_release.proofs.DistinctPlaceLemmas.{distinct-map}
 use Rattle.postings.proofs.SourcesToldLemmas.{apart_by_source, flags_by_source, rows_of_source, same_by_source}
 use Rattle.postings.proofs.SourcesToldLemmas.{source_of_block}
 

@@ -18,7 +18,7 @@ use Rattle.postings.specs.Entries.{Entry, entries_after, entries_of, entries_wit
 use Rattle.postings.specs.Groups.{ConceptGroup, group_of}
 use Rattle.postings.specs.Indexed.{types_of}
 use Rattle.postings.specs.Places.{places_from, places_where}
-use Rattle.postings.proofs.DistinctLemmas.{length-distinct}
+use Rattle.held_release.proofs.DistinctPlaceLemmas.{length-distinct}
 
 -- ---- lists by numbers
 -- if `lists` has `give` of each key below `count`, the list of such a key exists and is `give key`

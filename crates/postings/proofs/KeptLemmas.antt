@@ -1,5 +1,5 @@
 -- The rows that the indexes keep are the rows by numbers.
-use Rattle.std.proofs.Common.{ℕ, ◌+◌, ◌-◌, ◌==◌, ◌≡◌, ◌≢◌, ◌<◌, ◌∙◌, [], ⊎_elim, Bool, true, false, cond, List, Some}
+use Rattle.std.proofs.Common.{ℕ, ℤ, ◌+◌, ◌-◌, ◌==◌, ◌≡◌, ◌≢◌, ◌<◌, ◌∙◌, [], ⊎_elim, Bool, true, false, cond, List, Some}
 use Rattle.std.proofs.Common.{length, get_or, map, set, refl, sym, ap, subst, arith, zero-add}
 use Rattle.std.specs.Prelude.{All, slice_get, slice_index, slice_index_or}
 use Rattle.std.specs.List.{concat, range_with_len}
@@ -8,10 +8,11 @@ use Rattle.std.proofs.lemmas.Bool.{cases_eq, eqb-true}
 use Rattle.std.proofs.lemmas.List.{get_or_default, get_or-map, get_or-set_other, get_or-set_same, length-map}
 use Rattle.std.proofs.lemmas.List.FromFn.{get_or-map-range_with_len, length-map-range_with_len}
 use Rattle.std.proofs.lemmas.Option.{slice_get_within}
-use Rattle.rf2_rows.specs.Release.{Attribute, Release}
+use Rattle.rf2_rows.specs.Release.{Attribute, Release, Value}
 use Rattle.held_release.specs.AttributesBySource.{attributes_by_source}
 use Rattle.number_lists.proofs.ListLemmas.{same_maps}
-use Rattle.postings.specs.inside.Coded.{AreCoded, AreCodedRows, AreRowMarks, has_same_pair, of_source, row_coded}
+use Rattle.held_release.specs.CodedRows.{AreCoded, AreCodedRows, IsCoded, row_coded, values_among, values_in}
+use Rattle.postings.specs.inside.Coded.{AreRowMarks, has_same_pair, of_source}
 use Rattle.postings.specs.inside.Coded.{source_marks}
 use Rattle.postings.specs.inside.Cells.{AreRowLists}
 use Rattle.postings.specs.Columns.{AreGroups, AreSources, Flagged}
@@ -20,13 +21,13 @@ use Rattle.postings.specs.Groups.{ConceptGroup, GroupKey, all_groups, group_of, 
 use Rattle.postings.specs.inside.KeptRows.{AreNumbersOf, HaveOneNumber, IsKept, groups_kept, mark_at, row_kept}
 use Rattle.postings.specs.inside.KeptRows.{rows_kept, sources_kept, group_kept}
 use Rattle.postings.specs.Places.{places_by}
-use Rattle.postings.specs.inside.ValueTables.{values_in}
+use Rattle.held_release.specs.CodedRows.{values_among, values_in}
+use Rattle.held_release.specs.RowValues.{AreTablesOf}
 use Rattle.postings.specs.declared.groups.RowMarks.{RowMarks}
 use Rattle.postings.specs.declared.row_indexes.RowIndexes.{RowIndexes}
-use Rattle.postings.specs.declared.rows.CodedRow.{CodedRow}
-use Rattle.postings.specs.declared.rows.CodedRows.{CodedRows}
-use Rattle.held_release.specs.declared.attribute_types.Types.{Types}
-use Rattle.postings.specs.declared.values.Values.{Values}
+use Rattle.held_release.specs.declared.coded_rows.CodedRow.{CodedRow}
+use Rattle.held_release.specs.declared.coded_rows.CodedRows.{CodedRows}
+use Rattle.held_release.specs.declared.values.Values.{Values}
 use Rattle.number_lists.proofs.BlockLemmas.{blocks-same, items_by_place, map-flat_map}
 use Rattle.postings.proofs.CellLemmas.{long_cells}
 use Rattle.postings.proofs.EntryLemmas.{numbers_of_marks}
@@ -110,6 +111,25 @@ pub kept_at : (indexes : RowIndexes) (n : ℕ) (d : CodedRow) → n < length ind
 kept_at indexes n d below =
     get_or-map-range_with_len (row_kept indexes) 0 (length indexes.type_places.items) n n d below (zero-add n)
 
+-- coded rows encode the same attribute rows by tables with the same values
+same_tables : (concepts : List ℕ) (rows : List Attribute) (types : List ℕ) (copy own : Values)
+    (coded : List CodedRow)
+    → copy.decimals.items ≡ own.decimals.items → copy.texts ≡ own.texts
+    → AreCoded concepts rows types own coded
+    → AreCoded concepts rows types copy coded
+same_tables concepts rows types copy own coded decimals texts are =
+    let same : values_in concepts copy ≡ values_in concepts own =
+    λ i. values_among concepts (decimals i) (texts i) in
+    record {
+      stand_for = (λ i. map (row_coded concepts types (same i)) coded) ∙ are.stand_for;
+      within = subst (λ (values : List Value). All (IsCoded concepts types values) coded) (sym same) are.within;
+      types = are.types;
+      tables = subst (λ (found : List ℤ). AreTablesOf rows found copy.texts) (sym decimals)
+          (subst (AreTablesOf rows own.decimals.items) (sym texts) are.tables);
+      few = are.few;
+      few_values = omega (arith, ap (λ (values : List Value). length values) same, are.few_values);
+    }
+
 -- ---- the rows by numbers
 module _ (release : Release) (rises : IsStrictlyIncreasing release.concepts) (coded : CodedRows)
     (are : AreCodedRows release.concepts (attributes_by_source release) coded) (marks : RowMarks)
@@ -164,7 +184,7 @@ module _ (release : Release) (rises : IsStrictlyIncreasing release.concepts) (co
   pub groups_below : All (λ (mark : Flagged). mark.number < get_or marks.starts.items (length marks.starts.items - 1) 0)
       marks.groups.items
   groups_below n mark inside =
-      let row : Attribute = row_coded release.concepts coded.types.numbers (values_in release.concepts coded.values)
+      let row : Attribute = row_coded release.concepts coded.types.items (values_in release.concepts coded.values)
       a_row in
       omega (
         arith,
@@ -177,7 +197,7 @@ module _ (release : Release) (rises : IsStrictlyIncreasing release.concepts) (co
   pub one_number : HaveOneNumber marks.groups.items codes
   one_number m n mark row near far same =
       let stands : CodedRow → Attribute =
-      row_coded release.concepts coded.types.numbers (values_in release.concepts coded.values) in
+      row_coded release.concepts coded.types.items (values_in release.concepts coded.values) in
       let at : (k : ℕ) → k < length codes → get_or rows k (stands row) ≡ stands (get_or codes k row) =
       λ k below. ap (λ (xs : List Attribute). get_or xs k (stands row)) (sym are.stand_for)
       ∙ get_or-map stands codes k row (stands row) below in
@@ -294,20 +314,24 @@ module _ (release : Release) (rises : IsStrictlyIncreasing release.concepts) (co
         (sources_are release rises coded are)
 
     -- the kept rows, with their tables of types and values, encode the attribute rows
-    pub coded_kept : indexes.types ≡ coded.types → indexes.values ≡ coded.values
-        → AreCoded release.concepts rows indexes.types indexes.values (rows_kept indexes)
-    coded_kept types values =
-        subst (λ (found : Types). AreCoded release.concepts rows found indexes.values (rows_kept indexes)) (sym types)
-        (subst (λ (found : Values). AreCoded release.concepts rows coded.types found (rows_kept indexes)) (sym values)
-        (subst (λ (found : List CodedRow). AreCoded release.concepts rows coded.types coded.values found) (sym rows_are)
-        are))
+    pub coded_kept : indexes.types.numbers ≡ coded.types.items
+        → indexes.values.decimals.items ≡ coded.values.decimals.items
+        → indexes.values.texts ≡ coded.values.texts
+        → AreCoded release.concepts rows indexes.types.numbers indexes.values (rows_kept indexes)
+    coded_kept types decimals texts =
+        subst (λ (found : List ℕ). AreCoded release.concepts rows found indexes.values (rows_kept indexes))
+        (sym types)
+        (same_tables release.concepts rows coded.types.items indexes.values coded.values (rows_kept indexes) decimals
+        texts
+        (subst (λ (found : List CodedRow). AreCoded release.concepts rows coded.types.items coded.values found)
+        (sym rows_are) are))
 
     -- the indexes keep each row: for each `n` below the number of rows, `IsKept` holds
     pub each_kept : (n : ℕ) → n < length rows → IsKept indexes n
     unfolding a_mark
     each_kept n within =
         let below : n < length codes = omega (arith, within, length-codes release rises coded are) in
-        let row : Attribute = row_coded release.concepts coded.types.numbers (values_in release.concepts coded.values)
+        let row : Attribute = row_coded release.concepts coded.types.items (values_in release.concepts coded.values)
         a_row in
         record {
           type_place = omega (arith, below, long);

@@ -5,7 +5,6 @@ pub mod CellsToldLemmas
 pub mod CodeLemmas
 pub mod ColumnLemmas
 pub mod CountLemmas
-pub mod DistinctLemmas
 pub mod EntryLemmas
 pub mod FirstKeyLemmas
 pub mod FirstLemmas
@@ -28,13 +27,11 @@ pub mod PairKeyLemmas
 pub mod PlaceLemmas
 pub mod RisingLemmas
 pub mod RowIndexLemmas
-pub mod RowLemmas
 pub mod RowListLemmas
 pub mod SourceLemmas
+pub mod SourceRangeLemmas
 pub mod SourceRowLemmas
 pub mod SourcesToldLemmas
 pub mod SpanLemmas
 pub mod StatsLemmas
-pub mod TableLemmas
 pub mod GroupNumberLemmas
-pub mod ValueLemmas

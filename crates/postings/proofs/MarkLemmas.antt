@@ -6,7 +6,7 @@ use Rattle.std.specs.List.{list_any}
 use Rattle.std.proofs.lemmas.List.{append-nil, take_more}
 use Rattle.postings.specs.inside.Coded.{code_eq, marks_after}
 use Rattle.postings.specs.Columns.{Flagged}
-use Rattle.postings.specs.declared.rows.CodedRow.{CodedRow}
+use Rattle.held_release.specs.declared.coded_rows.CodedRow.{CodedRow}
 
 -- the equality test of pairs of numbers is an equivalence
 pub code_eq_equiv : IsEquivalence code_eq

@@ -14,8 +14,8 @@ use Rattle.number_lists.specs.Distinct.{distinct}
 use Rattle.number_lists.proofs.DistinctLemmas.{any_distinct}
 use Rattle.postings.specs.inside.Coded.{code_eq, has_same_in_group, has_same_pair, pair_code, ungrouped_pairs}
 use Rattle.postings.specs.inside.PairKeys.{IsShort, grouped_key, key_of_code, pair_key, ungrouped_keys}
-use Rattle.postings.specs.declared.rows.CodedRow.{CodedRow}
-use Rattle.postings.proofs.DistinctLemmas.{All-distinct, distinct-map, distinct-more}
+use Rattle.held_release.specs.declared.coded_rows.CodedRow.{CodedRow}
+use Rattle.held_release.proofs.DistinctPlaceLemmas.{All-distinct, distinct-map, distinct-more}
 
 -- rows whose pairs are of numbers of 32 bits
 abbrev pub HaveShort : List CodedRow → Type 0

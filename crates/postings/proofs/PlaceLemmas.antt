@@ -1,21 +1,18 @@
 -- The places of the items of a list that pass a test.
 use Rattle.std.proofs.Common.{ℕ, suc, ◌+◌, ◌==◌, ◌≡◌, ◌<◌, ◌++◌, ◌∷◌, [], ◌∙◌, Bool, true, false, cond}
-use Rattle.std.proofs.Common.{List, length, get_or, map, take, refl, sym, ap, subst, arith, length-take, add-zero}
+use Rattle.std.proofs.Common.{List, length, get_or, map, refl, sym, ap, subst, arith, add-zero}
 use Rattle.std.proofs.Common.{zero-add}
 use Rattle.std.specs.Prelude.{All}
 use Rattle.std.specs.List.{count_by, filter}
-use Rattle.std.proofs.lemmas.List.{get_or_default, take_more}
+use Rattle.std.proofs.lemmas.List.{get_or_default}
 use Rattle.std.proofs.lemmas.List.Elements.{All-tail}
 use Rattle.std.proofs.lemmas.List.FromFn.{get_or-map-range_with_len, length-map-range_with_len}
 use Rattle.std.proofs.lemmas.List.Sums.{length-filter}
 use Rattle.number_lists.specs.Rising.{IsRisingBelow, numbers_where}
-use Rattle.number_lists.specs.Members.{has}
-use Rattle.number_lists.proofs.WhereLemmas.{has-numbers_where, numbers_from}
+use Rattle.number_lists.proofs.WhereLemmas.{numbers_from}
 use Rattle.number_lists.proofs.RisingLemmas.{get_or-below, numbers_where-rising}
 use Rattle.number_lists.specs.KeyedLists.{list_of}
-use Rattle.postings.specs.inside.Coded.{of_source}
 use Rattle.postings.specs.Places.{places_by, places_from, places_where}
-use Rattle.postings.specs.declared.rows.CodedRow.{CodedRow}
 
 -- ---- the places are numbers below the length
 module _ {X : Type 0} where
@@ -51,13 +48,6 @@ module _ {X : Type 0} where
   places_where-within test xs k d within =
       subst (λ place. place < length xs) (get_or_default (places_where test xs) k 0 d within)
       (get_or-below 0 (length xs) (places_where test xs) k (places_where-rising test xs) within)
-
-  -- for `place` below the length: it is among the places of passing items exactly if the item there passes
-  pub has-places_where : (test : X → Bool) (xs : List X) (place : ℕ) (d : X) → place < length xs
-      → has (places_where test xs) place ≡ test (get_or xs place d)
-  has-places_where test xs place d within =
-      ap (λ places. has places place) (places_where-numbers test xs d)
-      ∙ has-numbers_where (length xs) (λ at. test (get_or xs at d)) place within
 
 -- ---- other tests and other items
 module _ {X : Type 0} where
@@ -99,16 +89,6 @@ module _ {X : Type 0} where
       ≡ cond b (place ∷ places_from (place + 1) test xs) (places_from (place + 1) test xs)
       ++ places_from (place + length (x ∷ xs)) test ys)
       [ true ↦ ap (λ places. place ∷ places) rest | false ↦ rest ]
-
-  -- the places of passing items among the first `i + 1` are those among the first `i`, with `i` at the end if item `i`
-  -- passes
-  pub places_where-more : (test : X → Bool) (xs : List X) (i : ℕ) (d : X) → i < length xs
-      → places_where test (take (i + 1) xs) ≡ places_where test (take i xs) ++ cond (test (get_or xs i d)) (i ∷ []) []
-  places_where-more test xs i d within =
-      let at : 0 + length (take i xs) ≡ i = omega (arith, length-take i xs) in
-      ap (places_where test) (take_more xs i d within)
-      ∙ places_from-append test 0 (take i xs) (get_or xs i d ∷ [])
-      ∙ ap (λ place. places_where test (take i xs) ++ cond (test (get_or xs i d)) (place ∷ []) []) at
 
 -- ---- the items at the places
 module _ {X : Type 0} where
@@ -158,22 +138,3 @@ pub list_of-places_by : (count : ℕ) (keys : List ℕ) (key : ℕ) → key < co
 list_of-places_by count keys key below =
     get_or-map-range_with_len (λ key. places_where (λ other. other == key) keys) 0 count key key []
     below (zero-add key)
-
--- reading `rows` at the places in the list of `source` gives the rows of that source
-pub rows_of_source : (rows : List CodedRow) (count source : ℕ) (d : CodedRow) → source < count
-    → map (λ place. get_or rows place d) (list_of (places_by count (map (λ (row : CodedRow). row.source) rows)) source)
-    ≡ of_source rows source
-rows_of_source rows count source d below =
-    let places : list_of (places_by count (map (λ (row : CodedRow). row.source) rows)) source
-    ≡ places_where (λ (row : CodedRow). row.source == source) rows =
-    list_of-places_by count (map (λ (row : CodedRow). row.source) rows) source below
-    ∙ places_where-map (λ (row : CodedRow). row.source) (λ other. other == source) rows in
-    ap (map (λ place. get_or rows place d)) places
-    ∙ rows_at_places (λ (row : CodedRow). row.source == source) rows d
-
--- each place in the list of `key` is below the length of `keys`
-pub list_of-places_by-within : (count : ℕ) (keys : List ℕ) (key : ℕ) → key < count
-    → All (λ place. place < length keys) (list_of (places_by count keys) key)
-list_of-places_by-within count keys key below =
-    subst (λ places. All (λ place. place < length keys) places) (sym (list_of-places_by count keys key below))
-    (places_where-within (λ other. other == key) keys)

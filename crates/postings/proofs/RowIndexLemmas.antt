@@ -9,19 +9,20 @@ use Rattle.rf2_rows.specs.Release.{Attribute, Release, Value}
 use Rattle.number_lists.proofs.DistinctLemmas.{keeps_each_number_once}
 use Rattle.held_release.specs.AttributesBySource.{attributes_by_source}
 use Rattle.number_lists.proofs.ListLemmas.{same_maps}
-use Rattle.postings.specs.inside.Coded.{AreCodedRows, AreRowMarks, IsBySource, IsCoded, all_group_marks}
+use Rattle.held_release.specs.CodedRows.{AreCodedRows, IsCoded}
+use Rattle.postings.specs.inside.Coded.{AreRowMarks, IsBySource, all_group_marks}
 use Rattle.postings.specs.inside.Coded.{all_source_marks}
-use Rattle.postings.specs.inside.Coded.{row_coded}
+use Rattle.held_release.specs.CodedRows.{row_coded}
 use Rattle.postings.specs.Columns.{AreGroups, AreSources, Flagged}
 use Rattle.postings.specs.Entries.{entries_of}
 use Rattle.postings.specs.Groups.{ConceptGroup, all_groups, groups_among, is_in_group, rows_alone}
 use Rattle.postings.specs.Indexed.{value_at}
 use Rattle.postings.specs.Places.{places_by, places_where}
 use Rattle.postings.specs.inside.RowIndexes.{has_source, has_type, has_value}
-use Rattle.postings.specs.inside.ValueTables.{values_in}
+use Rattle.held_release.specs.CodedRows.{values_in}
 use Rattle.postings.specs.declared.groups.RowMarks.{RowMarks}
-use Rattle.postings.specs.declared.rows.CodedRow.{CodedRow}
-use Rattle.postings.specs.declared.rows.CodedRows.{CodedRows}
+use Rattle.held_release.specs.declared.coded_rows.CodedRow.{CodedRow}
+use Rattle.held_release.specs.declared.coded_rows.CodedRows.{CodedRows}
 use Rattle.postings.proofs.AgainLemmas.{by_source_again}
 use Rattle.postings.proofs.CodeLemmas.{same_type}
 use Rattle.postings.proofs.GroupsToldLemmas.{group_rows_told, groups_told, starts_told}
@@ -29,7 +30,7 @@ use Rattle.postings.proofs.IndexLemmas.{length-groups, length-sources}
 use Rattle.postings.proofs.PlaceLemmas.{places_where-agree, places_where-map}
 use Rattle.postings.proofs.SourceLemmas.{groups_ahead-le}
 use Rattle.postings.proofs.SourcesToldLemmas.{by_source_coded, sources_told}
-use Rattle.postings.proofs.ValueLemmas.{rising_apart, value_of_concept, values_exact}
+use Rattle.held_release.proofs.ValueLemmas.{rising_apart, value_of_concept, values_exact}
 
 module _ (release : Release) (rises : IsStrictlyIncreasing release.concepts) (coded : CodedRows)
     (are : AreCodedRows release.concepts (attributes_by_source release) coded) where
@@ -43,13 +44,14 @@ module _ (release : Release) (rises : IsStrictlyIncreasing release.concepts) (co
 
   -- the table of types
   abbrev pub types : List ℕ
-  types = coded.types.numbers
+  types = coded.types.items
 
   -- all values, in the order of their numbers
   abbrev pub all : List Value
   all = values_in release.concepts coded.values
 
-  once : IsDistinct nat_eq types
+  -- no type is there twice
+  pub once : IsDistinct nat_eq types
   once = subst (λ (xs : List ℕ). IsDistinct nat_eq xs) (sym are.types)
       (keeps_each_number_once (map (λ (row : Attribute). row.type_id) rows)).0
 

@@ -10,7 +10,8 @@ use Rattle.std.proofs.lemmas.Simd.{map-map}
 use Rattle.rf2_rows.specs.Release.{Attribute, Release, Value}
 use Rattle.held_release.specs.AttributesBySource.{attributes_by_source}
 use Rattle.number_lists.specs.KeyedLists.{list_of}
-use Rattle.postings.specs.inside.Coded.{AreCodedRows, AreRowMarks, IsCoded, row_coded}
+use Rattle.held_release.specs.CodedRows.{AreCodedRows, IsCoded, row_coded}
+use Rattle.postings.specs.inside.Coded.{AreRowMarks}
 use Rattle.postings.specs.inside.Cells.{AreOfOneLength, AreRowLists, IsColumn, cells_of}
 use Rattle.postings.specs.Columns.{AreGroups, AreSources, AreTypes, AreValues, Flagged}
 use Rattle.postings.specs.Entries.{Entry, entries_of, entries_where}
@@ -18,12 +19,12 @@ use Rattle.postings.specs.Groups.{ConceptGroup, all_groups, rows_alone}
 use Rattle.postings.specs.Indexed.{types_of, value_at}
 use Rattle.postings.specs.Places.{places_by, places_where}
 use Rattle.postings.specs.inside.RowIndexes.{AreByType, AreByValue, AreGroupLists, AreListsBy, has_type, has_value}
-use Rattle.postings.specs.inside.ValueTables.{values_in}
+use Rattle.held_release.specs.CodedRows.{values_in}
 use Rattle.postings.specs.declared.columns.RowsByKey.{RowsByKey}
 use Rattle.postings.specs.declared.groups.RowMarks.{RowMarks}
 use Rattle.postings.specs.declared.row_indexes.GroupLists.{GroupLists}
-use Rattle.postings.specs.declared.rows.CodedRow.{CodedRow}
-use Rattle.postings.specs.declared.rows.CodedRows.{CodedRows}
+use Rattle.held_release.specs.declared.coded_rows.CodedRow.{CodedRow}
+use Rattle.held_release.specs.declared.coded_rows.CodedRows.{CodedRows}
 use Rattle.postings.proofs.CellLemmas.{groups_at, long_cells, sources_at, types_at, values_at}
 use Rattle.postings.proofs.IndexLemmas.{list_at, rows_of_entries}
 use Rattle.postings.proofs.RowIndexLemmas.{by_type_are, by_value_are, few_codes, few_groups, group_rows_are, groups_are}
@@ -39,7 +40,7 @@ module _ (release : Release) (rises : IsStrictlyIncreasing release.concepts) (co
   codes = coded.rows.items
 
   abbrev types : List ℕ
-  types = coded.types.numbers
+  types = coded.types.items
 
   abbrev all : List Value
   all = values_in release.concepts coded.values

@@ -8,7 +8,7 @@ use Rattle.std.proofs.lemmas.List.{get_or_append_left, get_or_push}
 use Rattle.std.proofs.lemmas.List.Elements.{filter_passes}
 use Rattle.held_release.proofs.SortedLemmas.{flat_map-more}
 use Rattle.postings.specs.inside.Coded.{IsBySource, group_codes, groups_ahead, of_source}
-use Rattle.postings.specs.declared.rows.CodedRow.{CodedRow}
+use Rattle.held_release.specs.declared.coded_rows.CodedRow.{CodedRow}
 use Rattle.postings.proofs.GroupLemmas.{length-group_codes-le}
 
 -- the lists of more numbers are no shorter

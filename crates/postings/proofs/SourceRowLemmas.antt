@@ -21,14 +21,15 @@ use Rattle.held_release.specs.AttributesBySource.{attributes_by_source}
 use Rattle.number_lists.specs.KeyedLists.{list_of}
 use Rattle.number_lists.proofs.PlaceLemmas.{place_of, place_of-get_or}
 use Rattle.number_lists.proofs.ListLemmas.{concat-take_more}
-use Rattle.postings.specs.inside.Coded.{AreCodedRows, AreRowMarks, row_coded}
+use Rattle.held_release.specs.CodedRows.{AreCodedRows, row_coded}
+use Rattle.postings.specs.inside.Coded.{AreRowMarks}
 use Rattle.postings.specs.Columns.{Flagged}
 use Rattle.postings.specs.Groups.{ConceptGroup, all_groups, group_of, groups_among, keys_of, rows_alone}
 use Rattle.postings.specs.Places.{places_by}
-use Rattle.postings.specs.inside.ValueTables.{values_in}
+use Rattle.held_release.specs.CodedRows.{values_in}
 use Rattle.postings.specs.declared.groups.RowMarks.{RowMarks}
-use Rattle.postings.specs.declared.rows.CodedRow.{CodedRow}
-use Rattle.postings.specs.declared.rows.CodedRows.{CodedRows}
+use Rattle.held_release.specs.declared.coded_rows.CodedRow.{CodedRow}
+use Rattle.held_release.specs.declared.coded_rows.CodedRows.{CodedRows}
 use Rattle.number_lists.proofs.BlockLemmas.{All-flat_map, filter-map, filter-none}
 use Rattle.postings.proofs.KeptLemmas.{group_marked, many_groups}
 use Rattle.postings.proofs.KeyLemmas.{group_with, groups_at}
@@ -131,7 +132,7 @@ module _ (release : Release) (rises : IsStrictlyIncreasing release.concepts) (co
   id k = get_or release.concepts k 0
 
   abbrev stands : CodedRow → Attribute
-  stands = row_coded release.concepts coded.types.numbers (values_in release.concepts coded.values)
+  stands = row_coded release.concepts coded.types.items (values_in release.concepts coded.values)
 
   -- concepts with equal identifiers have equal numbers
   same_number : (i j : ℕ) → i < length release.concepts → j < length release.concepts → id i ≡ id j → i ≡ j

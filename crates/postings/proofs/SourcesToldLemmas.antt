@@ -9,12 +9,13 @@ use Rattle.std.proofs.lemmas.List.Elements.{All-filter, All-map, All-nil, All-sa
 use Rattle.std.proofs.lemmas.Simd.{map-map}
 use Rattle.rf2_rows.specs.Pairs.{value_eq}
 use Rattle.rf2_rows.specs.Release.{Attribute, Value}
-use Rattle.postings.specs.inside.Coded.{IsBySource, IsCoded, all_source_marks, has_same_pair, of_source, row_coded}
+use Rattle.held_release.specs.CodedRows.{IsCoded, row_coded}
+use Rattle.postings.specs.inside.Coded.{IsBySource, all_source_marks, has_same_pair, of_source}
 use Rattle.postings.specs.inside.Coded.{source_marks}
 use Rattle.postings.specs.Columns.{AreSources, Flagged}
 use Rattle.postings.specs.Entries.{Entry, entries_of, is_alike}
 use Rattle.postings.specs.Indexed.{value_at}
-use Rattle.postings.specs.declared.rows.CodedRow.{CodedRow}
+use Rattle.held_release.specs.declared.coded_rows.CodedRow.{CodedRow}
 use Rattle.number_lists.proofs.BlockLemmas.{All-blocks, All-mapped, blocks-same, blocks_by_place, filter-map}
 use Rattle.number_lists.proofs.BlockLemmas.{filter-within, map-flat_map}
 use Rattle.postings.proofs.CodeLemmas.{alike_coded, same_all_coded, same_concept}

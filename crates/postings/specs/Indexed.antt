@@ -1,18 +1,18 @@
 -- What the indexes of a release hold. A concept's number is its place, from 0, in the rising list
 -- of the concepts in force. Attribute rows are numbered by source, and the rows of one source in
 -- the order of the files and their lines.
-use Rattle.std.specs.Prelude.{Bool, ℕ, ℤ, ◌≡◌, ◌==◌, ◌++◌, List, [], Option, None, Some, length, map, nat_eq, not}
-use Rattle.std.specs.Prelude.{slice_index, slice_index_or}
-use Rattle.number_lists.specs.Distinct.{distinct}
+use Rattle.std.specs.Prelude.{Bool, ℕ, ℤ, ◌≡◌, ◌==◌, List, Option, None, Some, length, not}
+use Rattle.std.specs.Prelude.{slice_index}
 use Rattle.number_lists.specs.KeyedLists.{list_of}
 use Rattle.number_lists.specs.Rising.{numbers_where}
 use Rattle.rf2_rows.specs.Pairs.{value_eq}
-use Rattle.rf2_rows.specs.Release.{Attribute, Release, Value, concept_value, number_value, text_value}
+use Rattle.rf2_rows.specs.Release.{Attribute, Release, Value, concept_value}
 use Rattle.held_release.specs.AttributesBySource.{attributes_by_source}
 use Rattle.held_release.specs.Numbering.{concept_number}
 use Rattle.ancestor_index.specs.HierarchyLists.{Hierarchy, hierarchy_of, is_child, lists_where}
+pub use Rattle.held_release.specs.CodedRows.{types_of, value_at, values_among}
 use Rattle.postings.specs.Places.{places_where}
-use Rattle.postings.specs.RowValues.{AreTablesOf}
+use Rattle.held_release.specs.RowValues.{AreTablesOf}
 
 -- what the indexes of a release hold: concepts, their hierarchy, attribute rows, the members of
 -- reference sets, and the values of rows that are not concepts
@@ -92,25 +92,12 @@ rows_by_source indexed concept =
     places_where (λ (row : Attribute). row.source == slice_index indexed.concepts concept)
     indexed.rows
 
--- the types of `rows`, each once, in the order of the first row of each
-abbrev pub types_of : List Attribute → List ℕ
-types_of rows = distinct nat_eq (map (λ (row : Attribute). row.type_id) rows)
-
 -- the number of the concept in force that has a type's identifier; none if no type is given, or if
 -- no concept in force has the identifier
 abbrev pub concept_of_type : Indexed → Option ℕ → Option ℕ
 concept_of_type indexed None = None
 concept_of_type indexed (Some id) = concept_number indexed.concepts id
 
--- all values in the order of their numbers: the concepts, then the decimals, then the other texts
-abbrev pub values_among : List ℕ → List ℤ → List (List ℕ) → List Value
-values_among concepts decimals texts =
-    map concept_value concepts ++ (map number_value decimals ++ map text_value texts)
-
 -- the values that rows of the indexes can have; a value's number is its place in this list
 abbrev pub values_of : Indexed → List Value
 values_of indexed = values_among indexed.concepts indexed.decimals indexed.texts
-
--- the value with the number `number` among `values`
-abbrev pub value_at : List Value → ℕ → Value
-value_at values number = slice_index_or values number (text_value [])

@@ -6,5 +6,4 @@ pub mod inside
 pub mod Laws
 pub mod Places
 pub mod RowColumns
-pub mod RowValues
 pub mod Stats

@@ -8,5 +8,3 @@ pub mod KeyedPlaces
 pub mod Packed
 pub mod PairKeys
 pub mod RowIndexes
-pub mod TextsInside
-pub mod ValueTables

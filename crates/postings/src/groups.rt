@@ -10,9 +10,10 @@ ghost use Rattle.postings.specs.Places.{places_by};
 
 use crate::first_keys::FirstKeys;
 use crate::flagged_number::FlaggedNumber;
-use crate::rows::CodedRow;
+use crate::pair_keys::{grouped_key, pair_key};
+use held_release::CodedRow;
 use key_interner::Seed;
-use number_lists::{KeyedLists, keep_rising};
+use number_lists::keep_rising;
 use std::alloc::{AllocError, Global};
 
 /// For each attribute row its source and its group, and for each source its first group.
@@ -29,15 +30,8 @@ pub struct RowMarks {
     pub starts: Vec<u32>,
 }
 
-// Working memory, used again for each source.
-#[derive(Drop)]
-struct Room {
-    // the rows of the source
-    own: Vec<CodedRow>,
-    tables: Tables,
-}
-
-// Tables from which the groups of one source are numbered.
+// Working memory, used again for each source: tables from which the groups of one source are
+// numbered.
 #[derive(Drop)]
 struct Tables {
     // the relationship group numbers of the source, rising and each once, without 0
@@ -49,76 +43,71 @@ struct Tables {
     ungrouped: FirstKeys,
 }
 
-/// Marks each of `rows`, which are ordered by source, with its source and its group. `by_source`
-/// has for each source the places of its rows. Pairs are hashed with `seed`.
+/// Marks each of `rows`, which are ordered by source, with its source and its group. There are
+/// `count` sources. Pairs are hashed with `seed`.
 pub fn row_marks(
     alloc: Global,
     rows: &[CodedRow],
-    by_source: &KeyedLists,
+    count: u32,
     seed: Seed,
 ) -> Result<RowMarks, AllocError>
     requires few { length rows.now < 2 ^ 31 }
-    requires few_sources { length by_source.now < 2 ^ 31 }
-    requires lists { by_source.now ≡ places_by (length by_source.now)
-        (map (λ (row : CodedRow). row.source) rows.now) }
-    requires sorted { IsBySource (length by_source.now) rows.now }
-    ensures { IfOk result (AreRowMarks (length by_source.now) rows.now) }
+    requires few_sources { count < 2 ^ 31 }
+    requires sorted { IsBySource count rows.now }
+    ensures { IfOk result (AreRowMarks count rows.now) }
 {
-    let mut room = Room {
-        own: Vec::new(alloc),
-        tables: Tables {
-            numbers: Vec::new(alloc),
-            seen: FirstKeys::new(alloc, seed),
-            ungrouped: FirstKeys::new(alloc, seed),
-        },
+    let mut tables = Tables {
+        numbers: Vec::new(alloc),
+        seen: FirstKeys::new(alloc, seed),
+        ungrouped: FirstKeys::new(alloc, seed),
     };
-    let marks = marks_in(alloc, rows, by_source, &mut room);
-    drop(room);
+    let marks = marks_in(alloc, rows, count, &mut tables);
+    drop(tables);
     marks
 }
 
-// Marks all rows source by source, with `room` as working memory.
+// Marks all rows source by source, with `tables` as working memory.
 fn marks_in(
     alloc: Global,
     rows: &[CodedRow],
-    by_source: &KeyedLists,
-    room: &mut Room,
+    count: u32,
+    tables: &mut Tables,
 ) -> Result<RowMarks, AllocError>
     requires few { length rows.now < 2 ^ 31 }
-    requires few_sources { length by_source.now < 2 ^ 31 }
-    requires lists { by_source.now ≡ places_by (length by_source.now)
-        (map (λ (row : CodedRow). row.source) rows.now) }
-    requires sorted { IsBySource (length by_source.now) rows.now }
-    ensures { IfOk result (AreRowMarks (length by_source.now) rows.now) }
+    requires few_sources { count < 2 ^ 31 }
+    requires sorted { IsBySource count rows.now }
+    ensures { IfOk result (AreRowMarks count rows.now) }
 {
     let mut marks = RowMarks {
         sources: Vec::with_capacity(alloc, rows.len())?,
         groups: Vec::with_capacity(alloc, rows.len())?,
-        starts: Vec::with_capacity(alloc, by_source.len() as usize + 1)?,
+        starts: Vec::with_capacity(alloc, count as usize + 1)?,
     };
     let mut ahead = 0u32;
     marks.starts.push(ahead)?;
-    for source in 0..by_source.len() {
-        gather(rows, by_source.of(source), &mut room.own)?;
-        let own = room.own.as_slice();
-        push_sources(alloc, own, &mut room.tables.seen, &mut marks.sources)?;
-        ahead += push_groups(alloc, own, ahead, &mut room.tables, &mut marks.groups)?;
+    let mut left = rows;
+    for source in 0..count {
+        let (own, others) = split_source(left, source);
+        left = others;
+        push_sources(alloc, own, &mut tables.seen, &mut marks.sources)?;
+        ahead += push_groups(alloc, own, ahead, tables, &mut marks.groups)?;
         marks.starts.push(ahead)?;
     }
     Ok(marks)
 }
 
-// Replaces the content of `own` by the rows at `places`.
-fn gather(rows: &[CodedRow], places: &[u32], own: &mut Vec<CodedRow>) -> Result<(), AllocError>
-    requires { All (λ place. place < length rows.now) places.now }
-    ensures { OnOk result ((default : CodedRow)
-        → own.new.items ≡ map (λ place. slice_index_or rows.now place default) places.now) }
+// Splits `rows` into the rows of `source` at the front, and the others, which have greater sources.
+fn split_source(rows: &[CodedRow], source: u32) -> (&[CodedRow], &[CodedRow])
+    ensures { (own others : List CodedRow) → rows.now ≡ own ++ others
+        → All (λ (row : CodedRow). row.source ≡ source) own
+        → All (λ (row : CodedRow). source < row.source) others
+        → (result.0.now ≡ own) × (result.1.now ≡ others) }
 {
-    own.clear();
-    for place in places {
-        own.push(rows[*place as usize])?;
+    let mut end = 0;
+    while end < rows.len() && rows[end].source == source {
+        end += 1;
     }
-    Ok(())
+    rows.split_at(end)
 }
 
 // Adds to `sources` one mark for each of `rows`, which are the rows of one source: the source, and
@@ -134,7 +123,7 @@ fn push_sources(
 {
     seen.clear(alloc);
     for row in rows {
-        let (_, is_first) = seen.intern(row.pair_key())?;
+        let (_, is_first) = seen.intern(pair_key(row))?;
         sources.push(FlaggedNumber::new(row.source, is_first))?;
     }
     Ok(())
@@ -160,7 +149,7 @@ fn push_groups(
     tables.seen.clear(alloc);
     tables.ungrouped.clear(alloc);
     for row in rows {
-        let (_, is_first) = tables.seen.intern(row.grouped_key())?;
+        let (_, is_first) = tables.seen.intern(grouped_key(row))?;
         let place = group_place(tables.numbers.as_slice(), &mut tables.ungrouped, row)?;
         groups.push(FlaggedNumber::new(ahead + place as u32, is_first))?;
     }
@@ -190,7 +179,7 @@ fn group_place(
     if row.group != 0 {
         return Ok(place_of(numbers, row.group));
     }
-    let (place, _) = ungrouped.intern(row.pair_key())?;
+    let (place, _) = ungrouped.intern(pair_key(row))?;
     Ok(numbers.len() + place)
 }
 

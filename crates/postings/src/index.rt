@@ -312,12 +312,7 @@ impl Indexes {
         requires { number < length (values_of self.now) }
         ensures { value_lent result ≡ value_at (values_of self.now) number }
     {
-        let number = number as usize;
-        let concepts = self.concepts.len();
-        if number < concepts {
-            return Value::Concept(self.concepts[number]);
-        }
-        self.rows.values.value(number - concepts)
+        self.rows.values.value_at(self.concepts.as_slice(), number)
     }
 
     /// Returns how many groups all concepts have together.

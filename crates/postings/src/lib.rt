@@ -14,11 +14,10 @@ mod index;
 mod laws;
 mod lengths;
 mod lists;
+mod pair_keys;
 mod row_indexes;
-mod rows;
 mod stats;
-mod texts;
-mod values;
+mod type_table;
 
 pub use crate::columns::{TypeColumns, ValueColumns};
 pub use crate::flagged_number::FlaggedNumber;

@@ -13,9 +13,9 @@ use crate::columns::{RowsByKey, row_lists};
 use crate::flagged_number::FlaggedNumber;
 use crate::groups::{RowMarks, row_marks};
 use crate::lists::{places_among, places_by_key};
-use crate::rows::{CodedRow, coded_rows};
-use crate::values::Values;
-use held_release::{Snapshot, Types};
+use crate::type_table::{TypeTable, type_table};
+use held_release::{CodedRow, Snapshot, Values};
+use idset::every_number;
 use key_interner::Seed;
 use number_lists::KeyedLists;
 use std::alloc::{AllocError, Global};
@@ -25,7 +25,7 @@ use std::alloc::{AllocError, Global};
 /// row's place in these columns.
 #[derive(Drop)]
 pub struct RowIndexes {
-    pub types: Types,
+    pub types: TypeTable,
     pub values: Values,
     /// For each row, the place of its type in `types`.
     pub type_places: Vec<u32>,
@@ -113,18 +113,17 @@ pub fn row_indexes(alloc: Global, snapshot: &Snapshot) -> Result<RowIndexes, All
     ensures { IfOk result (AreRowIndexes snapshot.now.release.concepts
         (attributes_by_source snapshot.now.release)) }
 {
-    let coded = coded_rows(alloc, snapshot)?;
+    let coded = snapshot.coded_rows();
+    let rows = coded.rows.as_slice();
     let count = snapshot.concept_count();
-    let (marks, row_numbers) = marks_by_source(
-        alloc,
-        count,
-        coded.rows.as_slice(),
-        snapshot.seed(),
-    )?;
-    let groups = group_lists(alloc, &marks, coded.rows.as_slice())?;
-    let keys = row_keys(alloc, coded.rows.as_slice())?;
-    let (types, values) = coded.into_tables();
+    let seed = snapshot.seed();
+    let marks = row_marks(alloc, rows, count, seed)?;
+    let row_numbers = every_number(alloc, rows.len() as u32)?;
+    let groups = group_lists(alloc, &marks, rows)?;
+    let keys = row_keys(alloc, rows)?;
+    let types = type_table(alloc, coded.types.as_slice(), seed)?;
     let lists = lists_by_keys(alloc, types.ids.len() as u32, count, &keys, &marks)?;
+    let values = coded.values.copy(alloc)?;
     Ok(RowIndexes {
         types,
         values,
@@ -196,35 +195,6 @@ fn lists_by_keys(
         by_type,
         by_value,
     })
-}
-
-// Marks each row with its source and its group, and lists the numbers of the rows of the `count`
-// sources, one source after the other. Pairs are hashed with `seed`.
-fn marks_by_source(
-    alloc: Global,
-    count: u32,
-    rows: &[CodedRow],
-    seed: Seed,
-) -> Result<(RowMarks, Vec<u32>), AllocError>
-    requires few { length rows.now < 2 ^ 31 }
-    requires few_sources { count < 2 ^ 31 }
-    requires sorted { IsBySource count rows.now }
-    ensures marks { IfOk result (λ made. AreRowMarks count rows.now made.0) }
-    ensures rows { IfOk result (λ made. made.1.items
-        ≡ concat (places_by count (map (λ (row : CodedRow). row.source) rows.now))) }
-{
-    let sources = sources_of(alloc, rows)?;
-    let by_source = places_by_key(alloc, count, sources.as_slice())?;
-    let marks = row_marks(alloc, rows, &by_source, seed)?;
-    let numbers = Vec::from_slice(alloc, by_source.flat())?;
-    Ok((marks, numbers))
-}
-
-// Copies the number of the source of each row.
-fn sources_of(alloc: Global, rows: &[CodedRow]) -> Result<Vec<u32>, AllocError>
-    ensures { IfOk result (λ keys. keys.items ≡ map (λ (row : CodedRow). row.source) rows.now) }
-{
-    rows.iter().map(|row| row.source).collect(alloc)
 }
 
 // Copies the place of the type of each row.

@@ -70,10 +70,11 @@ fn lists_pairs_by_key(rt: HostRuntime) -> Result<(), Fail> {
 
 // Returns lists to which three lists were pushed.
 fn pushed(alloc: Global) -> Result<KeyedLists, PushFault> {
-    KeyedLists::with_capacity(alloc, 3, 3)?
-        .push(&[5, 1])?
-        .push(&[])?
-        .push(&[7])
+    let mut lists = KeyedLists::with_capacity(alloc, 3, 3)?;
+    lists.push(&[5, 1])?;
+    lists.push(&[])?;
+    lists.push(&[7])?;
+    Ok(lists)
 }
 
 // Whether the three pushed lists follow one another in memory.

@@ -3,6 +3,7 @@ pub mod ConcreteValues
 pub mod FaultNumbers
 pub mod InForce
 pub mod inside
+pub mod KeptRows
 pub mod LentRows
 pub mod ListsRead
 pub mod Marked

@@ -1,44 +1,37 @@
 //! The list of attribute rows, with the values that are not concepts kept apart.
-ghost use Rattle.std.specs.Prelude.{◌≡◌, ◌<◌, ◌++◌, ◌∷◌, [], IfOk, OnOk, length, slice_index_or};
-ghost use Rattle.rf2_rows.specs.Release.{Attribute};
+ghost use Rattle.std.specs.Prelude.{◌≡◌, ◌++◌, ◌∷◌, [], All, IfOk, OnOk, length, map};
 ghost use Rattle.rf2_rows.specs.Rows.{value_lent};
-ghost use Rattle.row_lists.specs.inside.AttributesInside.{IsWithinValues, value_in};
-ghost use Rattle.row_lists.specs.LentRows.{attribute_read};
 ghost use Rattle.row_lists.specs.ChosenLists.{in_list, items_chosen};
-ghost use Rattle.row_lists.specs.ConcreteValues.{concrete_lent, concrete_value};
+ghost use Rattle.row_lists.specs.KeptRows.{IsKeptIn, IsValueIn, attribute_kept, value_kept};
 ghost use Rattle.row_lists.specs.Spans.{Extends};
 
-use crate::concrete_values::{ConcreteValues, LentConcrete};
+use crate::concrete_values::ConcreteValues;
 use crate::row_lists::{Listing, chosen_items};
 use rf2_rows::Value;
 use sctid::SctId;
 use std::alloc::{AllocError, Global};
 use std::marker::Model;
 
-/// The value of a stored attribute row: a concept, or an index into the list of values that are not
-/// concepts.
+/// The value of an attribute row that is kept.
 #[derive(Clone, Copy)]
-enum KeptValue {
+pub enum KeptValue {
+    /// The identifier of a concept.
     Concept(SctId),
+    /// The index of a value that is not a concept, in a list of such values.
     Concrete(usize),
 }
 
-/// An attribute row as it is stored: source, type, relationship group number and value.
+/// An attribute row that is kept: what a load needs of it.
 #[derive(Clone, Copy)]
-struct KeptRow {
-    source: SctId,
-    type_id: SctId,
-    group: u32,
-    value: KeptValue,
-}
-
-/// An attribute row as callers see it. A value that is a text is borrowed.
-#[derive(Clone, Copy)]
-pub struct ReadRow<'a> {
+pub struct KeptRow {
+    /// The identifier of the concept that has the attribute.
     pub source: SctId,
+    /// The identifier of the type.
     pub type_id: SctId,
+    /// The relationship group number, 0 for none.
     pub group: u32,
-    pub value: Value<'a>,
+    /// The value.
+    pub value: KeptValue,
 }
 
 /// Attribute rows in the order in which they were read. Contracts name this type as the list of the
@@ -80,19 +73,13 @@ impl Attributes {
         self.rows.len()
     }
 
-    /// Returns the row at index `place`.
-    pub fn row(&self, place: usize) -> ReadRow<'_>
-        requires { place < length self.now }
-        ensures { (default : Attribute)
-            → attribute_read result ≡ slice_index_or self.now place default }
+    /// Returns the rows, and the values that are not concepts, to which the rows have indexes.
+    pub fn into_rows(self) -> (Vec<KeptRow>, ConcreteValues)
+        ensures rows { map (attribute_kept result.1) result.0.items ≡ self }
+        ensures within { All (IsKeptIn result.1) result.0.items }
     {
-        let row = self.rows[place];
-        ReadRow {
-            source: row.source,
-            type_id: row.type_id,
-            group: row.group,
-            value: lend_value(&self.concrete, row.value),
-        }
+        let Attributes { rows, concrete } = self;
+        (rows, concrete)
     }
 
     /// Appends a row with these four columns. Copies a value that is a text.
@@ -145,8 +132,8 @@ impl Attributes {
 // Stores `value`: appends it to `concrete` if it is not a concept. Returns the stored form.
 fn keep_value(concrete: &mut ConcreteValues, value: &Value<'_>) -> Result<KeptValue, AllocError>
     ensures grown { Extends concrete.old concrete.new }
-    ensures value { IfOk result (λ kept. value_in concrete.new kept ≡ value_lent value.now) }
-    ensures within { IfOk result (λ kept. IsWithinValues concrete.new kept) }
+    ensures value { IfOk result (λ kept. value_kept concrete.new kept ≡ value_lent value.now) }
+    ensures within { IfOk result (λ kept. IsValueIn concrete.new kept) }
 {
     match value {
         Value::Concept(concept) => Ok(KeptValue::Concept(*concept)),
@@ -158,26 +145,5 @@ fn keep_value(concrete: &mut ConcreteValues, value: &Value<'_>) -> Result<KeptVa
             let place = concrete.push_text(text)?;
             Ok(KeptValue::Concrete(place))
         }
-    }
-}
-
-// Returns the value that the stored form `value` means; a text is borrowed from `concrete`.
-fn lend_value(concrete: &ConcreteValues, value: KeptValue) -> Value<'_>
-    requires { IsWithinValues concrete.now value }
-    ensures { value_lent result ≡ value_in concrete.now value }
-{
-    match value {
-        KeptValue::Concept(concept) => Value::Concept(concept),
-        KeptValue::Concrete(place) => as_value(concrete.value(place)),
-    }
-}
-
-// Converts a value that is not a concept into a value of an attribute.
-fn as_value(value: LentConcrete<'_>) -> Value<'_>
-    ensures { value_lent result ≡ concrete_value (concrete_lent value.entry) }
-{
-    match value {
-        LentConcrete::Decimal(decimal) => Value::Decimal(decimal),
-        LentConcrete::Other(text) => Value::Other(text),
     }
 }

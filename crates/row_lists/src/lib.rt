@@ -11,7 +11,7 @@ mod read;
 mod row_lists;
 mod spans;
 
-pub use crate::attributes::{Attributes, ReadRow};
+pub use crate::attributes::{Attributes, KeptRow, KeptValue};
 pub use crate::concrete_values::{ConcreteValues, LentConcrete};
 pub use crate::fault::LoadFault;
 pub use crate::names::{KnownConcepts, Names, ReadName};

@@ -8,8 +8,8 @@ mod load;
 pub use crate::laws::rows_are_listed_or_passed;
 pub use crate::load::LoadSnapshot;
 pub use held_release::{
-    AttributeNumbers, AttributeRow, NumberedValue, Report, Snapshot, Types,
-    cyclic_concept_is_the_least, naming_row_comes_first, near_types,
+    AttributeRow, CodedRow, CodedRows, Report, Snapshot, Texts, Values,
+    cyclic_concept_is_the_least, naming_row_comes_first,
 };
 pub use release_rows::{
     Limits, first_fault_is_the_first, latest_rows_are_chosen, list_names, rising_keeps_the_members,

@@ -2,6 +2,7 @@
 use Rattle.std.specs.Prelude.{◌≡◌, ◌<◌, ◌^◌, true, All, map, length, string_bytes}
 use Rattle.std.specs.List.Sorted.{IsStrictlyIncreasing}
 use Rattle.rf2_rows.specs.Release.{Attribute}
+use Rattle.held_release.specs.CodedRows.{AreCodedRows}
 use Rattle.held_release.specs.Contents.{Contents}
 use Rattle.held_release.specs.ValuesInForce.{is_value_among}
 use Rattle.held_release.specs.Line.{concept_line}
@@ -9,7 +10,7 @@ use Rattle.held_release.specs.Name.{name_among}
 use Rattle.hierarchy.specs.Hierarchy.{IsWithin}
 use Rattle.held_release.specs.Numbering.{row_of_numbers}
 use Rattle.hierarchy.specs.ParentsFirst.{IsParentsFirst}
-use Rattle.held_release.specs.inside.Sorted.{IsSortedBySource, in_file_order}
+use Rattle.held_release.specs.inside.Sorted.{IsSortedBySource, in_file_order, sorted_in}
 use Rattle.held_release.specs.declared.held_release.Snapshot.TheInside.{Inside}
 
 -- the contents that the fields hold
@@ -18,7 +19,7 @@ contents_in inside = record {
   release = record {
     concepts = inside.concepts;
     isa = map (row_of_numbers inside.concepts) inside.isa.items;
-    attributes = in_file_order inside.concepts inside.attributes;
+    attributes = in_file_order (sorted_in inside.concepts inside.attributes);
     members = map (row_of_numbers inside.concepts) inside.members.items;
     names = inside.lines.names;
   };
@@ -40,10 +41,11 @@ IsNumbered inside =
     × (inside.lines.lines ≡ map (concept_line
     (name_among (string_bytes inside.language) inside.lines.names)) inside.concepts)
     × IsParentsFirst (length inside.concepts) inside.isa.items inside.order.items
-    × IsSortedBySource inside.concepts inside.attributes
-    × (length inside.attributes.rows < 2 ^ 31)
+    × IsSortedBySource inside.concepts (sorted_in inside.concepts inside.attributes)
+    × AreCodedRows inside.concepts (sorted_in inside.concepts inside.attributes).rows
+    inside.attributes
     × All (λ (row : Attribute). is_value_among inside.concepts row.value ≡ true)
-    (in_file_order inside.concepts inside.attributes)
+    (in_file_order (sorted_in inside.concepts inside.attributes))
     × (length inside.isa.items < 2 ^ 31)
     × (length inside.members.items < 2 ^ 31)
     × IsStrictlyIncreasing inside.inactive.items

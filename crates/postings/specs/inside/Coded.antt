@@ -1,67 +1,13 @@
--- Attribute rows as numbers (coded rows): the number of the source, the place of the type in the
--- table of types, the relationship group number, and the number of the value.
-use Rattle.std.specs.Prelude.{ℕ, ◌+◌, ◌==◌, ◌≡◌, ◌≤◌, ◌<◌, ◌^◌, ◌&&◌, ◌++◌, Bool, not}
+-- The pairs and the groups of attribute rows as numbers (coded rows).
+use Rattle.std.specs.Prelude.{ℕ, ◌+◌, ◌==◌, ◌≡◌, ◌≤◌, ◌&&◌, ◌++◌, Bool, not}
 use Rattle.std.specs.Prelude.{if◌then◌else◌, List, [], ◌∷◌}
-use Rattle.std.specs.Prelude.{All, filter, length, map, slice_index, vec_len}
+use Rattle.std.specs.Prelude.{filter, length, map, slice_index, vec_len}
 use Rattle.std.specs.List.{flat_map, list_any, position_or_len, range_with_len}
 use Rattle.number_lists.specs.Distinct.{distinct}
-use Rattle.rf2_rows.specs.Release.{Attribute, Value}
 use Rattle.number_lists.specs.RisingOrder.{rising}
 use Rattle.postings.specs.Columns.{Flagged}
-use Rattle.postings.specs.Indexed.{types_of, value_at}
-use Rattle.postings.specs.RowValues.{AreTablesOf}
-use Rattle.postings.specs.inside.ValueTables.{values_in}
 use Rattle.postings.specs.declared.groups.RowMarks.{RowMarks}
-use Rattle.postings.specs.declared.rows.CodedRow.{CodedRow}
-use Rattle.postings.specs.declared.rows.CodedRows.{CodedRows}
-use Rattle.held_release.specs.declared.attribute_types.Types.{Types}
-use Rattle.postings.specs.declared.values.Values.{Values}
-
--- the attribute row that a coded row encodes, by the tables `concepts`, `types` and `values`
-abbrev pub row_coded : List ℕ → List ℕ → List Value → CodedRow → Attribute
-row_coded concepts types values row = record {
-  source = slice_index concepts row.source;
-  type_id = slice_index types row.type_place;
-  group = row.group;
-  value = value_at values row.value;
-}
-
--- the numbers of `row` are within their tables
-pub record IsCoded (concepts types : List ℕ) (values : List Value) (row : CodedRow) : Type 0 where
-  -- the number of the source is below the number of concepts
-  pub source : row.source < length concepts
-  -- the place of the type is below the number of types
-  pub type_place : row.type_place < length types
-  -- the number of the value is below the number of values
-  pub value : row.value < length values
-
--- the attribute rows that coded rows encode, by their tables
-abbrev pub rows_coded : List ℕ → Types → Values → List CodedRow → List Attribute
-rows_coded concepts types values rows =
-    map (row_coded concepts types.numbers (values_in concepts values)) rows
-
--- `coded`, with its tables of types and values, encodes the attribute rows `rows` of `concepts`
-pub record AreCoded (concepts : List ℕ) (rows : List Attribute) (type_table : Types)
-    (value_table : Values) (coded : List CodedRow) :
-    Type 0 where
-  -- the coded rows encode the attribute rows
-  pub stand_for : rows_coded concepts type_table value_table coded ≡ rows
-  -- the numbers of each row are within their tables
-  pub within : All (IsCoded concepts type_table.numbers (values_in concepts value_table)) coded
-  -- the table of types has the distinct types of the rows
-  pub types : type_table.numbers ≡ types_of rows
-  -- the list of type identifiers is the table of types
-  pub ids : type_table.ids.items ≡ type_table.numbers
-  -- the tables of decimals and texts have those among the values of the rows
-  pub tables : AreTablesOf rows value_table.decimals.items value_table.texts
-  -- there are fewer than 2^31 rows
-  pub few : length rows < 2 ^ 31
-  -- the number of each value fits in 32 bits
-  pub few_values : length (values_in concepts value_table) < 2 ^ 32
-
--- `coded` encodes the attribute rows `rows` of `concepts`
-abbrev pub AreCodedRows : List ℕ → List Attribute → CodedRows → Type 0
-AreCodedRows concepts rows coded = AreCoded concepts rows coded.types coded.values coded.rows.items
+use Rattle.held_release.specs.declared.coded_rows.CodedRow.{CodedRow}
 
 -- the rows of `rows` whose source has the number `source`
 abbrev pub of_source : List CodedRow → ℕ → List CodedRow

@@ -2,7 +2,7 @@
 use Rattle.std.specs.Prelude.{◌≡◌, ◌<◌, ◌^◌, length, map}
 use Rattle.std.specs.List.Sorted.{IsStrictlyIncreasing}
 use Rattle.held_release.specs.Numbering.{concept_number}
-use Rattle.postings.specs.inside.Coded.{rows_coded}
+use Rattle.held_release.specs.CodedRows.{rows_coded}
 use Rattle.postings.specs.Indexed.{HasListsFor, Indexed, with_members}
 use Rattle.postings.specs.inside.KeptRows.{rows_kept}
 use Rattle.postings.specs.inside.RowIndexes.{AreRowIndexes}
@@ -13,7 +13,7 @@ abbrev pub indexed_in : Inside → Indexed
 indexed_in inside = record {
   concepts = inside.concepts.items;
   hierarchy = inside.hierarchy;
-  rows = rows_coded inside.concepts.items inside.rows.types inside.rows.values
+  rows = rows_coded inside.concepts.items inside.rows.types.numbers inside.rows.values
       (rows_kept inside.rows);
   members = inside.members;
   decimals = inside.rows.values.decimals.items;

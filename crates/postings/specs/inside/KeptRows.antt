@@ -5,7 +5,7 @@ use Rattle.std.specs.Prelude.{ℕ, ◌+◌, ◌≡◌, ◌<◌, true, List, leng
 use Rattle.std.specs.List.{concat, range_with_len}
 use Rattle.postings.specs.Columns.{Flagged}
 use Rattle.postings.specs.declared.row_indexes.RowIndexes.{RowIndexes}
-use Rattle.postings.specs.declared.rows.CodedRow.{CodedRow}
+use Rattle.held_release.specs.declared.coded_rows.CodedRow.{CodedRow}
 
 -- the mark at a place of a column
 abbrev pub mark_at : List Flagged → ℕ → Flagged

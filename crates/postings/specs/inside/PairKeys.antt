@@ -2,7 +2,7 @@
 use Rattle.std.specs.Prelude.{ℕ, ◌+◌, ◌*◌, ◌^◌, ◌<◌, ◌==◌, List, filter, map, nat_eq}
 use Rattle.number_lists.specs.Distinct.{distinct}
 use Rattle.postings.specs.inside.Coded.{pair_code}
-use Rattle.postings.specs.declared.rows.CodedRow.{CodedRow}
+use Rattle.held_release.specs.declared.coded_rows.CodedRow.{CodedRow}
 
 -- a pair of two numbers below 2^32, packed in one number
 abbrev pub key_of_code : ℕ × ℕ → ℕ

@@ -4,7 +4,7 @@ use Rattle.std.specs.Prelude.{take}
 use Rattle.std.specs.List.{concat, range_with_len}
 use Rattle.rf2_rows.specs.Pairs.{value_eq}
 use Rattle.rf2_rows.specs.Release.{Attribute, Value, concept_value}
-use Rattle.postings.specs.inside.Coded.{AreCoded}
+use Rattle.held_release.specs.CodedRows.{AreCoded}
 use Rattle.postings.specs.inside.Cells.{AreColumns, cells_of}
 use Rattle.postings.specs.Columns.{AreGroups, AreSources, AreTypes, AreValues}
 use Rattle.postings.specs.Entries.{Entry, entries_of, entries_where}
@@ -12,7 +12,7 @@ use Rattle.postings.specs.Groups.{all_groups, groups_among, is_in_group, rows_al
 use Rattle.postings.specs.Indexed.{types_of}
 use Rattle.postings.specs.inside.KeptRows.{IsKept, groups_kept, rows_ahead, rows_kept, sources_kept}
 use Rattle.postings.specs.Places.{places_where}
-use Rattle.postings.specs.inside.ValueTables.{values_in}
+use Rattle.held_release.specs.CodedRows.{values_in}
 use Rattle.postings.specs.declared.columns.RowsByKey.{RowsByKey}
 use Rattle.postings.specs.declared.row_indexes.GroupLists.{GroupLists}
 use Rattle.postings.specs.declared.row_indexes.RowIndexes.{RowIndexes}
@@ -91,7 +91,9 @@ pub record AreGroupLists (concepts : List ℕ) (rows : List Attribute) (lists : 
 pub record AreRowIndexes (concepts : List ℕ) (rows : List Attribute) (indexes : RowIndexes) : Type 0
   where
     -- the stored rows, with their tables, encode the attribute rows
-    pub coded : AreCoded concepts rows indexes.types indexes.values (rows_kept indexes)
+    pub coded : AreCoded concepts rows indexes.types.numbers indexes.values (rows_kept indexes)
+    -- the list of type identifiers is the table of types
+    pub ids : indexes.types.ids.items ≡ indexes.types.numbers
     -- the indexes store each row
     pub kept : (n : ℕ) → n < length rows → IsKept indexes n
     -- the stored marks of groups are a column of groups for the rows

@@ -1,4 +1,4 @@
-use Rattle.std.proofs.Common.{◌≡◌, ◌∙◌, ◌%◌, ◌^◌, ◌<◌, ◌≤◌, All, ap, arith, length, map, subst, sym}
+use Rattle.std.proofs.Common.{◌∙◌, ◌%◌, ◌^◌, ◌<◌, All, ap, arith, length, map, subst, sym}
 use Rattle.number_lists.specs.RisingOrder.{rising}
 use Rattle.number_lists.proofs.RisingLemmas.{all_below}
 use Rattle.concept_printer.specs.inside.GroupKeys.{row_with_key}

@@ -1,4 +1,4 @@
-use Rattle.std.proofs.Common.{◌≡◌, ◌∙◌, ◌++◌, ℕ, List, OnOk, ap, codes, length, map, subst, sym}
+use Rattle.std.proofs.Common.{◌≡◌, ◌∙◌, ◌++◌, List, OnOk, ap, codes, length, map, subst, sym}
 use Rattle.rf2_rows.specs.Release.{Attribute}
 use Rattle.number_lists.specs.Rising.{IsRisingBelow}
 use Rattle.concept_printer.specs.ConceptText.{attribute_line, by_group, headed, name_in_force}

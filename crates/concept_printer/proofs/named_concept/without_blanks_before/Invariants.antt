@@ -1,4 +1,4 @@
-use Rattle.std.proofs.Common.{◌≡◌, ℕ, length}
+use Rattle.std.proofs.Common.{◌≡◌, length}
 use Rattle.concept_printer.specs.NamedConcept.{after_blanks}
 use Rattle.concept_printer.proofs.named_concept.without_blanks_before.Given as goal
 

@@ -5,13 +5,15 @@ use Rattle.std.proofs.Common.{sym, true}
 use Rattle.row_lists.specs.ListsRead.{read_in}
 use Rattle.rf2_rows.specs.Release.{Attribute, Name}
 use Rattle.hierarchy.specs.Hierarchy.{IsWithin}
+use Rattle.std.proofs.lemmas.List.{length-map}
+use Rattle.held_release.specs.CodedRows.{row_coded, values_in}
 use Rattle.held_release.specs.Line.{concept_line}
 use Rattle.held_release.specs.Name.{name_among}
 use Rattle.held_release.specs.Numbering.{numbered_row}
 use Rattle.held_release.specs.ValuesInForce.{is_value_among}
-use Rattle.held_release.specs.inside.Sorted.{in_file_order}
+use Rattle.held_release.specs.inside.Sorted.{in_file_order, sorted_in}
 use Rattle.held_release.proofs.FinishLemmas.{attributes_among-values, finished-Ok, finished-Err}
-use Rattle.held_release.proofs.FinishLemmas.{length-attributes_among, length-names_among, length-rising}
+use Rattle.held_release.proofs.FinishLemmas.{length-names_among, length-rising}
 use Rattle.held_release.proofs.NumberingLemmas.{IsWithin-numbered, length-numbered}
 use Rattle.held_release.proofs.finishing.finish.Goals as goal
 use Rattle.held_release.proofs.finishing.finish.Goals.{After-len-in-Ok}
@@ -46,15 +48,14 @@ few_members c =
     ))
 
 -- there are fewer than 2^31 attribute rows
-few_attributes : (c : After-len-in-Ok) → length c.in_ok-lists-in-Ok.lists.attributes.rows < 2 ^ 31
+few_attributes : (c : After-len-in-Ok) → length c.in_ok-lists-in-Ok.lists.attributes.rows.items < 2 ^ 31
 few_attributes c =
+    let coded = c.in_ok-lists-in-Ok.lists.attributes in
     omega (
       arith,
-      ap (λ (rows : List Attribute). length rows) c.in_ok-lists-in-Ok.ensures.attributes,
-      c.in_ok-lists-in-Ok.ensures.sorted.count,
-      length-attributes_among c.in_ok-concepts.concepts c.args.read.lists.attributes,
-      c.requires.few,
-      c.requires.few_attributes,
+      c.in_ok-lists-in-Ok.ensures.coded.few,
+      length-map coded.rows.items (row_coded c.in_ok-concepts.concepts coded.types.items
+          (values_in c.in_ok-concepts.concepts coded.values)),
     )
 
 -- there are fewer than 2^31 name rows
@@ -149,7 +150,7 @@ invariant_of-result c =
           c.as_str.ensures.value,
       c.in-Ok.ensures.order,
       kept.sorted,
-      few_attributes known,
+      kept.coded,
       subst (All (λ (row : Attribute). is_value_among concepts row.value ≡ true)) (sym kept.attributes)
           (attributes_among-values concepts c.args.read.lists.attributes),
       few_isa known,
@@ -165,14 +166,19 @@ returns-in_ok-lists-in-Ok-clause-ok c =
     let lists = c.in_ok-lists-in-Ok.lists in
     finished-Ok (string_bytes c.args.language) c.args.files c.args.read.count listed concepts
     c.rising-inactive.result.items c.in-Ok.hierarchy.isa.items
-    (in_file_order concepts lists.attributes) lists.members.items lists.lines.names c.saturating_sub.result
+    (in_file_order (sorted_in concepts lists.attributes)) lists.members.items lists.lines.names c.saturating_sub.result
     (grind (arith, c.in_ok-concepts.ensures, c.rising.ensures.rising)) c.rising-inactive.ensures.rising
     (grind (arith, c.in-Ok.ensures.rows, c.as_slice.ensures.value))
     c.in_ok-lists-in-Ok.ensures.attributes
     (grind (arith, c.in_ok-lists-in-Ok.ensures.members, c.as_slice-in-Ok.ensures.value))
     c.in_ok-lists-in-Ok.ensures.names
     (grind (arith, c.in-Ok.ensures.acyclic, c.as_slice.ensures.value))
-    (omega (arith, c.in_ok-lists-in-Ok.ensures.sorted.count))
+    (omega (
+      arith,
+      c.in_ok-lists-in-Ok.ensures.sorted.count,
+      length-map lists.attributes.rows.items (row_coded concepts lists.attributes.types.items
+          (values_in concepts lists.attributes.values)),
+    ))
 
 -- the fault that is answered is the fault of `finished`
 pub returns-in-Err-clause-err : goal.returns-in-Err-clause-err

@@ -1,30 +1,37 @@
-use Rattle.std.proofs.Common.{◌++◌, ◌∷◌, [], ◌∙◌, List, ap, arith, get_or, sym}
-use Rattle.std.proofs.lemmas.List.{take_all}
-use Rattle.rf2_rows.specs.Release.{Attribute, concept_value}
-use Rattle.held_release.specs.Finished.{attributes_among}
-use Rattle.held_release.proofs.NumberedLemmas.{among_more}
+use Rattle.std.proofs.Common.{◌≡◌, ◌+◌, ◌++◌, ◌∷◌, [], ◌∙◌, List, None, Option, Some, Vec, Global, ap, filter_map, sym, take}
+use Rattle.std.specs.List.{cons_option}
+use Rattle.std.proofs.lemmas.List.{append-nil, take_more}
+use Rattle.std.proofs.lemmas.List.Elements.{filter_map-append}
+use Rattle.row_lists.specs.declared.attributes.KeptRow.{KeptRow}
+use Rattle.held_release.specs.inside.NumberedInside.{numbered_of}
+use Rattle.held_release.specs.declared.numbered_attributes.NumberedRow.{NumberedRow}
 use Rattle.held_release.proofs.numbered_attributes.number_attributes.Goals as goal
+use Rattle.held_release.proofs.numbered_attributes.number_attributes.Goals.{in-Some+in_ok-push, in_default}
 
--- with one row more, the rows stand for the attributes kept of the first `place + 1`
-pub loop-place-preserved : goal.loop-place-preserved
-loop-place-preserved c =
-    let keys = c.args.concepts.now in
-    let place = c.loop-place.place in
-    let none : Attribute = record { source = 0; type_id = 0; group = 0; value = concept_value 0 } in
-    let kept = c.loop-place.invariant in record {
-      rows = c.in_ok-add.ensures.rows none
-          ∙ ap (λ (before : List Attribute). before
-          ++ attributes_among keys (get_or c.args.attributes.now place none ∷ [])) kept.rows
-          ∙ sym (among_more keys c.args.attributes.now place none (omega arith));
-      numbered = c.in_ok-add.ensures.numbered;
-      values = omega (arith, kept.values, c.in_ok-add.ensures.values);
-      count = omega (arith, kept.count, c.in_ok-add.ensures.count);
-    }
-
--- the rows stand for all attributes of the concepts
-pub returns-clause-rows : goal.returns-clause-rows
-returns-clause-rows c =
-    c.loop-place.invariant.rows
-    ∙ ap (attributes_among c.args.concepts.now)
-    (take_all c.loop-place.place c.args.attributes.now
-    (omega (arith, c.loop-place-test.false, c.len-place-end.ensures)))
+-- one row more adds its numbered row, if it is in force
+pub loop-row-preserved : goal.loop-row-preserved
+loop-row-preserved c =
+    let numbered : KeptRow → Option NumberedRow = numbered_of c.args.concepts.now in
+    let rows = c.args.rows.now in
+    let n = c.loop-row.row-index in
+    let row = c.row-item.result in
+    let so_far : List NumberedRow = filter_map numbered (take n rows) in
+    let more : filter_map numbered (take (n + 1) rows) ≡ so_far ++ cons_option (numbered row) [] =
+    ap (filter_map numbered) (take_more rows n row c.loop-row-test.true
+    ∙ ap (λ (next : KeptRow). take n rows ++ next ∷ []) (sym c.row-item.is))
+    ∙ filter_map-append numbered (take n rows) (row ∷ []) in
+    elim c.match-number_attribute.branch [
+      | in-Some+in_ok-push w ↦
+          let found : numbered row ≡ Some w.in-Some.row = sym c.number_attribute.ensures ∙ w.in-Some.is in
+          ap (λ (rows : Vec NumberedRow Global). rows.items) w.numbered-is
+          ∙ w.in_ok-push.ensures.items
+          ∙ (λ i. c.loop-row.invariant i ++ cons_option (sym found i) [])
+          ∙ sym more
+      | in_default w ↦
+          let none : numbered row ≡ None = sym c.number_attribute.ensures ∙ w.in_default.is in
+          ap (λ (rows : Vec NumberedRow Global). rows.items) w.numbered-is
+          ∙ c.loop-row.invariant
+          ∙ sym (append-nil so_far)
+          ∙ (λ i. so_far ++ cons_option (sym none i) [])
+          ∙ sym more
+    ]

@@ -9,8 +9,8 @@ use Rattle.number_lists.proofs.ListLemmas.{split_at}
 use Rattle.postings.specs.inside.Coded.{group_codes, has_same_in_group, marks_after, numbers_of_groups, pair_code}
 use Rattle.postings.specs.inside.Coded.{place_in_source}
 use Rattle.postings.specs.inside.PairKeys.{IsShort, grouped_key, ungrouped_keys}
-use Rattle.postings.specs.declared.rows.CodedRow.{CodedRow}
-use Rattle.postings.proofs.DistinctLemmas.{distinct-map_more}
+use Rattle.held_release.specs.declared.coded_rows.CodedRow.{CodedRow}
+use Rattle.held_release.proofs.DistinctPlaceLemmas.{distinct-map_more}
 use Rattle.postings.proofs.GroupLemmas.{length-group_codes, length-group_codes-le, place_in_source-le}
 use Rattle.postings.proofs.MarkLemmas.{marks_more}
 use Rattle.postings.proofs.PairKeyLemmas.{HaveShort, any-key, length-ungrouped_keys, same_in_group}

@@ -7,8 +7,8 @@ use Rattle.key_interner.specs.KeyInterner.{keys_after}
 use Rattle.postings.specs.inside.Coded.{has_same_pair, pair_code, source_marks}
 use Rattle.postings.specs.Columns.{Flagged}
 use Rattle.postings.specs.inside.PairKeys.{IsShort, pair_key}
-use Rattle.postings.specs.declared.rows.CodedRow.{CodedRow}
-use Rattle.postings.proofs.DistinctLemmas.{distinct-map_more}
+use Rattle.held_release.specs.declared.coded_rows.CodedRow.{CodedRow}
+use Rattle.held_release.proofs.DistinctPlaceLemmas.{distinct-map_more}
 use Rattle.postings.proofs.MarkLemmas.{marks_more}
 use Rattle.postings.proofs.PairKeyLemmas.{any-key, same_pair}
 use Rattle.postings.proofs.groups.push_sources.Goals as goal

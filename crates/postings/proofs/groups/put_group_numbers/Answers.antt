@@ -7,7 +7,7 @@ use Rattle.std.specs.Prelude.{All}
 use Rattle.std.proofs.lemmas.List.Elements.{All-push, filter-append}
 use Rattle.number_lists.specs.Rising.{IsRising}
 use Rattle.number_lists.specs.RisingOrder.{rising}
-use Rattle.postings.specs.declared.rows.CodedRow.{CodedRow}
+use Rattle.held_release.specs.declared.coded_rows.CodedRow.{CodedRow}
 use Rattle.postings.specs.inside.Coded.{numbers_of_groups}
 use Rattle.postings.proofs.RisingLemmas.{listed_is_rising, rising-rises}
 use Rattle.postings.proofs.groups.put_group_numbers.Goals as goal

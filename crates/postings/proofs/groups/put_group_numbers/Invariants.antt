@@ -1,7 +1,7 @@
 use Rattle.std.proofs.Common.{◌==◌, ◌≡◌, ◌<◌, ◌^◌, map, not, take}
 use Rattle.std.specs.Prelude.{All}
 use Rattle.std.specs.List.{filter}
-use Rattle.postings.specs.declared.rows.CodedRow.{CodedRow}
+use Rattle.held_release.specs.declared.coded_rows.CodedRow.{CodedRow}
 use Rattle.postings.proofs.groups.put_group_numbers.Given as goal
 
 -- `numbers` has the group numbers of the rows so far without 0, and 32 bits hold each

@@ -1,6 +1,6 @@
 use Rattle.std.proofs.Common.{ℕ, ◌+◌, ◌≡◌, ◌∙◌, get_or, set, sym, ap, subst, arith}
 use Rattle.postings.specs.Columns.{Flagged}
-use Rattle.postings.specs.declared.rows.CodedRow.{CodedRow}
+use Rattle.held_release.specs.declared.coded_rows.CodedRow.{CodedRow}
 use Rattle.postings.proofs.KeptLemmas.{AreNumbered, numbered_more}
 use Rattle.postings.proofs.row_indexes.numbers_by_group.Goals as goal
 

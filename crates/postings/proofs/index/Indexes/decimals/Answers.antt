@@ -3,7 +3,7 @@ use Rattle.std.specs.List.Sorted.{IsSorted}
 use Rattle.std.specs.Ordering.{int_cmp}
 use Rattle.std.proofs.lemmas.Cmp.{int_cmp_total}
 use Rattle.postings.specs.Indexed.{Indexed}
-use Rattle.postings.proofs.TableLemmas.{rising_is_sorted}
+use Rattle.held_release.proofs.TableLemmas.{rising_is_sorted}
 use Rattle.postings.proofs.index.Indexes.decimals.Goals as goal
 
 -- the decimals are sorted, since they rise strictly

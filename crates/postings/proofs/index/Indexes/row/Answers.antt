@@ -1,10 +1,10 @@
 use Rattle.std.proofs.Common.{ℕ, ◌≡◌, ◌<◌, ◌∙◌, List, Some, length, ap, subst, sym, arith}
 use Rattle.std.specs.List.{slice_get}
 use Rattle.held_release.specs.AttributesBySource.{attribute_of, with_source}
-use Rattle.postings.specs.inside.Coded.{IsCoded}
+use Rattle.held_release.specs.CodedRows.{IsCoded}
 use Rattle.postings.specs.Indexed.{Indexed, value_at, values_of}
 use Rattle.postings.specs.inside.KeptRows.{rows_kept}
-use Rattle.postings.specs.inside.ValueTables.{values_in}
+use Rattle.held_release.specs.CodedRows.{values_in}
 use Rattle.postings.proofs.BuildLemmas.{row_told}
 use Rattle.postings.proofs.KeptLemmas.{kept_at, length-kept}
 use Rattle.postings.proofs.GroupNumberLemmas.{length-rows, near, row_coded_within, row_there}
@@ -31,7 +31,7 @@ index-requires c =
     omega (
       arith,
       (within (goal.at.index-requires c).After-row-row).type_place,
-      ap (λ (ids : List ℕ). length ids) c.self.invariant.rows.coded.ids,
+      ap (λ (ids : List ℕ). length ids) c.self.invariant.rows.ids,
     )
 
 -- the number of the row's value is that of a value
@@ -59,7 +59,7 @@ returns-clause-row c =
     (row_told concepts types ids values (rows_kept c.self.inside.rows) c.args.n row
     (omega (arith, known, long, length-kept c.self.inside.rows))
     (c.row-row.ensures ∙ sym (kept_at c.self.inside.rows c.args.n row (omega (arith, known, long))))
-    c.index.result.now c.value.result c.self.invariant.rows.coded.ids
+    c.index.result.now c.value.result c.self.invariant.rows.ids
     (within (goal.at.returns-clause-row c).After-row-row).type_place
     c.index.ensures valued)
 

@@ -24,7 +24,7 @@ returns-in-Some c =
     let inside = c.self.inside in
     let found = c.in-Some.concept.now in
     let indexed : Indexed = indexed_in inside in
-    let ids = c.self.invariant.rows.coded.ids ∙ c.self.invariant.rows.coded.types in
+    let ids = c.self.invariant.rows.ids ∙ c.self.invariant.rows.coded.types in
     let are : c.as_slice.result.now ≡ map (concept_number inside.concepts.items) (types_of indexed.rows) =
     c.as_slice.ensures.value ∙ c.self.invariant.types ∙ ap (map (concept_number inside.concepts.items)) ids in
     let below : c.args.place < length (types_of indexed.rows) =

@@ -1,4 +1,4 @@
-use Rattle.row_lists.specs.inside.AttributesInside.{IsPlacedIn}
+use Rattle.row_lists.specs.KeptRows.{IsKeptIn}
 use Rattle.row_lists.specs.Marked.{marked}
 use Rattle.row_lists.specs.ChosenLists.{in_list}
 use Rattle.row_lists.specs.declared.row_lists.Listing.TheVariants.{Attribute as ListedAttribute}
@@ -12,7 +12,7 @@ invariant_of-self c = grind (
   arith,
   c.in_ok-self-inside.ensures,
   c.as_slice.ensures.value,
-  (All-marked (IsPlacedIn c.self.inside.concrete)
+  (All-marked (IsKeptIn c.self.inside.concrete)
       (marked (in_list ListedAttribute c.args.marks.now) c.args.choices.now) c.self.inside.rows.items c.self.invariant),
 )
 
