@@ -4,4 +4,4 @@
 # for the next run.
 set -eu
 exec "$(dirname "$0")/timed.sh" index_bench indexes_main.rt.in \
-    "number_lists text_parts numerals sctid hierarchy rf2_rows release_files idset key_interner row_lists held_release release_rows snapshot ancestor_index postings" "$@"
+    "number_lists text_parts numerals release_model sctid hierarchy rf2_rows release_files idset key_interner row_lists held_release release_rows snapshot ancestor_index postings" "$@"

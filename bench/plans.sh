@@ -9,5 +9,5 @@ release=$2
 work=${3:-$(mktemp -d)}
 cat "$queries" > "$work/queries.txt"
 exec "$here/timed.sh" plan_bench plans_main.rt.in \
-    "number_lists text_parts numerals sctid hierarchy rf2_rows release_files idset key_interner ecl_lexer constraint_tree ecl_parser set_algebra rewrites row_lists held_release release_rows snapshot ancestor_index postings plan_bounds planner" \
+    "number_lists text_parts numerals release_model sctid hierarchy rf2_rows release_files idset key_interner ecl_lexer constraint_tree ecl_parser set_algebra rewrites row_lists held_release release_rows snapshot ancestor_index postings plan_bounds planner" \
     "$release" "$work"

@@ -9,7 +9,7 @@ use Rattle.std.proofs.lemmas.List.{get_or_default}
 use Rattle.std.proofs.lemmas.List.Elements.{Contains-get_or}
 use Rattle.std.proofs.lemmas.Map.Steps.{length-le_from_distinct_below, le-length_from_below}
 use Rattle.hierarchy.specs.Hierarchy.{IsWithin, Reaches, reaches}
-use Rattle.rf2_rows.specs.Release.{Release}
+use Rattle.release_model.specs.Release.{Release}
 use Rattle.hierarchy.proofs.HierarchyLemmas.{chain_from_test, test_from_chain}
 use Rattle.number_lists.specs.Members.{has}
 use Rattle.number_lists.specs.Rising.{listed_numbers, numbers_where}

@@ -3,7 +3,7 @@
 use Rattle.std.specs.Prelude.{ℕ, ◌↔◌, ◌<◌, All, Contains, length, slice_index}
 use Rattle.std.specs.List.Sorted.{IsStrictlyIncreasing}
 use Rattle.hierarchy.specs.Hierarchy.{Reaches}
-use Rattle.rf2_rows.specs.Release.{Release}
+use Rattle.release_model.specs.Release.{Release}
 use Rattle.number_lists.specs.KeyedLists.{list_of}
 use Rattle.ancestor_index.specs.HierarchyLists.{hierarchy_of}
 

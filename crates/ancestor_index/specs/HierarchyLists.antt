@@ -4,7 +4,7 @@
 use Rattle.std.specs.Prelude.{ℕ, ◌==◌, ◌&&◌, Bool, List, length, map, slice_index}
 use Rattle.std.specs.List.{list_any, range_with_len}
 use Rattle.hierarchy.specs.Hierarchy.{reaches}
-use Rattle.rf2_rows.specs.Release.{Release}
+use Rattle.release_model.specs.Release.{Release}
 use Rattle.number_lists.specs.Rising.{numbers_where}
 
 -- for each concept below `count` the numbers below `count` that `test` relates it to, in rising

@@ -1,7 +1,7 @@
 -- The groups of the indexes of a release.
 use Rattle.std.proofs.Common.{◌≡◌, ◌∙◌}
 use Rattle.std.specs.List.Sorted.{IsStrictlyIncreasing}
-use Rattle.rf2_rows.specs.Release.{Release}
+use Rattle.release_model.specs.Release.{Release}
 use Rattle.postings.specs.Groups.{all_groups, groups_in, rows_alone}
 use Rattle.postings.specs.Indexed.{Indexed, IsIndexOf}
 use Rattle.postings.proofs.CountLemmas.{all_groups_again}

@@ -1,8 +1,8 @@
 -- Sets of groups of a release, by the numbers of the groups. A group's number is its place, from 0,
 -- in the list of all groups (Release File Specification, "Relationship file", relationshipGroup).
 use Rattle.std.specs.Prelude.{ℕ, Bool, false, List, Option, None, Some, length, slice_get}
-use Rattle.rf2_rows.specs.Pairs.{Pair}
-use Rattle.rf2_rows.specs.Release.{Release}
+use Rattle.release_model.specs.Pairs.{Pair}
+use Rattle.release_model.specs.Release.{Release}
 use Rattle.number_lists.specs.Rising.{numbers_where}
 use Rattle.postings.specs.Groups.{ConceptGroup, all_groups, pairs_of_group}
 

@@ -2,7 +2,7 @@
 -- from 0, in the rising list of concepts in force.
 use Rattle.std.specs.Prelude.{ℕ, ◌==◌, Bool, List, length, slice_index}
 use Rattle.std.specs.List.{list_any}
-use Rattle.rf2_rows.specs.Release.{Release}
+use Rattle.release_model.specs.Release.{Release}
 use Rattle.number_lists.specs.Rising.{numbers_where}
 
 -- the numbers of the concepts whose identifiers pass the test `set`, in rising order

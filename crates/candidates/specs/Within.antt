@@ -1,8 +1,8 @@
 -- Sets of concepts and of groups, by number, restricted to candidates.
 use Rattle.std.specs.Prelude.{ℕ, ◌≡◌, ◌&&◌, Bool, true, if◌then◌else◌, List, Option, None, Some, length, slice_get}
 use Rattle.std.specs.Prelude.{slice_index}
-use Rattle.rf2_rows.specs.Pairs.{Pair}
-use Rattle.rf2_rows.specs.Release.{Release}
+use Rattle.release_model.specs.Pairs.{Pair}
+use Rattle.release_model.specs.Release.{Release}
 use Rattle.number_lists.specs.Members.{has}
 use Rattle.number_lists.specs.Rising.{numbers_where}
 use Rattle.idset.specs.declared.concept_set.ConceptSet.{Ghosts}

@@ -8,7 +8,7 @@ use Rattle.std.proofs.lemmas.Option.{get_or_from_slice_get}
 use Rattle.number_lists.specs.Rising.{rises_within}
 use Rattle.number_lists.specs.RisingOrder.{put, rising}
 use Rattle.number_lists.proofs.RisingLemmas.{rises_on}
-use Rattle.rf2_rows.specs.Release.{Attribute, Release}
+use Rattle.release_model.specs.Release.{Attribute, Release}
 use Rattle.held_release.specs.AttributesBySource.{attributes_by_source}
 use Rattle.concept_printer.specs.ConceptText.{by_group, put_row}
 use Rattle.concept_printer.specs.inside.GroupKeys.{group_key, no_row, row_numbered, row_with_key}

@@ -12,8 +12,8 @@ use Rattle.number_lists.proofs.WhereLemmas.{filter-numbers_where, has-numbers_wh
 use Rattle.std.proofs.lemmas.Bool.{ne_eqb}
 use Rattle.std.proofs.lemmas.List.Elements.{Contains-get_or}
 use Rattle.number_lists.specs.Rising.{IsRisingBelow}
-use Rattle.rf2_rows.specs.Pairs.{rows_of}
-use Rattle.rf2_rows.specs.Release.{Attribute, Release}
+use Rattle.release_model.specs.Pairs.{rows_of}
+use Rattle.release_model.specs.Release.{Attribute, Release}
 use Rattle.held_release.specs.AttributesBySource.{attributes_by_source}
 use Rattle.ancestor_index.specs.HierarchyLists.{Hierarchy, is_child, lists_where}
 use Rattle.ancestor_index.proofs.ClosureLemmas.{length-where, list_of-where}

@@ -5,8 +5,8 @@ use Rattle.std.specs.Prelude.{ℕ, ◌++◌, if◌then◌else◌, nat_le, List, 
 use Rattle.std.specs.Prelude.{Option, None, Some}
 use Rattle.std.specs.List.{flat_map}
 use Rattle.number_lists.specs.Members.{has}
-use Rattle.rf2_rows.specs.Pairs.{rows_of}
-use Rattle.rf2_rows.specs.Release.{Attribute, Release, Value, concept_value, number_value, text_value}
+use Rattle.release_model.specs.Pairs.{rows_of}
+use Rattle.release_model.specs.Release.{Attribute, Release, Value, concept_value, number_value, text_value}
 use Rattle.constraint_tree.specs.Text.{number_text}
 use Rattle.held_release.specs.Contents.{Contents}
 use Rattle.held_release.specs.Line.{concept_line, name_text}

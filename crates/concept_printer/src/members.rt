@@ -1,6 +1,6 @@
 //! The reference sets with a given member.
 ghost use Rattle.std.specs.Prelude.{◌≡◌, ◌<◌, IfOk, length};
-ghost use Rattle.rf2_rows.specs.Release.{Release};
+ghost use Rattle.release_model.specs.Release.{Release};
 ghost use Rattle.postings.specs.Indexed.{IsIndexOf};
 ghost use Rattle.number_lists.specs.KeyedLists.{list_of};
 ghost use Rattle.number_lists.specs.Members.{has};

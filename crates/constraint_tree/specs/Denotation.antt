@@ -3,9 +3,9 @@
 use Rattle.std.specs.Prelude.{ℕ, Bool, true, false, not, ◌==◌, ◌&&◌, ◌||◌, if◌then◌else◌, IsTrue, List, Contains}
 use Rattle.std.specs.Prelude.{filter, count_by}
 use Rattle.std.specs.List.{list_any}
-use Rattle.rf2_rows.specs.Release.{Release, Value, concept_value}
-use Rattle.rf2_rows.specs.Pairs.{Pair, value_eq, out_pairs, in_pairs}
-use Rattle.rf2_rows.specs.Groups.{groups_of}
+use Rattle.release_model.specs.Release.{Release, Value, concept_value}
+use Rattle.release_model.specs.Pairs.{Pair, value_eq, out_pairs, in_pairs}
+use Rattle.release_model.specs.Groups.{groups_of}
 use Rattle.constraint_tree.specs.Passing.{is_within, is_outside, is_number_that, lies_in}
 use Rattle.constraint_tree.specs.Tree.{Tree, concept_tree, any_tree, walk_tree, member_tree, and_tree, or_tree}
 use Rattle.constraint_tree.specs.Tree.{minus_tree, dotted_tree, refined_tree, Trees, no_trees, tree_then}

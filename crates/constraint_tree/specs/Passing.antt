@@ -3,7 +3,7 @@
 -- concept is in it.
 use Rattle.std.specs.Prelude.{ℕ, ℤ, Bool, true, false, not, ◌&&◌, Option, Some, None, nat_le, int_lt, int_le}
 use Rattle.std.specs.Ordering.{int_eq}
-use Rattle.rf2_rows.specs.Release.{Value, concept_value, number_value}
+use Rattle.release_model.specs.Release.{Value, concept_value, number_value}
 use Rattle.constraint_tree.specs.declared.operator.Cardinality.{Cardinality}
 use Rattle.constraint_tree.specs.declared.operator.Compare.{Compare}
 use Rattle.constraint_tree.specs.declared.operator.Compare.TheVariants.{Equal, NotEqual, Less, LessOrEqual, Greater}

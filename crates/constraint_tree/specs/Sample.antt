@@ -1,6 +1,6 @@
 -- A small release on which the definitions are shown. All its rows are in force.
 use Rattle.std.specs.Prelude.{ℕ, pos, List, [], ◌∷◌, codes}
-use Rattle.rf2_rows.specs.Release.{Release, Attribute, Name, Value, concept_value, number_value}
+use Rattle.release_model.specs.Release.{Release, Attribute, Name, Value, concept_value, number_value}
 
 -- Alpha, a finding. The concepts of the sample are Alpha and three findings below it, of which
 -- Delta lies below both Beta and Gamma; two types of attribute; two values, of which Y lies below

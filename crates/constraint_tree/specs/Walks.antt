@@ -2,7 +2,7 @@
 -- "Simple Expression Constraints"). A set is given as the test whether a concept is in it.
 use Rattle.std.specs.Prelude.{ℕ, ◌↔◌, ◌==◌, ◌&&◌, ◌||◌, Bool, not, IsTrue, Contains}
 use Rattle.std.specs.List.{list_any}
-use Rattle.rf2_rows.specs.Release.{Release}
+use Rattle.release_model.specs.Release.{Release}
 use Rattle.hierarchy.specs.Hierarchy.{Reaches, reaches}
 use Rattle.constraint_tree.specs.declared.operator.Operator.{Operator}
 use Rattle.constraint_tree.specs.declared.operator.Operator.TheVariants.{Descendants, DescendantsOrSelf, Children}

@@ -4,10 +4,10 @@
 use Rattle.std.specs.Prelude.{ℕ, zero, suc, ◌≡◌, ◌≢◌, ◌==◌, ◌&&◌, ◌||◌, Bool, false, not, List, [], ◌∷◌, map, filter}
 use Rattle.std.specs.Prelude.{count_by, nat_eq}
 use Rattle.std.specs.List.{list_any}
-use Rattle.rf2_rows.specs.Release.{Release}
-use Rattle.rf2_rows.specs.Pairs.{Pair, pair_of, rows_of}
+use Rattle.release_model.specs.Release.{Release}
+use Rattle.release_model.specs.Pairs.{Pair, pair_of, rows_of}
 use Rattle.number_lists.specs.Distinct.{distinct}
-use Rattle.rf2_rows.specs.Groups.{pairs_in}
+use Rattle.release_model.specs.Groups.{pairs_in}
 use Rattle.constraint_tree.specs.declared.operator.Cardinality.{Cardinality}
 use Rattle.constraint_tree.specs.declared.operator.Compare.TheVariants.{Equal}
 use Rattle.constraint_tree.specs.Passing.{lies_in}

@@ -5,8 +5,8 @@ use Rattle.std.proofs.Common.{zero, suc, suc-mul, length, get_or, min, refl, ap,
 use Rattle.std.specs.Prelude.{Contains}
 use Rattle.std.specs.List.{list_any}
 use Rattle.std.proofs.lemmas.Bool.{and_from, and_parts, eq-eqb, false≢true}
-use Rattle.rf2_rows.specs.Pairs.{rows_of, value_eq}
-use Rattle.rf2_rows.specs.Release.{Attribute, Release, Value, concept_value, number_value, text_value}
+use Rattle.release_model.specs.Pairs.{rows_of, value_eq}
+use Rattle.release_model.specs.Release.{Attribute, Release, Value, concept_value, number_value, text_value}
 use Rattle.number_lists.specs.Members.{has}
 use Rattle.number_lists.proofs.BlockLemmas.{Contains-filter}
 use Rattle.number_lists.proofs.ListLemmas.{first_contained, rest_contained, some_item_passes}

@@ -3,8 +3,8 @@ use Rattle.std.proofs.Common.{ℕ, ◌≡◌, ◌<◌, ◌∙◌, ◌∷◌, [],
 use Rattle.std.proofs.Common.{refl, sym, ap}
 use Rattle.std.specs.Prelude.{slice_get}
 use Rattle.std.specs.List.{list_all, list_any, range_with_len}
-use Rattle.rf2_rows.specs.Pairs.{Pair}
-use Rattle.rf2_rows.specs.Release.{Release}
+use Rattle.release_model.specs.Pairs.{Pair}
+use Rattle.release_model.specs.Release.{Release}
 use Rattle.constraint_tree.specs.declared.operator.Cardinality.{Cardinality}
 use Rattle.number_lists.proofs.WhereLemmas.{numbers_where-agree, numbers_where-all}
 use Rattle.postings.specs.Groups.{ConceptGroup, all_groups}

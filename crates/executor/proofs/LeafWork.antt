@@ -8,7 +8,7 @@ use Rattle.std.proofs.lemmas.Bool.{and_parts, eq-eqb, eqb-true, false≢true}
 use Rattle.std.proofs.Math.Bool.{or-false}
 use Rattle.std.proofs.lemmas.List.Concat.{length-flat_map}
 use Rattle.std.proofs.lemmas.List.Sums.{length-filter, sum_by-cons}
-use Rattle.rf2_rows.specs.Release.{Attribute, Release}
+use Rattle.release_model.specs.Release.{Attribute, Release}
 use Rattle.number_lists.specs.Members.{has}
 use Rattle.number_lists.specs.Rising.{IsRisingBelow}
 use Rattle.held_release.specs.Numbering.{concept_number}

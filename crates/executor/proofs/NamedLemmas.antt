@@ -1,7 +1,7 @@
 -- What is known of the rows of the concept that a plan names.
 use Rattle.std.proofs.Common.{ℕ, ◌≡◌, ◌==◌, ◌&&◌, ◌∙◌, List, Option, sym, subst}
 use Rattle.std.specs.List.Sorted.{IsStrictlyIncreasing}
-use Rattle.rf2_rows.specs.Release.{Release}
+use Rattle.release_model.specs.Release.{Release}
 use Rattle.constraint_tree.specs.Walks.{has_concept}
 use Rattle.held_release.specs.Numbering.{concept_number}
 use Rattle.set_algebra.specs.declared.plan.ConceptPlan.{ConceptPlan}

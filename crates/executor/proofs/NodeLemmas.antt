@@ -3,7 +3,7 @@ use Rattle.std.proofs.Common.{ℕ, zero, suc, ◌≡◌, ◌<◌, arith, ◌∙�
 use Rattle.std.proofs.Common.{get_or, take, ◌+◌, refl, sym, ap}
 use Rattle.std.proofs.lemmas.Bool.{and_parts}
 use Rattle.std.specs.List.{list_all, list_any, range_with_len}
-use Rattle.rf2_rows.specs.Release.{Release, Value}
+use Rattle.release_model.specs.Release.{Release, Value}
 use Rattle.constraint_tree.specs.declared.operator.Operator.{Operator}
 use Rattle.constraint_tree.specs.Denotation.{is_value}
 use Rattle.constraint_tree.specs.Passing.{is_outside, is_within}

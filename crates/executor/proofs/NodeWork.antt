@@ -28,8 +28,8 @@ use Rattle.plan_bounds.specs.Floors.{floor_number}
 use Rattle.plan_bounds.specs.Nodes.{groups_sum, node_sum, plans_sum, test_sum}
 use Rattle.plan_bounds.specs.Sizes.{size}
 use Rattle.plan_bounds.proofs.FloorLemmas.{floor-le-bound}
-use Rattle.rf2_rows.specs.Pairs.{Pair}
-use Rattle.rf2_rows.specs.Release.{Release, Value}
+use Rattle.release_model.specs.Pairs.{Pair}
+use Rattle.release_model.specs.Release.{Release, Value}
 use Rattle.candidates.specs.Numbers.{is_one_of}
 use Rattle.candidates.specs.RowCounts.{row_count_of}
 use Rattle.idset.specs.declared.concept_set.ConceptSet.{Ghosts}

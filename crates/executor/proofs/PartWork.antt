@@ -8,8 +8,8 @@ use Rattle.std.specs.List.Sorted.{IsStrictlyIncreasing}
 use Rattle.std.proofs.lemmas.Bool.{and_parts}
 use Rattle.std.proofs.lemmas.List.Elements.{All-contains, Contains-get_or}
 use Rattle.std.proofs.lemmas.List.Sums.{length-filter}
-use Rattle.rf2_rows.specs.Pairs.{Pair}
-use Rattle.rf2_rows.specs.Release.{Attribute, Release}
+use Rattle.release_model.specs.Pairs.{Pair}
+use Rattle.release_model.specs.Release.{Attribute, Release}
 use Rattle.number_lists.specs.Members.{has}
 use Rattle.number_lists.proofs.MemberLemmas.{contains_had}
 use Rattle.number_lists.proofs.WhereLemmas.{there_where}

@@ -5,8 +5,8 @@ use Rattle.std.specs.Prelude.{IfOk, Result, filter, slice_get}
 use Rattle.std.proofs.lemmas.Result.{IfOk-weaker}
 use Rattle.std.specs.List.{list_all, list_any}
 use Rattle.std.proofs.lemmas.Bool.{cases_lt}
-use Rattle.rf2_rows.specs.Pairs.{Pair}
-use Rattle.rf2_rows.specs.Release.{Release}
+use Rattle.release_model.specs.Pairs.{Pair}
+use Rattle.release_model.specs.Release.{Release}
 use Rattle.constraint_tree.specs.declared.operator.Cardinality.{Cardinality}
 use Rattle.constraint_tree.specs.declared.operator.Operator.{Operator}
 use Rattle.number_lists.specs.Rising.{IsRisingBelow, numbers_where}

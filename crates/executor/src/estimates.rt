@@ -8,9 +8,9 @@ ghost use Rattle.plan_bounds.specs.Counts.{one_of};
 ghost use Rattle.executor.specs.inside.PartOrder.{IsOrderOf, IsPlaceAt};
 
 use constraint_tree::{Cardinality, Compare, Operator};
+use numerals::Decimal;
 use plan_bounds::{list_length, member_count, value_row_count};
 use postings::Lengths;
-use rf2_rows::Decimal;
 use set_algebra::{ConceptPlan, UnitPlan, ValueTest};
 use std::alloc::{AllocError, Global};
 

@@ -9,7 +9,7 @@ use Rattle.std.proofs.lemmas.List.Elements.{All-weaker, filter_passes}
 use Rattle.std.proofs.lemmas.List.Sums.{length-filter, count_by-le-length}
 use Rattle.std.specs.List.Sorted.{IsStrictlyIncreasing}
 use Rattle.held_release.specs.inside.LeastCycle.{IsLeastCycle}
-use Rattle.rf2_rows.specs.Release.{Attribute, Name}
+use Rattle.release_model.specs.Release.{Attribute, Name}
 use Rattle.held_release.specs.Contents.{Contents, IsFaultOf, first_cyclic}
 use Rattle.row_lists.specs.InForce.{rows_among}
 use Rattle.number_lists.specs.RisingOrder.{put, rising}

@@ -10,7 +10,7 @@ use Rattle.std.proofs.lemmas.List.{get_or_default}
 use Rattle.std.proofs.lemmas.Option.{slice_get_read}
 use Rattle.std.proofs.lemmas.List.Quantifiers.{position-Some}
 use Rattle.std.proofs.lemmas.List.Sums.{fails_before_first}
-use Rattle.rf2_rows.specs.Release.{Name}
+use Rattle.release_model.specs.Release.{Name}
 use Rattle.held_release.specs.inside.FirstRows.{AreFirstPlaces, IsFirstOfTwo, IsFirstPlace}
 use Rattle.held_release.specs.Name.{first_name, names_of}
 use Rattle.held_release.specs.Numbering.{concept_number}

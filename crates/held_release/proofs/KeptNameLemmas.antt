@@ -7,7 +7,7 @@ use Rattle.std.proofs.lemmas.Grind.{common_steps}
 use Rattle.std.proofs.lemmas.Bool.{cases_eq}
 use Rattle.std.proofs.lemmas.List.{get_or_append_left, take_more}
 use Rattle.std.proofs.lemmas.Option.{IfSome_then, slice_get_within}
-use Rattle.rf2_rows.specs.Release.{Name}
+use Rattle.release_model.specs.Release.{Name}
 use Rattle.row_lists.specs.Spans.{AreSpansOf, Extends, StandsAt, no_span, text_at}
 use Rattle.row_lists.specs.declared.spans.Span.{Span}
 use Rattle.row_lists.proofs.SpanLemmas.{all-push, rows-push, span-extends, stands-extends, text-extends}

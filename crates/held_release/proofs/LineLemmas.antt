@@ -6,7 +6,7 @@ use Rattle.std.proofs.lemmas.Bool.Decides.{nat_tests}
 use Rattle.std.proofs.lemmas.Grind.{common_steps}
 use Rattle.std.proofs.lemmas.List.{get_or-map, get_or_default, get_or_read, map_more}
 use Rattle.std.proofs.lemmas.Option.{slice_get_within}
-use Rattle.rf2_rows.specs.Release.{Name}
+use Rattle.release_model.specs.Release.{Name}
 use Rattle.held_release.specs.inside.FirstRows.{AreFirstPlaces}
 use Rattle.number_lists.specs.inside.KeyedListsInside.{AreStarts}
 use Rattle.held_release.specs.Line.{concept_line}

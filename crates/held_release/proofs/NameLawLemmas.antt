@@ -2,7 +2,7 @@
 use Rattle.std.proofs.Common.{ℕ, ◌≡◌, List, [], ◌∷◌, None, Some, Bool, true, false, cond, nat_lt, not, ◌&&◌, ap, refl}
 use Rattle.std.proofs.Common.{arith, subst, Contains, inl, inr}
 use Rattle.std.proofs.lemmas.Bool.Decides.{nat_tests}
-use Rattle.rf2_rows.specs.Release.{Name}
+use Rattle.release_model.specs.Release.{Name}
 use Rattle.number_lists.proofs.ListLemmas.{contained_cases, first_contained, rest_contained}
 use Rattle.held_release.specs.Name.{NamesFirstRow, comes_before, first_name, first_of_two, is_in}
 

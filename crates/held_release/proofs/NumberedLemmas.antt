@@ -4,7 +4,7 @@ use Rattle.std.proofs.Common.{Option, cond, filter_map, length, get_or, map, is_
 use Rattle.std.proofs.Common.{eqb-true, option_map}
 use Rattle.std.proofs.lemmas.List.Elements.{All-cons, All-head, All-nil, All-tail, filter-append}
 use Rattle.std.proofs.lemmas.List.Quantifiers.{position-Some}
-use Rattle.rf2_rows.specs.Release.{Attribute, Value, concept_value}
+use Rattle.release_model.specs.Release.{Attribute, Value, concept_value}
 use Rattle.number_lists.specs.Members.{has}
 use Rattle.row_lists.specs.ConcreteValues.{Concrete, a_number, a_text, concrete_value, no_text}
 use Rattle.row_lists.specs.KeptRows.{IsKeptIn, IsValueIn, attribute_kept, value_kept}

@@ -15,9 +15,9 @@ use Rattle.std.proofs.lemmas.List.Elements.{Contains-append_cases}
 use Rattle.std.proofs.lemmas.List.Elements.{recursion_from_All}
 use Rattle.std.proofs.lemmas.Map.Keys.{IsDistinct-from_sorted, IsDistinct-from_apart, apart_from_distinct}
 use Rattle.std.proofs.lemmas.Option.{get_or_from_slice_get, slice_get-get_or, slice_get_within}
-use Rattle.rf2_rows.specs.Pairs.{value_eq}
-use Rattle.rf2_rows.specs.Release.{Attribute, Value, concept_value, number_value, text_value}
-use Rattle.rf2_rows.proofs.PairLemmas.{tells_same_value}
+use Rattle.release_model.specs.Pairs.{value_eq}
+use Rattle.release_model.specs.Release.{Attribute, Value, concept_value, number_value, text_value}
+use Rattle.release_model.proofs.PairLemmas.{tells_same_value}
 use Rattle.held_release.specs.AttributesBySource.{IsNumberBelow, by_identifiers, value_by_identifier}
 use Rattle.held_release.specs.ValuesInForce.{is_value_among}
 use Rattle.number_lists.proofs.MemberLemmas.{contains_had}

@@ -3,7 +3,7 @@
 use Rattle.std.specs.Prelude.{ℕ, ℤ, ◌≡◌, ◌<◌, ◌^◌, ◌++◌, List, [], All, length, map, nat_eq, slice_index}
 use Rattle.std.specs.Prelude.{slice_index_or}
 use Rattle.number_lists.specs.Distinct.{distinct}
-use Rattle.rf2_rows.specs.Release.{Attribute, Value, concept_value, number_value, text_value}
+use Rattle.release_model.specs.Release.{Attribute, Value, concept_value, number_value, text_value}
 use Rattle.held_release.specs.RowValues.{AreTablesOf}
 use Rattle.held_release.specs.declared.coded_rows.CodedRow.{CodedRow}
 use Rattle.held_release.specs.declared.coded_rows.CodedRows.{CodedRows}

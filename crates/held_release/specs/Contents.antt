@@ -2,7 +2,7 @@
 use Rattle.std.specs.Prelude.{◌↔◌, ◌<◌, Contains, ℕ, ◌≡◌, ◌≢◌, List, find, Option, None, Some, Result, Ok, Err}
 use Rattle.std.specs.List.Sorted.{IsStrictlyIncreasing}
 use Rattle.hierarchy.specs.Hierarchy.{Reaches, reaches}
-use Rattle.rf2_rows.specs.Release.{Release}
+use Rattle.release_model.specs.Release.{Release}
 use Rattle.row_lists.specs.declared.fault.LoadFault.{LoadFault}
 use Rattle.row_lists.specs.declared.fault.LoadFault.TheVariants.{Cycle, Memory}
 

@@ -1,7 +1,7 @@
 -- The contents of a release that are made of the lists of its chosen rows.
 use Rattle.std.specs.Prelude.{◌≡◌, ◌≢◌, ◌&&◌, ◌-◌, ℕ, List, filter, Option, Some, option_map, Result}
 use Rattle.number_lists.specs.Members.{has}
-use Rattle.rf2_rows.specs.Release.{Attribute, Name, Release}
+use Rattle.release_model.specs.Release.{Attribute, Name, Release}
 use Rattle.row_lists.specs.InForce.{listed_count, rows_among}
 use Rattle.number_lists.specs.RisingOrder.{rising}
 use Rattle.row_lists.specs.ReleaseLists.{ReleaseLists}

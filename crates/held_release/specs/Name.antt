@@ -3,7 +3,7 @@
 use Rattle.std.specs.Prelude.{ℕ, ◌≡◌, ◌↔◌, Contains, ◌==◌, ◌&&◌, Bool, true, false, not, bytes_eq, nat_lt}
 use Rattle.std.specs.Prelude.{if◌then◌else◌, List, [], ◌∷◌, filter, Option, None, Some, option_map}
 use Rattle.std.specs.Borrow.{Bor}
-use Rattle.rf2_rows.specs.Release.{Name, Release}
+use Rattle.release_model.specs.Release.{Name, Release}
 
 -- whether the row is in the language
 abbrev pub is_in : List ℕ → Name → Bool

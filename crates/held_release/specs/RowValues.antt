@@ -7,7 +7,7 @@ use Rattle.std.specs.List.Sorted.{IsStrictlySortedBy}
 use Rattle.std.specs.Ordering.{int_cmp, nat_cmp}
 use Rattle.std.specs.declared.cmp.Ordering.{Ordering}
 use Rattle.row_lists.specs.ConcreteValues.{Concrete, a_number, a_text}
-use Rattle.rf2_rows.specs.Release.{Attribute, Value, concept_value, number_value, text_value}
+use Rattle.release_model.specs.Release.{Attribute, Value, concept_value, number_value, text_value}
 
 -- a list of the decimal that a value is, or the empty list if it is not a decimal
 abbrev pub decimals_at : Value → List ℤ

@@ -1,7 +1,7 @@
 -- Attributes whose values are in force if they are concepts (Release File Specification,
 -- "Relationship file", destinationId).
 use Rattle.std.specs.Prelude.{◌≡◌, ℕ, Bool, true, List, All}
-use Rattle.rf2_rows.specs.Release.{Attribute, Release, Value, concept_value, number_value, text_value}
+use Rattle.release_model.specs.Release.{Attribute, Release, Value, concept_value, number_value, text_value}
 use Rattle.number_lists.specs.Members.{has}
 
 -- whether a value is one of `concepts`, or no concept

@@ -2,7 +2,7 @@
 //! that names a concept is stored once, in the concept's line.
 ghost use Rattle.std.specs.Prelude.{◌≡◌, ◌≤◌, ◌<◌, ◌+◌, ◌^◌, ◌++◌, ℕ, [], List, Option, None, Some, All, IfOk, IfSome, OnOk, length, map, option_and_then, option_map, slice_index, slice_range, string_bytes};
 ghost use Rattle.std.specs.List.{slice_get};
-ghost use Rattle.rf2_rows.specs.Release.{Name};
+ghost use Rattle.release_model.specs.Release.{Name};
 ghost use Rattle.held_release.specs.inside.FirstRows.{AreFirstPlaces};
 ghost use Rattle.held_release.specs.Finished.{names_among};
 ghost use Rattle.held_release.specs.inside.NamesInLines.{AreNoted};

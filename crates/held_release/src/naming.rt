@@ -2,7 +2,7 @@
 ghost use Rattle.std.specs.Prelude.{◌≡◌, ◌<◌, ◌^◌, IfOk, IfSome, length, slice_index_or};
 ghost use Rattle.held_release.specs.inside.FirstRows.{AreFirstPlaces, IsFirstOfTwo};
 ghost use Rattle.held_release.specs.Name.{comes_before as comes_before_of};
-ghost use Rattle.rf2_rows.specs.Release.{Name};
+ghost use Rattle.release_model.specs.Release.{Name};
 
 use crate::concepts::Concepts;
 use row_lists::Names;

@@ -3,7 +3,7 @@ ghost use Rattle.std.specs.Prelude.{ℤ, ◌≡◌, ◌↔◌, ◌≤◌, ◌+�
 ghost use Rattle.std.specs.Prelude.{OnOk, Some, length, map, slice_get};
 ghost use Rattle.std.specs.List.Sorted.{IsStrictlySortedBy};
 ghost use Rattle.std.specs.Ordering.{int_cmp};
-ghost use Rattle.rf2_rows.specs.Release.{Attribute, number_value, text_value};
+ghost use Rattle.release_model.specs.Release.{Attribute, number_value, text_value};
 ghost use Rattle.rf2_rows.specs.Rows.{value_lent};
 ghost use Rattle.held_release.specs.AttributesBySource.{IsNumberBelow, value_by_identifier};
 ghost use Rattle.held_release.specs.CodedRows.{value_at, values_in};

@@ -4,8 +4,8 @@ use Rattle.std.proofs.Common.{None, Some, length, get_or, map, refl, sym, ap, ar
 use Rattle.std.specs.Prelude.{All, IfSome, count_by, filter, slice_get}
 use Rattle.std.specs.List.Sorted.{IsStrictlyIncreasing}
 use Rattle.std.proofs.lemmas.List.{length-map}
-use Rattle.rf2_rows.specs.Pairs.{value_eq}
-use Rattle.rf2_rows.specs.Release.{Attribute, Release, Value, concept_value}
+use Rattle.release_model.specs.Pairs.{value_eq}
+use Rattle.release_model.specs.Release.{Attribute, Release, Value, concept_value}
 use Rattle.constraint_tree.specs.Passing.{lies_in}
 use Rattle.constraint_tree.specs.declared.operator.Cardinality.{Cardinality}
 use Rattle.number_lists.specs.Members.{has}

@@ -7,8 +7,8 @@ use Rattle.std.specs.List.Sorted.{IsStrictlyIncreasing}
 use Rattle.std.proofs.lemmas.Bool.{cases_eq, eq-eqb, eqb-true, ne_eqb}
 use Rattle.std.proofs.lemmas.List.Elements.{filter_more}
 use Rattle.std.proofs.Math.Bool.{and-false}
-use Rattle.rf2_rows.specs.Pairs.{value_eq}
-use Rattle.rf2_rows.specs.Release.{Value, concept_value, number_value, text_value}
+use Rattle.release_model.specs.Pairs.{value_eq}
+use Rattle.release_model.specs.Release.{Value, concept_value, number_value, text_value}
 use Rattle.constraint_tree.specs.Passing.{is_within}
 use Rattle.number_lists.specs.Rising.{numbers_where, rises_within}
 use Rattle.number_lists.proofs.WhereLemmas.{numbers_where-more}

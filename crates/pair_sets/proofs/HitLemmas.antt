@@ -12,8 +12,8 @@ use Rattle.std.proofs.lemmas.List.{get_or-append_right, get_or-map, length-map, 
 use Rattle.std.proofs.lemmas.List.Elements.{All-append, All-tail, All-cons, All-get_or, All-nil}
 use Rattle.std.proofs.lemmas.List.Sums.{length-filter}
 use Rattle.std.proofs.lemmas.Option.{get_or_from_slice_get, slice_get-get_or, slice_get_within}
-use Rattle.rf2_rows.specs.Pairs.{value_eq}
-use Rattle.rf2_rows.specs.Release.{Attribute, Value, concept_value, number_value, text_value}
+use Rattle.release_model.specs.Pairs.{value_eq}
+use Rattle.release_model.specs.Release.{Attribute, Value, concept_value, number_value, text_value}
 use Rattle.postings.specs.Columns.{AreGroups, AreSources, AreTypes, AreValues, Flagged}
 use Rattle.postings.specs.Entries.{Entry}
 use Rattle.postings.specs.Groups.{ConceptGroup, group_of, groups_in, is_in_group, rows_alone}

@@ -15,7 +15,7 @@ use Rattle.number_lists.specs.Members.{has}
 use Rattle.constraint_tree.specs.declared.operator.Compare.{Compare}
 use Rattle.constraint_tree.specs.declared.operator.Compare.TheVariants as comparison
 use Rattle.constraint_tree.specs.Passing.{compares, is_number_that, is_outside, is_within}
-use Rattle.rf2_rows.specs.Release.{Value, concept_value, number_value, text_value}
+use Rattle.release_model.specs.Release.{Value, concept_value, number_value, text_value}
 use Rattle.held_release.specs.Numbering.{concept_number}
 use Rattle.postings.specs.Indexed.{Indexed, value_at, values_among, values_of}
 use Rattle.held_release.proofs.ValueLemmas.{concept_at, decimal_at, value_after}

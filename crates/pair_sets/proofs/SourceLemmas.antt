@@ -9,8 +9,8 @@ use Rattle.std.proofs.lemmas.Bool.{leb-true}
 use Rattle.std.proofs.lemmas.List.Concat.{length-flat_map}
 use Rattle.std.proofs.lemmas.List.Elements.{All-tail, Contains-get_or}
 use Rattle.std.proofs.lemmas.List.Sums.{length-filter, sum_by-cons, sum_by-le-sum_by}
-use Rattle.rf2_rows.specs.Pairs.{Pair, out_pairs, pair_of, rows_of}
-use Rattle.rf2_rows.specs.Release.{Attribute, Release, Value, concept_value, number_value, text_value}
+use Rattle.release_model.specs.Pairs.{Pair, out_pairs, pair_of, rows_of}
+use Rattle.release_model.specs.Release.{Attribute, Release, Value, concept_value, number_value, text_value}
 use Rattle.number_lists.specs.Rising.{IsRisingBelow}
 use Rattle.number_lists.proofs.BlockLemmas.{any-map}
 use Rattle.number_lists.proofs.RisingLemmas.{numbers_where-rising}

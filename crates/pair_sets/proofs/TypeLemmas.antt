@@ -11,7 +11,7 @@ use Rattle.std.proofs.lemmas.List.Quantifiers.{position-Some}
 use Rattle.std.proofs.lemmas.Map.Keys.{apart_from_distinct}
 use Rattle.std.proofs.lemmas.Option.{slice_get-get_or}
 use Rattle.std.proofs.Math.Bool.{or-false}
-use Rattle.rf2_rows.specs.Release.{Attribute}
+use Rattle.release_model.specs.Release.{Attribute}
 use Rattle.number_lists.specs.Members.{has}
 use Rattle.postings.specs.Indexed.{Indexed, concept_of_type, types_of}
 use Rattle.pair_sets.specs.inside.Hits.{TellsTypes, is_one_at, is_type_in}

@@ -8,7 +8,7 @@ use Rattle.std.proofs.lemmas.List.Elements.{All-nil, All-tail, All-weaker, Conta
 use Rattle.std.proofs.Math.Bool.{Bool-set, and-false}
 use Rattle.std.proofs.Math.Logic.{∥∥₁_elim}
 use Rattle.number_lists.proofs.BlockLemmas.{All-flat_map}
-use Rattle.rf2_rows.specs.Release.{Attribute, Release, Value, concept_value, number_value, text_value}
+use Rattle.release_model.specs.Release.{Attribute, Release, Value, concept_value, number_value, text_value}
 use Rattle.constraint_tree.specs.declared.operator.Compare.{Compare}
 use Rattle.constraint_tree.specs.Passing.{compares, is_number_that}
 use Rattle.postings.specs.Entries.{Entry, entries_after, entries_of, entries_with_type}
@@ -18,7 +18,7 @@ use Rattle.held_release.specs.RowValues.{decimals_at, decimals_of}
 use Rattle.pair_sets.specs.Tested.{meets}
 use Rattle.pair_sets.specs.declared.hits.Owner.{Owner}
 use Rattle.pair_sets.specs.declared.hits.Owner.TheVariants as owners
-use Rattle.rf2_rows.specs.Pairs.{value_eq}
+use Rattle.release_model.specs.Pairs.{value_eq}
 use Rattle.pair_sets.specs.inside.Hits.{AreHits, counts_for_owner, counts_for_value, entries_with_types}
 use Rattle.pair_sets.specs.inside.Hits.{is_in_some}
 use Rattle.pair_sets.proofs.HitLemmas.{count-cons}

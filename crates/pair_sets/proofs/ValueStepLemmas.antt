@@ -4,10 +4,10 @@ use Rattle.std.proofs.Common.{map, refl, ap}
 use Rattle.std.specs.Prelude.{count_by, filter, nat_le}
 use Rattle.std.specs.List.{list_any}
 use Rattle.std.proofs.lemmas.Bool.{le-leb}
-use Rattle.rf2_rows.specs.Pairs.{Pair, in_pairs, pair_eq, reverse_pair_of, value_eq}
+use Rattle.release_model.specs.Pairs.{Pair, in_pairs, pair_eq, reverse_pair_of, value_eq}
 use Rattle.number_lists.specs.Distinct.{distinct}
-use Rattle.rf2_rows.specs.Release.{Attribute, Release, concept_value}
-use Rattle.rf2_rows.proofs.PairLemmas.{keeps_each_pair_once}
+use Rattle.release_model.specs.Release.{Attribute, Release, concept_value}
+use Rattle.release_model.proofs.PairLemmas.{keeps_each_pair_once}
 use Rattle.constraint_tree.specs.Denotation.{is_value}
 use Rattle.constraint_tree.specs.Passing.{is_within}
 use Rattle.number_lists.proofs.ListLemmas.{passing_item, some_item_passes, both_ways}

@@ -1,6 +1,6 @@
 -- The groups of concepts, by group numbers and concept numbers.
 use Rattle.std.specs.Prelude.{ℕ, ◌≡◌, ◌<◌, ◌==◌, true, List, count_by, length, slice_get, slice_index}
-use Rattle.rf2_rows.specs.Release.{Release}
+use Rattle.release_model.specs.Release.{Release}
 use Rattle.number_lists.specs.Members.{has}
 use Rattle.postings.specs.Groups.{all_groups}
 use Rattle.candidates.specs.Groups.{concept_in}

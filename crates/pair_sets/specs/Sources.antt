@@ -1,8 +1,8 @@
 -- The concepts from which attributes lead to concepts.
 use Rattle.std.specs.Prelude.{ℕ, ◌&&◌, Bool, true, false}
 use Rattle.std.specs.List.{list_any}
-use Rattle.rf2_rows.specs.Pairs.{rows_of}
-use Rattle.rf2_rows.specs.Release.{Release, Value, concept_value}
+use Rattle.release_model.specs.Pairs.{rows_of}
+use Rattle.release_model.specs.Release.{Release, Value, concept_value}
 
 -- whether a value is a concept
 abbrev pub is_concept : Value → Bool

@@ -3,7 +3,7 @@
 //! number of pairs.
 ghost use Rattle.std.specs.Prelude.{ℕ, ◌≡◌, ◌<◌, ◌+◌, ◌&&◌, ◌++◌, All, Bool, List, IfOk, OnOk, count_by, false, filter};
 ghost use Rattle.std.specs.Prelude.{length, nat_lt, slice_get, true};
-ghost use Rattle.rf2_rows.specs.Release.{concept_value};
+ghost use Rattle.release_model.specs.Release.{concept_value};
 ghost use Rattle.constraint_tree.specs.Passing.{is_within};
 ghost use Rattle.number_lists.specs.Rising.{IsRisingBelow};
 ghost use Rattle.postings.specs.Columns.{AreGroups, AreSources};

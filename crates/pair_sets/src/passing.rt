@@ -1,7 +1,7 @@
 //! Tests whether values, given by number, pass the test of a leaf.
 ghost use Rattle.std.specs.Prelude.{◌≡◌, All, false, length, true};
 ghost use Rattle.std.specs.Ordering.{int_cmp};
-ghost use Rattle.rf2_rows.specs.Release.{Attribute};
+ghost use Rattle.release_model.specs.Release.{Attribute};
 ghost use Rattle.constraint_tree.specs.Passing.{is_number_that};
 ghost use Rattle.pair_sets.specs.inside.Hits.{value_of};
 ghost use Rattle.pair_sets.specs.Tested.{IsTestBelow, meets as meets_of, passes_of};
@@ -9,8 +9,8 @@ ghost use Rattle.pair_sets.specs.Tested.{IsTestBelow, meets as meets_of, passes_
 use crate::tested::Tested;
 use constraint_tree::Compare;
 use idset::ConceptSet;
+use numerals::Decimal;
 use reading::Reader;
-use rf2_rows::Decimal;
 use std::cmp::Ordering;
 
 /// Returns whether the value with the number `value` passes `tested` (Expression Constraint

@@ -1,12 +1,12 @@
 //! The test of a leaf for the values of its pairs.
 ghost use Rattle.std.specs.Prelude.{ℕ, ◌≡◌, List, false, true};
-ghost use Rattle.rf2_rows.specs.Release.{concept_value};
+ghost use Rattle.release_model.specs.Release.{concept_value};
 ghost use Rattle.pair_sets.specs.Tested.{found_for, passes_of};
 
 use constraint_tree::Compare;
 use idset::ConceptSet;
+use numerals::Decimal;
 use reading::Answer;
-use rf2_rows::Decimal;
 
 /// Which values pass (Expression Constraint Language, "Refinements").
 #[derive(Drop)]

@@ -9,10 +9,10 @@ use Rattle.std.proofs.lemmas.List.Elements.{All-contains, All-contains_itself, A
 use Rattle.std.proofs.lemmas.List.Kept.{AllPairs-from_increasing}
 use Rattle.std.proofs.lemmas.List.Quantifiers.{position-Some}
 use Rattle.std.proofs.lemmas.List.Sums.{count_by-le-length}
-use Rattle.rf2_rows.specs.Groups.{groups_of}
-use Rattle.rf2_rows.specs.Pairs.{Pair, in_pairs, out_pairs, pair_of, reverse_pair_of, value_eq}
-use Rattle.rf2_rows.specs.Release.{Attribute, Release, Value, concept_value, number_value, text_value}
-use Rattle.rf2_rows.proofs.PairLemmas.{tells_same_value}
+use Rattle.release_model.specs.Groups.{groups_of}
+use Rattle.release_model.specs.Pairs.{Pair, in_pairs, out_pairs, pair_of, reverse_pair_of, value_eq}
+use Rattle.release_model.specs.Release.{Attribute, Release, Value, concept_value, number_value, text_value}
+use Rattle.release_model.proofs.PairLemmas.{tells_same_value}
 use Rattle.hierarchy.specs.Hierarchy.{reaches}
 use Rattle.number_lists.specs.KeyedLists.{list_of}
 use Rattle.number_lists.specs.Members.{has}

@@ -5,8 +5,8 @@ use Rattle.std.specs.Prelude.{All, count_by, slice_get}
 use Rattle.std.specs.List.Sorted.{IsStrictlyIncreasing}
 use Rattle.std.proofs.lemmas.Bool.{and_parts, false≢true, ne_eqb}
 use Rattle.std.proofs.lemmas.List.Sums.{length-filter}
-use Rattle.rf2_rows.specs.Pairs.{Pair}
-use Rattle.rf2_rows.specs.Release.{Attribute, Release}
+use Rattle.release_model.specs.Pairs.{Pair}
+use Rattle.release_model.specs.Release.{Attribute, Release}
 use Rattle.number_lists.specs.Members.{has}
 use Rattle.number_lists.specs.Rising.{numbers_where}
 use Rattle.constraint_tree.specs.declared.operator.Operator.{Operator}

@@ -1,7 +1,7 @@
 -- A physical plan finds at most its size, whatever choices its leaves have.
 use Rattle.std.specs.Prelude.{◌≡◌, ◌≤◌, true, All, List, filter, length}
 use Rattle.std.specs.List.Sorted.{IsStrictlyIncreasing}
-use Rattle.rf2_rows.specs.Release.{Attribute, Release}
+use Rattle.release_model.specs.Release.{Attribute, Release}
 use Rattle.number_lists.specs.Members.{has}
 use Rattle.set_algebra.specs.Meaning.{group_means, meaning}
 use Rattle.set_algebra.specs.Physical.{Physical, PhysicalGroups, logical, logical_groups}

@@ -6,7 +6,7 @@ use Rattle.std.specs.List.{concat, filter, slice_range}
 use Rattle.std.proofs.lemmas.List.{drop-map, drop_at, drop_more, get_or-map, length-map, take-append-drop, take-map}
 use Rattle.std.proofs.lemmas.List.{take_at}
 use Rattle.std.proofs.lemmas.List.Elements.{All-map, All-same, All-tail}
-use Rattle.rf2_rows.specs.Release.{Attribute, Value, concept_value}
+use Rattle.release_model.specs.Release.{Attribute, Value, concept_value}
 use Rattle.number_lists.specs.KeyedLists.{list_of}
 use Rattle.number_lists.proofs.ListLemmas.{concat-append, concat-take_more}
 use Rattle.postings.specs.inside.Cells.{IsColumn, cells_of}

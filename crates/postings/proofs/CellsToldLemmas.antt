@@ -2,7 +2,7 @@
 use Rattle.std.proofs.Common.{ℕ, ◌≡◌, ◌<◌, ◌∙◌, List, length, get_or, map, sym, ap, subst, arith, Bool, []}
 use Rattle.std.specs.Prelude.{IfSome, slice_get, slice_index}
 use Rattle.std.proofs.lemmas.List.{get_or-map, length-map}
-use Rattle.rf2_rows.specs.Release.{Attribute}
+use Rattle.release_model.specs.Release.{Attribute}
 use Rattle.postings.specs.Columns.{Flagged}
 use Rattle.postings.specs.Entries.{Entry, entries_of}
 use Rattle.postings.specs.inside.IndexInside.{AreIndexed, indexed_in}

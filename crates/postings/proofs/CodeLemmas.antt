@@ -8,9 +8,9 @@ use Rattle.std.proofs.lemmas.Bool.{cases_eq, cases_order, eq-eqb, eqb-true, ne_e
 use Rattle.std.proofs.lemmas.Cmp.{nat_eq_equiv}
 use Rattle.std.proofs.lemmas.List.Elements.{All-head, All-tail}
 use Rattle.std.proofs.lemmas.Map.Keys.{apart_from_distinct}
-use Rattle.rf2_rows.specs.Pairs.{pair_eq, pair_of, value_eq}
-use Rattle.rf2_rows.specs.Release.{Attribute, Value}
-use Rattle.rf2_rows.proofs.PairLemmas.{tells_same_value}
+use Rattle.release_model.specs.Pairs.{pair_eq, pair_of, value_eq}
+use Rattle.release_model.specs.Release.{Attribute, Value}
+use Rattle.release_model.proofs.PairLemmas.{tells_same_value}
 use Rattle.number_lists.proofs.PlaceLemmas.{place_of, place_of-get_or}
 use Rattle.held_release.specs.CodedRows.{IsCoded, row_coded}
 use Rattle.postings.specs.inside.Coded.{has_same_pair}

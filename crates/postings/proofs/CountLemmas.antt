@@ -20,12 +20,12 @@ use Rattle.std.proofs.lemmas.Map.Made.{length-from_same_keys}
 use Rattle.std.proofs.lemmas.Map.Views.{Contains-from_any, list_any-from_Contains}
 use Rattle.std.proofs.lemmas.Simd.{map-map}
 use Rattle.std.proofs.Math.Bool.{and-false}
-use Rattle.rf2_rows.specs.Groups.{group_numbers, groups_of, pairs_in}
-use Rattle.rf2_rows.specs.Pairs.{Pair, in_pairs, out_pairs, pair_eq, pair_of, reverse_pair_of, rows_of, value_eq}
+use Rattle.release_model.specs.Groups.{group_numbers, groups_of, pairs_in}
+use Rattle.release_model.specs.Pairs.{Pair, in_pairs, out_pairs, pair_eq, pair_of, reverse_pair_of, rows_of, value_eq}
 use Rattle.number_lists.specs.Distinct.{distinct}
-use Rattle.rf2_rows.specs.Release.{Attribute, Release, Value, concept_value}
+use Rattle.release_model.specs.Release.{Attribute, Release, Value, concept_value}
 use Rattle.number_lists.proofs.DistinctLemmas.{keeps_each_number_once}
-use Rattle.rf2_rows.proofs.PairLemmas.{keeps_each_pair_once, tells_same_pair, tells_same_value}
+use Rattle.release_model.proofs.PairLemmas.{keeps_each_pair_once, tells_same_pair, tells_same_value}
 use Rattle.held_release.specs.AttributesBySource.{attributes_by_source}
 use Rattle.number_lists.specs.Members.{has}
 use Rattle.number_lists.specs.RisingOrder.{rising}

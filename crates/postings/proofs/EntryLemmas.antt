@@ -1,7 +1,7 @@
 -- The flags of entries and of marks, and what stands next to them.
 use Rattle.std.proofs.Common.{ℕ, ◌≡◌, ◌++◌, ◌∷◌, [], not, List, map, Bool, refl, ap}
 use Rattle.std.specs.List.{list_any}
-use Rattle.rf2_rows.specs.Release.{Attribute}
+use Rattle.release_model.specs.Release.{Attribute}
 use Rattle.postings.specs.inside.Coded.{marks_after}
 use Rattle.postings.specs.Columns.{Flagged}
 use Rattle.postings.specs.Entries.{Entry, entries_after, is_alike, is_alike_in_group}

@@ -6,10 +6,10 @@ use Rattle.std.specs.List.{filter, list_any}
 use Rattle.std.proofs.lemmas.List.{map-append}
 use Rattle.std.proofs.lemmas.List.Elements.{filter-append, filter_agree}
 use Rattle.std.proofs.lemmas.List.Folds.{list_any-append}
-use Rattle.rf2_rows.specs.Pairs.{Pair, pair_eq}
+use Rattle.release_model.specs.Pairs.{Pair, pair_eq}
 use Rattle.number_lists.specs.Distinct.{distinct}
-use Rattle.rf2_rows.specs.Release.{Attribute}
-use Rattle.rf2_rows.proofs.PairLemmas.{tells_same_pair}
+use Rattle.release_model.specs.Release.{Attribute}
+use Rattle.release_model.proofs.PairLemmas.{tells_same_pair}
 use Rattle.number_lists.proofs.ListLemmas.{both_ways}
 use Rattle.postings.specs.Entries.{Entry, entries_after, entries_of, is_alike, is_alike_in_group}
 use Rattle.number_lists.proofs.BlockLemmas.{any-filter, any-map, filter-all, filter-twice}

@@ -7,9 +7,9 @@ use Rattle.std.specs.List.{filter, list_any, position_or_len}
 use Rattle.std.proofs.lemmas.Bool.{and_from, and_parts, eq-eqb, eqb-true}
 use Rattle.std.proofs.lemmas.List.{get_or-map, get_or-append_right, get_or_append_left, length-map}
 use Rattle.std.proofs.lemmas.List.Sums.{passes_at_first}
-use Rattle.rf2_rows.specs.Pairs.{Pair, pair_of}
+use Rattle.release_model.specs.Pairs.{Pair, pair_of}
 use Rattle.number_lists.specs.Distinct.{distinct}
-use Rattle.rf2_rows.specs.Release.{Value}
+use Rattle.release_model.specs.Release.{Value}
 use Rattle.number_lists.proofs.DistinctLemmas.{keeps_each_number_once}
 use Rattle.number_lists.specs.Members.{has}
 use Rattle.number_lists.proofs.WhereLemmas.{numbers_where-agree}

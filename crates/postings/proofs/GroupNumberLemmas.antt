@@ -5,7 +5,7 @@ use Rattle.std.specs.Prelude.{IfSome, slice_get}
 use Rattle.std.specs.List.{list_any}
 use Rattle.std.proofs.lemmas.Bool.{and_parts, eqb-true}
 use Rattle.std.proofs.lemmas.List.{get_or_default, get_or-map, length-map}
-use Rattle.rf2_rows.specs.Release.{Attribute}
+use Rattle.release_model.specs.Release.{Attribute}
 use Rattle.number_lists.specs.KeyedLists.{list_of}
 use Rattle.held_release.specs.CodedRows.{IsCoded, row_coded}
 use Rattle.postings.specs.Groups.{ConceptGroup, groups_in, group_of, has_key, is_in_group, numbered, rows_alone}

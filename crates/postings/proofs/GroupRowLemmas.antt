@@ -8,10 +8,10 @@ use Rattle.std.proofs.lemmas.Bool.{and_from, eq-eqb, true≢false}
 use Rattle.std.proofs.lemmas.List.{get_or-map}
 use Rattle.std.proofs.lemmas.List.Elements.{All-append, All-contains, All-contains_itself, All-filter, All-map}
 use Rattle.std.proofs.lemmas.List.Elements.{Contains-get_or, filter_passes}
-use Rattle.rf2_rows.specs.Groups.{group_numbers, pairs_in}
-use Rattle.rf2_rows.specs.Pairs.{pair_eq, pair_of, rows_of}
-use Rattle.rf2_rows.specs.Release.{Attribute, Release}
-use Rattle.rf2_rows.proofs.PairLemmas.{tells_same_pair}
+use Rattle.release_model.specs.Groups.{group_numbers, pairs_in}
+use Rattle.release_model.specs.Pairs.{pair_eq, pair_of, rows_of}
+use Rattle.release_model.specs.Release.{Attribute, Release}
+use Rattle.release_model.proofs.PairLemmas.{tells_same_pair}
 use Rattle.number_lists.specs.RisingOrder.{rising}
 use Rattle.number_lists.proofs.RisingOrderLemmas.{keeps_rising}
 use Rattle.postings.specs.Groups.{ConceptGroup, GroupKey, groups_among, is_in_group, keys_of, numbered, ungrouped}

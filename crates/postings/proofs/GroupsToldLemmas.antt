@@ -16,8 +16,8 @@ use Rattle.std.proofs.lemmas.List.Folds.{length-flat_map-take}
 use Rattle.std.proofs.lemmas.Option.{get_or_from_slice_get, slice_get-get_or, slice_get_within}
 use Rattle.std.proofs.lemmas.Simd.{map-map}
 use Rattle.number_lists.specs.Distinct.{distinct}
-use Rattle.rf2_rows.specs.Pairs.{pair_eq, pair_of, value_eq}
-use Rattle.rf2_rows.specs.Release.{Attribute, Value}
+use Rattle.release_model.specs.Pairs.{pair_eq, pair_of, value_eq}
+use Rattle.release_model.specs.Release.{Attribute, Value}
 use Rattle.number_lists.specs.RisingOrder.{rising}
 use Rattle.held_release.specs.CodedRows.{IsCoded}
 use Rattle.postings.specs.inside.Coded.{IsBySource, all_group_marks, code_eq, group_codes, group_marks}

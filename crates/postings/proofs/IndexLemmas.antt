@@ -10,7 +10,7 @@ use Rattle.std.proofs.lemmas.Cmp.{nat_eq_equiv}
 use Rattle.std.proofs.lemmas.List.{get_or-map, length-map}
 use Rattle.std.proofs.lemmas.List.FromFn.{get_or-map-range_with_len, length-map-range_with_len}
 use Rattle.std.proofs.lemmas.List.Quantifiers.{position-Some}
-use Rattle.rf2_rows.specs.Release.{Attribute}
+use Rattle.release_model.specs.Release.{Attribute}
 use Rattle.number_lists.proofs.DistinctLemmas.{any_distinct}
 use Rattle.number_lists.specs.KeyedLists.{list_of}
 use Rattle.postings.specs.Columns.{AreGroups, AreSources, Flagged}

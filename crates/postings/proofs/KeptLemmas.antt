@@ -8,7 +8,7 @@ use Rattle.std.proofs.lemmas.Bool.{cases_eq, eqb-true}
 use Rattle.std.proofs.lemmas.List.{get_or_default, get_or-map, get_or-set_other, get_or-set_same, length-map}
 use Rattle.std.proofs.lemmas.List.FromFn.{get_or-map-range_with_len, length-map-range_with_len}
 use Rattle.std.proofs.lemmas.Option.{slice_get_within}
-use Rattle.rf2_rows.specs.Release.{Attribute, Release, Value}
+use Rattle.release_model.specs.Release.{Attribute, Release, Value}
 use Rattle.held_release.specs.AttributesBySource.{attributes_by_source}
 use Rattle.number_lists.proofs.ListLemmas.{same_maps}
 use Rattle.held_release.specs.CodedRows.{AreCoded, AreCodedRows, IsCoded, row_coded, values_among, values_in}

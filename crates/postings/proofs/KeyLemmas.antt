@@ -9,11 +9,11 @@ use Rattle.std.proofs.lemmas.List.Elements.{All-append, All-contains, All-map, A
 use Rattle.std.proofs.lemmas.List.Elements.{filter_passes}
 use Rattle.std.proofs.lemmas.List.Kept.{AllPairs-from_increasing}
 use Rattle.std.proofs.lemmas.Map.Keys.{apart_from_distinct}
-use Rattle.rf2_rows.specs.Groups.{group_numbers, pairs_in}
-use Rattle.rf2_rows.specs.Pairs.{Pair, pair_eq, pair_of, rows_of}
-use Rattle.rf2_rows.specs.Release.{Attribute, Release}
+use Rattle.release_model.specs.Groups.{group_numbers, pairs_in}
+use Rattle.release_model.specs.Pairs.{Pair, pair_eq, pair_of, rows_of}
+use Rattle.release_model.specs.Release.{Attribute, Release}
 use Rattle.number_lists.proofs.DistinctLemmas.{keeps_each_number_once}
-use Rattle.rf2_rows.proofs.PairLemmas.{keeps_each_pair_once, tells_same_pair}
+use Rattle.release_model.proofs.PairLemmas.{keeps_each_pair_once, tells_same_pair}
 use Rattle.number_lists.specs.RisingOrder.{rising}
 use Rattle.number_lists.proofs.RisingOrderLemmas.{keeps_rising}
 use Rattle.number_lists.proofs.PlaceLemmas.{place_of, place_of-get_or}

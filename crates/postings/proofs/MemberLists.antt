@@ -1,7 +1,7 @@
 -- The lists of the components of reference sets.
 use Rattle.std.proofs.Common.{ℕ, ◌<◌, length, get_or, sym, subst}
 use Rattle.std.specs.Prelude.{◌^◌}
-use Rattle.rf2_rows.specs.Release.{Release}
+use Rattle.release_model.specs.Release.{Release}
 use Rattle.number_lists.specs.KeyedLists.{list_of}
 use Rattle.number_lists.specs.Rising.{IsRising, IsRisingBelow}
 use Rattle.number_lists.proofs.RisingLemmas.{numbers_where-rising, rising_fits}

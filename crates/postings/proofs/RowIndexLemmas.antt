@@ -4,8 +4,8 @@ use Rattle.std.proofs.Common.{length, get_or, map, nat_eq, take, refl, sym, ap, 
 use Rattle.std.specs.List.{IsDistinct, range_with_len}
 use Rattle.std.specs.List.Sorted.{IsStrictlyIncreasing}
 use Rattle.std.proofs.lemmas.List.{length-map, take_all}
-use Rattle.rf2_rows.specs.Pairs.{value_eq}
-use Rattle.rf2_rows.specs.Release.{Attribute, Release, Value}
+use Rattle.release_model.specs.Pairs.{value_eq}
+use Rattle.release_model.specs.Release.{Attribute, Release, Value}
 use Rattle.number_lists.proofs.DistinctLemmas.{keeps_each_number_once}
 use Rattle.held_release.specs.AttributesBySource.{attributes_by_source}
 use Rattle.number_lists.proofs.ListLemmas.{same_maps}

@@ -7,7 +7,7 @@ use Rattle.std.specs.List.Sorted.{IsStrictlyIncreasing}
 use Rattle.std.proofs.lemmas.List.{length-map}
 use Rattle.std.proofs.lemmas.List.Elements.{All-map, All-weaker}
 use Rattle.std.proofs.lemmas.Simd.{map-map}
-use Rattle.rf2_rows.specs.Release.{Attribute, Release, Value}
+use Rattle.release_model.specs.Release.{Attribute, Release, Value}
 use Rattle.held_release.specs.AttributesBySource.{attributes_by_source}
 use Rattle.number_lists.specs.KeyedLists.{list_of}
 use Rattle.held_release.specs.CodedRows.{AreCodedRows, IsCoded, row_coded}

@@ -7,8 +7,8 @@ use Rattle.std.specs.List.Sorted.{IsStrictlyIncreasing}
 use Rattle.std.proofs.lemmas.Bool.{eq-eqb, eqb-true, ne_eqb}
 use Rattle.std.proofs.lemmas.List.Elements.{All-filter, All-map, All-nil, All-same, All-weaker, filter_passes}
 use Rattle.std.proofs.lemmas.Simd.{map-map}
-use Rattle.rf2_rows.specs.Pairs.{value_eq}
-use Rattle.rf2_rows.specs.Release.{Attribute, Value}
+use Rattle.release_model.specs.Pairs.{value_eq}
+use Rattle.release_model.specs.Release.{Attribute, Value}
 use Rattle.held_release.specs.CodedRows.{IsCoded, row_coded}
 use Rattle.postings.specs.inside.Coded.{IsBySource, all_source_marks, has_same_pair, of_source}
 use Rattle.postings.specs.inside.Coded.{source_marks}

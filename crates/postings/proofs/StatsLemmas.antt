@@ -8,8 +8,8 @@ use Rattle.std.proofs.lemmas.List.Concat.{concat_is, length-flat_map}
 use Rattle.std.proofs.lemmas.List.Folds.{flat_map-map}
 use Rattle.std.proofs.lemmas.List.FromFn.{get_or-map-range_with_len, length-map-range_with_len}
 use Rattle.std.proofs.lemmas.List.Recursion.{is_count_by}
-use Rattle.rf2_rows.specs.Groups.{groups_of}
-use Rattle.rf2_rows.specs.Release.{Release}
+use Rattle.release_model.specs.Groups.{groups_of}
+use Rattle.release_model.specs.Release.{Release}
 use Rattle.hierarchy.specs.Hierarchy.{reaches}
 use Rattle.ancestor_index.specs.HierarchyLists.{Hierarchy, hierarchy_of, is_child, lists_where}
 use Rattle.ancestor_index.proofs.ClosureLemmas.{length-where}

@@ -1,7 +1,7 @@
 -- What the columns of a list of rows hold. Each column has one cell for each row, in the order of
 -- the list.
 use Rattle.std.specs.Prelude.{ℕ, ◌≡◌, ◌<◌, Bool, All, List, Some, length, map, slice_get, slice_index}
-use Rattle.rf2_rows.specs.Release.{Value}
+use Rattle.release_model.specs.Release.{Value}
 use Rattle.postings.specs.Entries.{Entry}
 use Rattle.postings.specs.Groups.{ConceptGroup, group_of}
 use Rattle.postings.specs.Indexed.{value_at}

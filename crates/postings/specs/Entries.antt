@@ -2,8 +2,8 @@
 -- repeats: whether a row is the first with its pair in its concept, and in its group.
 use Rattle.std.specs.Prelude.{ℕ, ◌==◌, ◌&&◌, ◌++◌, Bool, not, List, [], ◌∷◌, filter}
 use Rattle.std.specs.List.{list_any}
-use Rattle.rf2_rows.specs.Pairs.{pair_eq, pair_of, value_eq}
-use Rattle.rf2_rows.specs.Release.{Attribute, concept_value}
+use Rattle.release_model.specs.Pairs.{pair_eq, pair_of, value_eq}
+use Rattle.release_model.specs.Release.{Attribute, concept_value}
 
 -- whether two rows have the same source and the same pair
 abbrev pub is_alike : Attribute → Attribute → Bool

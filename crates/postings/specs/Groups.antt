@@ -2,9 +2,9 @@
 -- Specification, "Relationship file", relationshipGroup).
 use Rattle.std.specs.Prelude.{ℕ, ◌==◌, ◌&&◌, ◌++◌, Bool, if◌then◌else◌, List, [], ◌∷◌, map, take}
 use Rattle.std.specs.List.{flat_map}
-use Rattle.rf2_rows.specs.Groups.{group_numbers, pairs_in}
-use Rattle.rf2_rows.specs.Pairs.{Pair, pair_eq, pair_of}
-use Rattle.rf2_rows.specs.Release.{Attribute, Release}
+use Rattle.release_model.specs.Groups.{group_numbers, pairs_in}
+use Rattle.release_model.specs.Pairs.{Pair, pair_eq, pair_of}
+use Rattle.release_model.specs.Release.{Attribute, Release}
 use Rattle.number_lists.specs.RisingOrder.{rising}
 use Rattle.postings.specs.Indexed.{Indexed}
 use Rattle.postings.specs.Places.{places_where}

@@ -5,8 +5,8 @@ use Rattle.std.specs.Prelude.{Bool, ℕ, ℤ, ◌≡◌, ◌==◌, List, Option,
 use Rattle.std.specs.Prelude.{slice_index}
 use Rattle.number_lists.specs.KeyedLists.{list_of}
 use Rattle.number_lists.specs.Rising.{numbers_where}
-use Rattle.rf2_rows.specs.Pairs.{value_eq}
-use Rattle.rf2_rows.specs.Release.{Attribute, Release, Value, concept_value}
+use Rattle.release_model.specs.Pairs.{value_eq}
+use Rattle.release_model.specs.Release.{Attribute, Release, Value, concept_value}
 use Rattle.held_release.specs.AttributesBySource.{attributes_by_source}
 use Rattle.held_release.specs.Numbering.{concept_number}
 use Rattle.ancestor_index.specs.HierarchyLists.{Hierarchy, hierarchy_of, is_child, lists_where}

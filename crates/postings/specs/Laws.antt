@@ -2,9 +2,9 @@
 -- their pair.
 use Rattle.std.specs.Prelude.{ℕ, ◌==◌, ◌≡◌, ◌&&◌, Bool, true, All, Contains, List, [], ◌∷◌, count_by, filter, map}
 use Rattle.std.specs.List.Sorted.{IsStrictlyIncreasing}
-use Rattle.rf2_rows.specs.Groups.{groups_of}
-use Rattle.rf2_rows.specs.Pairs.{Pair, in_pairs, out_pairs, pair_of, reverse_pair_of, value_eq}
-use Rattle.rf2_rows.specs.Release.{Attribute, Release, concept_value}
+use Rattle.release_model.specs.Groups.{groups_of}
+use Rattle.release_model.specs.Pairs.{Pair, in_pairs, out_pairs, pair_of, reverse_pair_of, value_eq}
+use Rattle.release_model.specs.Release.{Attribute, Release, concept_value}
 use Rattle.held_release.specs.AttributesBySource.{attributes_by_source}
 use Rattle.number_lists.specs.Members.{has}
 use Rattle.postings.specs.Entries.{Entry, entries_of}

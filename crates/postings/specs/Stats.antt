@@ -1,8 +1,8 @@
 -- The six counts of a release, and of its indexes.
 use Rattle.std.specs.Prelude.{ℕ, Bool, List, filter, flat_map, length, map}
 use Rattle.std.specs.List.{concat}
-use Rattle.rf2_rows.specs.Groups.{groups_of}
-use Rattle.rf2_rows.specs.Release.{Release}
+use Rattle.release_model.specs.Groups.{groups_of}
+use Rattle.release_model.specs.Release.{Release}
 use Rattle.hierarchy.specs.Hierarchy.{reaches}
 use Rattle.held_release.specs.AttributesBySource.{attributes_by_source}
 use Rattle.ancestor_index.specs.HierarchyLists.{is_child}

@@ -2,7 +2,7 @@
 ghost use Rattle.std.specs.Prelude.{◌≡◌, ◌<◌, ◌+◌, ◌^◌, IfOk, IfSome, Some, length, map, nat_eq, position, slice_get, slice_index};
 ghost use Rattle.std.specs.List.Sorted.{IsSorted, IsStrictlyIncreasing};
 ghost use Rattle.std.specs.Ordering.{int_cmp};
-ghost use Rattle.rf2_rows.specs.Release.{Release};
+ghost use Rattle.release_model.specs.Release.{Release};
 ghost use Rattle.rf2_rows.specs.Rows.{value_lent};
 ghost use Rattle.held_release.specs.AttributesBySource.{attribute_of, attributes_by_source, with_source};
 ghost use Rattle.number_lists.specs.KeyedLists.{list_of};

@@ -1,6 +1,6 @@
 -- The text of the plan with which a constraint is answered explains the constraint.
 use Rattle.std.proofs.Common.{ℕ, ◌≡◌, ap, refl, subst}
-use Rattle.rf2_rows.specs.Release.{Release}
+use Rattle.release_model.specs.Release.{Release}
 use Rattle.constraint_tree.specs.Denotation.{denotes}
 use Rattle.constraint_tree.specs.Tree.{Tree}
 use Rattle.set_algebra.specs.Meaning.{means}

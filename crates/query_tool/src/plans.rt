@@ -1,6 +1,6 @@
 //! The plans with which constraints are answered and explained.
 ghost use Rattle.std.specs.Prelude.{ℕ, ◌≡◌, IfOk};
-ghost use Rattle.rf2_rows.specs.Release.{Release};
+ghost use Rattle.release_model.specs.Release.{Release};
 ghost use Rattle.constraint_tree.specs.Denotation.{denotes};
 ghost use Rattle.constraint_tree.specs.Tree.{tree_of};
 ghost use Rattle.set_algebra.specs.Lowering.{lowered};

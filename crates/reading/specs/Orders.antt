@@ -4,7 +4,7 @@ use Rattle.std.specs.Prelude.{ℕ, ◌≡◌, List, length, map}
 use Rattle.hierarchy.specs.Hierarchy.{IsWithin}
 use Rattle.hierarchy.specs.ParentsFirst.{IsParentsFirst}
 use Rattle.held_release.specs.Numbering.{row_of_numbers}
-use Rattle.rf2_rows.specs.Release.{Release}
+use Rattle.release_model.specs.Release.{Release}
 
 -- `order` has the numbers of all concepts of `release`, parents before their children by the is-a
 -- rows (Release File Specification, "Relationship file")

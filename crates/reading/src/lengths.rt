@@ -17,8 +17,8 @@ ghost use Rattle.postings.specs.RowColumns.{AreRowCells};
 
 use crate::reader::Reader;
 use idset::has_number;
+use numerals::Decimal;
 use postings::{Lengths, RowCells};
-use rf2_rows::Decimal;
 use sctid::SctId;
 use std::cmp::Ordering;
 use std::ops::Range;

@@ -3,8 +3,8 @@
 use Rattle.std.proofs.Common.{ℕ, ◌≡◌, ◌&&◌, ◌||◌, Bool, false, List, [], ◌∷◌, refl, sym, ap, ◌∙◌}
 use Rattle.std.specs.List.{list_any}
 use Rattle.std.proofs.Math.Bool.{and-false}
-use Rattle.rf2_rows.specs.Release.{Release, Value, concept_value, number_value, text_value}
-use Rattle.rf2_rows.specs.Pairs.{Pair}
+use Rattle.release_model.specs.Release.{Release, Value, concept_value, number_value, text_value}
+use Rattle.release_model.specs.Pairs.{Pair}
 use Rattle.constraint_tree.specs.Passing.{is_within}
 use Rattle.set_algebra.specs.Meaning.{means, some_means, group_means, some_group_means}
 use Rattle.set_algebra.specs.Plan.{Plan, Plans, no_plans, plan_then, PlanOfGroups, PlansOfGroups, no_group_plans}

@@ -1,7 +1,7 @@
 -- Plans that mean the same over every release, lists of such plans index by index, and tests that let the same
 -- values pass.
 use Rattle.std.specs.Prelude.{◌≡◌}
-use Rattle.rf2_rows.specs.Release.{Release}
+use Rattle.release_model.specs.Release.{Release}
 use Rattle.set_algebra.specs.Meaning.{means, group_means, value_passes}
 use Rattle.set_algebra.specs.Plan.{Plan, Plans, no_plans, plan_then, PlanOfGroups, PlansOfGroups, no_group_plans}
 use Rattle.set_algebra.specs.Plan.{group_plan_then}

@@ -1,8 +1,8 @@
 -- A node keeps its meaning if its children are replaced by nodes that mean the same.
 use Rattle.std.proofs.Common.{ℕ, ◌≡◌, ◌&&◌, ◌||◌, not, Bool, List, set, refl}
 use Rattle.std.proofs.Common.{ap, ◌∙◌}
-use Rattle.rf2_rows.specs.Release.{Release, Value}
-use Rattle.rf2_rows.specs.Pairs.{Pair}
+use Rattle.release_model.specs.Release.{Release, Value}
+use Rattle.release_model.specs.Pairs.{Pair}
 use Rattle.constraint_tree.specs.declared.operator.Operator.{Operator}
 use Rattle.constraint_tree.specs.declared.operator.Cardinality.{Cardinality}
 use Rattle.constraint_tree.specs.Passing.{is_within, is_outside}

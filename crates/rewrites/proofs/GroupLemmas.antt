@@ -4,12 +4,12 @@ use Rattle.std.proofs.Common.{nat_eq, refl, sym, ap, ◌∙◌, inl, inr}
 use Rattle.std.specs.List.{list_any}
 use Rattle.std.proofs.lemmas.Bool.{and_parts, and_from, or_cases, or_left, or_right, cases_Bool, eq-eqb}
 use Rattle.std.proofs.lemmas.List.Folds.{list_any-append}
-use Rattle.rf2_rows.specs.Release.{Release, Attribute}
-use Rattle.rf2_rows.specs.Pairs.{Pair, pair_eq, pair_of, rows_of, out_pairs}
+use Rattle.release_model.specs.Release.{Release, Attribute}
+use Rattle.release_model.specs.Pairs.{Pair, pair_eq, pair_of, rows_of, out_pairs}
 use Rattle.number_lists.specs.Distinct.{distinct, KeepsEachOnce}
-use Rattle.rf2_rows.specs.Groups.{group_numbers, pairs_in, groups_of}
+use Rattle.release_model.specs.Groups.{group_numbers, pairs_in, groups_of}
 use Rattle.number_lists.proofs.DistinctLemmas.{keeps_each_number_once}
-use Rattle.rf2_rows.proofs.PairLemmas.{keeps_each_pair_once}
+use Rattle.release_model.proofs.PairLemmas.{keeps_each_pair_once}
 use Rattle.number_lists.proofs.ListLemmas.{passing_item, some_item_passes}
 use Rattle.rewrites.proofs.BoolLemmas.{same_if, or_only}
 

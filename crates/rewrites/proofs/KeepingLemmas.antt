@@ -1,7 +1,7 @@
 -- The node that a rule makes means the same, at the root and at every place.
 use Rattle.std.proofs.Common.{ℕ, ◌≡◌, Option, Some, None, List, [], ◌∷◌, option_map, refl, sym, ap, ◌∙◌, subst}
 use Rattle.std.specs.Prelude.{slice_get}
-use Rattle.rf2_rows.specs.Release.{Release}
+use Rattle.release_model.specs.Release.{Release}
 use Rattle.set_algebra.specs.Plan.{Plan, PlanOfGroups}
 use Rattle.set_algebra.specs.Places.{Node, concept_node, group_node, children, inside, with_child, with_changed}
 use Rattle.set_algebra.specs.Places.{node_at, put_at, MeanTheSame}

@@ -4,9 +4,9 @@ use Rattle.std.proofs.Common.{option_map, nat_le, nat_lt, nat_eq, if◌then◌el
 use Rattle.std.proofs.Math.Path.{fun_ext}
 use Rattle.std.specs.List.{list_any, count_by}
 use Rattle.std.proofs.lemmas.Bool.{and_parts, eqb-true}
-use Rattle.rf2_rows.specs.Release.{Release, Value}
-use Rattle.rf2_rows.specs.Pairs.{Pair, out_pairs}
-use Rattle.rf2_rows.specs.Groups.{groups_of}
+use Rattle.release_model.specs.Release.{Release, Value}
+use Rattle.release_model.specs.Pairs.{Pair, out_pairs}
+use Rattle.release_model.specs.Groups.{groups_of}
 use Rattle.constraint_tree.specs.declared.operator.Cardinality.{Cardinality}
 use Rattle.constraint_tree.specs.declared.operator.Operator.{Operator}
 use Rattle.constraint_tree.specs.declared.operator.Operator.TheVariants.{Descendants, DescendantsOrSelf, Children}

@@ -1,7 +1,7 @@
 -- A walk of a walk, both along one transitive test.
 use Rattle.std.proofs.Common.{ℕ, ◌≡◌, ◌&&◌, ◌||◌, Bool, true, List, inl, inr}
 use Rattle.std.proofs.lemmas.Bool.{and_parts, and_from, or_cases, or_left}
-use Rattle.rf2_rows.specs.Release.{Release}
+use Rattle.release_model.specs.Release.{Release}
 use Rattle.hierarchy.specs.Hierarchy.{reaches}
 use Rattle.hierarchy.proofs.HierarchyLemmas.{chain_from_test, test_from_chain, chain_of_two}
 use Rattle.constraint_tree.specs.Walks.{has_concept, some_member}

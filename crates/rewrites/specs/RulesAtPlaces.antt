@@ -1,6 +1,6 @@
 -- Rules at places of a plan, and the statement that they keep the meaning of the plan.
 use Rattle.std.specs.Prelude.{ℕ, ◌≡◌, ◌<◌, ◌↔◌, Option, Some, None, option_map, List, [], ◌∷◌, slice_get}
-use Rattle.rf2_rows.specs.Release.{Release}
+use Rattle.release_model.specs.Release.{Release}
 use Rattle.set_algebra.specs.Depth.{plan_depth}
 use Rattle.set_algebra.specs.Meaning.{means}
 use Rattle.set_algebra.specs.Plan.{Plan}

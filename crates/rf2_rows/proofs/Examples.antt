@@ -9,7 +9,7 @@ use Rattle.rf2_rows.specs.declared.kind.FileKind.TheVariants.{Concept, Descripti
 use Rattle.rf2_rows.specs.declared.fault.RowCause.TheVariants.{Fields, Id, Time, Value, Utf8, Uuid}
 use Rattle.rf2_rows.specs.Files.{file_kind_of}
 use Rattle.rf2_rows.specs.Columns.{header_of, cause_of}
-use Rattle.rf2_rows.specs.Release.{number_value, text_value}
+use Rattle.release_model.specs.Release.{number_value, text_value}
 use Rattle.rf2_rows.specs.Rows.{row_fault, concept_row, description_row, concrete_row, member_row}
 use Rattle.numerals.specs.Decimals.{decimal_of}
 use Rattle.rf2_rows.specs.Values.{value_cause, value_of}

@@ -3,7 +3,6 @@ pub mod Columns
 pub mod Examples
 pub mod Identifiers
 pub mod LowestBit
-pub mod PairLemmas
 pub mod TabBits
 pub mod Texts
 pub mod VersionLemmas

@@ -8,14 +8,14 @@ use Rattle.std.proofs.lemmas.Slice.Eq.{bytes_eq-Decides}
 use Rattle.rf2_rows.specs.Columns.{Column, Format, columns_of, uuid_format, time_format, active_format, text_format}
 use Rattle.rf2_rows.specs.Columns.{value_format}
 use Rattle.numerals.specs.Numbers.{number_of}
-use Rattle.rf2_rows.specs.Release.{Value}
+use Rattle.release_model.specs.Release.{Value}
 use Rattle.rf2_rows.specs.Rows.{IsRow, active_of, fields_of, row_fault, time_of, uuid_of}
 use Rattle.rf2_rows.specs.Values.{value_of}
 use Rattle.rf2_rows.specs.Versions.{IsEquivalenceOfRows, same_flag, same_row, same_value, same_values, time_in, time_on}
 use Rattle.rf2_rows.specs.declared.kind.FileKind.{FileKind}
 use Rattle.rf2_rows.specs.declared.row.Row.{Row}
 use Rattle.rf2_rows.proofs.Accepted.{few_fields, width_of_line}
-use Rattle.rf2_rows.proofs.PairLemmas.{tells_same_value}
+use Rattle.release_model.proofs.PairLemmas.{tells_same_value}
 
 same_flag_tells : (one other : Bool) → Decides (same_flag one other) (one ≡ other)
 same_flag_tells one other = grind arith

@@ -1,9 +1,6 @@
 pub mod Columns
 pub mod Files
-pub mod Groups
 pub mod inside
-pub mod Pairs
-pub mod Release
 pub mod Rows
 pub mod RowTexts
 pub mod Values

@@ -26,7 +26,7 @@ use Rattle.rf2_rows.specs.declared.value.Value.TheVariants.{Other as LentOther}
 use Rattle.rf2_rows.specs.Columns.{Column, columns_of, cause_of, tab}
 use Rattle.numerals.specs.Numbers.{number_of}
 use Rattle.text_parts.specs.Parts.{parts_at}
-use Rattle.rf2_rows.specs.Release.{Value, concept_value, number_value, text_value}
+use Rattle.release_model.specs.Release.{Value, concept_value, number_value, text_value}
 use Rattle.rf2_rows.specs.Values.{value_of}
 
 -- the fields of a line: the parts between its tabs

@@ -7,7 +7,7 @@ use Rattle.std.specs.Str.{is_utf8}
 use Rattle.numerals.specs.Decimals.{decimal_of}
 use Rattle.rf2_rows.specs.declared.fault.RowCause.{RowCause}
 use Rattle.rf2_rows.specs.declared.fault.RowCause.TheVariants.{Value as NoNumber, Utf8}
-use Rattle.rf2_rows.specs.Release.{Value, number_value, text_value}
+use Rattle.release_model.specs.Release.{Value, number_value, text_value}
 
 -- whether a text begins with `#`, so that a number must follow
 abbrev pub begins_with_hash : List ℕ → Bool

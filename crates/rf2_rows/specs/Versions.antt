@@ -6,7 +6,7 @@ use Rattle.std.specs.Int.{w128, from_be_bytes}
 use Rattle.rf2_rows.specs.Columns.{Column, Format, columns_of, id_format, component_format, uuid_format, time_format}
 use Rattle.rf2_rows.specs.Columns.{active_format, group_format, text_format, value_format}
 use Rattle.numerals.specs.Numbers.{number_of}
-use Rattle.rf2_rows.specs.Pairs.{value_eq}
+use Rattle.release_model.specs.Pairs.{value_eq}
 use Rattle.rf2_rows.specs.Rows.{active_of, concept_row, concrete_row, description_row, fields_of, member_row}
 use Rattle.rf2_rows.specs.Rows.{relationship_row, row_fault, time_of, uuid_of}
 use Rattle.rf2_rows.specs.Values.{value_of}

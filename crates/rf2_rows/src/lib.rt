@@ -19,7 +19,7 @@ mod versions;
 
 pub use crate::fault::{RowCause, RowFault};
 pub use crate::kind::{FileKind, file_kind, header};
-pub use crate::laws::{distinct_keeps_each_once, same_pairs_are_told, same_row_is_an_equivalence};
+pub use crate::laws::same_row_is_an_equivalence;
 pub use crate::read::{RowReader, read_row};
 pub use crate::row::{ConceptRow, ConcreteRow, DescriptionRow, MemberRow, RelationshipRow, Row};
 pub use crate::value::Value;

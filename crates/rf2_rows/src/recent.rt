@@ -41,10 +41,11 @@ impl Recent {
         ensures { IsReading (column_fault column (cause_of (id_format Concept) text.now))
             (number_of text.now) result }
     {
-        if let Some(concept) = self.last.concept_of(text) {
+        // the older of the two is the more frequent one in most columns
+        if let Some(concept) = self.other.concept_of(text) {
             return Ok(concept);
         }
-        if let Some(concept) = self.other.concept_of(text) {
+        if let Some(concept) = self.last.concept_of(text) {
             return Ok(concept);
         }
         self.read_anew(text, column)

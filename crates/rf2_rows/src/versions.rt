@@ -3,7 +3,7 @@ ghost use Rattle.std.specs.Prelude.{◌≡◌, ◌==◌, true, map, None, bytes_
 ghost use Rattle.rf2_rows.specs.Columns.{cause_of, columns_of, time_format, uuid_format, value_format};
 ghost use Rattle.rf2_rows.specs.inside.Formats.{format_of};
 ghost use Rattle.numerals.specs.Numbers.{is_number, number_of};
-ghost use Rattle.rf2_rows.specs.Pairs.{value_eq};
+ghost use Rattle.release_model.specs.Pairs.{value_eq};
 ghost use Rattle.text_parts.specs.Parts.{texts_of};
 ghost use Rattle.rf2_rows.specs.Rows.{active_of, fields_fault, row_fault, time_of, uuid_of};
 ghost use Rattle.rf2_rows.specs.Values.{value_of};

@@ -4,7 +4,7 @@ use Rattle.std.proofs.lemmas.Bool.Decides.{nat_tests}
 use Rattle.std.proofs.lemmas.Grind.{common_steps}
 use Rattle.std.proofs.lemmas.Bool.{cases_Bool}
 use Rattle.std.proofs.lemmas.List.{get_or-map, get_or_read, length-map}
-use Rattle.rf2_rows.specs.Release.{Name}
+use Rattle.release_model.specs.Release.{Name}
 use Rattle.row_lists.specs.inside.NamesInside.{IsPlaced, name_in}
 use Rattle.row_lists.specs.Spans.{Extends, no_span}
 use Rattle.row_lists.specs.declared.names.NameRow.{NameRow}

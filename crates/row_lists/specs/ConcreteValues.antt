@@ -1,6 +1,6 @@
 -- Values of attributes that are not concepts.
 use Rattle.std.specs.Prelude.{ℕ, ℤ, List, []}
-use Rattle.rf2_rows.specs.Release.{Value, number_value, text_value}
+use Rattle.release_model.specs.Release.{Value, number_value, text_value}
 use Rattle.row_lists.specs.declared.concrete_values.LentConcrete.{LentConcrete}
 use Rattle.row_lists.specs.declared.concrete_values.LentConcrete.TheVariants.{Decimal as LentDecimal}
 use Rattle.row_lists.specs.declared.concrete_values.LentConcrete.TheVariants.{Other as LentOther}

@@ -8,7 +8,7 @@ use Rattle.number_lists.specs.Members.{has}
 use Rattle.number_lists.specs.RisingOrder.{rising}
 use Rattle.rf2_rows.specs.RowTexts.{RowText, of_concept, of_concrete, of_description, of_member, of_relationship}
 use Rattle.rf2_rows.specs.Rows.{ConcreteText, DescriptionText}
-use Rattle.rf2_rows.specs.Release.{Attribute, Name, Release, concept_value}
+use Rattle.release_model.specs.Release.{Attribute, Name, Release, concept_value}
 use Rattle.rf2_rows.specs.declared.row.ConceptRow.{ConceptRow}
 use Rattle.rf2_rows.specs.declared.row.MemberRow.{MemberRow}
 use Rattle.rf2_rows.specs.declared.row.RelationshipRow.{RelationshipRow}

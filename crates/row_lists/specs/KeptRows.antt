@@ -1,6 +1,6 @@
 -- The meaning of the attribute rows that a load keeps.
 use Rattle.std.specs.Prelude.{◌<◌, ⊤, List, length, slice_index_or}
-use Rattle.rf2_rows.specs.Release.{Attribute, Value, concept_value}
+use Rattle.release_model.specs.Release.{Attribute, Value, concept_value}
 use Rattle.row_lists.specs.ConcreteValues.{Concrete, concrete_value, no_text}
 use Rattle.row_lists.specs.declared.attributes.KeptRow.{KeptRow}
 use Rattle.row_lists.specs.declared.attributes.KeptValue.{KeptValue}

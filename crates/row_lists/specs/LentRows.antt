@@ -1,5 +1,5 @@
 -- The meaning of the name rows that callers get from the lists.
-use Rattle.rf2_rows.specs.Release.{Name}
+use Rattle.release_model.specs.Release.{Name}
 use Rattle.row_lists.specs.declared.names.ReadName.{ReadName}
 
 -- the name row that a `ReadName` of the program means

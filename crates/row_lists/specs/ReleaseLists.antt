@@ -2,7 +2,7 @@
 -- itself says, whether or not the concepts that it names are in force.
 use Rattle.std.specs.Prelude.{ℕ, ◌==◌, ◌&&◌, Bool, not, if◌then◌else◌, List, map, Option, None, Some, option_and_then}
 use Rattle.std.specs.List.{filter_map}
-use Rattle.rf2_rows.specs.Release.{Attribute, Name}
+use Rattle.release_model.specs.Release.{Attribute, Name}
 use Rattle.rf2_rows.specs.RowTexts.{RowText, of_concept, of_concrete, of_description, of_member, of_relationship}
 use Rattle.rf2_rows.specs.Rows.{ConcreteText, DescriptionText}
 use Rattle.rf2_rows.specs.declared.row.ConceptRow.{ConceptRow}

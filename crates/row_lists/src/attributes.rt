@@ -45,7 +45,7 @@ pub struct Attributes {
 
 impl Model for Attributes {
     ghost use Rattle.std.specs.Prelude.{List};
-    ghost use Rattle.rf2_rows.specs.Release.{Attribute};
+    ghost use Rattle.release_model.specs.Release.{Attribute};
 
     ghost Value = { List Attribute };
 

@@ -1,6 +1,6 @@
 //! The list of name rows, with their texts in one buffer.
 ghost use Rattle.std.specs.Prelude.{◌≡◌, ◌<◌, ◌++◌, ◌∷◌, [], OnOk, filter, length, slice_index_or};
-ghost use Rattle.rf2_rows.specs.Release.{Name};
+ghost use Rattle.release_model.specs.Release.{Name};
 ghost use Rattle.row_lists.specs.ChosenLists.{in_list, items_chosen};
 ghost use Rattle.row_lists.specs.LentRows.{name_read};
 ghost use Rattle.row_lists.specs.inside.NamesInside.{IsPlaced, name_in};
@@ -53,7 +53,7 @@ pub struct Names {
 
 impl Model for Names {
     ghost use Rattle.std.specs.Prelude.{List};
-    ghost use Rattle.rf2_rows.specs.Release.{Name};
+    ghost use Rattle.release_model.specs.Release.{Name};
 
     ghost Value = { List Name };
 

@@ -1,8 +1,8 @@
 -- The plan of a constraint means what the constraint denotes.
 use Rattle.std.proofs.Common.{ℕ, ◌≡◌, ◌&&◌, ◌||◌, not, Bool, true, false, List, refl, ap, ◌∙◌}
 use Rattle.std.proofs.Math.Path.{fun_ext}
-use Rattle.rf2_rows.specs.Release.{Release, Value}
-use Rattle.rf2_rows.specs.Pairs.{Pair}
+use Rattle.release_model.specs.Release.{Release, Value}
+use Rattle.release_model.specs.Pairs.{Pair}
 use Rattle.constraint_tree.specs.declared.operator.Cardinality.{Cardinality}
 use Rattle.constraint_tree.specs.Passing.{is_within, is_outside}
 use Rattle.constraint_tree.specs.Walks.{has_concept, walks}

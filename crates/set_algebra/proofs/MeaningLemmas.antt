@@ -1,7 +1,7 @@
 -- A plan means only concepts in force.
 use Rattle.std.proofs.Common.{ℕ, ◌≡◌, inl, inr, Bool, true}
 use Rattle.std.proofs.lemmas.Bool.{false≢true, or_cases, and_parts}
-use Rattle.rf2_rows.specs.Release.{Release}
+use Rattle.release_model.specs.Release.{Release}
 use Rattle.constraint_tree.specs.Walks.{has_concept}
 use Rattle.constraint_tree.specs.Denotation.{is_value}
 use Rattle.constraint_tree.proofs.WalkLemmas.{tells_in_force}

@@ -4,8 +4,8 @@ use Rattle.std.proofs.Common.{ℕ, zero, suc, ◌≡◌, ◌&&◌, ◌||◌, not
 use Rattle.std.proofs.Common.{ap, subst, ◌∙◌}
 use Rattle.std.specs.Prelude.{slice_get}
 use Rattle.std.proofs.Math.Path.{fun_ext}
-use Rattle.rf2_rows.specs.Release.{Release, Value}
-use Rattle.rf2_rows.specs.Pairs.{Pair}
+use Rattle.release_model.specs.Release.{Release, Value}
+use Rattle.release_model.specs.Pairs.{Pair}
 use Rattle.constraint_tree.specs.Passing.{is_within, is_outside}
 use Rattle.constraint_tree.specs.Walks.{has_concept, walks}
 use Rattle.constraint_tree.specs.Denotation.{is_value, is_component}

@@ -5,9 +5,9 @@
 -- compute.
 use Rattle.std.specs.Prelude.{ℕ, Bool, true, false, not, ◌==◌, ◌&&◌, ◌||◌, if◌then◌else◌, IsTrue, List, Contains}
 use Rattle.std.specs.Prelude.{filter, count_by}
-use Rattle.rf2_rows.specs.Release.{Release, Value}
-use Rattle.rf2_rows.specs.Pairs.{Pair, out_pairs, in_pairs}
-use Rattle.rf2_rows.specs.Groups.{groups_of}
+use Rattle.release_model.specs.Release.{Release, Value}
+use Rattle.release_model.specs.Pairs.{Pair, out_pairs, in_pairs}
+use Rattle.release_model.specs.Groups.{groups_of}
 use Rattle.constraint_tree.specs.declared.operator.Cardinality.{Cardinality}
 use Rattle.constraint_tree.specs.Passing.{is_within, is_outside, is_number_that, lies_in}
 use Rattle.constraint_tree.specs.Walks.{has_concept, walks}

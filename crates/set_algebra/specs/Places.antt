@@ -1,8 +1,8 @@
 -- Places in a plan. A place is a list of child numbers, from 0. The empty list names the root; a
 -- longer list names a place within the child with the first number.
 use Rattle.std.specs.Prelude.{ℕ, zero, suc, ◌≡◌, Option, Some, None, List, [], ◌∷◌, slice_get, slice_set}
-use Rattle.rf2_rows.specs.Release.{Release}
-use Rattle.rf2_rows.specs.Pairs.{Pair}
+use Rattle.release_model.specs.Release.{Release}
+use Rattle.release_model.specs.Pairs.{Pair}
 use Rattle.set_algebra.specs.Plan.{Plan, empty_plan, all_plan, one_plan, walk_plan, members_plan, and_plan, or_plan}
 use Rattle.set_algebra.specs.Plan.{minus_plan, values_plan, pairs_plan, groups_plan, Plans, no_plans, plan_then}
 use Rattle.set_algebra.specs.Plan.{PlanOfGroups, nothing_group, every_group, and_group_plan, or_group_plan}

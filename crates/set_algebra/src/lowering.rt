@@ -1,6 +1,6 @@
 //! Makes plans of constraints.
 ghost use Rattle.std.specs.Prelude.{ℕ, ◌≡◌, IfOk};
-ghost use Rattle.rf2_rows.specs.Release.{Release};
+ghost use Rattle.release_model.specs.Release.{Release};
 ghost use Rattle.constraint_tree.specs.Denotation.{denotes};
 ghost use Rattle.constraint_tree.specs.Tree.{tree_of, trees_of, refinement_tree_of, refinement_trees_of, set_tree_of, set_trees_of, attribute_tree_of, test_tree_of};
 ghost use Rattle.set_algebra.specs.Lowering.{lowered, lowered_trees, lowered_refinement, lowered_refinements, lowered_attribute, lowered_set, lowered_sets, lowered_in_group, lowered_test};

@@ -8,7 +8,7 @@ use Rattle.std.specs.List.{list_any}
 use Rattle.std.proofs.lemmas.List.Sums.{length-filter}
 use Rattle.std.proofs.Math.Bool.{and-false}
 use Rattle.release_files.specs.Source.{FileText}
-use Rattle.rf2_rows.specs.Release.{Attribute, Name}
+use Rattle.release_model.specs.Release.{Attribute, Name}
 use Rattle.rf2_rows.specs.RowTexts.{RowText}
 use Rattle.rf2_rows.specs.Rows.{DescriptionText, concrete_row, fields_of, text_in}
 use Rattle.rf2_rows.specs.Values.{value_of}

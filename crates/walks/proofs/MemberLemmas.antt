@@ -6,7 +6,7 @@ use Rattle.std.specs.List.{flat_map, list_any}
 use Rattle.std.proofs.lemmas.Bool.{and_parts, eq-eqb, eqb-true, false≢true, ne_eqb}
 use Rattle.std.proofs.lemmas.List.{get_or_default}
 use Rattle.std.proofs.lemmas.List.Elements.{All-append, All-nil, All-tail}
-use Rattle.rf2_rows.specs.Release.{Release}
+use Rattle.release_model.specs.Release.{Release}
 use Rattle.constraint_tree.specs.Denotation.{is_component}
 use Rattle.constraint_tree.specs.Walks.{has_concept}
 use Rattle.number_lists.proofs.ListLemmas.{passing_item, some_item_passes, both_ways, any_agree}

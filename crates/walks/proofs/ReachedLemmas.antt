@@ -10,7 +10,7 @@ use Rattle.std.proofs.lemmas.List.{get_or-take, get_or_default, length-take}
 use Rattle.std.proofs.lemmas.List.Elements.{Contains-get_or}
 use Rattle.std.proofs.lemmas.Map.Keys.{apart_from_distinct}
 use Rattle.std.proofs.lemmas.Map.Steps.{length-le_from_distinct_below}
-use Rattle.rf2_rows.specs.Release.{Release}
+use Rattle.release_model.specs.Release.{Release}
 use Rattle.hierarchy.specs.Hierarchy.{IsWithin, Reaches, more_rows, one_row}
 use Rattle.hierarchy.specs.ParentsFirst.{IsParentsFirst}
 use Rattle.number_lists.specs.KeyedLists.{list_of}

@@ -4,7 +4,7 @@ use Rattle.std.proofs.Common.{arith, refl, sym, ap, subst}
 use Rattle.std.specs.Prelude.{◌==◌, filter, if◌then◌else◌}
 use Rattle.std.specs.List.{list_any}
 use Rattle.std.proofs.lemmas.Bool.Decides.{nat_tests}
-use Rattle.rf2_rows.specs.Release.{Release}
+use Rattle.release_model.specs.Release.{Release}
 use Rattle.number_lists.specs.KeyedLists.{list_of}
 use Rattle.number_lists.proofs.ListLemmas.{passing_item, some_item_passes, both_ways}
 use Rattle.number_lists.specs.Rising.{IsRisingBelow}

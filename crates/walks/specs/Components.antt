@@ -3,7 +3,7 @@
 -- concepts.
 use Rattle.std.specs.Prelude.{ℕ, ◌==◌, ◌&&◌, List, length, slice_index}
 use Rattle.std.specs.List.{list_any}
-use Rattle.rf2_rows.specs.Release.{Release}
+use Rattle.release_model.specs.Release.{Release}
 use Rattle.number_lists.specs.Rising.{numbers_where}
 
 -- the numbers of the components of the release's member rows whose reference set is one of

@@ -1,6 +1,6 @@
 -- Sort keys of attribute rows: rows sorted by key are sorted by group.
 use Rattle.std.specs.Prelude.{ℕ, ◌+◌, ◌*◌, ◌^◌, ◌%◌, slice_index_or}
-use Rattle.rf2_rows.specs.Release.{Attribute, Release, concept_value}
+use Rattle.release_model.specs.Release.{Attribute, Release, concept_value}
 use Rattle.held_release.specs.AttributesBySource.{attributes_by_source}
 
 -- the row that a lookup returns if there is no row with the number

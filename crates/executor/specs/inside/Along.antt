@@ -1,6 +1,6 @@
 -- What executing the start of dotted attributes, and going along their first name, promises.
 use Rattle.std.specs.Prelude.{ℕ, ◌+◌, List, length}
-use Rattle.rf2_rows.specs.Release.{Release}
+use Rattle.release_model.specs.Release.{Release}
 use Rattle.idset.specs.declared.concept_set.ConceptSet.{Ghosts}
 use Rattle.constraint_tree.specs.Denotation.{is_value}
 use Rattle.postings.specs.Indexed.{Indexed}

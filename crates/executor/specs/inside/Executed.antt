@@ -1,7 +1,7 @@
 -- What executing a plan or a node promises: how much it counts, even if it fails, and what it
 -- finds.
 use Rattle.std.specs.Prelude.{ℕ, ◌≡◌, ◌≤◌, ◌+◌, ◌-◌, ◌⊎◌, Bool, List, [], length, min}
-use Rattle.rf2_rows.specs.Release.{Release, Value}
+use Rattle.release_model.specs.Release.{Release, Value}
 use Rattle.idset.specs.declared.concept_set.ConceptSet.{Ghosts}
 use Rattle.postings.specs.Groups.{all_groups}
 use Rattle.postings.specs.Indexed.{Indexed}

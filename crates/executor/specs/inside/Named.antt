@@ -1,6 +1,6 @@
 -- What is known of the name of a dotted attribute, and of an estimate before a plan is executed.
 use Rattle.std.specs.Prelude.{ℕ, ◌≡◌, ◌==◌, ◌&&◌, List, None, length}
-use Rattle.rf2_rows.specs.Release.{Release}
+use Rattle.release_model.specs.Release.{Release}
 use Rattle.set_algebra.specs.Meaning.{means}
 use Rattle.constraint_tree.specs.Walks.{has_concept}
 use Rattle.set_algebra.specs.Plan.{Plan, empty_plan, all_plan, one_plan, walk_plan, members_plan, and_plan, or_plan}

@@ -1,7 +1,7 @@
 -- Concepts by how many of their groups are in a set of groups (Expression Constraint Language,
 -- "Cardinality").
 use Rattle.std.specs.Prelude.{ℕ, List, length}
-use Rattle.rf2_rows.specs.Release.{Release}
+use Rattle.release_model.specs.Release.{Release}
 use Rattle.number_lists.specs.Rising.{numbers_where}
 use Rattle.constraint_tree.specs.Passing.{lies_in}
 use Rattle.constraint_tree.specs.declared.operator.Cardinality.{Cardinality}

@@ -1,7 +1,7 @@
 -- The row that names each concept, by its index among the name rows.
 use Rattle.std.specs.Prelude.{ℕ, ◌≡◌, ◌<◌, List, length, slice_index, slice_index_or, Option, None, Some, option_map}
 use Rattle.std.specs.List.{slice_get}
-use Rattle.rf2_rows.specs.Release.{Name}
+use Rattle.release_model.specs.Release.{Name}
 use Rattle.held_release.specs.Name.{first_name, first_of_two, names_of}
 
 -- `place` is the index in `names` of the row that comes first among the rows of `some` for

@@ -1,6 +1,6 @@
 -- The output lines of concepts by number, and the name rows of the concepts.
 use Rattle.std.specs.Prelude.{ℕ, List}
-use Rattle.rf2_rows.specs.Release.{Name}
+use Rattle.release_model.specs.Release.{Name}
 
 -- the lines of concepts by number, and name rows
 pub record Lined : Type 0 where

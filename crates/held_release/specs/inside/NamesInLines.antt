@@ -1,7 +1,7 @@
 -- Name rows that are stored as spans of a buffer.
 use Rattle.std.specs.Prelude.{ℕ, ◌≡◌, ◌<◌, ◌+◌, List, length, slice_index_or, Option, None, Some, IfSome}
 use Rattle.std.specs.List.{slice_get}
-use Rattle.rf2_rows.specs.Release.{Name}
+use Rattle.release_model.specs.Release.{Name}
 use Rattle.held_release.specs.declared.kept_names.KeptName.{KeptName}
 use Rattle.row_lists.specs.Spans.{IsSpanOf, StandsAt, no_span, text_at}
 use Rattle.row_lists.specs.declared.spans.Span.{Span}

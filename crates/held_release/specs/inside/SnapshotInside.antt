@@ -1,7 +1,7 @@
 -- The contents that the fields of a `Snapshot` hold, and the invariant of these fields.
 use Rattle.std.specs.Prelude.{◌≡◌, ◌<◌, ◌^◌, true, All, map, length, string_bytes}
 use Rattle.std.specs.List.Sorted.{IsStrictlyIncreasing}
-use Rattle.rf2_rows.specs.Release.{Attribute}
+use Rattle.release_model.specs.Release.{Attribute}
 use Rattle.held_release.specs.CodedRows.{AreCodedRows}
 use Rattle.held_release.specs.Contents.{Contents}
 use Rattle.held_release.specs.ValuesInForce.{is_value_among}

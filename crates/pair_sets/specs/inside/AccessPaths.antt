@@ -1,7 +1,7 @@
 -- The access paths of a leaf, which all find the same concepts or groups, and how many items each
 -- reads.
 use Rattle.std.specs.Prelude.{ℕ, ◌≡◌, ◌+◌, ◌≤◌, Bool, true, List, Option, None, Some, filter, length, sum_by}
-use Rattle.rf2_rows.specs.Release.{Value}
+use Rattle.release_model.specs.Release.{Value}
 use Rattle.constraint_tree.specs.Passing.{is_within}
 use Rattle.number_lists.specs.Rising.{IsRisingBelow}
 use Rattle.postings.specs.Indexed.{Indexed, types_of}

@@ -1,7 +1,7 @@
 -- How many rows of a concept or a group count as matching pairs, by row numbers.
 use Rattle.std.specs.Prelude.{ℕ, ◌&&◌, Bool, false, true, List, [], Option, None, Some, count_by, slice_get}
 use Rattle.std.specs.Prelude.{slice_index}
-use Rattle.rf2_rows.specs.Release.{Value}
+use Rattle.release_model.specs.Release.{Value}
 use Rattle.postings.specs.Entries.{Entry, entries_of, entries_with_value}
 use Rattle.postings.specs.Groups.{ConceptGroup, rows_of_group}
 use Rattle.postings.specs.Indexed.{Indexed, rows_by_source}

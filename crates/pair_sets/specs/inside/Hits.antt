@@ -4,8 +4,8 @@ use Rattle.std.specs.Prelude.{ℕ, ◌≡◌, ◌<◌, ◌==◌, ◌&&◌, Bool,
 use Rattle.std.specs.Prelude.{None, Some}
 use Rattle.std.specs.Prelude.{count_by, length, slice_get, slice_index}
 use Rattle.std.specs.List.{flat_map}
-use Rattle.rf2_rows.specs.Pairs.{value_eq}
-use Rattle.rf2_rows.specs.Release.{Attribute, Value, concept_value}
+use Rattle.release_model.specs.Pairs.{value_eq}
+use Rattle.release_model.specs.Release.{Attribute, Value, concept_value}
 use Rattle.number_lists.specs.Members.{has, times}
 use Rattle.postings.specs.Columns.{AreGroups, AreSources, Flagged}
 use Rattle.postings.specs.Entries.{Entry, entries_where, entries_with_type, entries_with_value}

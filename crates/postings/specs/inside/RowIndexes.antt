@@ -2,8 +2,8 @@
 use Rattle.std.specs.Prelude.{ℕ, ◌+◌, ◌==◌, ◌≡◌, ◌≤◌, ◌<◌, ◌^◌, Bool, List, length, map, slice_index}
 use Rattle.std.specs.Prelude.{take}
 use Rattle.std.specs.List.{concat, range_with_len}
-use Rattle.rf2_rows.specs.Pairs.{value_eq}
-use Rattle.rf2_rows.specs.Release.{Attribute, Value, concept_value}
+use Rattle.release_model.specs.Pairs.{value_eq}
+use Rattle.release_model.specs.Release.{Attribute, Value, concept_value}
 use Rattle.held_release.specs.CodedRows.{AreCoded}
 use Rattle.postings.specs.inside.Cells.{AreColumns, cells_of}
 use Rattle.postings.specs.Columns.{AreGroups, AreSources, AreTypes, AreValues}

@@ -1,6 +1,6 @@
 -- The attributes that the fields of an `Attributes` hold, and the invariant of these fields.
 use Rattle.std.specs.Prelude.{List, map, All}
-use Rattle.rf2_rows.specs.Release.{Attribute}
+use Rattle.release_model.specs.Release.{Attribute}
 use Rattle.row_lists.specs.KeptRows.{IsKeptIn, attribute_kept}
 use Rattle.row_lists.specs.declared.attributes.Attributes.TheInside.{Inside}
 

@@ -1,6 +1,6 @@
 -- The names that the fields of a `Names` hold, and the invariant of these fields.
 use Rattle.std.specs.Prelude.{ℕ, List, map, All, string_bytes}
-use Rattle.rf2_rows.specs.Release.{Name}
+use Rattle.release_model.specs.Release.{Name}
 use Rattle.row_lists.specs.Spans.{IsTextSpanOf, text_at}
 use Rattle.row_lists.specs.declared.names.NameRow.{NameRow}
 use Rattle.row_lists.specs.declared.names.Names.TheInside.{Inside}

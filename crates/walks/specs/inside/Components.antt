@@ -1,7 +1,7 @@
 -- The components of reference sets by the lists of the index.
 use Rattle.std.specs.Prelude.{ℕ, ◌≡◌, ◌≤◌, ◌<◌, All, Bool, List, length}
 use Rattle.std.specs.List.{list_any}
-use Rattle.rf2_rows.specs.Release.{Release}
+use Rattle.release_model.specs.Release.{Release}
 use Rattle.number_lists.specs.Members.{has}
 use Rattle.number_lists.specs.KeyedLists.{list_of}
 use Rattle.postings.specs.Indexed.{members_of}

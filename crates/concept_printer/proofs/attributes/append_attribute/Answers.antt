@@ -1,5 +1,5 @@
 use Rattle.std.proofs.Common.{◌≡◌, ◌∙◌, ◌++◌, ℕ, decimal, ap, subst, sym}
-use Rattle.rf2_rows.specs.Release.{Attribute}
+use Rattle.release_model.specs.Release.{Attribute}
 use Rattle.held_release.specs.AttributesBySource.{attribute_of, with_source}
 use Rattle.concept_printer.specs.ConceptText.{attribute_line, concept_words, name_in_force, value_words}
 use Rattle.concept_printer.proofs.GroupLemmas.{row_read}

@@ -1,5 +1,5 @@
 use Rattle.std.proofs.Common.{◌≡◌, ◌∙◌, ◌++◌, List, OnOk, ap, codes, length, map, subst, sym}
-use Rattle.rf2_rows.specs.Release.{Attribute}
+use Rattle.release_model.specs.Release.{Attribute}
 use Rattle.number_lists.specs.Rising.{IsRisingBelow}
 use Rattle.concept_printer.specs.ConceptText.{attribute_line, by_group, headed, name_in_force}
 use Rattle.concept_printer.specs.inside.GroupKeys.{row_numbered}

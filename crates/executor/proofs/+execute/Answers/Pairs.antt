@@ -11,7 +11,7 @@ use Rattle.number_lists.specs.Rising.{IsRisingBelow}
 use Rattle.candidates.specs.Groups.{groups_where}
 use Rattle.candidates.specs.Within.{groups_within, may_be, numbers_within}
 use Rattle.executor.proofs.LeafWork.{leaf_room}
-use Rattle.rf2_rows.specs.Pairs.{Pair}
+use Rattle.release_model.specs.Pairs.{Pair}
 use Rattle.candidates.specs.RowEstimates.{Adds}
 use Rattle.candidates.proofs.AddsLemmas.{adds_none}
 use Rattle.pair_sets.specs.Tested.{passes_of}

@@ -1,7 +1,7 @@
 use Rattle.std.proofs.Common.{◌∙◌, List, All, ap, arith, filter_map, length, subst, sym}
 use Rattle.std.proofs.lemmas.List.{length-map}
 use Rattle.row_lists.specs.KeptRows.{attribute_kept}
-use Rattle.rf2_rows.specs.Release.{Attribute}
+use Rattle.release_model.specs.Release.{Attribute}
 use Rattle.held_release.specs.Finished.{attributes_among}
 use Rattle.held_release.specs.inside.NumberedInside.{IsNumbered, attributes_numbered, numbered_of}
 use Rattle.held_release.proofs.NumberedLemmas.{AreNumbered, rows_own}

@@ -3,7 +3,7 @@ use Rattle.std.proofs.lemmas.Grind.{common_steps}
 use Rattle.std.proofs.Common.{ℕ, ◌≡◌, ◌∙◌, ◌<◌, ◌^◌, All, List, ap, arith, filter_map, length, map, string_bytes, subst}
 use Rattle.std.proofs.Common.{sym, true}
 use Rattle.row_lists.specs.ListsRead.{read_in}
-use Rattle.rf2_rows.specs.Release.{Attribute, Name}
+use Rattle.release_model.specs.Release.{Attribute, Name}
 use Rattle.hierarchy.specs.Hierarchy.{IsWithin}
 use Rattle.std.proofs.lemmas.List.{length-map}
 use Rattle.held_release.specs.CodedRows.{row_coded, values_in}

@@ -1,5 +1,5 @@
 use Rattle.std.proofs.Common.{List, ap, arith, length}
-use Rattle.rf2_rows.specs.Release.{Name}
+use Rattle.release_model.specs.Release.{Name}
 use Rattle.held_release.proofs.FinishLemmas.{length-names_among}
 use Rattle.held_release.proofs.LineLemmas.{places_within}
 use Rattle.held_release.proofs.lines.lines_among.Goals as goal

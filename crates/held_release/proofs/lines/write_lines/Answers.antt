@@ -1,6 +1,6 @@
 use Rattle.std.proofs.Common.{◌∙◌, None, ap, get_or, map, string_bytes, option_and_then, option_map, slice_get, arith}
 use Rattle.std.proofs.lemmas.List.{take_all}
-use Rattle.rf2_rows.specs.Release.{Name}
+use Rattle.release_model.specs.Release.{Name}
 use Rattle.held_release.specs.Line.{concept_line}
 use Rattle.held_release.specs.Name.{name_among}
 use Rattle.held_release.proofs.LineLemmas.{line-pushed, lines-more, starts-pushed}

@@ -3,7 +3,7 @@ use Rattle.std.proofs.Common.{ℕ, ◌≡◌, ◌<◌, ◌-◌, ◌==◌, List, 
 use Rattle.row_lists.specs.LentRows.{name_read}
 use Rattle.held_release.specs.inside.FirstRows.{AreFirstPlaces}
 use Rattle.held_release.specs.Numbering.{concept_number}
-use Rattle.rf2_rows.specs.Release.{Name}
+use Rattle.release_model.specs.Release.{Name}
 use Rattle.held_release.proofs.FirstRowLemmas.{first_places-other, first_places-own, first_within, name_at, names_from}
 use Rattle.held_release.proofs.FirstRowLemmas.{place_read}
 use Rattle.std.proofs.lemmas.List.Quantifiers.{position-Some}

@@ -4,7 +4,7 @@ use Rattle.std.specs.Prelude.{filter, not}
 use Rattle.std.proofs.lemmas.List.{take_all}
 use Rattle.std.proofs.lemmas.List.Elements.{All-append}
 use Rattle.std.proofs.lemmas.List.Elements.{filter_more}
-use Rattle.rf2_rows.specs.Release.{Value}
+use Rattle.release_model.specs.Release.{Value}
 use Rattle.constraint_tree.specs.Passing.{lies_in}
 use Rattle.pair_sets.specs.inside.Among.{pairs_of_concept}
 use Rattle.reading.proofs.CountLemmas.{counted_all, counted_next, counted_out, counted_some}

@@ -2,7 +2,7 @@ use Rattle.std.proofs.Common.{ℕ, Bool, ◌≡◌, ◌+◌, ◌∙◌, sym, ap,
 use Rattle.std.specs.Prelude.{slice_get}
 use Rattle.std.proofs.lemmas.List.{take_all}
 use Rattle.std.proofs.lemmas.List.Sums.{count_by_more_no, count_by_more_yes}
-use Rattle.rf2_rows.specs.Release.{Value}
+use Rattle.release_model.specs.Release.{Value}
 use Rattle.postings.specs.Entries.{entries_of}
 use Rattle.pair_sets.specs.inside.Among.{at_entry, pair_counts, pairs_among}
 use Rattle.pair_sets.specs.inside.Hits.{is_type_in}

@@ -1,6 +1,6 @@
 use Rattle.std.proofs.Common.{ℕ, Bool, ◌<◌, ◌==◌, ◌∙◌, All, length, get_or, sym, ap, subst}
 use Rattle.std.specs.Prelude.{false}
-use Rattle.rf2_rows.specs.Release.{Attribute, Value}
+use Rattle.release_model.specs.Release.{Attribute, Value}
 use Rattle.postings.specs.Entries.{entries_with_value}
 use Rattle.postings.proofs.PlaceLemmas.{places_where-within}
 use Rattle.pair_sets.specs.inside.Among.{pairs_among, pairs_of_concept}

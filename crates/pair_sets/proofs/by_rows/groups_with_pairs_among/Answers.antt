@@ -7,7 +7,7 @@ use Rattle.pair_sets.proofs.RoomLemmas.{asked_fit, group_rows_few}
 use Rattle.std.proofs.lemmas.Result.{IfOk-weaker}
 use Rattle.number_lists.specs.Members.{has}
 use Rattle.postings.specs.Groups.{ConceptGroup, groups_in}
-use Rattle.rf2_rows.specs.Release.{Value}
+use Rattle.release_model.specs.Release.{Value}
 use Rattle.candidates.specs.Numbers.{is_one_of}
 use Rattle.pair_sets.specs.Tested.{passes_of}
 use Rattle.candidates.specs.Within.{AreBelow, may_be}

@@ -2,7 +2,7 @@ use Rattle.std.proofs.Common.{Bool, List, ◌∙◌, length, ap, arith}
 use Rattle.std.proofs.lemmas.Result.{IfOk-weaker}
 use Rattle.postings.specs.Groups.{ConceptGroup}
 use Rattle.number_lists.specs.Members.{times}
-use Rattle.rf2_rows.specs.Release.{Value}
+use Rattle.release_model.specs.Release.{Value}
 use Rattle.pair_sets.specs.Tested.{passes_of}
 use Rattle.candidates.proofs.GroupLemmas.{groups_are}
 use Rattle.pair_sets.proofs.LeafLemmas.{groups_found}

@@ -7,7 +7,7 @@ use Rattle.candidates.specs.RowCounts.{row_count_of}
 use Rattle.pair_sets.proofs.RoomLemmas.{asked_fit, rows_few}
 use Rattle.std.proofs.lemmas.Result.{IfOk-weaker}
 use Rattle.number_lists.specs.Members.{has}
-use Rattle.rf2_rows.specs.Release.{Value}
+use Rattle.release_model.specs.Release.{Value}
 use Rattle.candidates.specs.Numbers.{is_one_of}
 use Rattle.pair_sets.specs.Tested.{passes_of}
 use Rattle.candidates.specs.Within.{may_be}

@@ -1,7 +1,7 @@
 use Rattle.std.proofs.Common.{ℕ, Bool, List, ◌∙◌, length, ap, arith}
 use Rattle.std.proofs.lemmas.Result.{IfOk-weaker}
 use Rattle.number_lists.specs.Members.{times}
-use Rattle.rf2_rows.specs.Release.{Value}
+use Rattle.release_model.specs.Release.{Value}
 use Rattle.pair_sets.specs.Tested.{passes_of}
 use Rattle.pair_sets.proofs.LeafLemmas.{concepts_found, sources_known}
 use Rattle.pair_sets.proofs.by_rows.with_pairs_by_type.Goals as goal

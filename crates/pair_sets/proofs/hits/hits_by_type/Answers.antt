@@ -1,7 +1,7 @@
 use Rattle.std.proofs.Common.{ℕ, Bool, ◌==◌, length, get_or, subst, sym}
 use Rattle.std.proofs.lemmas.Result.{IfOk-weaker}
-use Rattle.rf2_rows.specs.Pairs.{value_eq}
-use Rattle.rf2_rows.specs.Release.{Value, concept_value}
+use Rattle.release_model.specs.Pairs.{value_eq}
+use Rattle.release_model.specs.Release.{Value, concept_value}
 use Rattle.postings.specs.Entries.{Entry, entries_of}
 use Rattle.pair_sets.specs.inside.Hits.{AreHits, counts_for_concept}
 use Rattle.pair_sets.specs.Tested.{passes_of}

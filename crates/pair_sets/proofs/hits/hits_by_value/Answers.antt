@@ -1,7 +1,7 @@
 use Rattle.std.proofs.Common.{ℕ, Bool, ◌==◌, length, get_or, subst, sym}
 use Rattle.std.proofs.lemmas.Result.{IfOk-weaker}
-use Rattle.rf2_rows.specs.Pairs.{value_eq}
-use Rattle.rf2_rows.specs.Release.{concept_value}
+use Rattle.release_model.specs.Pairs.{value_eq}
+use Rattle.release_model.specs.Release.{concept_value}
 use Rattle.constraint_tree.specs.Passing.{is_within}
 use Rattle.postings.specs.Entries.{Entry, entries_of}
 use Rattle.pair_sets.specs.inside.Hits.{AreHits, counts_for_concept}

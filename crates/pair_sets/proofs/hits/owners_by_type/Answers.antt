@@ -3,7 +3,7 @@ use Rattle.postings.specs.Stats.{type_row_count}
 use Rattle.reading.proofs.CountLemmas.{counted_all, counted_next, counted_none, counted_out, counted_some}
 use Rattle.std.proofs.lemmas.List.{take_all}
 use Rattle.postings.specs.Entries.{entries_with_type}
-use Rattle.rf2_rows.specs.Release.{Value}
+use Rattle.release_model.specs.Release.{Value}
 use Rattle.pair_sets.specs.inside.Hits.{AreHits, value_of, counts_for_owner, entries_with_types, owner_count}
 use Rattle.pair_sets.specs.Tested.{passes_of}
 use Rattle.pair_sets.proofs.HitLemmas.{marks_below, pushed_below, hits_pushed, no_hits, owned_hits, owners_below}

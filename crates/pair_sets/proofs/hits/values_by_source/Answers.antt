@@ -4,7 +4,7 @@ use Rattle.candidates.specs.RowCounts.{row_count_of}
 use Rattle.reading.proofs.CountLemmas.{counted_all, counted_next, counted_none, counted_out, counted_some}
 use Rattle.std.specs.Prelude.{count_by, slice_get, slice_index}
 use Rattle.std.proofs.lemmas.List.{take_all}
-use Rattle.rf2_rows.specs.Release.{Attribute}
+use Rattle.release_model.specs.Release.{Attribute}
 use Rattle.postings.specs.Entries.{entries_of, entries_where}
 use Rattle.postings.proofs.PlaceLemmas.{places_where-within}
 use Rattle.pair_sets.specs.inside.Among.{at_entry}

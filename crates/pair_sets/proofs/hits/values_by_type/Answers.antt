@@ -3,8 +3,8 @@ use Rattle.postings.specs.Stats.{type_row_count}
 use Rattle.reading.proofs.CountLemmas.{counted_all, counted_next, counted_none, counted_out, counted_some}
 use Rattle.std.proofs.lemmas.List.{take_all}
 use Rattle.postings.specs.Entries.{entries_with_type}
-use Rattle.rf2_rows.specs.Release.{concept_value}
-use Rattle.rf2_rows.specs.Release.{Value}
+use Rattle.release_model.specs.Release.{concept_value}
+use Rattle.release_model.specs.Release.{Value}
 use Rattle.pair_sets.specs.inside.Hits.{AreHits, counts_for_value, entries_with_types}
 use Rattle.pair_sets.specs.Tested.{passes_of}
 use Rattle.pair_sets.proofs.HitLemmas.{cells_below, pushed_below, backward_hits, hits_pushed, no_hits}

@@ -2,7 +2,7 @@ use Rattle.std.proofs.Common.{◌<◌, All, length, take}
 use Rattle.std.specs.List.{sum_by}
 use Rattle.reading.specs.Counted.{CountsWithin}
 use Rattle.postings.specs.Stats.{type_row_count}
-use Rattle.rf2_rows.specs.Release.{concept_value}
+use Rattle.release_model.specs.Release.{concept_value}
 use Rattle.pair_sets.specs.inside.Hits.{AreHits, counts_for_value, entries_with_types}
 use Rattle.pair_sets.specs.Tested.{passes_of}
 use Rattle.pair_sets.proofs.hits.values_by_type.Given as goal

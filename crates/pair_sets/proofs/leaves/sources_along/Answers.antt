@@ -1,6 +1,6 @@
 use Rattle.std.proofs.Common.{ℕ, Bool, List, None, ◌∙◌, length, ap, arith}
 use Rattle.constraint_tree.specs.Passing.{is_outside}
-use Rattle.rf2_rows.specs.Pairs.{out_pairs}
+use Rattle.release_model.specs.Pairs.{out_pairs}
 use Rattle.set_algebra.specs.Meaning.{has_pairs}
 use Rattle.candidates.specs.Numbers.{is_one_of, numbers_in}
 use Rattle.pair_sets.proofs.SourceLemmas.{few_sources, some_pair_is_source}

@@ -1,6 +1,6 @@
 use Rattle.std.proofs.Common.{◌≡◌, false, sym, subst}
 use Rattle.std.specs.Prelude.{All}
-use Rattle.rf2_rows.specs.Release.{Attribute}
+use Rattle.release_model.specs.Release.{Attribute}
 use Rattle.pair_sets.specs.Tested.{passes_of}
 use Rattle.pair_sets.specs.declared.tested.Tested.{Tested}
 use Rattle.pair_sets.proofs.VainLemmas.{no_row_passes}

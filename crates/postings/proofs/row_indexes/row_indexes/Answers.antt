@@ -11,7 +11,7 @@ use Rattle.postings.specs.inside.KeptRows.{AreNumbersOf, HaveOneNumber}
 use Rattle.postings.specs.Places.{places_by}
 use Rattle.postings.specs.inside.RowIndexes.{AreByType}
 use Rattle.held_release.specs.CodedRows.{values_among}
-use Rattle.rf2_rows.specs.Release.{Value}
+use Rattle.release_model.specs.Release.{Value}
 use Rattle.postings.specs.declared.row_indexes.RowIndexes.{RowIndexes}
 use Rattle.held_release.specs.declared.coded_rows.CodedRow.{CodedRow}
 use Rattle.postings.proofs.IndexLemmas.{few_types}

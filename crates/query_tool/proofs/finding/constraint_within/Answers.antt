@@ -1,5 +1,5 @@
 use Rattle.std.proofs.Common.{ℕ, ◌≡◌, ◌≤◌, ◌+◌, ◌-◌, ◌^◌, ◌∙◌, ap, arith, min, subst, sym}
-use Rattle.rf2_rows.specs.Release.{Release}
+use Rattle.release_model.specs.Release.{Release}
 use Rattle.constraint_tree.specs.Tree.{tree_of}
 use Rattle.set_algebra.specs.Meaning.{means}
 use Rattle.set_algebra.specs.Physical.{Physical, physical_of}

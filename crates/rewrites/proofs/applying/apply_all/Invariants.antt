@@ -1,5 +1,5 @@
 use Rattle.std.proofs.Common.{ℕ, ◌≡◌, ◌≤◌, drop}
-use Rattle.rf2_rows.specs.Release.{Release}
+use Rattle.release_model.specs.Release.{Release}
 use Rattle.set_algebra.specs.Meaning.{means}
 use Rattle.set_algebra.specs.Plan.{plan_of}
 use Rattle.rewrites.specs.Steps.{all_applied}

@@ -2,7 +2,7 @@ use Rattle.std.proofs.Common.{ℕ, ◌≡◌, ◌<◌, ◌∙◌, List, Some, le
 use Rattle.std.specs.Prelude.{slice_index}
 use Rattle.std.proofs.lemmas.List.{get_or-map, get_or_default, length-map}
 use Rattle.std.proofs.lemmas.Option.{slice_get-get_or}
-use Rattle.rf2_rows.specs.Release.{Attribute}
+use Rattle.release_model.specs.Release.{Attribute}
 use Rattle.rf2_rows.specs.Rows.{value_lent}
 use Rattle.held_release.specs.AttributesBySource.{attribute_of, attributes_by_source, with_source}
 use Rattle.held_release.specs.CodedRows.{IsCoded, row_coded, value_at, values_in}

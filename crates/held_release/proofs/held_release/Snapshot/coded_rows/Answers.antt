@@ -1,5 +1,5 @@
 use Rattle.std.proofs.Common.{List, subst}
-use Rattle.rf2_rows.specs.Release.{Attribute}
+use Rattle.release_model.specs.Release.{Attribute}
 use Rattle.held_release.specs.AttributesBySource.{attributes_by_source}
 use Rattle.held_release.specs.CodedRows.{AreCodedRows}
 use Rattle.held_release.specs.Contents.{Contents}

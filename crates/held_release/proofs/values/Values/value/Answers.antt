@@ -1,5 +1,5 @@
 use Rattle.std.proofs.Common.{ℕ, ◌+◌, ◌-◌, ◌≡◌, ◌<◌, ◌∙◌, [], length, get_or, sym, ap, arith}
-use Rattle.rf2_rows.specs.Release.{text_value}
+use Rattle.release_model.specs.Release.{text_value}
 use Rattle.held_release.specs.CodedRows.{value_at}
 use Rattle.held_release.proofs.ValueLemmas.{text_after, values_after}
 use Rattle.held_release.proofs.values.Values.value.Goals as goal

@@ -1,7 +1,7 @@
 use Rattle.std.proofs.Common.{rules, ◌≡◌, filter, string_bytes, arith}
 use Rattle.std.proofs.lemmas.Fn.{filter_same}
 use Rattle.std.proofs.lemmas.List.Elements.{All-filter}
-use Rattle.rf2_rows.specs.Release.{Name}
+use Rattle.release_model.specs.Release.{Name}
 use Rattle.row_lists.specs.inside.NamesInside.{IsPlaced, name_in}
 use Rattle.row_lists.specs.declared.names.NameRow.{NameRow}
 use Rattle.row_lists.proofs.NameLemmas.{map-filter}

@@ -3,8 +3,8 @@
 -- equal pairs stay two groups. Group 0 is no group: each of its distinct pairs is a group by itself
 -- (this project's choice).
 use Rattle.std.specs.Prelude.{ℕ, ◌==◌, ◌++◌, not, List, [], ◌∷◌, map, filter, nat_eq}
-use Rattle.rf2_rows.specs.Release.{Release}
-use Rattle.rf2_rows.specs.Pairs.{Pair, pair_eq, pair_of, rows_of}
+use Rattle.release_model.specs.Release.{Release}
+use Rattle.release_model.specs.Pairs.{Pair, pair_eq, pair_of, rows_of}
 use Rattle.number_lists.specs.Distinct.{distinct}
 
 -- the distinct numbers of the groups of a concept, without 0

@@ -1,6 +1,6 @@
 use Rattle.number_lists.proofs.DistinctLemmas.{keeps_each_number_once}
-use Rattle.rf2_rows.proofs.PairLemmas.{keeps_each_pair_once}
-use Rattle.rf2_rows.proofs.laws.distinct_keeps_each_once.Goals as goal
+use Rattle.release_model.proofs.PairLemmas.{keeps_each_pair_once}
+use Rattle.release_model.proofs.laws.distinct_keeps_each_once.Goals as goal
 
 -- `distinct` keeps each number of a list once
 pub returns-clause-numbers : goal.returns-clause-numbers

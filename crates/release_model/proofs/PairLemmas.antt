@@ -4,10 +4,10 @@ use Rattle.std.proofs.lemmas.Bool.Decides.{nat_tests, Decides-and, Decides-eqb, 
 use Rattle.std.proofs.lemmas.Grind.{common_steps}
 use Rattle.std.proofs.lemmas.Bool.{false≢true}
 use Rattle.std.proofs.lemmas.Slice.Eq.{bytes_eq-Decides}
-use Rattle.rf2_rows.specs.Release.{concept_value, number_value, text_value}
+use Rattle.release_model.specs.Release.{concept_value, number_value, text_value}
 use Rattle.std.specs.Cmp.{IsEquivalence}
 use Rattle.number_lists.proofs.DistinctLemmas.{keeps_each_once}
-use Rattle.rf2_rows.specs.Pairs.{KeepsEachPairOnce, pair_eq, value_eq, TellsSameValue, TellsSamePair}
+use Rattle.release_model.specs.Pairs.{KeepsEachPairOnce, pair_eq, value_eq, TellsSameValue, TellsSamePair}
 
 -- `value_eq` holds exactly if the two values are equal
 pub tells_same_value : TellsSameValue

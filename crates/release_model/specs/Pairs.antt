@@ -4,7 +4,7 @@
 use Rattle.std.specs.Prelude.{ℕ, ◌≡◌, ◌↔◌, ◌==◌, ◌&&◌, Bool, false, IsTrue, List, map, filter, bytes_eq}
 use Rattle.std.specs.Ordering.{int_eq}
 use Rattle.number_lists.specs.Distinct.{KeepsEachOnce, distinct}
-use Rattle.rf2_rows.specs.Release.{Value, concept_value, number_value, text_value, Attribute, Release}
+use Rattle.release_model.specs.Release.{Value, concept_value, number_value, text_value, Attribute, Release}
 
 -- an attribute as a pair of its type and its value
 pub record Pair : Type 0 where

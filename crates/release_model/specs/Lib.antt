@@ -1,0 +1,3 @@
+pub mod Groups
+pub mod Pairs
+pub mod Release
