@@ -1,10 +1,11 @@
 -- Blocks of rising identifiers: identifiers in earlier blocks are less than those in later ones, and words of bits
 -- tell where blocks start.
-use Rattle.std.proofs.Common.{rules, ℕ, zero, suc, ◌+◌, ◌-◌, ◌*◌, ◌/◌, ◌%◌, ◌^◌, ◌≡◌, ◌≤◌, ◌<◌, List}
+use Rattle.std.proofs.Common.{ℕ, zero, suc, ◌+◌, ◌-◌, ◌*◌, ◌/◌, ◌%◌, ◌^◌, ◌≡◌, ◌≤◌, ◌<◌, List}
 use Rattle.std.proofs.Common.{refl, length, get_or, count_ones, sym, subst, inl, inr, ap, ◌∙◌, arith}
 use Rattle.std.specs.List.Sorted.{IsStrictlyIncreasing}
 use Rattle.std.specs.Int.Count.{ones, ones_step}
-use Rattle.std.proofs.Math.Nat.{pow-suc}
+use Rattle.std.proofs.Math.Nat.{add-mod_right, mod-eq_of_lt, pow-suc}
+use Rattle.std.proofs.lemmas.Nat.{pow-add}
 use Rattle.std.proofs.lemmas.Bool.{cases_lt}
 use Rattle.std.proofs.lemmas.Option.{slice_get_read}
 use Rattle.std.proofs.Math.Pow.{mod-mod-pow}
@@ -22,13 +23,6 @@ block_of-le x y le = omega arith
 pub less_by_block : (x y : ℕ) → block_of x < block_of y → x < y
 unfolding block_of
 less_by_block x y less = omega arith
-
--- if the identifiers rise, all before the index `start` are in blocks before `block`, and the one at `start`, if
--- there is one, is not, then `block` starts at `start`
-pub block_started : (ids : List ℕ) → IsStrictlyIncreasing ids → (block start : ℕ) → start ≤ length ids
-    → ((place : ℕ) → place < start → block_of (get_or ids place 0) < block)
-    → (start < length ids → block ≤ block_of (get_or ids start 0)) → IsBlockStart ids block start
-block_started ids rising block start within before first = search (rules, block_of-le, get_or, not_falling)
 
 -- a block has one identifier at most if the next one starts at most one place later
 pub counted_alone : (ids : List ℕ) (block start next : ℕ) → IsBlockStart ids block start
@@ -99,17 +93,70 @@ counted_more ids first start bits place k more next so_far small low following n
     swap : (m n : ℕ) → n + m ≡ m + n
     swap m n = omega arith
 
--- before the first block nothing is counted
-pub none_counted : (ids : List ℕ) (first start : ℕ) → IsBlockStart ids first start
-    → AreCounted ids first start 0 start 0
-unfolding ones
-none_counted ids first start here =
-    let same : first ≡ first + 0 = omega arith in record {
-      small = omega arith;
-      next = subst (λ block. IsBlockStart ids block start) same here;
-      counted = omega arith;
-      blocks = λ bit below. absurd (omega arith);
-    }
+-- if the identifiers rise, and the one at `place`, if there is one, is in no block before `first + (k + more)`, the
+-- `more` blocks after the first `k` are counted too: they have no identifier
+counted_none : (ids : List ℕ) → IsStrictlyIncreasing ids → (first start bits place k more : ℕ)
+    → AreCounted ids first start bits place k
+    → (place < length ids → first + (k + more) ≤ block_of (get_or ids place 0))
+    → AreCounted ids first start bits place (k + more)
+counted_none ids rising first start bits place k zero so_far ahead =
+    let same : k ≡ k + 0 = omega arith in subst (AreCounted ids first start bits place) same so_far
+counted_none ids rising first start bits place k (suc more) so_far ahead =
+    let here = counted_none ids rising first start bits place k more so_far (λ within. omega (arith, ahead within)) in
+    let next : IsBlockStart ids (first + (k + more + 1)) place = record {
+      within = so_far.next.within;
+      before = λ at earlier. omega (arith, here.next.before at earlier);
+      following = λ at from within.
+          omega (
+            arith,
+            ahead (omega (arith, from, within)),
+            block_of-le (get_or ids place 0) (get_or ids at 0) (not_falling ids rising place at from within),
+          );
+    } in
+    let sum : k + more + 1 ≡ k + suc more = omega arith in
+    subst (AreCounted ids first start bits place) sum
+    (counted_more ids first start bits place (k + more) bits place here
+    (omega (arith, here.small, pow-add 2 (k + more) 1)) (mod-eq_of_lt here.small) next (omega arith) here.counted)
+
+-- if the identifiers rise, and the one at `place`, if there is one, is in no block before `first + to`, the first
+-- `to` blocks are counted as soon as the first `k` are
+pub counted_to : (ids : List ℕ) → IsStrictlyIncreasing ids → (first start bits place k to : ℕ) → k ≤ to
+    → AreCounted ids first start bits place k
+    → (place < length ids → first + to ≤ block_of (get_or ids place 0))
+    → AreCounted ids first start bits place to
+counted_to ids rising first start bits place k to far so_far ahead =
+    let sum : k + (to - k) ≡ to = omega arith in
+    subst (AreCounted ids first start bits place) sum
+    (counted_none ids rising first start bits place k (to - k) so_far
+    (λ within. subst (λ n. first + n ≤ block_of (get_or ids place 0)) (sym sum) (ahead within)))
+
+-- if the identifiers rise, and the one at `place` is the only one in its block, the block `first + j`, then with its
+-- bit the blocks up to this one are counted
+pub counted_next : (ids : List ℕ) → IsStrictlyIncreasing ids → (first start bits place k j : ℕ) → k ≤ j
+    → AreCounted ids first start bits place k → place < length ids → block_of (get_or ids place 0) ≡ first + j
+    → (place + 1 < length ids → first + j < block_of (get_or ids (place + 1) 0))
+    → AreCounted ids first start (bits + 2 ^ j) (place + 1) (j + 1)
+counted_next ids rising first start bits place k j far so_far within own alone =
+    let here = counted_to ids rising first start bits place k j far so_far (λ _. omega (arith, own)) in
+    let next : IsBlockStart ids (first + (j + 1)) (place + 1) = record {
+      within = omega arith;
+      before = λ at earlier. omega (
+        arith,
+        own,
+        block_of-le (get_or ids at 0) (get_or ids place 0)
+            (not_falling ids rising at place (omega arith) within),
+      );
+      following = λ at from inside. omega (
+        arith,
+        alone (omega (arith, from, inside)),
+        block_of-le (get_or ids (place + 1) 0) (get_or ids at 0)
+            (not_falling ids rising (place + 1) at from inside),
+      );
+    } in
+    let low : (bits + 2 ^ j) % 2 ^ j ≡ bits = add-mod_right bits (2 ^ j) ∙ mod-eq_of_lt here.small in
+    counted_more ids first start bits place j (bits + 2 ^ j) (place + 1) here
+    (omega (arith, here.small, pow-add 2 j 1)) low next (omega arith)
+    (omega (arith, here.counted, ones_more j bits here.small))
 
 -- where `word` counts the block of `id`, all identifiers before the start of this block are less than `id`, and those
 -- after its first one are greater

@@ -1,5 +1,5 @@
 //! The concepts in force, and the lookup of a concept's number by its identifier.
-ghost use Rattle.std.specs.Prelude.{ℕ, ◌≡◌, ◌≤◌, ◌<◌, ◌+◌, ◌^◌, IfOk, IfSome, length, slice_index};
+ghost use Rattle.std.specs.Prelude.{ℕ, ◌≡◌, ◌≤◌, ◌<◌, ◌+◌, ◌^◌, true, false, IfOk, IfSome, length, slice_index};
 ghost use Rattle.std.specs.List.Sorted.{IsStrictlyIncreasing};
 ghost use Rattle.held_release.specs.inside.Blocks.{AreBlockWords, IsBlockStart, IsCountedBlock, block_of, start_in};
 ghost use Rattle.held_release.specs.Numbering.{concept_number};
@@ -18,7 +18,7 @@ const WORD_BLOCKS: u64 = 64;
 
 // How many words there are at most. Identifiers of extensions have at least 11 digits and so are
 // after the last block.
-const MOST_WORDS: usize = 32_768;
+const MOST_WORDS: usize = 65_536;
 
 /// Which of 64 successive blocks of identifiers have a concept, and how many concepts are before
 /// them.
@@ -174,34 +174,27 @@ fn block_word(ids: &[SctId], start: usize, first: u64) -> Option<(BlockWord, usi
 {
     let mut bits = 0u64;
     let mut place = start;
-    for bit in 0..WORD_BLOCKS {
-        let next = block_start(ids, place, first + bit + 1);
-        if next - place > 1 {
+    while is_before(ids, place, first + WORD_BLOCKS) {
+        let block = block_of(ids[place].number());
+        place += 1;
+        if is_before(ids, place, block + 1) {
             return None;
         }
-        if next > place {
-            bits += 1 << bit;
-        }
-        place = next;
+        bits += 1 << (block - first);
     }
     let before = start as u32;
     Some((BlockWord { bits, before }, place))
 }
 
-// Returns the index in `ids` at which `block` starts. All identifiers before the index `from` are
-// in earlier blocks.
-fn block_start(ids: &[SctId], from: usize, block: u64) -> usize
-    requires rising { IsStrictlyIncreasing ids.now }
-    requires from { from ≤ length ids.now }
-    requires earlier { (place : ℕ) → place < from → block_of (slice_index ids.now place) < block }
-    ensures start { IsBlockStart ids.now block result }
-    ensures onward { from ≤ result }
+// Whether there is an identifier at the index `place` of `ids`, and it is in a block before `block`.
+#[inline]
+fn is_before(ids: &[SctId], place: usize, block: u64) -> bool
+    ensures before { result ≡ true → (place < length ids.now)
+        × (block_of (slice_index ids.now place) < block) }
+    ensures later { result ≡ false → place < length ids.now
+        → block ≤ block_of (slice_index ids.now place) }
 {
-    let mut start = from;
-    while start < ids.len() && block_of(ids[start].number()) < block {
-        start += 1;
-    }
-    start
+    place < ids.len() && block_of(ids[place].number()) < block
 }
 
 // Finds the number of the concept with the identifier `id` by binary search. The identifiers before

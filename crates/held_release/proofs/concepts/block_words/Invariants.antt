@@ -7,4 +7,4 @@ abbrev pub invariant-loop-words : goal.invariant-loop-words
 invariant-loop-words l = AreBlockWords l.ids l.words.items l.counted
 
 abbrev pub decreases-loop-words : goal.decreases-loop-words
-decreases-loop-words l = 32768 - length l.words.items
+decreases-loop-words l = 65536 - length l.words.items
