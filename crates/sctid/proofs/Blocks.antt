@@ -1,15 +1,17 @@
 -- A text of digits, read from the left: first the part in front of the blocks, and then block by block, each of
 -- eight digits.
-use Rattle.std.proofs.Common.{◌≡◌, ℕ, ◌+◌, ◌*◌, ◌/◌, ◌%◌, ◌<◌, ◌&&◌, zero, suc, true, false, List, [], ◌∷◌, ◌++◌}
-use Rattle.std.proofs.Common.{length, get_or, take, drop, length-drop, refl, sym, ap, ◌∙◌, arith}
+use Rattle.std.proofs.Common.{◌≡◌, ℕ, ◌+◌, ◌*◌, ◌/◌, ◌%◌, ◌^◌, ◌<◌, ◌≤◌, ◌&&◌, zero, suc, true, false, List, [], ◌∷◌, ◌++◌}
+use Rattle.std.proofs.Common.{IfSome, None, Option, Some, is_some, length, get_or, take, drop, length-drop, refl, sym, ap, ◌∙◌, arith}
 use Rattle.std.specs.Char.{is_ascii_digit}
 use Rattle.std.specs.List.{list_all}
 use Rattle.std.specs.Simd.{first_chunks}
 use Rattle.std.specs.Str.Parse.{digits_value, digits_value_after}
-use Rattle.std.proofs.Math.Seq.{take-add}
+use Rattle.std.proofs.Math.Seq.{take-add, take_all}
 use Rattle.std.proofs.lemmas.List.{take-append-drop, drop-drop, length-take-le}
 use Rattle.std.proofs.lemmas.List.Folds.{list_all-append}
 use Rattle.sctid.specs.Identifier.{times, check_product}
+use Rattle.sctid.specs.declared.digits.Digits.{Digits}
+use Rattle.numerals.proofs.DigitLemmas.{front_small}
 use Rattle.sctid.proofs.Block.{block_text, digit_in_text, spelled}
 use Rattle.sctid.proofs.Product.{check_product-block}
 
@@ -105,3 +107,98 @@ pub product-block : (text : List ℕ) (i : ℕ) → i < length text / 8 → list
 product-block text i within front digits =
     ap check_product (so_far-more text i)
     ∙ check_product-block (so_far text i) (block_at text i) front digits (block_long text i within)
+
+-- ---- what is read
+-- what was read of the text up to the end of its first `i` blocks: these are digits, with this number and product
+pub record IsRead (text : List ℕ) (i number product : ℕ) : Type 0 where
+  -- the bytes are digits
+  pub digits : list_all is_ascii_digit (so_far text i) ≡ true
+  -- `number` is what they write
+  pub value : number ≡ digits_value 10 (so_far text i)
+  -- `product` is their check product
+  pub check : product ≡ check_product (so_far text i)
+
+-- the part in front of the blocks is read
+pub read_front : (text front : List ℕ) {number product : ℕ} → front ≡ take (length text % 8) text
+    → true ≡ list_all is_ascii_digit front → number ≡ digits_value 10 front → product ≡ check_product front
+    → IsRead text 0 number product
+read_front text front cut digits value check =
+    let all = front_is text front cut in record {
+      digits = ap (list_all is_ascii_digit) all ∙ sym digits;
+      value = value ∙ ap (digits_value 10) (sym all);
+      check = check ∙ ap check_product (sym all);
+    }
+
+-- with block `i` one block more is read
+read_more : (text : List ℕ) (i number product : ℕ) {block : List ℕ} {more next : ℕ} → i < length text / 8
+    → IsRead text i number product → block ≡ block_at text i → list_all is_ascii_digit block ≡ true
+    → more ≡ number * 100000000 + digits_value 10 block → next ≡ times (check_product block) product
+    → IsRead text (i + 1) more next
+read_more text i number product {block} {more} {next} within read is digits value check =
+    let here = ap (list_all is_ascii_digit) (sym is) ∙ digits in
+    record {
+      digits = digits-block text i read.digits ∙ here;
+      value = omega (arith, value, value-block text i within here, read.value, ap (digits_value 10) is);
+      check = check ∙ (λ k. times (check_product (is k)) (read.check k))
+          ∙ sym (product-block text i within read.digits here);
+    }
+
+-- with the first of `blocks` the front and one block are read
+pub read_first : (text : List ℕ) (blocks : List (List ℕ)) {number product more next : ℕ} → 0 < length text / 8
+    → blocks ≡ first_chunks 8 (length text / 8) (drop (length text % 8) text) → IsRead text 0 number product
+    → true ≡ list_all is_ascii_digit (get_or blocks 0 [])
+    → more ≡ number * 100000000 + digits_value 10 (get_or blocks 0 [])
+    → next ≡ times (check_product (get_or blocks 0 [])) product → IsRead text 1 more next
+read_first text blocks {number} {product} some cut front digits value check =
+    read_more text 0 number product some front (block_is text blocks 0 some cut) (sym digits) value check
+
+-- a number of at most `most` digits is below 10^`most`
+pub read_small : {text : List ℕ} {i number product : ℕ} (most : ℕ) → IsRead text i number product
+    → length text % 8 + 8 * i ≤ most → number < 10 ^ most
+read_small {text} {i} most read short =
+    omega (arith, read.value, front_small text (length text % 8 + 8 * i) most short read.digits)
+
+-- what a reader of a text of at most 18 bytes tells: the number and the check product of the digits, or nothing if
+-- a byte is no digit
+pub record IsTold (text : List ℕ) (result : Option Digits) : Type 0 where
+  -- it tells something exactly if all bytes are digits
+  pub digits : is_some result ≡ list_all is_ascii_digit text
+  -- the number is what the digits write
+  pub value : IfSome result (λ read. read.number ≡ digits_value 10 text)
+  -- the number has at most 18 digits
+  pub small : IfSome result (λ read. read.number < 10 ^ 18)
+  -- the product is the check product of the digits
+  pub check : IfSome result (λ read. read.check_product ≡ check_product text)
+
+-- the text up to the end of its last block is the text
+whole : (text : List ℕ) (i : ℕ) → i ≡ length text / 8 → so_far text i ≡ text
+whole text i last = take_all (length text % 8 + 8 * i) text (omega arith)
+
+-- what was read up to the last block is told
+told_whole : (text : List ℕ) (i : ℕ) (read : Digits) → length text ≤ 18 → i ≡ length text / 8
+    → IsRead text i read.number read.check_product → IsTold text (Some read)
+told_whole text i read short last here =
+    let all = whole text i last in
+    record {
+      digits = sym (ap (list_all is_ascii_digit) (sym all) ∙ here.digits);
+      value = here.value ∙ ap (digits_value 10) all;
+      small = read_small 18 here (omega arith);
+      check = here.check ∙ ap check_product all;
+    }
+
+-- what is told of the text after its last block, if `result` is what is told of that block
+pub told_with : (text : List ℕ) (i number product : ℕ) (block : List ℕ) (result : Option Digits)
+    → length text ≤ 18 → i + 1 ≡ length text / 8 → IsRead text i number product → block ≡ block_at text i
+    → is_some result ≡ list_all is_ascii_digit block
+    → IfSome result (λ more. more.number ≡ number * 100000000 + digits_value 10 block)
+    → IfSome result (λ more. more.check_product ≡ times (check_product block) product) → IsTold text result
+told_with text i number product block None short last read is digits value check = record {
+  digits = sym (not_digits text (length text % 8 + 8 * (i + 1))
+      (digits-block text i read.digits ∙ ap (list_all is_ascii_digit) (sym is) ∙ sym digits));
+  value = tt;
+  small = tt;
+  check = tt;
+}
+told_with text i number product block (Some more) short last read is digits value check =
+    told_whole text (i + 1) more short last
+    (read_more text i number product (omega arith) read is (sym digits) value check)

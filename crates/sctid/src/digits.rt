@@ -2,11 +2,11 @@
 //! blocks of eight digits from its end on, and what is left in front of them is read digit by
 //! digit.
 
-ghost use Rattle.std.specs.Prelude.{◌≡◌, ◌^◌, ◌<◌, ◌≤◌, true, IfSome, is_some, length};
+ghost use Rattle.std.specs.Prelude.{◌≡◌, ◌+◌, ◌*◌, ◌^◌, ◌<◌, ◌≤◌, true, IfSome, is_some, length};
 ghost use Rattle.std.specs.Char.{is_ascii_digit};
 ghost use Rattle.std.specs.List.{list_all};
 ghost use Rattle.std.specs.Str.Parse.{digits_value};
-ghost use Rattle.sctid.specs.Identifier.{check_product};
+ghost use Rattle.sctid.specs.Identifier.{check_product, times};
 
 use crate::check::{pair_product, permuted, times};
 use numerals::are_digits;
@@ -30,28 +30,70 @@ pub fn read_digits(text: &[u8]) -> Option<Digits>
     ensures product { IfSome result (λ read. read.check_product ≡ check_product text.now) }
 {
     let (front, blocks) = text.as_rchunks::<8>();
-    let Some(mut read) = read_front(front) else {
+    let Some(read) = read_front(front) else {
         return None;
     };
-    // The permutation repeats after eight places, so a block of eight digits does not change the
-    // product of the digits in front of it.
-    for block in blocks {
-        if !are_digits(block) {
-            return None;
+    match blocks {
+        [] => Some(read),
+        [block] => with_block(read, block),
+        // a text of at most 18 bytes has no third block
+        [left, block, ..] => {
+            let Some(read) = with_block(read, left) else {
+                return None;
+            };
+            with_block(read, block)
         }
-        let right = read_block(block);
-        read = Digits {
-            number: read.number * 100_000_000 + right.number,
-            check_product: times(right.check_product, read.check_product),
-        };
     }
-    Some(read)
 }
 
-// Reads a text digit by digit from the left: the part in front of the blocks. The factor of each
-// digit goes in front of the product of the digits before it. Returns `None` if a byte is no
-// decimal digit.
+// Reads a block of eight digits that follows the digits `read`. Returns `None` if a byte of it is
+// no decimal digit. The permutation repeats after eight places, so the block does not change the
+// product of the digits in front of it.
+#[inline(always)]
+fn with_block(read: Digits, block: &[u8; 8]) -> Option<Digits>
+    requires small { read.number < 10 ^ 10 }
+    requires element { read.check_product < 10 }
+    ensures digits { is_some result ≡ list_all is_ascii_digit block.now }
+    ensures number { IfSome result (λ more. more.number
+        ≡ read.number * 10 ^ 8 + digits_value 10 block.now) }
+    ensures product { IfSome result (λ more. more.check_product
+        ≡ times (check_product block.now) read.check_product) }
+{
+    if !are_digits(block) {
+        return None;
+    }
+    let right = read_block(block);
+    Some(Digits {
+        number: read.number * 100_000_000 + right.number,
+        check_product: times(right.check_product, read.check_product),
+    })
+}
+
+// Reads the part in front of the blocks. Returns `None` if a byte is no decimal digit. Most
+// identifiers have nine digits, so that one stands in front: it is the number and the product.
+#[inline(always)]
 fn read_front(text: &[u8]) -> Option<Digits>
+    requires { length text.now ≤ 18 }
+    ensures digits { is_some result ≡ list_all is_ascii_digit text.now }
+    ensures number { IfSome result (λ read. read.number ≡ digits_value 10 text.now) }
+    ensures product { IfSome result (λ read. read.check_product ≡ check_product text.now) }
+{
+    let [byte] = text else {
+        return read_each(text);
+    };
+    if !byte.is_ascii_digit() {
+        return None;
+    }
+    let digit = *byte - b'0';
+    Some(Digits {
+        number: u64::from(digit),
+        check_product: digit,
+    })
+}
+
+// Reads a text digit by digit from the left. The factor of each digit goes in front of the product
+// of the digits before it. Returns `None` if a byte is no decimal digit.
+fn read_each(text: &[u8]) -> Option<Digits>
     requires { length text.now ≤ 18 }
     ensures digits { is_some result ≡ list_all is_ascii_digit text.now }
     ensures number { IfSome result (λ read. read.number ≡ digits_value 10 text.now) }
@@ -76,6 +118,7 @@ fn read_front(text: &[u8]) -> Option<Digits>
 }
 
 // Reads eight digits as four numbers of two digits.
+#[inline(always)]
 fn read_block(block: &[u8; 8]) -> Digits
     requires { list_all is_ascii_digit block.now ≡ true }
     ensures number { result.number ≡ digits_value 10 block.now }

@@ -1,11 +1,7 @@
-use Rattle.std.proofs.Common.{◌+◌, ◌*◌, ◌/◌, ◌%◌, ◌^◌, ◌<◌, [], length, get_or, sym, ap, ◌∙◌, arith}
+use Rattle.std.proofs.Common.{◌+◌, ◌*◌, ◌/◌, ◌%◌, ◌<◌, ◌≡◌, [], length, get_or, sym, ap, ◌∙◌, arith}
 use Rattle.std.specs.Char.{is_ascii_digit}
 use Rattle.std.specs.List.{list_all}
-use Rattle.std.specs.Str.Parse.{digits_value}
-use Rattle.sctid.specs.Identifier.{check_product}
-use Rattle.sctid.proofs.Blocks.{so_far, block_is, front_is, not_digits, digits-block, value-block, product-block}
-use Rattle.numerals.proofs.DigitLemmas.{front_small}
-use Rattle.sctid.proofs.Product.{check_product-lt}
+use Rattle.sctid.proofs.Blocks.{IsTold, block_is, digits-block, front_is, not_digits, read_first, read_front, read_small, told_with}
 use Rattle.sctid.proofs.digits.read_digits.Goals as goal
 
 -- if the front of the text is not digits, the text is not
@@ -15,97 +11,95 @@ returns-in_default-clause-digits c =
     let front = ap (list_all is_ascii_digit) (front_is text c.as_rchunks.result.0.now c.as_rchunks.ensures.front) in
     sym (not_digits text (length text % 8 + 0) (front ∙ sym c.in_default.ensures.digits))
 
--- before the first block, the digits, number and check product are those of the front
-pub loop-block-init : goal.loop-block-init
-loop-block-init c =
-    let text = c.args.text.now in
-    let front = front_is text c.as_rchunks.result.0.now c.as_rchunks.ensures.front in
-    record {
-      digits = ap (list_all is_ascii_digit) front ∙ sym c.in-Some.ensures.digits;
-      number = c.in-Some.ensures.number ∙ ap (digits_value 10) (sym front);
-      product = c.in-Some.ensures.product ∙ ap check_product (sym front);
-    }
+-- the front has at most seven digits
+pub with_block-requires-clause-small : goal.with_block-requires-clause-small
+with_block-requires-clause-small c =
+    let front = read_front c.args.text.now c.as_rchunks.result.0.now c.as_rchunks.ensures.front
+    c.in-Some.ensures.digits c.in-Some.ensures.number c.in-Some.ensures.product in
+    read_small 10 front (omega arith)
 
--- if a block is not digits, the text is not
-pub returns-then-not-are_digits-clause-digits : goal.returns-then-not-are_digits-clause-digits
-returns-then-not-are_digits-clause-digits c =
-    let text = c.args.text.now in
-    let i = c.loop-block.block-index in
-    let read = block_is text c.as_rchunks.result.1.now i (omega (arith, c.as_rchunks.ensures.back_len))
-    c.as_rchunks.ensures.back in
-    let block = ap (list_all is_ascii_digit) (sym read) ∙ sym c.if-not-are_digits.ensures in
-    sym (not_digits text (length text % 8 + 8 * (i + 1)) (digits-block text i c.loop-block.invariant.digits ∙ block))
+-- the front has at most seven digits
+pub with_block-requires-in-len2-up-clause-small : goal.with_block-requires-in-len2-up-clause-small
+with_block-requires-in-len2-up-clause-small c =
+    let front = read_front c.args.text.now c.as_rchunks.result.0.now c.as_rchunks.ensures.front
+    c.in-Some.ensures.digits c.in-Some.ensures.number c.in-Some.ensures.product in
+    read_small 10 front (omega arith)
 
--- the number so far times 10^8 fits into 64 bits
-pub overflow_mul-read : goal.overflow_mul-read
-overflow_mul-read c =
-    let text = c.args.text.now in
-    let i = c.loop-block.block-index in
-    omega (
-      arith,
-      front_small text (length text % 8 + 8 * i) 10 (omega (arith, c.as_rchunks.ensures.back_len))
-          c.loop-block.invariant.digits,
-    )
+-- a text without a block is its front
+pub returns-in-empty-clause-small : goal.returns-in-empty-clause-small
+returns-in-empty-clause-small c =
+    let front = read_front c.args.text.now c.as_rchunks.result.0.now c.as_rchunks.ensures.front
+    c.in-Some.ensures.digits c.in-Some.ensures.number c.in-Some.ensures.product in
+    read_small 18 front (omega arith)
 
--- the number with the next block fits into 64 bits
-pub overflow_add-read : goal.overflow_add-read
-overflow_add-read c =
+-- a text with one block is its front and this block
+one_block : (c : goal.After-with_block) → IsTold c.args.text.now c.with_block.result
+one_block c =
     let text = c.args.text.now in
-    let i = c.loop-block.block-index in
-    let within : i < length text / 8 = omega (arith, c.as_rchunks.ensures.back_len) in
-    let read = block_is text c.as_rchunks.result.1.now i within c.as_rchunks.ensures.back in
-    let block = ap (list_all is_ascii_digit) (sym read) ∙ sym c.if-not-are_digits.ensures in
-    let more = digits-block text i c.loop-block.invariant.digits ∙ block in
-    let number = c.read_block-right.ensures.number ∙ ap (digits_value 10) read in
-    omega (
-      arith,
-      value-block text i within block,
-      front_small text (length text % 8 + 8 * (i + 1)) 18
-          (omega (arith, c.as_rchunks.ensures.back_len)) more,
-    )
+    let blocks = c.as_rchunks.result.1.now in
+    let one : 0 + 1 ≡ length text / 8 = omega (arith, c.as_rchunks.ensures.back_len, c.in-len1) in
+    let front = read_front text c.as_rchunks.result.0.now c.as_rchunks.ensures.front
+    c.in-Some.ensures.digits c.in-Some.ensures.number c.in-Some.ensures.product in
+    told_with text 0 c.in-Some.read.number c.in-Some.read.check_product (get_or blocks 0 []) c.with_block.result
+    c.requires one front (block_is text blocks 0 (omega arith) c.as_rchunks.ensures.back)
+    c.with_block.ensures.digits c.with_block.ensures.number c.with_block.ensures.product
 
--- the check products of the block and of the text so far are elements
-pub times-requires : goal.times-requires
-times-requires c =
-    let text = c.args.text.now in
-    let i = c.loop-block.block-index in
-    record {
-      left = omega (
-        arith,
-        c.read_block-right.ensures.product,
-        check_product-lt (get_or c.as_rchunks.result.1.now i [])
-            (sym c.if-not-are_digits.ensures),
-      );
-      right = omega (arith, check_product-lt (so_far text i) c.loop-block.invariant.digits);
-    }
+pub returns-in-len1-clause-digits : goal.returns-in-len1-clause-digits
+returns-in-len1-clause-digits c = (one_block c).digits
 
--- with one block more, the digits, number and check product are those of the text up to its end
-pub loop-block-preserved : goal.loop-block-preserved
-loop-block-preserved c =
-    let text = c.args.text.now in
-    let i = c.loop-block.block-index in
-    let within : i < length text / 8 = omega (arith, c.as_rchunks.ensures.back_len) in
-    let read = block_is text c.as_rchunks.result.1.now i within c.as_rchunks.ensures.back in
-    let block = ap (list_all is_ascii_digit) (sym read) ∙ sym c.if-not-are_digits.ensures in
-    let number = c.read_block-right.ensures.number ∙ ap (digits_value 10) read in
-    let product = c.read_block-right.ensures.product ∙ ap check_product read in
-    let value = value-block text i within block in
-    let factors = product-block text i within c.loop-block.invariant.digits block in
-    record {
-      digits = digits-block text i c.loop-block.invariant.digits ∙ block;
-      number = omega arith;
-      product = cc (c.times.ensures.product);
-    }
+pub returns-in-len1-clause-number : goal.returns-in-len1-clause-number
+returns-in-len1-clause-number c = (one_block c).value
 
--- a number of at most 18 digits is below 10^18
-pub returns-clause-small : goal.returns-clause-small
-returns-clause-small c =
+pub returns-in-len1-clause-small : goal.returns-in-len1-clause-small
+returns-in-len1-clause-small c = (one_block c).small
+
+pub returns-in-len1-clause-product : goal.returns-in-len1-clause-product
+returns-in-len1-clause-product c = (one_block c).check
+
+-- if the first of two blocks is not digits, the text is not
+pub returns-in_default-with_block-clause-digits : goal.returns-in_default-with_block-clause-digits
+returns-in_default-with_block-clause-digits c =
     let text = c.args.text.now in
-    let i = c.loop-block.block-index in
-    let small : c.loop-block.read.number < 10 ^ 18 =
-    omega (
-      arith,
-      front_small text (length text % 8 + 8 * i) 18
-          (omega (arith, c.as_rchunks.ensures.back_len)) c.loop-block.invariant.digits,
-    ) in
-    small
+    let front = read_front text c.as_rchunks.result.0.now c.as_rchunks.ensures.front
+    c.in-Some.ensures.digits c.in-Some.ensures.number c.in-Some.ensures.product in
+    let is = block_is text c.as_rchunks.result.1.now 0 (omega arith) c.as_rchunks.ensures.back in
+    sym (not_digits text (length text % 8 + 8 * (0 + 1)) (digits-block text 0 front.digits
+    ∙ ap (list_all is_ascii_digit) (sym is) ∙ sym c.in_default-with_block.ensures.digits))
+
+-- the front and the first of two blocks have at most ten digits
+pub with_block-requires-in-len2-up-2-clause-small : goal.with_block-requires-in-len2-up-2-clause-small
+with_block-requires-in-len2-up-2-clause-small c =
+    let text = c.args.text.now in
+    let some : 0 < length text / 8 = omega (arith, c.as_rchunks.ensures.back_len, c.in-len2-up) in
+    let front = read_front text c.as_rchunks.result.0.now c.as_rchunks.ensures.front
+    c.in-Some.ensures.digits c.in-Some.ensures.number c.in-Some.ensures.product in
+    let first = read_first text c.as_rchunks.result.1.now some c.as_rchunks.ensures.back front
+    c.in-Some-with_block.ensures.digits c.in-Some-with_block.ensures.number c.in-Some-with_block.ensures.product in
+    read_small 10 first (omega (arith, c.requires, c.as_rchunks.ensures.back_len, c.in-len2-up))
+
+-- a text with two blocks is its front and these blocks
+two_blocks : (c : goal.After-with_block-in-len2-up-2) → IsTold c.args.text.now c.with_block-in-len2-up-2.result
+two_blocks c =
+    let text = c.args.text.now in
+    let blocks = c.as_rchunks.result.1.now in
+    let two : 1 + 1 ≡ length text / 8 = omega (arith, c.requires, c.as_rchunks.ensures.back_len, c.in-len2-up) in
+    let front = read_front text c.as_rchunks.result.0.now c.as_rchunks.ensures.front
+    c.in-Some.ensures.digits c.in-Some.ensures.number c.in-Some.ensures.product in
+    let first = read_first text blocks (omega (arith, two)) c.as_rchunks.ensures.back front
+    c.in-Some-with_block.ensures.digits c.in-Some-with_block.ensures.number c.in-Some-with_block.ensures.product in
+    told_with text 1 c.in-Some-with_block.read.number c.in-Some-with_block.read.check_product (get_or blocks 1 [])
+    c.with_block-in-len2-up-2.result c.requires two first
+    (block_is text blocks 1 (omega (arith, two)) c.as_rchunks.ensures.back) c.with_block-in-len2-up-2.ensures.digits
+    c.with_block-in-len2-up-2.ensures.number c.with_block-in-len2-up-2.ensures.product
+
+pub returns-in-Some-with_block-clause-digits : goal.returns-in-Some-with_block-clause-digits
+returns-in-Some-with_block-clause-digits c = (two_blocks c).digits
+
+pub returns-in-Some-with_block-clause-number : goal.returns-in-Some-with_block-clause-number
+returns-in-Some-with_block-clause-number c = (two_blocks c).value
+
+pub returns-in-Some-with_block-clause-small : goal.returns-in-Some-with_block-clause-small
+returns-in-Some-with_block-clause-small c = (two_blocks c).small
+
+pub returns-in-Some-with_block-clause-product : goal.returns-in-Some-with_block-clause-product
+returns-in-Some-with_block-clause-product c = (two_blocks c).check

@@ -6,7 +6,7 @@ use Rattle.sctid.specs.Identifier.{times, permuted, check_product}
 use Rattle.sctid.proofs.Group.{times-zero, zero-times}
 use Rattle.numerals.proofs.DigitLemmas.{digits_more, value_more, front_small}
 use Rattle.sctid.proofs.Product.{check_product-lt, check_product-more, digit-lt}
-use Rattle.sctid.proofs.digits.read_front.Goals as goal
+use Rattle.sctid.proofs.digits.read_each.Goals as goal
 
 -- the number so far times 10 fits into 64 bits
 pub overflow_mul-number : goal.overflow_mul-number

@@ -3,7 +3,7 @@ use Rattle.std.specs.Char.{is_ascii_digit}
 use Rattle.std.specs.List.{list_all}
 use Rattle.std.specs.Str.Parse.{digits_value}
 use Rattle.sctid.specs.Identifier.{times, check_product}
-use Rattle.sctid.proofs.digits.read_front.Given as goal
+use Rattle.sctid.proofs.digits.read_each.Given as goal
 
 -- what was read are digits, the number is what they write, and in a text of digits the product of the
 -- whole is that of what is left, times the product so far
