@@ -1,5 +1,5 @@
 -- Lemmas on gathering the lists of concepts: the short ones in a list, and the long ones in a set.
-use Rattle.std.proofs.Common.{arith, ℕ, ◌≡◌, ◌<◌, ◌+◌, ◌∙◌, ◌++◌, ◌∷◌, ◌==◌, ◌||◌, [], Bool, false, true, List, Option}
+use Rattle.std.proofs.Common.{arith, ℕ, ◌≡◌, ◌<◌, ◌+◌, ◌∙◌, ◌++◌, ◌∷◌, ◌||◌, [], Bool, List, Option}
 use Rattle.std.proofs.Common.{None, Some, ap, append-nil, append_assoc, get_or, length, refl, subst, sym, take}
 use Rattle.std.specs.Prelude.{All, Contains, IfSome}
 use Rattle.std.proofs.lemmas.Bool.Decides.{nat_tests}
@@ -13,10 +13,9 @@ use Rattle.number_lists.specs.Rising.{IsRisingBelow, listed_numbers, numbers_whe
 use Rattle.idset.specs.Sets.{all_items}
 use Rattle.number_lists.specs.Members.{has}
 use Rattle.number_lists.proofs.RisingLemmas.{numbers_where-rising, rising_is_where}
-use Rattle.number_lists.proofs.MemberLemmas.{has-append}
 use Rattle.number_lists.proofs.WhereLemmas.{there_where, has-numbers_where, numbers_where-agree}
 use Rattle.idset.specs.Words.{is_set}
-use Rattle.ancestor_index.specs.inside.Gathered.{AreRisingBelow, gathered_by, joined_by}
+use Rattle.ancestor_index.specs.inside.Gathered.{AreRisingBelow, gathered_by}
 
 -- the union of the set `others` and the numbers of the bitmap `words` has a number exactly if `others` has it or
 -- its bit is set
@@ -100,48 +99,34 @@ items_more count lists list below own =
     let are_below = λ (items : List ℕ). All (λ item. item < count) items in
     All-append are_below lists (list ∷ []) below (All-cons are_below list [] own (All-nil are_below))
 
--- ---- lists that are joined one after another
--- if concepts rise below `count`, `listed_numbers count` of them, with no list joined, is the list of them
-pub none_joined : (count : ℕ) (concepts : List ℕ) → IsRisingBelow count concepts
-    → concepts ≡ listed_numbers count (concepts ++ [])
-none_joined count concepts rises =
-    rising_is_where count concepts (has (concepts ++ [])) rises
-    (λ n below. ap (λ (xs : List ℕ). has xs n) (sym (append-nil concepts)))
+-- ---- lists that are merged one after another
+-- `listed_numbers` of nothing is nothing
+pub none_gathered : (count : ℕ) → [] ≡ listed_numbers count []
+none_gathered count = rising_is_where count [] (has []) refl (λ n below. refl)
 
--- the joined lists of the first `i + 1` concepts are those of the first `i`, followed by the list of concept `i`
-pub joined_more : (places : List ℕ) (lists : List (List ℕ)) (concepts : List ℕ) (i : ℕ) → i < length concepts
-    → joined_by places lists (take (i + 1) concepts) ≡ joined_by places lists (take i concepts)
-    ++ list_of lists (get_or places (get_or concepts i 0) 0)
-joined_more places lists concepts i within =
-    let own = λ (concept : ℕ). list_of lists (get_or places concept 0) in
-    let concept = get_or concepts i 0 in
-    ap (joined_by places lists) (take_more concepts i 0 within)
-    ∙ flat_map-append own (take i concepts) (concept ∷ [])
-    ∙ ap (λ (last : List ℕ). joined_by places lists (take i concepts) ++ last) (append-nil (own concept))
-
--- the union of `own` and the sorted numbers of `concepts` and `joined` is the sorted numbers of all three
-pub listed_more : (count : ℕ) (concepts joined own : List ℕ)
-    → all_items count (listed_numbers count (concepts ++ joined)) own
-    ≡ listed_numbers count (concepts ++ (joined ++ own))
-listed_more count concepts joined own =
-    numbers_where-agree count (λ n. has (listed_numbers count (concepts ++ joined)) n || has own n)
-    (has ((concepts ++ joined) ++ own))
-    (λ n below. (λ i. has-numbers_where count (has (concepts ++ joined)) n below i || has own n)
-    ∙ sym (has-append (concepts ++ joined) own n))
-    ∙ ap (listed_numbers count) (append_assoc concepts joined own)
+-- if `list` has the numbers of `all` in rising order, and `more` is the rising list `own` with `concept` added, the
+-- union of both has the numbers of `all`, `concept` and `own` in rising order
+pub union_more : (count : ℕ) (all own list more union : List ℕ) (concept : ℕ)
+    → list ≡ listed_numbers count all → IsRisingBelow count own → concept < count
+    → ((bound : ℕ) → IsRisingBelow bound own → concept < bound
+    → more ≡ all_items bound own (concept ∷ []))
+    → ((bound : ℕ) → IsRisingBelow bound list → IsRisingBelow bound more
+    → union ≡ all_items bound list more)
+    → union ≡ listed_numbers count ((all ++ concept ∷ []) ++ own)
+union_more count all own list more union concept listed rises below added united =
+    let with_own = added count rises below in
+    united count (subst (IsRisingBelow count) (sym listed) (numbers_where-rising count (has all)))
+    (subst (IsRisingBelow count) (sym with_own) (numbers_where-rising count _))
+    ∙ (λ i. all_items count (listed i) (with_own i))
+    ∙ numbers_where-agree count _ _ (λ n within.
+    (λ i. has-numbers_where count (has all) n within i
+    || has-numbers_where count (λ n. has own n || has (concept ∷ []) n) n within i)
+    ∙ grind (arith, common_steps, nat_tests, list_any-append))
 
 -- the list at a place of rising lists rises
 pub own_rises : (count place : ℕ) (lists : List (List ℕ)) (own : List ℕ) → AreRisingBelow count lists
     → place < length lists → own ≡ list_of lists place → IsRisingBelow count own
 own_rises count place lists own rise within is = subst (IsRisingBelow count) (sym is) (rise place [] within)
-
--- the merged list of `listed_numbers count all` and the rising list `own` is the union of both
-pub joined_with : (count : ℕ) (all list own union : List ℕ) → list ≡ listed_numbers count all → IsRisingBelow count own
-    → ((bound : ℕ) → IsRisingBelow bound list → IsRisingBelow bound own → union ≡ all_items bound list own)
-    → union ≡ all_items count (listed_numbers count all) own
-joined_with count all list own union is rises joined =
-    joined count (subst (IsRisingBelow count) (sym is) (numbers_where-rising count (has all))) rises
-    ∙ (λ i. all_items count (is i) own)
 
 -- if all lists rise below `count`, this stays so if a list that rises below `count` is added
 pub rising_more : (count : ℕ) (lists : List (List ℕ)) (list : List ℕ) → AreRisingBelow count lists
@@ -149,35 +134,3 @@ pub rising_more : (count : ℕ) (lists : List (List ℕ)) (list : List ℕ) → 
 rising_more count lists list rise own =
     let rises = λ (xs : List ℕ). IsRisingBelow count xs in
     All-append rises lists (list ∷ []) rise (All-cons rises list [] own (All-nil rises))
-
--- if `e` is `b || d`, then `a || b || c || d` is `a || c || e`
-swapped : (a b c d e : Bool) → (b || d) ≡ e → (a || (b || (c || d))) ≡ (a || (c || e))
-swapped true b c d e is = refl
-swapped false true true d e is = refl
-swapped false true false d e is = is
-swapped false false true d e is = refl
-swapped false false false d e is = is
-
--- `concepts` followed by their lists have the same members as the concepts, each followed by its list
-joined_gathered : (places : List ℕ) (lists : List (List ℕ)) (concepts : List ℕ) (n : ℕ)
-    → has (concepts ++ joined_by places lists concepts) n ≡ has (gathered_by places lists concepts) n
-joined_gathered places lists [] n = refl
-joined_gathered places lists (concept ∷ concepts) n =
-    let own = list_of lists (get_or places concept 0) in
-    let joined = joined_by places lists concepts in
-    let rest : (has concepts n || has joined n) ≡ has (gathered_by places lists concepts) n =
-    sym (has-append concepts joined n) ∙ joined_gathered places lists concepts n in
-    ap (λ (b : Bool). (concept == n) || b) (has-append concepts (own ++ joined) n
-    ∙ ap (λ (b : Bool). has concepts n || b) (has-append own joined n))
-    ∙ swapped (concept == n) (has concepts n) (has own n) (has joined n) (has (gathered_by places lists concepts) n)
-    rest
-    ∙ ap (λ (b : Bool). (concept == n) || b) (sym (has-append own (gathered_by places lists concepts) n))
-
--- `concepts` followed by their lists, sorted without repeats, are what is gathered for the concepts, sorted without
--- repeats
-pub joined_listed : (count : ℕ) (places : List ℕ) (lists : List (List ℕ)) (concepts : List ℕ)
-    → listed_numbers count (concepts ++ joined_by places lists concepts)
-    ≡ listed_numbers count (gathered_by places lists concepts)
-joined_listed count places lists concepts =
-    numbers_where-agree count (has (concepts ++ joined_by places lists concepts))
-    (has (gathered_by places lists concepts)) (λ n below. joined_gathered places lists concepts n)

@@ -13,7 +13,7 @@ ghost use Rattle.ancestor_index.specs.Wide.{AreWide};
 
 use crate::grown::push_list;
 use crate::wide::WideLists;
-use idset::{ConceptSet, WordSet, put_union};
+use idset::{ConceptSet, WordSet, put_union, put_with};
 use number_lists::{KeyedLists, keep_rising};
 use std::alloc::{AllocError, Global};
 use std::mem::swap;
@@ -22,30 +22,34 @@ use std::mem::swap;
 // before, so more lists would take long: they are gathered and sorted instead.
 const FEW: usize = 8;
 
-// Two buffers for merging one list after another. All merges use them, so that a merge has no
+// Three buffers for merging one list after another. All merges use them, so that a merge has no
 // buffer of its own.
 #[derive(Drop)]
 struct Room {
     list: Vec<u32>,
-    // receives the merged list; then both buffers are swapped
+    // one concept and its list
+    own: Vec<u32>,
+    // receives the merged list; then it is swapped with `list`
     spare: Vec<u32>,
 }
 
-/// Returns the list of ancestors of each concept. `parents` has the list of parents of each
-/// concept, and `order` has all concepts, parents before their children.
+/// Returns the list of ancestors of each concept, and lists that served to find them: their memory
+/// can serve for others. `parents` has the list of parents of each concept, and `order` has all
+/// concepts, parents before their children.
 pub fn ancestor_lists(
     alloc: Global,
     parents: &KeyedLists,
     order: &[u32],
-) -> Result<KeyedLists, AllocError>
+) -> Result<(KeyedLists, KeyedLists), AllocError>
     requires few { length order.now < 2 ^ 32 }
     requires parents { (rows : List (ℕ × ℕ)) × AreParentsBy rows parents.now order.now }
-    ensures { IfOk result (λ lists. (rows : List (ℕ × ℕ)) → AreParentsBy rows parents.now order.now
-        → lists ≡ lists_where (length order.now) (reaches rows)) }
+    ensures { IfOk result (λ made. (rows : List (ℕ × ℕ)) → AreParentsBy rows parents.now order.now
+        → made.0 ≡ lists_where (length order.now) (reaches rows)) }
 {
     let places = places_in(alloc, order)?;
     let by_place = ancestors_in_order(alloc, parents, order, places.as_slice())?;
-    reordered(alloc, &by_place, places.as_slice())
+    let lists = reordered(alloc, &by_place, places.as_slice())?;
+    Ok((lists, by_place))
 }
 
 // Returns for each concept its place in `order`.
@@ -87,6 +91,7 @@ fn ancestors_in_order(
     let mut wide = WideLists::with_capacity(alloc, order.len())?;
     let mut room = Room {
         list: Vec::new(alloc),
+        own: Vec::new(alloc),
         spare: Vec::new(alloc),
     };
     for concept in order {
@@ -120,7 +125,6 @@ fn join(
     requires count { length places.now ≡ count }
     requires concepts { All (λ concept. (concept < count) × (concept < length places.now)
         × (slice_index places.now concept < length lists.now)) concepts.now }
-    requires sorted { IsRisingBelow count concepts.now }
     requires items { AreItemsBelow count lists.now }
     requires rising { AreRisingBelow count lists.now }
     requires wide { AreWide count lists.now wide.now.ends.items wide.now.words.items }
@@ -159,16 +163,15 @@ fn join_few(
 ) -> Result<(), AllocError>
     requires concepts { All (λ concept. (concept < count) × (concept < length places.now)
         × (slice_index places.now concept < length lists.now)) concepts.now }
-    requires sorted { IsRisingBelow count concepts.now }
     requires rising { AreRisingBelow count lists.now }
     ensures { OnOk result (room.new.list.items
         ≡ listed_numbers count (gathered_by places.now lists.now concepts.now)) }
 {
     room.list.clear();
-    room.list.extend_from_slice(concepts)?;
     for concept in concepts {
         let own = lists.of(places[*concept as usize]);
-        put_union(room.list.as_slice(), own, &mut room.spare)?;
+        put_with(own, *concept, &mut room.own)?;
+        put_union(room.list.as_slice(), room.own.as_slice(), &mut room.spare)?;
         swap(&mut room.list, &mut room.spare);
     }
     Ok(())

@@ -51,8 +51,9 @@ impl AncestorIndex {
         let rows = snapshot.isa_rows();
         let parents = linked_lists(alloc, count, rows)?;
         let children = parents.transposed(alloc, count)?;
-        let ancestors = ancestor_lists(alloc, &parents, snapshot.parents_first())?;
-        let descendants = ancestors.transposed_rising(alloc, count)?;
+        let (ancestors, spare) = ancestor_lists(alloc, &parents, snapshot.parents_first())?;
+        // the descendants take the memory of lists that are no longer needed
+        let descendants = ancestors.transposed_rising(alloc, count, spare)?;
         let wide = wide_lists(alloc, &descendants, count)?;
         Ok(AncestorIndex {
             ancestors,

@@ -5,6 +5,7 @@ pub mod Merging
 pub mod Normal
 pub mod Pages
 pub mod Places
+pub mod PutLemmas
 pub mod Rising
 pub mod Vectors
 pub mod WordLemmas

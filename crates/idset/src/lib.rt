@@ -16,7 +16,7 @@ mod word_set;
 
 pub use bitmap::{bitmap_of, is_marked, mark, word_count};
 pub use concept_set::ConceptSet;
-pub use lists::{every_number, has_number, put_union};
+pub use lists::{every_number, has_number, put_union, put_with};
 pub use mixed_set::MixedSet;
 pub use sorted_set::SortedSet;
 pub use word_set::WordSet;

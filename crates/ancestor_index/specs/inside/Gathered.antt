@@ -21,11 +21,6 @@ AreGathered items_of count all list joined =
     (number : ℕ) → number < count
     → has all number ≡ (has list number || has_joined items_of joined number)
 
--- the lists of `concepts`, one after another
-abbrev pub joined_by : List ℕ → List (List ℕ) → List ℕ → List ℕ
-joined_by places lists concepts =
-    flat_map (λ concept. list_of lists (slice_index places concept)) concepts
-
 -- each list rises below `count`
 abbrev pub AreRisingBelow : ℕ → List (List ℕ) → Type 0
 AreRisingBelow count lists = All (λ list. IsRisingBelow count list) lists

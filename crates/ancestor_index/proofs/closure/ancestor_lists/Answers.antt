@@ -35,11 +35,9 @@ reordered-requires c = λ concept d within.
 
 -- the lists by place, taken by the places of the concepts, are the lists of ancestors
 pub returns : goal.returns
-returns c = IfOk-weaker c.reordered.result _ _
-    (λ (lists : List (List ℕ)) found rows given.
-    found
+returns c = λ rows given.
+    c.in_ok-lists.ensures
     ∙ ap (map (λ place. list_of c.in_ok-by_place.by_place place)) c.as_slice-2.ensures.value
     ∙ lists_reordered rows c.args.parents.now c.args.order.now c.in_ok-places.places.items c.in_ok-by_place.by_place
     given (omega (arith, c.in_ok-places.ensures.len)) c.in_ok-places.ensures.places
-    (c.in_ok-by_place.ensures rows given))
-    c.reordered.ensures
+    (c.in_ok-by_place.ensures rows given)

@@ -50,26 +50,6 @@ join-requires-clause-concepts c = λ i d inside.
     (Contains-get_or c.of.result.now i d inside)) in
     (omega (arith, placed.near, c.requires.len), placed.near, placed.early)
 
--- the parents of the concept rise
-pub join-requires-clause-sorted : goal.join-requires-clause-sorted
-join-requires-clause-sorted c =
-    let order = c.args.order.now in
-    let rows = c.requires.parents.0 in
-    let given = c.requires.parents.1 in
-    let turn : Turn rows c.args.parents.now order c.args.places.now c.loop-concept.lists c.loop-concept.concept-index =
-    record {
-      given = given;
-      len = c.requires.len;
-      placed = c.requires.places;
-      within = c.loop-concept-test.true;
-      known = c.loop-concept.invariant.known rows given;
-    } in
-    let own : c.of.result.now
-    ≡ numbers_where (length order) (is_child rows (get_or order c.loop-concept.concept-index 0)) =
-    c.of.ensures ∙ own_parents turn in
-    subst (IsRisingBelow (length order)) (sym own)
-    (numbers_where-rising (length order) (is_child rows (get_or order c.loop-concept.concept-index 0)))
-
 -- the lists so far rise
 pub join-requires-clause-rising : goal.join-requires-clause-rising
 join-requires-clause-rising c = c.loop-concept.invariant.rising
