@@ -3,6 +3,7 @@ pub mod Columns
 pub mod Examples
 pub mod Identifiers
 pub mod LowestBit
+pub mod Starts
 pub mod TabBits
 pub mod Texts
 pub mod VersionLemmas

@@ -1,9 +1,7 @@
 -- The first fault of a line's fields, and the row that they stand for, by the texts at the places of the fields.
 use Rattle.std.proofs.Common.{◌≡◌, ℕ, ◌-◌, List, length, Option, None, Some, refl, ap, ◌∙◌}
 use Rattle.std.specs.Option.{option_or}
-use Rattle.std.specs.Borrow.{Bor}
 use Rattle.sctid.specs.declared.Part.TheVariants.{Concept, Description, Relationship}
-use Rattle.text_parts.specs.Parts.{texts_of}
 use Rattle.rf2_rows.specs.Columns.{Format, active_format, cause_of, component_format, group_format, id_format}
 use Rattle.rf2_rows.specs.Columns.{text_format, time_format, uuid_format, value_format}
 use Rattle.rf2_rows.specs.Rows.{column_fault, fields_fault}
@@ -31,7 +29,7 @@ four_last None None (Some fault) four = refl
 four_last None None None (Some fault) = refl
 four_last None None None None = refl
 
-module _ (fields : List (Bor (List ℕ))) where
+module _ (fields : List (List ℕ)) where
   -- the fault of column `number`, whose text has to be in `format`
   abbrev pub fault_at : ℕ → Format → Option RowFault
   fault_at number format = column_fault number (cause_of format (text_at fields (number - 1)))
@@ -47,9 +45,9 @@ module _ (fields : List (Bor (List ℕ))) where
 
   -- the first fault of five fields of a Concept file, in the order in which `read_concept` reads them
   pub concept_fault : length fields ≡ 5
-      → fields_fault ConceptFile (texts_of fields)
+      → fields_fault ConceptFile fields
       ≡ option_or (fault_at 1 (id_format Concept))
-      (option_or (version_fault (texts_of fields)) (option_or (fault_at 5 (id_format Concept)) None))
+      (option_or (version_fault fields) (option_or (fault_at 5 (id_format Concept)) None))
   concept_fault same = rw (five_texts fields same)
       (versioned (fault_at 1 (id_format Concept)) (option_or (fault_at 5 (id_format Concept)) None))
 
@@ -67,9 +65,9 @@ module _ (fields : List (Bor (List ℕ))) where
 
   -- the first fault of nine fields of a Description file, in the order in which `read_description` reads them
   pub description_fault : length fields ≡ 9
-      → fields_fault DescriptionFile (texts_of fields)
+      → fields_fault DescriptionFile fields
       ≡ option_or (fault_at 1 (id_format Description))
-      (option_or (version_fault (texts_of fields)) (description_end_fault (texts_of fields)))
+      (option_or (version_fault fields) (description_end_fault fields))
   description_fault same =
       rw (nine_texts fields same)
       (versioned (fault_at 1 (id_format Description))
@@ -84,16 +82,16 @@ module _ (fields : List (Bor (List ℕ))) where
 
   -- the first fault of six fields of a simple reference set file, in the order in which `read_member` reads them
   pub member_fault : length fields ≡ 6
-      → fields_fault MemberFile (texts_of fields)
-      ≡ option_or (fault_at 1 uuid_format) (option_or (version_fault (texts_of fields)) member_end)
+      → fields_fault MemberFile fields
+      ≡ option_or (fault_at 1 uuid_format) (option_or (version_fault fields) member_end)
   member_fault same = rw (six_texts fields same) (versioned (fault_at 1 uuid_format) member_end)
 
   -- the first fault of a relationship row whose sixth column has the given format: that of a concept, or of a
   -- concrete value
   abbrev pub relationship_faults : Format → Option RowFault
   relationship_faults value =
-      option_or (fault_at 1 (id_format Relationship)) (option_or (version_fault (texts_of fields))
-      (option_or (fault_at 5 (id_format Concept)) (option_or (fault_at 6 value) (end_fault (texts_of fields)))))
+      option_or (fault_at 1 (id_format Relationship)) (option_or (version_fault fields)
+      (option_or (fault_at 5 (id_format Concept)) (option_or (fault_at 6 value) (end_fault fields))))
 
   -- the faults of columns 7 to 10, one after another, are the fault of the columns after the value
   ended : (one version source value : Option RowFault)
@@ -137,11 +135,11 @@ module _ (fields : List (Bor (List ℕ))) where
 
   -- the first fault of ten fields of a Relationship file, in the order in which `read_relationship` reads them
   pub relationship_fault : length fields ≡ 10
-      → fields_fault RelationshipFile (texts_of fields) ≡ relationship_faults (id_format Concept)
+      → fields_fault RelationshipFile fields ≡ relationship_faults (id_format Concept)
   relationship_fault same = rw (ten_texts fields same) (in_relationship (id_format Concept))
 
   -- the first fault of ten fields of a Relationship concrete values file, in the order in which `read_concrete` reads
   -- them
   pub concrete_fault : length fields ≡ 10
-      → fields_fault ConcreteFile (texts_of fields) ≡ relationship_faults value_format
+      → fields_fault ConcreteFile fields ≡ relationship_faults value_format
   concrete_fault same = rw (ten_texts fields same) (in_relationship value_format)

@@ -1,11 +1,10 @@
 -- The tabs of a line as bits: which are left after the first ones, and which is the lowest.
-use Rattle.std.proofs.Common.{rules, ◌≡◌, ℕ, zero, suc, ◌+◌, ◌-◌, ◌*◌, ◌/◌, ◌^◌, ◌<◌, ◌≤◌, Bool, true, false, cond, not}
-use Rattle.std.proofs.Common.{◌%◌, eqb, ◌==◌, List, [], ◌∷◌, ◌++◌, length, get_or, take, drop, replicate, min, refl, sym, ap}
-use Rattle.std.proofs.Common.{subst, ◌∙◌, arith, length-drop, inl, inr, Bor, append_assoc, length-append, drop-drop}
+use Rattle.std.proofs.Common.{◌≡◌, ℕ, zero, suc, ◌+◌, ◌-◌, ◌*◌, ◌/◌, ◌^◌, ◌<◌, ◌≤◌, Bool, true, false, cond, not}
+use Rattle.std.proofs.Common.{eqb, ◌==◌, List, [], ◌∷◌, ◌++◌, length, get_or, take, drop, replicate, min, refl, sym, ap}
+use Rattle.std.proofs.Common.{◌∙◌, arith, length-drop, inl, inr, drop-drop}
 use Rattle.std.proofs.Common.{get_or-drop, get_or-take, length-take, take_all}
 use Rattle.std.proofs.Math.Nat.{div-div-eq-div-mul, mul-one, one-le-pow, pow-succ', zero-div, zero-mul, div-one}
-use Rattle.std.proofs.lemmas.List.{drop-take, drop-replicate, get_or_past, length-map, map-append, map_push, take_rest}
-use Rattle.std.proofs.lemmas.Slice.{between_to_end}
+use Rattle.std.proofs.lemmas.List.{drop-take, drop-replicate, get_or_past, take_rest}
 use Rattle.std.proofs.lemmas.List.Elements.{All-from_get_or}
 use Rattle.std.proofs.lemmas.List.Splits.{slice_split_none}
 use Rattle.std.proofs.lemmas.List.Sums.{prefix_len-le-length, prefix_len_passes, prefix_len_stops}
@@ -329,12 +328,6 @@ none_left line from start to clear none =
     product_none : (tabs : ℕ) → tabs * 2 ^ (start - from) ≡ 0 → tabs ≡ 0
     product_none zero none = refl
     product_none (suc tabs) none = absurd (omega (arith, one-le-pow (start - from) 2 (omega arith)))
-
--- rules for `grind` for a field that a tab ends
-pub ruleset fields_cut = (all_left, lowest_tab, next_field, map_push, append_assoc, length-append, length-map)
-
--- rules for `grind` for the field that the end of the line ends
-pub ruleset last_field = (last_part, map_push, between_to_end, take_rest)
 
 -- rules for `grind` for the tabs of the next 64 bytes of a line
 pub ruleset shifts = (tab_bits-shifted, tabs_in-last, tabs_in-past)

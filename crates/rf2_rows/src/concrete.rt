@@ -1,6 +1,5 @@
 //! Reading the rows of concrete values.
 ghost use Rattle.rf2_rows.specs.Columns.{cause_of, value_format};
-ghost use Rattle.text_parts.specs.Parts.{texts_of};
 ghost use Rattle.rf2_rows.specs.Rows.{IsReadingLent, column_fault, concrete_of, concrete_text, fields_fault, value_lent};
 ghost use Rattle.rf2_rows.specs.Values.{value_of};
 
@@ -10,26 +9,28 @@ use crate::kind::FileKind;
 use crate::recent_concepts::RecentConcepts;
 use crate::row::ConcreteRow;
 use crate::shared::{read_relationship_end, read_version_columns};
+use crate::tabs::Fields;
 use crate::value::Value;
 use numerals::decimal;
 use sctid::Part;
 
 /// Reads the fields of a line as a row of the Relationship concrete values file. Returns the row or
 /// the first fault.
+#[tactic(auto, using(crate::proofs::RowLemmas::concrete_fault))]
 pub fn read_concrete<'a>(
     recent: &mut RecentConcepts,
-    fields: &[&'a [u8]],
+    fields: &Fields<'a>,
 ) -> Result<ConcreteRow<'a>, RowFault>
-    ensures { let texts = texts_of fields.now in IsReadingLent concrete_text
-        (fields_fault FileKind.Concrete texts) (concrete_of texts) result }
+    ensures { IsReadingLent concrete_text (fields_fault FileKind.Concrete fields.now)
+        (concrete_of fields.now) result }
 {
     if fields.len() != 10 {
         return Err(fault(RowCause::Fields, 0));
     }
-    let id = identifier(fields[0], Part::Relationship, 1)?;
+    let id = identifier(fields.at(0), Part::Relationship, 1)?;
     let version = read_version_columns(&mut recent.module_id, fields)?;
-    let source_id = identifier(fields[4], Part::Concept, 5)?;
-    let value = match concrete_value(fields[5], 6) {
+    let source_id = identifier(fields.at(4), Part::Concept, 5)?;
+    let value = match concrete_value(fields.at(5), 6) {
         Ok(value) => value,
         Err(fault) => return Err(fault),
     };

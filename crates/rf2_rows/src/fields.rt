@@ -11,6 +11,7 @@ use sctid::{IdFault, Part, SctId};
 use uuid::Uuid;
 
 /// Reads the identifier of a component of the kind `part`.
+#[inline(always)]
 #[tactic(auto, unfolding(crate::specs::Columns::cause_of), using(crate::proofs::Identifiers::number_read))]
 pub fn identifier(text: &[u8], part: Part, column: u8) -> Result<SctId, RowFault>
     ensures { IsReading (column_fault column (cause_of (id_format part) text.now))
@@ -52,6 +53,7 @@ pub fn hyphenated(text: &[u8], column: u8) -> Result<Uuid, RowFault>
 }
 
 /// Reads an effective time: eight digits, or an empty text (`None`) if the row is unpublished.
+#[inline(always)]
 #[tactic(auto, unfolding(crate::specs::Columns::cause_of))]
 pub fn time(text: &[u8], column: u8) -> Result<Option<u32>, RowFault>
     ensures { IsReading (column_fault column (cause_of time_format text.now)) (time_of text.now)

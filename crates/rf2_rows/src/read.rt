@@ -1,6 +1,5 @@
 //! Reading a line as a row.
 ghost use Rattle.std.specs.Prelude.{◌≡◌, None, Some, IfOk, IfErr, length};
-ghost use Rattle.text_parts.specs.Parts.{texts_of};
 ghost use Rattle.rf2_rows.specs.Rows.{IsReading, IsReadingLent, fields_fault, row_fault, concept_of};
 ghost use Rattle.rf2_rows.specs.Rows.{description_of, description_text, relationship_of, member_of, IsRow};
 ghost use Rattle.rf2_rows.specs.inside.SharedColumns.{description_end_fault, description_from};
@@ -12,7 +11,7 @@ use crate::kind::FileKind;
 use crate::recent_concepts::RecentConcepts;
 use crate::row::{ConceptRow, DescriptionRow, MemberRow, RelationshipRow, Row};
 use crate::shared::{VersionColumns, read_relationship_end, read_version_columns};
-use crate::tabs::{Fields, push_fields};
+use crate::tabs::Fields;
 use sctid::{Part, SctId};
 
 /// Reads `line`, without its line end, as a row of `kind`. Returns the row, whose texts are
@@ -51,10 +50,10 @@ impl RowReader {
         ensures fault { IfErr result (λ fault. row_fault kind line.now ≡ Some fault) }
     {
         let mut fields = Fields::new();
-        let Some(()) = push_fields(&mut fields, line) else {
+        let Some(()) = fields.cut(line) else {
             return Err(fault(RowCause::Fields, 0));
         };
-        let fields = fields.as_slice();
+        let fields = &fields;
         let recent = &mut self.recent;
         match kind {
             FileKind::Concept => {
@@ -82,16 +81,16 @@ impl RowReader {
 }
 
 // Reads the fields of a line as a row of the Concept file. Returns the row or the first fault.
-fn read_concept(recent: &mut RecentConcepts, fields: &[&[u8]]) -> Result<ConceptRow, RowFault>
-    ensures { let texts = texts_of fields.now in
-        IsReading (fields_fault FileKind.Concept texts) (concept_of texts) result }
+#[tactic(auto, using(crate::proofs::RowLemmas::concept_fault))]
+fn read_concept(recent: &mut RecentConcepts, fields: &Fields<'_>) -> Result<ConceptRow, RowFault>
+    ensures { IsReading (fields_fault FileKind.Concept fields.now) (concept_of fields.now) result }
 {
     if fields.len() != 5 {
         return Err(fault(RowCause::Fields, 0));
     }
-    let id = identifier(fields[0], Part::Concept, 1)?;
+    let id = identifier(fields.at(0), Part::Concept, 1)?;
     let version = read_version_columns(&mut recent.module_id, fields)?;
-    let definition_status_id = recent.definition_status_id.read(fields[4], 5)?;
+    let definition_status_id = recent.definition_status_id.read(fields.at(4), 5)?;
     Ok(ConceptRow {
         id,
         effective_time: version.effective_time,
@@ -102,17 +101,18 @@ fn read_concept(recent: &mut RecentConcepts, fields: &[&[u8]]) -> Result<Concept
 }
 
 // Reads the fields of a line as a row of the Description file. Returns the row or the first fault.
+#[tactic(auto, using(crate::proofs::RowLemmas::description_fault))]
 fn read_description<'a>(
     recent: &mut RecentConcepts,
-    fields: &[&'a [u8]],
+    fields: &Fields<'a>,
 ) -> Result<DescriptionRow<'a>, RowFault>
-    ensures { let texts = texts_of fields.now in IsReadingLent description_text
-        (fields_fault FileKind.Description texts) (description_of texts) result }
+    ensures { IsReadingLent description_text (fields_fault FileKind.Description fields.now)
+        (description_of fields.now) result }
 {
     if fields.len() != 9 {
         return Err(fault(RowCause::Fields, 0));
     }
-    let id = identifier(fields[0], Part::Description, 1)?;
+    let id = identifier(fields.at(0), Part::Description, 1)?;
     let version = read_version_columns(&mut recent.module_id, fields)?;
     read_description_end(recent, id, version, fields)
 }
@@ -123,17 +123,17 @@ fn read_description_end<'a>(
     recent: &mut RecentConcepts,
     id: SctId,
     version: VersionColumns,
-    fields: &[&'a [u8]],
+    fields: &Fields<'a>,
 ) -> Result<DescriptionRow<'a>, RowFault>
     requires { length fields.now ≡ 9 }
-    ensures { let texts = texts_of fields.now in IsReadingLent description_text
-        (description_end_fault texts) (description_from id version texts) result }
+    ensures { IsReadingLent description_text (description_end_fault fields.now)
+        (description_from id version fields.now) result }
 {
-    let concept_id = identifier(fields[4], Part::Concept, 5)?;
-    let language_code = text(fields[5], 6)?;
-    let type_id = recent.description_type_id.read(fields[6], 7)?;
-    let term = text(fields[7], 8)?;
-    let case_significance_id = recent.case_significance_id.read(fields[8], 9)?;
+    let concept_id = identifier(fields.at(4), Part::Concept, 5)?;
+    let language_code = text(fields.at(5), 6)?;
+    let type_id = recent.description_type_id.read(fields.at(6), 7)?;
+    let term = text(fields.at(7), 8)?;
+    let case_significance_id = recent.case_significance_id.read(fields.at(8), 9)?;
     Ok(DescriptionRow {
         id,
         effective_time: version.effective_time,
@@ -148,20 +148,21 @@ fn read_description_end<'a>(
 }
 
 // Reads the fields of a line as a row of the Relationship file. Returns the row or the first fault.
+#[tactic(auto, using(crate::proofs::RowLemmas::relationship_fault))]
 fn read_relationship(
     recent: &mut RecentConcepts,
-    fields: &[&[u8]],
+    fields: &Fields<'_>,
 ) -> Result<RelationshipRow, RowFault>
-    ensures { let texts = texts_of fields.now in
-        IsReading (fields_fault FileKind.Relationship texts) (relationship_of texts) result }
+    ensures { IsReading (fields_fault FileKind.Relationship fields.now)
+        (relationship_of fields.now) result }
 {
     if fields.len() != 10 {
         return Err(fault(RowCause::Fields, 0));
     }
-    let id = identifier(fields[0], Part::Relationship, 1)?;
+    let id = identifier(fields.at(0), Part::Relationship, 1)?;
     let version = read_version_columns(&mut recent.module_id, fields)?;
-    let source_id = identifier(fields[4], Part::Concept, 5)?;
-    let destination_id = identifier(fields[5], Part::Concept, 6)?;
+    let source_id = identifier(fields.at(4), Part::Concept, 5)?;
+    let destination_id = identifier(fields.at(5), Part::Concept, 6)?;
     let end = read_relationship_end(recent, fields)?;
     Ok(RelationshipRow {
         id,
@@ -179,17 +180,17 @@ fn read_relationship(
 
 // Reads the fields of a line as a row of a simple reference set file. Returns the row or the first
 // fault.
-fn read_member(recent: &mut RecentConcepts, fields: &[&[u8]]) -> Result<MemberRow, RowFault>
-    ensures { let texts = texts_of fields.now in
-        IsReading (fields_fault FileKind.Member texts) (member_of texts) result }
+#[tactic(auto, using(crate::proofs::RowLemmas::member_fault))]
+fn read_member(recent: &mut RecentConcepts, fields: &Fields<'_>) -> Result<MemberRow, RowFault>
+    ensures { IsReading (fields_fault FileKind.Member fields.now) (member_of fields.now) result }
 {
     if fields.len() != 6 {
         return Err(fault(RowCause::Fields, 0));
     }
-    let id = hyphenated(fields[0], 1)?;
+    let id = hyphenated(fields.at(0), 1)?;
     let version = read_version_columns(&mut recent.module_id, fields)?;
-    let refset_id = identifier(fields[4], Part::Concept, 5)?;
-    let referenced_component_id = component(fields[5], 6)?;
+    let refset_id = identifier(fields.at(4), Part::Concept, 5)?;
+    let referenced_component_id = component(fields.at(5), 6)?;
     Ok(MemberRow {
         id,
         effective_time: version.effective_time,

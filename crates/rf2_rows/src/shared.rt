@@ -1,6 +1,5 @@
 //! Reading the columns that rows of several kinds have in common.
 ghost use Rattle.std.specs.Prelude.{◌≡◌, ◌≤◌, length};
-ghost use Rattle.text_parts.specs.Parts.{texts_of};
 ghost use Rattle.rf2_rows.specs.Rows.{IsReading};
 ghost use Rattle.rf2_rows.specs.inside.SharedColumns.{end_fault, end_of, version_fault, version_of};
 
@@ -8,6 +7,7 @@ use crate::fault::RowFault;
 use crate::fields::{flag, group, identifier, time};
 use crate::recent::Recent;
 use crate::recent_concepts::RecentConcepts;
+use crate::tabs::Fields;
 use sctid::{Part, SctId};
 
 /// The second to the fourth column, which rows of every kind have: effective time, active and
@@ -24,15 +24,14 @@ pub struct VersionColumns {
 #[inline(always)]
 pub fn read_version_columns(
     recent: &mut Recent,
-    fields: &[&[u8]],
+    fields: &Fields<'_>,
 ) -> Result<VersionColumns, RowFault>
     requires { 4 ≤ length fields.now }
-    ensures { let texts = texts_of fields.now in IsReading (version_fault texts) (version_of texts)
-        result }
+    ensures { IsReading (version_fault fields.now) (version_of fields.now) result }
 {
-    let effective_time = time(fields[1], 2)?;
-    let active = flag(fields[2], 3)?;
-    let module_id = recent.read(fields[3], 4)?;
+    let effective_time = time(fields.at(1), 2)?;
+    let active = flag(fields.at(2), 3)?;
+    let module_id = recent.read(fields.at(3), 4)?;
     Ok(VersionColumns {
         effective_time,
         active,
@@ -54,15 +53,15 @@ pub struct RelationshipEnd {
 #[inline(always)]
 pub fn read_relationship_end(
     recent: &mut RecentConcepts,
-    fields: &[&[u8]],
+    fields: &Fields<'_>,
 ) -> Result<RelationshipEnd, RowFault>
     requires { length fields.now ≡ 10 }
-    ensures { let texts = texts_of fields.now in IsReading (end_fault texts) (end_of texts) result }
+    ensures { IsReading (end_fault fields.now) (end_of fields.now) result }
 {
-    let relationship_group = group(fields[6], 7)?;
-    let type_id = identifier(fields[7], Part::Concept, 8)?;
-    let characteristic_type_id = recent.characteristic_type_id.read(fields[8], 9)?;
-    let modifier_id = recent.modifier_id.read(fields[9], 10)?;
+    let relationship_group = group(fields.at(6), 7)?;
+    let type_id = identifier(fields.at(7), Part::Concept, 8)?;
+    let characteristic_type_id = recent.characteristic_type_id.read(fields.at(8), 9)?;
+    let modifier_id = recent.modifier_id.read(fields.at(9), 10)?;
     Ok(RelationshipEnd {
         relationship_group,
         type_id,

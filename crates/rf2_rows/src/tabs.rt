@@ -1,84 +1,150 @@
 //! Cutting a line at its tabs, 64 bytes at a time.
-ghost use Rattle.std.specs.Prelude.{◌≡◌, ◌+◌, ◌<◌, ◌≤◌, ◌++◌, [], length, IsNone, IfSome};
-ghost use Rattle.text_parts.specs.Parts.{texts_of};
+ghost use Rattle.std.specs.Prelude.{◌≡◌, ◌+◌, ◌<◌, ◌≤◌, [], length, slice_index_or, IsNone, IfSome};
 ghost use Rattle.rf2_rows.specs.Rows.{fields_of};
-ghost use Rattle.rf2_rows.specs.inside.Tabs.{NoTab, parts_from, tab_bits, tabs_in};
+ghost use Rattle.rf2_rows.specs.inside.Starts.{AreStarts, IsCutUpTo, fields_at};
+ghost use Rattle.rf2_rows.specs.inside.Tabs.{tab_bits, tabs_in};
 
-use arrayvec::ArrayVec;
+use std::marker::Model;
 use std::simd::prelude::*;
 
-/// The fields of a line. The widest kind of file has 10 columns.
-pub type Fields<'a> = ArrayVec<&'a [u8], 10>;
+/// The fields of a line: the line, and where each field starts. The widest kind of file has 10
+/// columns. Contracts see the list of the texts of the fields.
+#[derive(Drop)]
+pub struct Fields<'a> {
+    line: &'a [u8],
+    // where each field starts, and then one after the end of the last field
+    starts: [usize; 11],
+    // how many fields there are
+    count: usize,
+}
+
+impl<'a> Model for Fields<'a> {
+    ghost use Rattle.std.specs.Prelude.{ℕ, List};
+
+    ghost Value = { List (List ℕ) };
+
+    ghost use Rattle.rf2_rows.specs.inside.FieldsInside.{AreWithin, texts_in};
+
+    ghost view = { texts_in };
+
+    ghost invariant = { AreWithin };
+}
+
+impl<'a> Fields<'a> {
+    /// Makes a place for the fields of a line, with no field in it. Takes no memory.
+    #[inline]
+    pub fn new() -> Fields<'a>
+        ensures { result ≡ [] }
+    {
+        Fields {
+            line: &[],
+            starts: [0; 11],
+            count: 0,
+        }
+    }
+
+    /// Cuts `line` at its tabs and keeps its fields in place of the ones before. Returns `None` if
+    /// there are more than 10. A caller that has a place for the fields saves the copy that
+    /// `cut_fields` makes. Takes no memory.
+    pub fn cut(&mut self, line: &'a [u8]) -> Option<()>
+        ensures more { IsNone result → 10 < length (fields_of line.now) }
+        ensures fields { IfSome result (λ _. self.new ≡ fields_of line.now) }
+    {
+        self.line = line;
+        self.count = 0;
+        self.count = find_starts(&mut self.starts, line)?;
+        Some(())
+    }
+
+    /// Returns the number of fields.
+    #[inline]
+    #[tactic(auto, using(crate::proofs::Starts::fields_kept))]
+    pub fn len(&self) -> usize
+        ensures { result ≡ length self.now }
+    {
+        self.count
+    }
+
+    /// Returns the text of the field at `index`, from 0.
+    #[inline]
+    #[tactic(auto, using(crate::proofs::Starts::fields_kept))]
+    pub fn at(&self, index: usize) -> &'a [u8]
+        requires { index < length self.now }
+        ensures { result.now ≡ slice_index_or self.now index [] }
+    {
+        let line = self.line;
+        let start = self.starts[index];
+        let end = self.starts[index + 1] - 1;
+        &line[start..end]
+    }
+}
 
 /// Cuts a line at its tabs into fields. Returns `None` if there are more than 10. Takes no memory.
 pub fn cut_fields(line: &[u8]) -> Option<Fields<'_>>
     ensures more { IsNone result → 10 < length (fields_of line.now) }
-    ensures fields { IfSome result (λ fields. texts_of fields.items ≡ fields_of line.now) }
+    ensures fields { IfSome result (λ fields. fields ≡ fields_of line.now) }
 {
     let mut fields = Fields::new();
-    push_fields(&mut fields, line)?;
+    fields.cut(line)?;
     Some(fields)
 }
 
-/// Cuts `line` at its tabs and puts the fields into `fields`, which is empty. Returns `None` if
-/// there are more than 10. A caller that has a place for the fields saves the copy that
-/// `cut_fields` makes. Takes no memory.
-#[tactic(auto, using(crate::proofs::TabBits::last_field))]
-pub fn push_fields<'a>(fields: &mut Fields<'a>, line: &'a [u8]) -> Option<()>
-    requires empty { fields.old.items ≡ [] }
+// Puts into `starts` where each field of `line` starts, and then one after the end of the last
+// field. Returns the number of fields, or `None` if there are more than 10.
+#[tactic(auto, using(crate::proofs::Starts::line_ends))]
+fn find_starts(starts: &mut [usize; 11], line: &[u8]) -> Option<usize>
     ensures more { IsNone result → 10 < length (fields_of line.now) }
-    ensures fields { IfSome result (λ _. texts_of fields.new.items ≡ fields_of line.now) }
+    ensures few { IfSome result (λ count. count ≤ 10) }
+    ensures within { IfSome result (λ count. AreStarts line.now starts.new count) }
+    ensures fields { IfSome result
+        (λ count. fields_at line.now starts.new count ≡ fields_of line.now) }
 {
-    let mut start = 0;
+    starts[0] = 0;
+    let mut count = 0;
     let mut looked = 0;
     while looked < line.len() {
         let marks = tabs_from(line, looked);
-        start = push_ended(fields, line, start, looked, marks)?;
+        count = push_starts(starts, count, line, looked, marks)?;
         looked += 64;
     }
-    match fields.try_push(&line[start..]) {
-        Ok(()) => Some(()),
-        Err(_) => None,
+    if count == 10 {
+        return None;
     }
+    starts[count + 1] = line.len() + 1;
+    Some(count + 1)
 }
 
-// Adds to `fields` the fields that end at a tab among the 64 bytes of `line` from `from` on.
-// `marks` has a bit for each of these bytes, the lowest first, set for a tab. The first of the
-// fields starts at `start`. Returns where the next field starts, or `None` if `fields` has no room
-// for them.
+// Goes on to cut `line`, whose first `count` fields end before byte `from`: puts into `starts`
+// where the fields start that follow a tab among the 64 bytes from `from` on. `marks` has a bit for
+// each of these bytes, the lowest first, set for a tab. Returns how many fields end before the end
+// of these bytes, or `None` if `starts` has no room for them.
 #[inline]
-#[tactic(auto, using(crate::proofs::TabBits::fields_cut))]
-fn push_ended<'a>(
-    fields: &mut Fields<'a>,
-    line: &'a [u8],
-    start: usize,
+#[tactic(auto, using(crate::proofs::Starts::tabs_end))]
+fn push_starts(
+    starts: &mut [usize; 11],
+    count: usize,
+    line: &[u8],
     from: usize,
     marks: u64,
 ) -> Option<usize>
-    requires ahead { start ≤ from }
+    requires cut { IsCutUpTo line.now starts.old count from }
     requires in_line { from < length line.now }
     requires marked { marks ≡ tabs_in line.now from (from + 64) }
-    requires clear { NoTab line.now start from }
-    ensures more { IsNone result
-        → 10 < length (texts_of fields.old.items ++ parts_from line.now start) }
-    ensures parts { IfSome result (λ next. texts_of fields.new.items ++ parts_from line.now next
-        ≡ texts_of fields.old.items ++ parts_from line.now start) }
-    ensures next { IfSome result (λ next. (next ≤ from + 64) × (next ≤ length line.now)
-        × NoTab line.now next (from + 64)) }
+    ensures more { IsNone result → 10 < length (fields_of line.now) }
+    ensures cut { IfSome result (λ next. IsCutUpTo line.now starts.new next (from + 64)) }
 {
-    let mut start = start;
+    let mut count = count;
     // loses its lowest bit with each field
     let mut left = marks;
     while left != 0 {
-        let end = from + left.trailing_zeros() as usize;
-        match fields.try_push(&line[start..end]) {
-            Ok(()) => {}
-            Err(_) => return None,
+        if count == 10 {
+            return None;
         }
-        start = end + 1;
+        count += 1;
+        starts[count] = from + left.trailing_zeros() as usize + 1;
         left &= left - 1;
     }
-    Some(start)
+    Some(count)
 }
 
 // Returns a bit for each of the 64 bytes of `line` from `from` on, the lowest first, set for a tab.

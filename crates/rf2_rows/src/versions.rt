@@ -4,14 +4,13 @@ ghost use Rattle.rf2_rows.specs.Columns.{cause_of, columns_of, time_format, uuid
 ghost use Rattle.rf2_rows.specs.inside.Formats.{format_of};
 ghost use Rattle.numerals.specs.Numbers.{is_number, number_of};
 ghost use Rattle.release_model.specs.Pairs.{value_eq};
-ghost use Rattle.text_parts.specs.Parts.{texts_of};
 ghost use Rattle.rf2_rows.specs.Rows.{active_of, fields_fault, row_fault, time_of, uuid_of};
 ghost use Rattle.rf2_rows.specs.Values.{value_of};
 ghost use Rattle.rf2_rows.specs.Versions.{same_row, same_time, same_value, same_values};
 
 use crate::fields::hyphenated;
 use crate::kind::FileKind;
-use crate::tabs::cut_fields;
+use crate::tabs::{Fields, cut_fields};
 use numerals::{decimal, digits};
 use sctid::Part;
 use uuid::Uuid;
@@ -117,17 +116,19 @@ pub fn same_row(kind: FileKind, one: &[u8], other: &[u8]) -> bool
     let Some(others) = cut_fields(other) else {
         return false;
     };
-    same_fields(kind, ones.as_slice(), others.as_slice())
+    same_fields(kind, &ones, &others)
 }
 
 // Whether the fields of two rows of `kind` have equal values in each column.
-fn same_fields(kind: FileKind, ones: &[&[u8]], others: &[&[u8]]) -> bool
-    requires one { fields_fault kind (texts_of ones.now) ≡ None }
-    requires other { fields_fault kind (texts_of others.now) ≡ None }
-    ensures { result ≡ same_values (columns_of kind) (texts_of ones.now) (texts_of others.now) }
+fn same_fields(kind: FileKind, ones: &Fields<'_>, others: &Fields<'_>) -> bool
+    requires one { fields_fault kind ones.now ≡ None }
+    requires other { fields_fault kind others.now ≡ None }
+    ensures { result ≡ same_values (columns_of kind) ones.now others.now }
 {
     for (place, format) in formats(kind).iter().enumerate() {
-        if !same_value(*format, ones[place], others[place]) {
+        let one = ones.at(place);
+        let other = others.at(place);
+        if !same_value(*format, one, other) {
             return false;
         }
     }
